@@ -1,0 +1,10 @@
+//! The plain values of a LoRaWAN network: names, keys, refusals, and the spelling of texts.
+#![tactic(auto)]
+
+mod identifiers;
+mod key;
+mod refusal;
+
+pub use identifiers::{DevAddr, Eui, JoinNonce, NetId};
+pub use key::Key;
+pub use refusal::Refusal;
