@@ -1,0 +1,28 @@
+-- What a device was granted, and which sessions it has.
+use Rattle.std.specs.Prelude.{◌≤◌, ◌<◌, ℕ, Option, Some, None, IfSome, unwrap_or}
+use Rattle.devices.specs.declared.activation.Session.{Session}
+use Rattle.devices.specs.declared.activation.CurrentSession.{CurrentSession}
+
+-- the last JoinNonce granted, the session in use, and the one that waits for its first uplink
+pub record Grants : Type 0 where
+  pub granted : Option ℕ
+  pub current : Option CurrentSession
+  pub pending : Option Session
+
+-- the JoinNonce of the session in use, 0 where there is none
+abbrev pub current_nonce : Option CurrentSession → ℕ
+current_nonce None = 0
+current_nonce (Some c) = c.session.join_nonce
+
+-- no session is above the last grant, and the one that waits is the later one
+pub record AreInOrder (g : Grants) : Type 0 where
+  pub current : current_nonce g.current ≤ unwrap_or g.granted 0
+  pub pending : IfSome g.pending (λ s. s.join_nonce ≤ unwrap_or g.granted 0)
+  pub later : IfSome g.pending (λ s. current_nonce g.current < s.join_nonce)
+
+-- nothing granted yet
+abbrev pub no_grants : Grants
+no_grants = record { granted = None; current = None; pending = None }
+
+abbrev pub grants_of : Option ℕ → Option CurrentSession → Option Session → Grants
+grants_of granted current pending = record { granted = granted; current = current; pending = pending }

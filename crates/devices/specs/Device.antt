@@ -1,0 +1,22 @@
+-- The record that the network keeps of a device.
+use Rattle.std.specs.Prelude.{None, []}
+use Rattle.devices.specs.declared.command.Provisioning.{Provisioning}
+use Rattle.devices.specs.declared.device.Device.{Device}
+use Rattle.devices.specs.Activation.{no_grants}
+
+-- the record of a device that was just brought: nothing granted, nothing awaited, nothing queued
+abbrev pub provisioned : Provisioning → Device
+provisioned p =
+    record {
+      dev_eui = p.dev_eui;
+      join_eui = p.join_eui;
+      app_key = p.app_key;
+      application = p.application;
+      rx1_offset = p.rx1_offset;
+      rx_delay = p.rx_delay;
+      last_dev_nonce = None;
+      activation = no_grants;
+      awaited = None;
+      mac_queue = [];
+      items = [];
+    }

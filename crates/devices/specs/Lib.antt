@@ -1,0 +1,3 @@
+pub mod Activation
+pub mod MacQueue
+pub mod Device

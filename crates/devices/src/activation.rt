@@ -1,0 +1,137 @@
+// Joins granted to a device, and its sessions (TS001-1.0.4 §6.2).
+ghost use Rattle.std.specs.Prelude.{◌≡◌, ◌≤◌, ◌<◌, ◌↔◌, IsTrue, IfSome, unwrap_or};
+ghost use Rattle.devices.specs.Activation.{current_nonce};
+
+use crate::NextDown;
+use lw_types::{JoinNonce, Key};
+use std::marker::Model;
+
+/// A session as a join makes it: its JoinNonce and its keys.
+#[derive(Clone, Copy, Debug, PartialEq, Eq)]
+pub struct Session {
+    pub join_nonce: JoinNonce,
+    pub nwk_skey: Key,
+    pub app_skey: Key,
+}
+
+/// The session in use, with the counter of its last uplink and of its next downlink.
+#[derive(Clone, Copy, Debug, PartialEq, Eq)]
+pub struct CurrentSession {
+    pub session: Session,
+    pub last_up: u32,
+    pub next_down: NextDown,
+}
+
+/// The last JoinNonce granted to a device and its sessions: none is above the last grant, and the
+/// pending one, which waits for its first uplink, is later than the current one.
+#[derive(Clone, Copy, Debug, PartialEq, Eq)]
+pub struct Activation {
+    granted: Option<JoinNonce>,
+    current: Option<CurrentSession>,
+    pending: Option<Session>,
+}
+
+impl Model for Activation {
+    ghost use Rattle.devices.specs.Activation.{Grants, AreInOrder};
+
+    ghost Value = { Grants };
+
+    ghost view = { λ a. record { granted = a.granted; current = a.current; pending = a.pending } };
+
+    ghost invariant = { λ a. AreInOrder (record { granted = a.granted; current = a.current; pending = a.pending }) };
+
+    ghost inverse = { λ g. record { granted = g.granted; current = g.current; pending = g.pending } };
+}
+
+impl Activation {
+    ghost use Rattle.std.specs.Prelude.{◌≡◌, SomeIff};
+    ghost use Rattle.devices.specs.Activation.{AreInOrder, grants_of, no_grants};
+
+    /// Nothing granted yet.
+    pub fn none() -> Self
+        ensures { result ≡ no_grants }
+    {
+        Activation {
+            granted: None,
+            current: None,
+            pending: None,
+        }
+    }
+
+    /// These grants and sessions, where they are in order.
+    pub fn new(
+        granted: Option<JoinNonce>,
+        current: Option<CurrentSession>,
+        pending: Option<Session>,
+    ) -> Option<Self>
+        ensures { let grants = grants_of granted current pending in
+            SomeIff result (AreInOrder grants) grants }
+    {
+        let last = granted_nonce(&granted);
+        let used = current_nonce(&current);
+        if used <= last && is_between(&pending, used, last) {
+            Some(Activation {
+                granted,
+                current,
+                pending,
+            })
+        } else {
+            None
+        }
+    }
+
+    /// The last JoinNonce granted.
+    pub fn granted(&self) -> Option<JoinNonce>
+        ensures { result ≡ self.now.granted }
+    {
+        self.granted
+    }
+
+    /// The session in use.
+    pub fn current(&self) -> Option<CurrentSession>
+        ensures { result ≡ self.now.current }
+    {
+        self.current
+    }
+
+    /// The session that waits for its first uplink.
+    pub fn pending(&self) -> Option<Session>
+        ensures { result ≡ self.now.pending }
+    {
+        self.pending
+    }
+}
+
+// The number of the last grant, 0 where there is none.
+fn granted_nonce(granted: &Option<JoinNonce>) -> u32
+    ensures { result ≡ unwrap_or granted.now 0 }
+{
+    match granted {
+        None => 0,
+        Some(nonce) => nonce.get(),
+    }
+}
+
+// The JoinNonce of the session in use, 0 where there is none.
+fn current_nonce(current: &Option<CurrentSession>) -> u32
+    ensures { result ≡ current_nonce current.now }
+{
+    match current {
+        None => 0,
+        Some(current) => current.session.join_nonce.get(),
+    }
+}
+
+// Whether the session that waits, if one does, is above the one in use and not above the last grant.
+fn is_between(pending: &Option<Session>, used: u32, last: u32) -> bool
+    ensures { IsTrue result ↔ (IfSome pending.now (λ s. s.join_nonce ≤ last)
+        × IfSome pending.now (λ s. used < s.join_nonce)) }
+{
+    match pending {
+        None => true,
+        Some(session) => {
+            let waits = session.join_nonce.get();
+            used < waits && waits <= last
+        }
+    }
+}

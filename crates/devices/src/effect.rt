@@ -1,0 +1,110 @@
+// What leaves the network by a decision.
+use crate::{Application, Copies, Frame, Payload, Port, RxDelay, Tag};
+use lw_types::{Eui, JoinNonce};
+
+/// How the best gateway heard an uplink.
+#[derive(Clone, Copy, Debug, PartialEq, Eq)]
+pub struct Reception {
+    pub gateway: Eui,
+    /// In Hz.
+    pub frequency: u32,
+    pub data_rate: u8,
+    /// In quarter dB.
+    pub snr: i16,
+    /// In dBm.
+    pub rssi: i16,
+}
+
+/// In which receive windows of the device a gateway may send (TS001-1.0.4 §3.3).
+#[derive(Clone, Copy, Debug, PartialEq, Eq)]
+pub enum Windows {
+    /// In RX1 alone.
+    Rx1,
+    /// In RX1, or one second later in RX2.
+    Rx1OrRx2,
+}
+
+/// A frame that a gateway is to send once.
+#[derive(Clone, Debug, PartialEq, Eq, Drop)]
+pub struct Downlink {
+    pub gateway: Eui,
+    /// The gateway's moment of the uplink, in microseconds.
+    pub stamp: u32,
+    /// Of RX1, in Hz.
+    pub frequency: u32,
+    /// Of RX1.
+    pub data_rate: u8,
+    /// Of RX1 after the uplink.
+    pub delay: RxDelay,
+    pub windows: Windows,
+    pub frame: Frame,
+}
+
+/// What an application is told of its device.
+#[derive(Clone, Debug, PartialEq, Eq, Drop)]
+pub enum Report {
+    /// The device was brought, and has this slot.
+    Provisioned {
+        slot: u16,
+    },
+    /// The item waits.
+    Queued {
+        tag: Tag,
+    },
+    /// The MAC commands wait.
+    MacQueued {
+        commands: Payload,
+    },
+    /// The device acknowledged the item.
+    Acked {
+        tag: Tag,
+    },
+    /// The device answered without acknowledging the item.
+    Lost {
+        tag: Tag,
+    },
+    /// The device sent these MAC commands.
+    Mac {
+        join_nonce: JoinNonce,
+        commands: Payload,
+    },
+    /// The session has no downlink counter left.
+    Spent {
+        join_nonce: JoinNonce,
+    },
+}
+
+/// What leaves the network, once its decision is durable.
+#[derive(Clone, Debug, PartialEq, Eq, Drop)]
+pub enum Effect {
+    /// A device's payload, for its application.
+    Forward {
+        application: Application,
+        dev_eui: Eui,
+        join_nonce: JoinNonce,
+        counter: u32,
+        port: Port,
+        payload: Payload,
+        copies: Copies,
+        best: Reception,
+    },
+    /// A granted join, for a gateway.
+    Accept {
+        dev_eui: Eui,
+        join_nonce: JoinNonce,
+        downlink: Downlink,
+    },
+    /// A frame under a downlink counter, for a gateway.
+    Down {
+        dev_eui: Eui,
+        join_nonce: JoinNonce,
+        counter: u32,
+        downlink: Downlink,
+    },
+    /// A report, for the device's application.
+    Report {
+        application: Application,
+        dev_eui: Eui,
+        report: Report,
+    },
+}

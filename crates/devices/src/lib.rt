@@ -1,0 +1,51 @@
+//! Device records, and the commands and effects that pass a device by.
+//!
+//! Everything here is in range by its type: a value that exists is one that the standard and the
+//! store's layout allow, so no caller tests a range again.
+#![tactic(auto)]
+
+mod activation;
+mod command;
+mod device;
+mod effect;
+mod mac_queue;
+mod queue;
+mod ranged;
+
+pub use activation::{Activation, CurrentSession, Session};
+pub use command::{Command, Provisioning};
+pub use device::Device;
+pub use effect::{Downlink, Effect, Reception, Report, Windows};
+use lw_types::Bytes;
+pub use mac_queue::MacQueue;
+pub use queue::{Item, ItemQueue};
+pub use ranged::Ranged;
+
+/// The number of an application, from 0 to 15.
+pub type Application = Ranged<0, 15>;
+
+/// RX1DROffset: how many data rates RX1 is below the uplink, from 0 to 5 (TS001-1.0.4 §6.2.7).
+pub type Rx1Offset = Ranged<0, 5>;
+
+/// The delay of RX1 after an uplink, from 1 to 15 s (TS001-1.0.4 §6.2.7).
+pub type RxDelay = Ranged<1, 15>;
+
+/// An application's port, from 1 to 223 (TS001-1.0.4 §4.3.2).
+pub type Port = Ranged<1, 223>;
+
+/// The counter that a session's next downlink uses up, from 0 to 2^32, where 2^32 means that none is
+/// left.
+pub type NextDown = Ranged<0, 4_294_967_296>;
+
+/// How many gateways heard an uplink, from 1 to 32.
+pub type Copies = Ranged<1, 32>;
+
+/// The payload of a frame, or a run of MAC commands, of at most 242 bytes.
+pub type Payload = Bytes<242>;
+
+/// A PHYPayload, of at most 255 bytes.
+pub type Frame = Bytes<255>;
+
+/// The name by which an application knows an item that it queued.
+#[derive(Clone, Copy, Debug, PartialEq, Eq, PartialOrd, Ord, Hash)]
+pub struct Tag(pub u32);

@@ -1,0 +1,105 @@
+// The items that applications queued for a device.
+ghost use Rattle.std.specs.Prelude.{◌≡◌, ◌≤◌, ◌<◌, [], length, MatchResult};
+
+use crate::{Payload, Port, Tag};
+use std::alloc::{AllocError, Global};
+use std::fmt;
+use std::marker::Model;
+
+/// A payload that waits for a downlink.
+#[derive(Clone, Debug, PartialEq, Eq, Drop)]
+pub struct Item {
+    pub tag: Tag,
+    pub port: Port,
+    pub confirmed: bool,
+    pub payload: Payload,
+}
+
+/// At most 16 items, the oldest first. In contracts it is the list of them.
+#[derive(Drop)]
+pub struct ItemQueue {
+    items: Vec<Item>,
+}
+
+impl Model for ItemQueue {
+    ghost use Rattle.std.specs.Prelude.{◌≤◌, List, length};
+    ghost use Rattle.devices.specs.declared.queue.Item.{Item};
+
+    ghost Value = { List Item };
+
+    ghost view = { λ q. q.items.items };
+
+    ghost invariant = { λ q. length q.items.items ≤ 16 };
+}
+
+impl ItemQueue {
+    /// The most items that wait.
+    pub const MOST: usize = 16;
+
+    /// No items. Takes no memory.
+    pub fn empty(alloc: Global) -> Self
+        ensures { result ≡ [] }
+    {
+        ItemQueue {
+            items: Vec::new(alloc),
+        }
+    }
+
+    /// These items, where they are at most 16; else the vector back.
+    pub fn new(items: Vec<Item>) -> Result<Self, Vec<Item>>
+        ensures { MatchResult result
+            (λ q. (length items.items ≤ 16) × (q ≡ items.items))
+            (λ v. (16 < length items.items) × (v.items ≡ items.items)) }
+    {
+        if items.len() <= Self::MOST {
+            Ok(ItemQueue { items })
+        } else {
+            Err(items)
+        }
+    }
+
+    /// The items, the oldest first.
+    pub fn as_slice(&self) -> &[Item]
+        ensures items { result.now ≡ self.now }
+        ensures few { length self.now ≤ 16 }
+    {
+        self.items.as_slice()
+    }
+}
+
+impl Clone for ItemQueue {
+    ghost is_clone = { λ s t. t ≡ s };
+
+    fn clone(&self) -> Result<Self, AllocError> {
+        Ok(ItemQueue {
+            items: self.items.clone()?,
+        })
+    }
+}
+
+impl fmt::Debug for ItemQueue {
+    fn fmt<W: fmt::Write>(&self, f: &mut fmt::Formatter<W>) -> fmt::Result {
+        self.items.fmt(f)
+    }
+}
+
+impl PartialEq for ItemQueue {
+    ghost use Rattle.std.specs.Cmp.Lexicographic.{pointwise, lists_per};
+    ghost use Rattle.devices.specs.contracts.queue.ItemPartialEq.TheImpl.{ghosts};
+    ghost use Rattle.devices.specs.contracts.queue.ItemPartialEq.TheImpl.Laws as item;
+
+    ghost eq = { λ x y. pointwise ghosts.eq x y };
+
+    ghost laws = { lists_per item.laws-law };
+
+    fn eq(&self, other: &Self) -> bool {
+        self.items == other.items
+    }
+}
+
+impl Eq for ItemQueue {
+    ghost use Rattle.std.specs.Cmp.Lexicographic.{lists_equiv};
+    ghost use Rattle.devices.specs.contracts.queue.ItemEq.TheImpl.Laws as item;
+
+    ghost laws = { lists_equiv item.laws-law };
+}
