@@ -1,0 +1,71 @@
+// The effects of one decision.
+ghost use Rattle.std.specs.Prelude.{◌≡◌, ◌≤◌, ◌<◌, [], ◌∷◌, ◌++◌, length, OnOk, OnErr};
+
+use crate::Effect;
+use std::alloc::{AllocError, Global};
+use std::fmt;
+use std::marker::Model;
+
+/// At most four effects, in the order in which they leave. In contracts it is the list of them.
+#[derive(Drop)]
+pub struct Effects {
+    items: Vec<Effect>,
+}
+
+impl Model for Effects {
+    ghost use Rattle.std.specs.Prelude.{◌≤◌, List, length};
+    ghost use Rattle.devices.specs.declared.effect.Effect.{Effect};
+
+    ghost Value = { List Effect };
+
+    ghost view = { λ e. e.items.items };
+
+    ghost invariant = { λ e. length e.items.items ≤ 4 };
+}
+
+impl Effects {
+    /// The most effects that one decision has.
+    pub const MOST: usize = 4;
+
+    /// No effects. Takes no memory.
+    pub fn empty(alloc: Global) -> Self
+        ensures { result ≡ [] }
+    {
+        Effects {
+            items: Vec::new(alloc),
+        }
+    }
+
+    /// Adds an effect at the end. After an `Err` the list is as before.
+    pub fn push(&mut self, effect: Effect) -> Result<(), AllocError>
+        requires { length self.old < 4 }
+        ensures ok { OnOk result (self.new ≡ self.old ++ effect ∷ []) }
+        ensures err { OnErr result (self.new ≡ self.old) }
+    {
+        self.items.push(effect)?;
+        Ok(())
+    }
+
+    /// The effects in order.
+    pub fn as_slice(&self) -> &[Effect]
+        ensures effects { result.now ≡ self.now }
+        ensures few { length self.now ≤ 4 }
+    {
+        self.items.as_slice()
+    }
+
+    /// The vector of the effects, at most four of them.
+    pub fn into_vec(self) -> Vec<Effect>
+        ensures effects { result.items ≡ self }
+        ensures few { length self ≤ 4 }
+    {
+        let Effects { items } = self;
+        items
+    }
+}
+
+impl fmt::Debug for Effects {
+    fn fmt<W: fmt::Write>(&self, f: &mut fmt::Formatter<W>) -> fmt::Result {
+        self.items.fmt(f)
+    }
+}
