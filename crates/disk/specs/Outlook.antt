@@ -1,0 +1,22 @@
+-- Which calls of a disk fail, and what is known of that beforehand.
+use Rattle.std.specs.Prelude.{◌≡◌, ◌<◌, ℕ, zero, suc, Bool, false, IsTrue, Result, MatchResult}
+
+-- what is known of the answers of the coming calls
+pub data Outlook : Type 0 where
+  -- nothing
+  Unknown : Outlook
+  -- they succeed
+  AllSucceed : Outlook
+  -- so many succeed, the next one fails, and then they succeed
+  FailsAfter : ℕ → Outlook
+
+-- one call, whether it succeeded, and what is known after it
+abbrev pub IsForeseen : Outlook → Bool → Outlook → Type 0
+IsForeseen Unknown succeeded after = after ≡ Unknown
+IsForeseen AllSucceed succeeded after = IsTrue succeeded × (after ≡ AllSucceed)
+IsForeseen (FailsAfter zero) succeeded after = (succeeded ≡ false) × (after ≡ AllSucceed)
+IsForeseen (FailsAfter (suc n)) succeeded after = IsTrue succeeded × (after ≡ FailsAfter n)
+
+-- an error comes exactly where the count of failures rose in the call
+abbrev pub HasCause : {T E : Type 0} → ℕ → ℕ → Result T E → Type 0
+HasCause before now result = MatchResult result (λ _. now ≡ before) (λ _. before < now)

@@ -1,0 +1,16 @@
+//! A disk as a store sees it: bytes of a fixed length, of which a crash may change those written since the last
+//! sync, and calls that may fail. `MemDisk` is such a disk in memory, with crashes and failures on demand.
+#![tactic(auto)]
+
+mod disk;
+mod fuse;
+pub mod laws;
+mod mem_disk;
+mod sim;
+mod span;
+#[cfg(test)]
+mod tests;
+
+pub use disk::{DeviceFailed, Disk};
+pub use mem_disk::MemDisk;
+pub use sim::{Image, Sim};
