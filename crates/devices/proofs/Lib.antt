@@ -1,1 +1,2 @@
 pub mod WholeCommands
+pub mod Equal

@@ -1,5 +1,5 @@
 // The record that the network keeps of a device.
-ghost use Rattle.std.specs.Prelude.{◌≡◌, IfOk, MatchResult};
+ghost use Rattle.std.specs.Prelude.{◌≡◌, ◌↔◌, IsTrue, MatchResult};
 ghost use Rattle.lw_types.specs.declared.refusal.Refusal.TheVariants.{OutOfMemory};
 
 use crate::{Activation, Application, ItemQueue, MacQueue, Provisioning, Rx1Offset, RxDelay, Tag};
@@ -52,5 +52,12 @@ impl Device {
         ensures { MatchResult result (λ device. device ≡ self.now) (λ e. e ≡ OutOfMemory) }
     {
         Ok(self.clone()?)
+    }
+
+    /// Whether the two records are the same in every field.
+    pub fn same_as(&self, other: &Device) -> bool
+        ensures { IsTrue result ↔ (self.now ≡ other.now) }
+    {
+        self == other
     }
 }

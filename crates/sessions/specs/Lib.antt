@@ -1,0 +1,4 @@
+pub mod Step
+pub mod Table
+pub mod Index
+pub mod Decision

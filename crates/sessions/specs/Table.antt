@@ -1,0 +1,94 @@
+-- The table of a network's devices, and what commands do to it.
+use Rattle.std.specs.Prelude.{◌≡◌, ◌==◌, ◌<◌, ℕ, List, [], ◌∷◌, ◌++◌, length, take, drop, suc, nat_lt, if◌then◌else◌, Option, Some, None, Result, Ok, Err, slice_get}
+use Rattle.std.specs.List.{position_from}
+use Rattle.std.specs.Option.{MatchOption}
+use Rattle.lw_types.specs.declared.refusal.Refusal.{Refusal}
+use Rattle.lw_types.specs.declared.refusal.Refusal.TheVariants.{DevEuiTaken, TableFull}
+use Rattle.devices.specs.declared.device.Device.{Device}
+use Rattle.devices.specs.declared.command.Command.{Command}
+use Rattle.devices.specs.declared.command.Command.TheVariants.{Provision}
+use Rattle.devices.specs.declared.effect.Effect.{Effect}
+use Rattle.sessions.specs.Step.{Outcome, step1}
+
+-- a network's devices by slot, and how many slots there are
+pub record TableState : Type 0 where
+  pub net_id : ℕ
+  pub slots : ℕ
+  pub devices : List Device
+
+-- a table without devices
+abbrev pub empty_table : ℕ → ℕ → TableState
+empty_table net_id slots = record { net_id = net_id; slots = slots; devices = [] }
+
+-- the slot of the device with this DevEUI
+abbrev pub slot_of : ℕ → List Device → Option ℕ
+slot_of dev_eui devices = position_from (λ d. d.dev_eui.0 == dev_eui) 0 devices
+
+-- the next slot, if there is one
+abbrev pub next_slot : TableState → Result ℕ Refusal
+next_slot t = if nat_lt (length t.devices) t.slots then Ok (length t.devices) else Err TableFull
+
+-- a new device takes the next slot
+abbrev pub new_slot : TableState → Option ℕ → Result ℕ Refusal
+new_slot t (Some taken) = Err DevEuiTaken
+new_slot t None = next_slot t
+
+-- the slot at which a command works
+abbrev pub place_for : TableState → Command → Result ℕ Refusal
+place_for t (Provision p) = new_slot t (slot_of p.dev_eui.0 t.devices)
+
+-- the devices with this record at this slot, which is a slot in use or the next one
+abbrev pub with_device : ℕ → Device → List Device → List Device
+with_device slot device devices = take slot devices ++ device ∷ drop (suc slot) devices
+
+-- a slot in use takes a record of its own device, and the next slot one of a device that isn't there yet
+abbrev pub CanPlace : TableState → ℕ → Device → Type 0
+CanPlace t slot device =
+    MatchOption (slice_get t.devices slot)
+    ((slot ≡ length t.devices) × (slot < t.slots) × (slot_of device.dev_eui.0 t.devices ≡ None))
+    (λ old. old.dev_eui ≡ device.dev_eui)
+
+-- the table with this record at this slot
+abbrev pub placed : TableState → ℕ → Device → TableState
+placed t slot device = record t { devices = with_device slot device t.devices }
+
+-- a command's slot, the record there before it, and what it does there
+pub record Step : Type 0 where
+  pub slot : ℕ
+  pub before : Option Device
+  pub after : Device
+  pub effects : List Effect
+
+infixl 10 ◌>>=◌
+abbrev pub ◌>>=◌ : {A B : Type 0} → Result A Refusal → (A → Result B Refusal) → Result B Refusal
+(Ok x) >>= f = f x
+(Err e) >>= f = Err e
+
+abbrev pub step_at : ℕ → Option Device → Outcome → Step
+step_at slot before o = record { slot = slot; before = before; after = o.device; effects = o.effects }
+
+-- what a command does in a table
+abbrev pub step : TableState → Command → Result Step Refusal
+step t command = do
+  slot ← place_for t command
+  outcome ← step1 t.net_id slot (slice_get t.devices slot) command
+  Ok (step_at slot (slice_get t.devices slot) outcome)
+
+-- the table with a step's record
+abbrev pub stepped : TableState → Result Step Refusal → TableState
+stepped t (Ok s) = placed t s.slot s.after
+stepped t (Err e) = t
+
+abbrev pub step_effects : Result Step Refusal → List Effect
+step_effects (Ok s) = s.effects
+step_effects (Err e) = []
+
+-- the table after these commands; one that is refused changes nothing
+abbrev pub folded : TableState → List Command → TableState
+folded t [] = t
+folded t (command ∷ commands) = folded (stepped t (step t command)) commands
+
+-- the effects of these commands, in order
+abbrev pub effects_of : TableState → List Command → List Effect
+effects_of t [] = []
+effects_of t (command ∷ commands) = step_effects (step t command) ++ effects_of (stepped t (step t command)) commands

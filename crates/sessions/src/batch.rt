@@ -1,0 +1,88 @@
+// Decisions that are committed together.
+ghost use Rattle.std.specs.Prelude.{◌≡◌, ◌≤◌, ◌<◌, [], ◌∷◌, ◌++◌, length, map, OnOk, OnErr, MatchResult, IsTrue, ◌↔◌};
+ghost use Rattle.lw_types.specs.declared.refusal.Refusal.TheVariants.{OutOfMemory};
+
+use crate::Decision;
+use devices::Device;
+use lw_types::Refusal;
+use std::alloc::Global;
+use std::marker::Model;
+
+/// At most 64 decisions, in order. In contracts it is the list of them.
+#[derive(Drop)]
+pub struct Batch {
+    alloc: Global,
+    decisions: Vec<Decision>,
+}
+
+impl Model for Batch {
+    ghost use Rattle.std.specs.Prelude.{◌≤◌, List, length};
+    ghost use Rattle.sessions.specs.declared.decision.Decision.{Decision};
+
+    ghost Value = { List Decision };
+
+    ghost view = { λ b. b.decisions.items };
+
+    ghost invariant = { λ b. length b.decisions.items ≤ 64 };
+}
+
+impl Batch {
+    /// The most decisions that are committed together.
+    pub const MOST: usize = 64;
+
+    /// No decisions. Takes no memory.
+    pub fn empty(alloc: Global) -> Self
+        ensures { result ≡ [] }
+    {
+        Batch {
+            alloc,
+            decisions: Vec::new(alloc),
+        }
+    }
+
+    /// Adds a decision at the end. After an `Err` the batch is as before.
+    pub fn push(&mut self, decision: Decision) -> Result<(), Refusal>
+        requires { length self.old < 64 }
+        ensures { MatchResult result
+            (λ _. self.new ≡ self.old ++ decision ∷ [])
+            (λ e. (e ≡ OutOfMemory) × (self.new ≡ self.old)) }
+    {
+        self.decisions.push(decision)?;
+        Ok(())
+    }
+
+    /// The decisions in order, at most 64.
+    pub fn as_slice(&self) -> &[Decision]
+        ensures decisions { result.now ≡ self.now }
+        ensures few { length self.now ≤ 64 }
+    {
+        self.decisions.as_slice()
+    }
+
+    /// How many decisions there are.
+    pub fn len(&self) -> usize
+        ensures len { result ≡ length self.now }
+        ensures few { length self.now ≤ 64 }
+    {
+        self.decisions.len()
+    }
+
+    /// Whether there are none.
+    pub fn is_empty(&self) -> bool
+        ensures { IsTrue result ↔ (self.now ≡ []) }
+    {
+        self.decisions.is_empty()
+    }
+
+    /// The vector of the decisions, at most 64 of them.
+    pub fn into_vec(self) -> Vec<Decision>
+        ensures decisions { result.items ≡ self }
+        ensures few { length self ≤ 64 }
+    {
+        let Batch {
+            alloc: _,
+            decisions,
+        } = self;
+        decisions
+    }
+}

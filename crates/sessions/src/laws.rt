@@ -1,0 +1,24 @@
+//! Laws on the definitions that the contracts of this crate cite. Nothing here does anything.
+ghost use Rattle.std.specs.Prelude.{◌≡◌, ◌++◌, ◌↔◌, ◌+◌, ℕ, List, length};
+ghost use Rattle.sessions.specs.Table.{TableState, CanPlace, folded, effects_of};
+ghost use Rattle.sessions.specs.Decision.{Fits, FitAll, ContinueAll, applied_all, commands_of, effects_in};
+ghost use Rattle.sessions.specs.declared.decision.Decision.{Decision};
+
+/// Decisions that continue a table leave the fold of their commands, and their effects are those of
+/// the commands.
+pub fn folding()
+    ensures table { (t : TableState) (ds : List Decision) → FitAll t ds →
+        folded t (commands_of ds) ≡ applied_all t ds }
+    ensures effects { (t : TableState) (ds : List Decision) → FitAll t ds →
+        effects_of t (commands_of ds) ≡ effects_in ds }
+{}
+
+/// Two runs of decisions, one after the other, continue a table where the second continues what the
+/// first leaves.
+pub fn joining()
+    ensures continues { (t : TableState) (seq : ℕ) (first second : List Decision) →
+        ContinueAll t seq (first ++ second)
+        ↔ (ContinueAll t seq first × ContinueAll (applied_all t first) (seq + length first) second) }
+    ensures table { (t : TableState) (first second : List Decision) →
+        applied_all t (first ++ second) ≡ applied_all (applied_all t first) second }
+{}

@@ -1,0 +1,16 @@
+//! The table of a network's devices, and decisions: commands carried out on one device each.
+//!
+//! A [`Decision`] can be made by nobody but a step of its own record: its type keeps that `after`
+//! and `effects` are what the command does to `before`.
+#![tactic(auto)]
+
+mod batch;
+mod continuation;
+mod decide;
+mod decision;
+pub mod laws;
+mod table;
+
+pub use batch::Batch;
+pub use decision::Decision;
+pub use table::{Slots, Table};

@@ -1,0 +1,122 @@
+// The table of a network's devices.
+ghost use Rattle.std.specs.Prelude.{◌≡◌, ◌≤◌, ◌<◌, ℕ, IfOk, MatchResult, length, slice_get};
+ghost use Rattle.lw_types.specs.declared.refusal.Refusal.TheVariants.{OutOfMemory};
+
+use devices::{Device, Ranged};
+use lw_types::{Eui, NetId, Refusal};
+use std::alloc::Global;
+use std::collections::HashMap;
+use std::marker::Model;
+
+/// The number of slots of a table, from 1 to 4,096.
+pub type Slots = Ranged<1, 4096>;
+
+/// A network's devices by slot, and an index of their DevEUIs. All its room is got when it is made,
+/// so that a device that is placed takes no memory. A look-up's cost doesn't grow with the devices.
+#[derive(Drop)]
+pub struct Table {
+    alloc: Global,
+    net_id: NetId,
+    slots: Slots,
+    devices: Vec<Device>,
+    index: HashMap<u64, u16>,
+}
+
+impl Model for Table {
+    ghost use Rattle.sessions.specs.Table.{TableState};
+
+    ghost Value = { TableState };
+
+    ghost use Rattle.sessions.specs.Index.{table_of, IsIndexed};
+
+    ghost view = { table_of };
+
+    ghost invariant = { IsIndexed };
+}
+
+impl Table {
+    ghost use Rattle.sessions.specs.Table.{empty_table, slot_of, placed, CanPlace};
+
+    /// A table without devices.
+    pub fn new(alloc: Global, net_id: NetId, slots: Slots) -> Result<Self, Refusal>
+        ensures { MatchResult result (λ t. t ≡ empty_table net_id slots) (λ e. e ≡ OutOfMemory) }
+    {
+        let most = slots.get() as usize;
+        Ok(Table {
+            alloc,
+            net_id,
+            slots,
+            devices: Vec::with_capacity(alloc, most)?,
+            index: HashMap::with_capacity(alloc, most)?,
+        })
+    }
+
+    /// The network.
+    pub fn net_id(&self) -> NetId
+        ensures { result ≡ self.now.net_id }
+    {
+        self.net_id
+    }
+
+    /// How many slots there are.
+    pub fn slots(&self) -> Slots
+        ensures { result ≡ self.now.slots }
+    {
+        self.slots
+    }
+
+    /// The devices in order of slot.
+    pub fn devices(&self) -> &[Device]
+        ensures devices { result.now ≡ self.now.devices }
+        ensures few { length self.now.devices ≤ self.now.slots }
+    {
+        self.devices.as_slice()
+    }
+
+    /// The slot of the device with this DevEUI.
+    pub fn slot_of(&self, dev_eui: Eui) -> Option<u16>
+        ensures { result ≡ slot_of dev_eui.0 self.now.devices }
+    {
+        self.index.get(&dev_eui.0).copied()
+    }
+
+    /// Puts a record at a slot: of its own device at a slot in use, of a new device at the next slot.
+    /// Takes no memory.
+    pub fn place(&mut self, slot: u16, device: Device)
+        requires { CanPlace self.old slot device }
+        ensures { self.new ≡ placed self.old slot device }
+    {
+        let at = slot as usize;
+        if at < self.devices.len() {
+            self.devices[at] = device;
+        } else {
+            let dev_eui = device.dev_eui.0;
+            let indexed: Result<_, _> = self.index.insert(dev_eui, slot);
+            let _ = indexed.unwrap();
+            let pushed: Result<_, _> = self.devices.push(device);
+            pushed.unwrap();
+        }
+    }
+
+    /// The same table, in memory of its own. Its cost grows with the number of devices.
+    pub fn copy(&self) -> Result<Self, Refusal>
+        ensures { MatchResult result (λ t. t ≡ self.now) (λ e. e ≡ OutOfMemory) }
+    {
+        let most = self.slots.get() as usize;
+        let mut devices = Vec::with_capacity(self.alloc, most)?;
+        let mut index = HashMap::with_capacity(self.alloc, most)?;
+        for (slot, device) in self.devices.iter().enumerate() {
+            let indexed: Result<_, _> = index.insert(device.dev_eui.0, slot as u16);
+            let _ = indexed.unwrap();
+            let pushed: Result<_, _> = devices.push(device.copy()?);
+            pushed.unwrap();
+        }
+        Ok(Table {
+            alloc: self.alloc,
+            net_id: self.net_id,
+            slots: self.slots,
+            devices,
+            index,
+        })
+    }
+}
