@@ -1,9 +1,20 @@
 -- Decisions that continue a table, joined and folded.
-use Rattle.std.proofs.Common.{◌≡◌, ◌+◌, ◌∙◌, ℕ, List, [], ◌∷◌, ◌++◌, length, Result, Ok, suc, sym, ap, subst, refl, arith}
+use Rattle.std.proofs.Common.{Err, ◌≡◌, ◌+◌, ◌∙◌, ℕ, List, [], ◌∷◌, ◌++◌, length, Result, Ok, suc, sym, ap, subst, refl, arith}
+use Rattle.std.proofs.Common.{◌<◌, ◌≤◌, cond, nat_lt, Option, Some, None, take, drop, get_or}
+use Rattle.std.proofs.lemmas.Bool.{ltb-true}
+use Rattle.std.proofs.lemmas.List.{take_more, drop_more, take-append-drop}
+use Rattle.std.proofs.lemmas.Option.{slice_get_past}
+use Rattle.std.specs.Option.{MatchOption}
+use Rattle.lw_types.specs.declared.refusal.Refusal.TheVariants.{TableFull, DevEuiTaken}
+use Rattle.devices.specs.Device.{provisioned}
+use Rattle.devices.specs.declared.command.Provisioning.{Provisioning}
+use Rattle.devices.specs.declared.command.Command.{Command}
+use Rattle.devices.specs.declared.command.Command.TheVariants.{Provision}
 use Rattle.std.specs.List.{slice_get}
 use Rattle.lw_types.specs.declared.refusal.Refusal.{Refusal}
-use Rattle.sessions.specs.Step.{step1, outcome}
-use Rattle.sessions.specs.Table.{TableState, step, step_at, stepped, step_effects, folded, effects_of, ◌>>=◌}
+use Rattle.sessions.specs.Step.{Outcome, step1, outcome, provisioned_effects}
+use Rattle.sessions.proofs.Slots.{split}
+use Rattle.sessions.specs.Table.{TableState, CanPlace, place_for, new_slot, slot_of, step, step_at, stepped, step_effects, folded, effects_of, ◌>>=◌}
 use Rattle.sessions.specs.Decision.{Fits, FitAll, AreNumbered, ContinueAll, applied, applied_all, commands_of, effects_in}
 use Rattle.sessions.specs.declared.decision.Decision.{Decision}
 
@@ -15,6 +26,33 @@ step-fits t d fits =
     ∙ ap (λ p. p >>= λ o. Ok (step_at d.slot (slice_get t.devices d.slot) o))
     (ap (λ n. step1 n d.slot (slice_get t.devices d.slot) d.command) (sym fits.net)
     ∙ (ap (λ b. step1 d.net_id d.slot b d.command) (sym fits.before) ∙ d.is_step))
+
+same_Ok : {A : Type 0} (x y : A) → ◌≡◌ {A = Result A Refusal} (Ok x) (Ok y) → x ≡ y
+same_Ok x y h = cc
+
+taken-ok : (x : ℕ) → ◌≡◌ {A = Result ℕ Refusal} (Err DevEuiTaken) (Ok x) → ⊥
+taken-ok x h = cc
+
+err-ok : {A : Type 0} (x : A) → ◌≡◌ {A = Result A Refusal} (Err TableFull) (Ok x) → ⊥
+err-ok x h = cc
+
+no-ok : {P : Type 0} {A : Type 0} (x : A) → ◌≡◌ {A = Result A Refusal} (Err TableFull) (Ok x) → P
+no-ok {P} x h = absurd (err-ok x h)
+
+-- a slot is given to a new name alone, and is the next one
+new_slot-ok : (t : TableState) (found : Option ℕ) (slot : ℕ) (P : Type 0) → new_slot t found ≡ Ok slot
+    → (found ≡ None → slot ≡ length t.devices → slot < t.slots → P) → P
+new_slot-ok t (Some taken) slot P h goes = absurd (taken-ok slot h)
+new_slot-ok t None slot P h goes =
+    split (nat_lt (length t.devices) t.slots)
+    (λ room.
+    let last = same_Ok (length t.devices) slot (sym (ap (λ b. cond b (Ok (length t.devices)) (Err TableFull)) room) ∙ h) in
+    let within = ltb-true (length t.devices) t.slots room in
+    goes refl (sym last) (omega arith))
+    (λ full. no-ok slot (sym (ap (λ b. cond b (Ok (length t.devices)) (Err TableFull)) full) ∙ h))
+
+MatchOption-of_none : {X : Type 0} (o : Option X) (P : Type 0) (Q : X → Type 0) → o ≡ None → P → MatchOption o P Q
+MatchOption-of_none o P Q none p = subst (λ o. MatchOption o P Q) (sym none) p
 
 pub folded-fit : (t : TableState) (ds : List Decision) → FitAll t ds → folded t (commands_of ds) ≡ applied_all t ds
 folded-fit t [] fit = refl
@@ -63,3 +101,33 @@ ContinueAll-split t seq first second both =
     let fit = FitAll-split t first second both.fit in
     let numbered = AreNumbered-split seq first second both.numbered in
     (record { fit = fit.0; numbered = numbered.0 }, record { fit = fit.1; numbered = numbered.1 })
+
+-- the name of the record that a provisioning leaves is new, and its slot is the next one
+can_place_new : (t : TableState) (d : Decision) (p : Provisioning) → d.command ≡ Provision p → Fits t d → CanPlace t d.slot d.after
+can_place_new t d p asked fits =
+    let place : new_slot t (slot_of p.dev_eui.0 t.devices) ≡ Ok d.slot = ap (place_for t) (sym asked) ∙ fits.place in
+    new_slot-ok t (slot_of p.dev_eui.0 t.devices) d.slot (CanPlace t d.slot d.after) place (λ new last room.
+    let past : length t.devices ≤ d.slot = omega arith in
+    let empty = slice_get_past t.devices d.slot past in
+    let made : Ok (outcome (provisioned p) (provisioned_effects d.slot p)) ≡ Ok (outcome d.after d.effects) =
+    ap (λ b. step1 d.net_id d.slot b (Provision p)) (sym (fits.before ∙ empty)) ∙ (ap (step1 d.net_id d.slot d.before) (sym asked) ∙ d.is_step) in
+    let name : d.after.dev_eui.0 ≡ p.dev_eui.0 = ap (λ (o : Outcome). o.device.dev_eui.0) (sym (same_Ok _ _ made)) in
+    MatchOption-of_none (slice_get t.devices d.slot) _ _ empty (last, room, ap (λ e. slot_of e t.devices) name ∙ new))
+
+by_command : (t : TableState) (d : Decision) (c : Command) → d.command ≡ c → Fits t d → CanPlace t d.slot d.after
+by_command t d (Provision p) asked fits = can_place_new t d p asked fits
+
+-- the record of a decision that was made of a table has its place there
+pub CanPlace-fits : (t : TableState) (d : Decision) → Fits t d → CanPlace t d.slot d.after
+CanPlace-fits t d fits = by_command t d d.command refl fits
+
+pub FitAll-next : (t : TableState) (n : ℕ) (d : Decision) (ds : List Decision) → n < length ds → d ≡ get_or ds n d
+    → FitAll t ds → Fits (applied_all t (take n ds)) d
+FitAll-next t n d ds within item fit =
+    let at : drop n ds ≡ d ∷ drop (n + 1) ds = drop_more ds n d within ∙ ap (λ x. x ∷ drop (n + 1) ds) (sym item) in
+    (subst (FitAll (applied_all t (take n ds))) at (FitAll-split t (take n ds) (drop n ds) (subst (FitAll t) (sym (take-append-drop n ds)) fit)).1).0
+
+pub applied_all-next : (t : TableState) (n : ℕ) (d : Decision) (ds : List Decision) → n < length ds → d ≡ get_or ds n d
+    → applied_all t (take (n + 1) ds) ≡ applied (applied_all t (take n ds)) d
+applied_all-next t n d ds within item =
+    ap (applied_all t) (take_more ds n d within ∙ ap (λ x. take n ds ++ x ∷ []) (sym item)) ∙ applied_all-append t (take n ds) (d ∷ [])

@@ -5,7 +5,7 @@ use Rattle.std.proofs.lemmas.Bool.{eqb-true, eq-eqb, ne_eqb, true≢false}
 use Rattle.std.proofs.lemmas.Option.{none-some, same_Some}
 
 -- a test splits a proof in two
-split : {P : Type 0} (b : Bool) → (b ≡ true → P) → (b ≡ false → P) → P
+pub split : {P : Type 0} (b : Bool) → (b ≡ true → P) → (b ≡ false → P) → P
 split true left right = left refl
 split false left right = right refl
 

@@ -4,6 +4,7 @@ use Rattle.std.specs.List.{flat_map}
 use Rattle.std.specs.Result.{MatchResult}
 use Rattle.lw_types.specs.declared.refusal.Refusal.{Refusal}
 use Rattle.lw_types.specs.declared.refusal.Refusal.TheVariants.{OutOfMemory}
+use Rattle.devices.specs.declared.device.Device.{Device}
 use Rattle.devices.specs.declared.command.Command.{Command}
 use Rattle.devices.specs.declared.effect.Effect.{Effect}
 use Rattle.sessions.specs.Table.{TableState, Step, place_for, step, placed}
@@ -50,6 +51,10 @@ pub record IsLegalContinuation (t : TableState) (seq : ℕ) (ds : List Decision)
 
 abbrev pub commands_of : List Decision → List Command
 commands_of ds = map (λ d. d.command) ds
+
+-- the records that the decisions leave
+abbrev pub afters_of : List Decision → List Device
+afters_of ds = map (λ d. d.after) ds
 
 abbrev pub effects_in : List Decision → List Effect
 effects_in ds = flat_map (λ d. d.effects) ds

@@ -9,8 +9,10 @@ mod continuation;
 mod decide;
 mod decision;
 pub mod laws;
+mod records;
 mod table;
 
 pub use batch::Batch;
 pub use decision::Decision;
+pub use records::Records;
 pub use table::{Slots, Table};
