@@ -8,47 +8,43 @@ use lw_types::Refusal;
 use std::alloc::Global;
 use std::marker::Model;
 
-/// At most 64 decisions, in order. In contracts it is the list of them.
+/// At most 64 decisions, in order, with room for all of them. In contracts it is the list of them.
 #[derive(Drop)]
 pub struct Batch {
-    alloc: Global,
     decisions: Vec<Decision>,
 }
 
 impl Model for Batch {
-    ghost use Rattle.std.specs.Prelude.{◌≤◌, List, length};
+    ghost use Rattle.std.specs.Prelude.{◌≤◌, List, length, vec_capacity};
     ghost use Rattle.sessions.specs.declared.decision.Decision.{Decision};
 
     ghost Value = { List Decision };
 
     ghost view = { λ b. b.decisions.items };
 
-    ghost invariant = { λ b. length b.decisions.items ≤ 64 };
+    ghost invariant = { λ b. (length b.decisions.items ≤ 64) × (64 ≤ vec_capacity b.decisions) };
 }
 
 impl Batch {
     /// The most decisions that are committed together.
     pub const MOST: usize = 64;
 
-    /// No decisions. Takes no memory.
-    pub fn empty(alloc: Global) -> Self
-        ensures { result ≡ [] }
+    /// No decisions, and room for 64.
+    pub fn new(alloc: Global) -> Result<Self, Refusal>
+        ensures { MatchResult result (λ batch. batch ≡ []) (λ e. e ≡ OutOfMemory) }
     {
-        Batch {
-            alloc,
-            decisions: Vec::new(alloc),
-        }
+        Ok(Batch {
+            decisions: Vec::with_capacity(alloc, Self::MOST)?,
+        })
     }
 
-    /// Adds a decision at the end. After an `Err` the batch is as before.
-    pub fn push(&mut self, decision: Decision) -> Result<(), Refusal>
+    /// Adds a decision at the end. Takes no memory.
+    pub fn push(&mut self, decision: Decision)
         requires { length self.old < 64 }
-        ensures { MatchResult result
-            (λ _. self.new ≡ self.old ++ decision ∷ [])
-            (λ e. (e ≡ OutOfMemory) × (self.new ≡ self.old)) }
+        ensures { self.new ≡ self.old ++ decision ∷ [] }
     {
-        self.decisions.push(decision)?;
-        Ok(())
+        let pushed: Result<_, _> = self.decisions.push(decision);
+        pushed.unwrap();
     }
 
     /// The decisions in order, at most 64.
@@ -79,10 +75,7 @@ impl Batch {
         ensures decisions { result.items ≡ self }
         ensures few { length self ≤ 64 }
     {
-        let Batch {
-            alloc: _,
-            decisions,
-        } = self;
+        let Batch { decisions } = self;
         decisions
     }
 }

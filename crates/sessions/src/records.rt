@@ -1,9 +1,9 @@
 // The records that a batch leaves, copied before they are placed.
-ghost use Rattle.std.specs.Prelude.{◌≡◌, MatchResult};
+ghost use Rattle.std.specs.Prelude.{◌≡◌, [], ◌∷◌, ◌++◌, MatchResult};
 ghost use Rattle.lw_types.specs.declared.refusal.Refusal.TheVariants.{OutOfMemory};
 ghost use Rattle.sessions.specs.Decision.{FitAll, afters_of, applied_all};
 
-use crate::{Batch, Table};
+use crate::{Batch, Decision, Table};
 use devices::Device;
 use lw_types::Refusal;
 use std::alloc::Global;
@@ -26,6 +26,27 @@ impl Model for Records {
     ghost view = { λ r. r.records.items };
 }
 
+impl Records {
+    /// No records. Takes no memory.
+    pub fn new(alloc: Global) -> Self
+        ensures { result ≡ [] }
+    {
+        Records {
+            records: VecDeque::new(alloc),
+        }
+    }
+
+    /// Adds a copy of the record that a decision leaves. After an `Err` nothing was added.
+    pub fn add(&mut self, decision: &Decision) -> Result<(), Refusal>
+        ensures { MatchResult result
+            (λ _. self.new ≡ self.old ++ decision.now.after ∷ [])
+            (λ e. (e ≡ OutOfMemory) × (self.new ≡ self.old)) }
+    {
+        self.records.push_back(decision.after.copy()?)?;
+        Ok(())
+    }
+}
+
 impl Batch {
     /// Copies of the records that the decisions leave.
     pub fn records(&self, alloc: Global) -> Result<Records, Refusal>
@@ -33,11 +54,11 @@ impl Batch {
             (λ records. records ≡ afters_of self.now)
             (λ e. e ≡ OutOfMemory) }
     {
-        let mut records = VecDeque::new(alloc);
+        let mut records = Records::new(alloc);
         for decision in self.as_slice() {
-            records.push_back(decision.after.copy()?)?;
+            records.add(decision)?;
         }
-        Ok(Records { records })
+        Ok(records)
     }
 }
 
