@@ -1,1 +1,5 @@
 pub mod Refusal
+pub mod Hex
+pub mod Decimal
+pub mod Words
+pub mod WordsLeft

@@ -1,7 +1,10 @@
 // The names of devices, sessions and networks.
-ghost use Rattle.std.specs.Prelude.{◌≡◌, ◌<◌, ◌^◌, ℕ};
+ghost use Rattle.std.specs.Prelude.{◌≡◌, ◌<◌, ◌^◌, ℕ, Some};
 ghost use Rattle.std.specs.Option.{SomeIff};
 
+use crate::hex_text;
+use crate::text::FromText;
+use std::fmt;
 use std::marker::Model;
 
 /// A 64-bit extended unique identifier: a DevEUI, a JoinEUI or a gateway's EUI (TS001-1.0.4 §6.1.1).
@@ -15,17 +18,17 @@ pub struct DevAddr(pub u32);
 /// A network identifier of type 0 below 64, so that its six low bits are the whole of it.
 #[derive(Clone, Copy, Debug, PartialEq, Eq, PartialOrd, Ord, Hash)]
 pub struct NetId {
-    value: u8,
+    number: u8,
 }
 
 impl Model for NetId {
     ghost Value = { ℕ };
 
-    ghost view = { λ n. n.value };
+    ghost view = { λ n. n.number };
 
-    ghost invariant = { λ n. n.value < 64 };
+    ghost invariant = { λ n. n.number < 64 };
 
-    ghost inverse = { λ n. record { value = n } };
+    ghost inverse = { λ n. record { number = n } };
 }
 
 impl NetId {
@@ -34,7 +37,9 @@ impl NetId {
         ensures { SomeIff result (value < 64) value }
     {
         if value < 64 {
-            Some(NetId { value: value as u8 })
+            Some(NetId {
+                number: value as u8,
+            })
         } else {
             None
         }
@@ -45,7 +50,7 @@ impl NetId {
         ensures value { result ≡ self }
         ensures range { self < 64 }
     {
-        self.value
+        self.number
     }
 }
 
@@ -84,5 +89,84 @@ impl JoinNonce {
         ensures range { self < 2 ^ 24 }
     {
         self.value
+    }
+}
+
+/// Shows the 16 digits of the number.
+impl fmt::Display for Eui {
+    ghost use Rattle.std.specs.Prelude.{Some};
+    ghost use Rattle.lw_types.specs.Hex.{eui_text};
+
+    ghost output = { λ eui. Some (eui_text eui) };
+
+    #[tactic(auto, unfolding(crate::specs::Hex::eui_text))]
+    fn fmt<W: fmt::Write>(&self, f: &mut fmt::Formatter<W>) -> fmt::Result {
+        hex_text::show(f, &self.0.to_be_bytes())
+    }
+}
+
+impl FromText for Eui {
+    ghost use Rattle.std.specs.Prelude.{◌<◌, ◌^◌};
+    ghost use Rattle.lw_types.specs.Hex.{eui_text};
+
+    ghost is_value = { λ eui. eui.0 < 2 ^ 64 };
+
+    ghost text_of = { eui_text };
+
+    fn from_text(text: &str) -> Option<Self> {
+        Some(Eui(u64::from_be_bytes(hex_text::read_array(text)?)))
+    }
+}
+
+/// Shows the 8 digits of the number.
+impl fmt::Display for DevAddr {
+    ghost use Rattle.std.specs.Prelude.{Some};
+    ghost use Rattle.lw_types.specs.Hex.{dev_addr_text};
+
+    ghost output = { λ address. Some (dev_addr_text address) };
+
+    #[tactic(auto, unfolding(crate::specs::Hex::dev_addr_text))]
+    fn fmt<W: fmt::Write>(&self, f: &mut fmt::Formatter<W>) -> fmt::Result {
+        hex_text::show(f, &self.0.to_be_bytes())
+    }
+}
+
+impl FromText for DevAddr {
+    ghost use Rattle.std.specs.Prelude.{◌<◌, ◌^◌};
+    ghost use Rattle.lw_types.specs.Hex.{dev_addr_text};
+
+    ghost is_value = { λ address. address.0 < 2 ^ 32 };
+
+    ghost text_of = { dev_addr_text };
+
+    fn from_text(text: &str) -> Option<Self> {
+        Some(DevAddr(u32::from_be_bytes(hex_text::read_array(text)?)))
+    }
+}
+
+/// Shows the 6 digits of the number.
+impl fmt::Display for NetId {
+    ghost use Rattle.std.specs.Prelude.{Some};
+    ghost use Rattle.lw_types.specs.Hex.{net_id_text};
+
+    ghost output = { λ network. Some (net_id_text network) };
+
+    #[tactic(auto, unfolding(crate::specs::Hex::net_id_text))]
+    fn fmt<W: fmt::Write>(&self, f: &mut fmt::Formatter<W>) -> fmt::Result {
+        hex_text::show(f, &[0, 0, self.get()])
+    }
+}
+
+impl FromText for NetId {
+    ghost use Rattle.std.specs.Prelude.{◌<◌};
+    ghost use Rattle.lw_types.specs.Hex.{net_id_text};
+
+    ghost is_value = { λ network. network < 64 };
+
+    ghost text_of = { net_id_text };
+
+    fn from_text(text: &str) -> Option<Self> {
+        let [high, middle, low] = hex_text::read_array::<3>(text)?;
+        NetId::new(u32::from_be_bytes([0, high, middle, low]))
     }
 }

@@ -2,11 +2,22 @@
 #![tactic(auto)]
 
 mod bytes;
+mod decimal;
+mod hex_text;
 mod identifiers;
 mod key;
+pub mod laws;
 mod refusal;
+mod text;
+mod words;
 
 pub use bytes::Bytes;
+pub use hex_text::{ByteField, read_field, read_hex, write_hex};
 pub use identifiers::{DevAddr, Eui, JoinNonce, NetId};
 pub use key::Key;
 pub use refusal::Refusal;
+pub use text::FromText;
+pub use words::Words;
+
+#[cfg(test)]
+mod tests;

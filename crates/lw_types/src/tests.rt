@@ -1,0 +1,119 @@
+use crate::{
+    ByteField, DevAddr, Eui, FromText, Key, NetId, Refusal, Words, read_field, read_hex, write_hex,
+};
+use std::process::Abort;
+use std::test::Fail;
+
+#[test]
+fn refusals_have_numbers_and_messages(rt: HostRuntime) -> Result<(), Fail> {
+    let table = [
+        (Refusal::Malformed, 1, "the frame is not in the grammar"),
+        (
+            Refusal::BadMac,
+            18,
+            "these are not whole MAC commands that can be queued",
+        ),
+        (Refusal::WindowsFull, 20, "1,024 windows are open"),
+        (Refusal::OutOfMemory, 30, "out of memory"),
+        (Refusal::Damaged, 44, "the store is damaged"),
+        (Refusal::CutShort, 52, "the input ends inside a frame"),
+    ];
+    for (refusal, number, message) in table {
+        assert_eq!(rt; refusal.number(), number);
+        let shown = refusal.to_string(rt.alloc())?;
+        assert_eq!(rt; shown.as_str(), message);
+    }
+    Ok(())
+}
+
+#[test]
+fn bytes_are_upper_case_hex(rt: HostRuntime) -> Result<(), Fail> {
+    let alloc = rt.alloc();
+    let text = write_hex(alloc, &[0, 0x5A, 0xFF])?;
+    assert_eq!(rt; text.as_str(), "005AFF");
+    let bytes = read_hex(alloc, "005AFF")?;
+    assert_eq!(rt; bytes.as_slice(), [0, 0x5A, 0xFF].as_slice());
+    let nothing = read_hex(alloc, "")?;
+    assert!(rt; nothing.is_empty());
+    for bad in ["5a", "5", "5G", "-", " 5A", "5A\n"] {
+        assert!(rt;
+            matches!(read_hex(alloc, bad), Err(Refusal::BadMessage)),
+            "{bad}"
+        );
+    }
+    Ok(())
+}
+
+#[test]
+fn no_bytes_are_a_dash_in_a_line(rt: HostRuntime) -> Result<(), Fail> {
+    let alloc = rt.alloc();
+    let shown = ByteField(&[]).to_string(alloc)?;
+    assert_eq!(rt; shown.as_str(), "-");
+    let shown = ByteField(&[0x40]).to_string(alloc)?;
+    assert_eq!(rt; shown.as_str(), "40");
+    let nothing = read_field(alloc, "-")?;
+    assert!(rt; nothing.is_empty());
+    let bytes = read_field(alloc, "40")?;
+    assert_eq!(rt; bytes.as_slice(), [0x40].as_slice());
+    assert!(rt; matches!(read_field(alloc, ""), Err(Refusal::BadMessage)));
+    Ok(())
+}
+
+fn reads<T: FromText + PartialEq + Drop>(rt: &impl Abort, text: &str, value: T) {
+    match T::from_text(text) {
+        Some(found) => assert!(rt; found == value, "{text}"),
+        None => assert!(rt; false, "{text}"),
+    }
+}
+
+fn refuses<T: FromText + Drop>(rt: &impl Abort, texts: &[&str]) {
+    for text in texts {
+        assert!(rt; T::from_text(text).is_none(), "{text}");
+    }
+}
+
+#[test]
+fn values_have_one_text(rt: HostRuntime) -> Result<(), Fail> {
+    let alloc = rt.alloc();
+    reads(&rt, "1112131415161718", Eui(0x1112_1314_1516_1718));
+    reads(&rt, "54000001", DevAddr(0x5400_0001));
+    reads(&rt, "00002A", NetId::new(42).ok_or("42 is a NetID")?);
+    reads(
+        &rt,
+        "000102030405060708090A0B0C0D0E0F",
+        Key([0, 1, 2, 3, 4, 5, 6, 7, 8, 9, 10, 11, 12, 13, 14, 15]),
+    );
+    reads(&rt, "255", 255u8);
+    reads(&rt, "1000", 1000u16);
+    reads(&rt, "868100000", 868_100_000u32);
+    reads(&rt, "18446744073709551615", u64::MAX);
+    reads(&rt, "-32768", i16::MIN);
+    refuses::<Eui>(
+        &rt,
+        &["111213141516171", "11121314151617180", "111213141516171a"],
+    );
+    refuses::<NetId>(&rt, &["000040", "01002A", "2A"]);
+    refuses::<u8>(&rt, &["256", "+5", "007", "00", "", "-1", " 1"]);
+    refuses::<i16>(&rt, &["32768", "-0", "+1", "-01", "-"]);
+    let shown = Eui(0x0102_0304_0506_0708).to_string(alloc)?;
+    assert_eq!(rt; shown.as_str(), "0102030405060708");
+    let shown = DevAddr(0x5400_7FFF).to_string(alloc)?;
+    assert_eq!(rt; shown.as_str(), "54007FFF");
+    let shown = NetId::new(42).ok_or("42 is a NetID")?.to_string(alloc)?;
+    assert_eq!(rt; shown.as_str(), "00002A");
+    let shown = Key([0x2B; 16]).reveal(alloc)?;
+    assert_eq!(rt; shown.as_str(), "2B2B2B2B2B2B2B2B2B2B2B2B2B2B2B2B");
+    Ok(())
+}
+
+#[test]
+fn words_are_parted_by_one_space(rt: HostRuntime) {
+    let mut words = Words::of("take 64");
+    assert!(rt; words.next().is_some_and(|word| word == "take"));
+    assert!(rt; words.next().is_some_and(|word| word == "64"));
+    assert!(rt; words.next().is_none());
+    let mut words = Words::of(" a");
+    assert!(rt; words.next().is_some_and(|word| word.is_empty()));
+    assert!(rt; words.next().is_some_and(|word| word == "a"));
+    assert!(rt; words.next().is_none());
+}
