@@ -5,6 +5,7 @@ use Rattle.std.proofs.lemmas.Bool.{ltb-true}
 use Rattle.std.proofs.lemmas.List.{take_more, drop_more, take-append-drop}
 use Rattle.std.proofs.lemmas.Option.{slice_get_past}
 use Rattle.std.specs.Option.{MatchOption}
+use Rattle.std.specs.Result.{MatchResult}
 use Rattle.lw_types.specs.declared.refusal.Refusal.TheVariants.{TableFull, DevEuiTaken}
 use Rattle.devices.specs.Device.{provisioned}
 use Rattle.devices.specs.declared.command.Provisioning.{Provisioning}
@@ -14,8 +15,8 @@ use Rattle.std.specs.List.{slice_get}
 use Rattle.lw_types.specs.declared.refusal.Refusal.{Refusal}
 use Rattle.sessions.specs.Step.{Outcome, step1, outcome, provisioned_effects}
 use Rattle.sessions.proofs.Slots.{split}
-use Rattle.sessions.specs.Table.{TableState, CanPlace, place_for, new_slot, slot_of, step, step_at, stepped, step_effects, folded, effects_of, ◌>>=◌}
-use Rattle.sessions.specs.Decision.{Fits, FitAll, AreNumbered, ContinueAll, applied, applied_all, commands_of, effects_in}
+use Rattle.sessions.specs.Table.{TableState, Step, CanPlace, place_for, new_slot, slot_of, step, step_at, stepped, step_effects, folded, effects_of, ◌>>=◌}
+use Rattle.sessions.specs.Decision.{Decides, IsDecision, Fits, FitAll, AreNumbered, ContinueAll, applied, applied_all, commands_of, effects_in}
 use Rattle.sessions.specs.declared.decision.Decision.{Decision}
 
 -- a decision that was made of a table is the step of its command there
@@ -29,6 +30,9 @@ step-fits t d fits =
 
 same_Ok : {A : Type 0} (x y : A) → ◌≡◌ {A = Result A Refusal} (Ok x) (Ok y) → x ≡ y
 same_Ok x y h = cc
+
+err_ok : {A : Type 0} (e : Refusal) (x : A) → ◌≡◌ {A = Result A Refusal} (Err e) (Ok x) → ⊥
+err_ok e x h = cc
 
 taken-ok : (x : ℕ) → ◌≡◌ {A = Result ℕ Refusal} (Err DevEuiTaken) (Ok x) → ⊥
 taken-ok x h = cc
@@ -131,3 +135,41 @@ pub applied_all-next : (t : TableState) (n : ℕ) (d : Decision) (ds : List Deci
     → applied_all t (take (n + 1) ds) ≡ applied (applied_all t (take n ds)) d
 applied_all-next t n d ds within item =
     ap (applied_all t) (take_more ds n d within ∙ ap (λ x. take n ds ++ x ∷ []) (sym item)) ∙ applied_all-append t (take n ds) (d ∷ [])
+
+ok-or-err : {A : Type 0} (e : Refusal) (x : A) (P : Type 0) → ◌≡◌ {A = Result A Refusal} (Err e) (Ok x) → P
+ok-or-err e x P h = absurd (err_ok e x h)
+
+-- what a table decides is a step there
+pub Decides-ok : (t : TableState) (seq : ℕ) (c : Command) (d : Decision) → Decides t seq c (Ok d)
+    → (s : Step) × (step t c ≡ Ok s) × IsDecision t seq c s d
+Decides-ok t seq c d h = go (step t c) refl h
+  where
+  go : (r : Result Step Refusal) → step t c ≡ r → MatchResult r (λ s. IsDecision t seq c s d) (λ e. ◌≡◌ {A = Result Decision Refusal} (Ok d) (Err e))
+      → (s : Step) × (step t c ≡ Ok s) × IsDecision t seq c s d
+  go (Ok s) is found = (s, is, found)
+  go (Err e) is refused = ok-or-err e d _ (sym refused)
+
+-- a step of a table stands at its command's slot, on the record there
+step-parts : (t : TableState) (c : Command) (s : Step) → step t c ≡ Ok s → (place_for t c ≡ Ok s.slot) × (s.before ≡ slice_get t.devices s.slot)
+step-parts t c s h = at (place_for t c) refl h
+  where
+  done : (slot : ℕ) (r : Result Outcome Refusal) → (r >>= λ o. Ok (step_at slot (slice_get t.devices slot) o)) ≡ Ok s → place_for t c ≡ Ok slot
+      → (place_for t c ≡ Ok s.slot) × (s.before ≡ slice_get t.devices s.slot)
+  done slot (Ok o) e is =
+      let same = same_Ok (step_at slot (slice_get t.devices slot) o) s e in
+      (is ∙ ap (λ (x : Step). Ok x.slot) same, sym (ap (λ (x : Step). x.before) same) ∙ ap (λ (x : Step). slice_get t.devices x.slot) same)
+  done slot (Err e') e is = ok-or-err e' s _ e
+  at : (p : Result ℕ Refusal) → place_for t c ≡ p → (p >>= λ slot. step1 t.net_id slot (slice_get t.devices slot) c >>= λ o. Ok (step_at slot (slice_get t.devices slot) o)) ≡ Ok s
+      → (place_for t c ≡ Ok s.slot) × (s.before ≡ slice_get t.devices s.slot)
+  at (Ok slot) is e = done slot (step1 t.net_id slot (slice_get t.devices slot) c) e is
+  at (Err e') is e = ok-or-err e' s _ e
+
+-- a decision that is a step of a table was made of it
+pub Fits-decision : (t : TableState) (seq : ℕ) (c : Command) (s : Step) (d : Decision) → step t c ≡ Ok s → IsDecision t seq c s d → Fits t d
+Fits-decision t seq c s d is made =
+    let parts = step-parts t c s is in
+    record {
+      net = made.net;
+      place = ap (place_for t) made.command ∙ (parts.0 ∙ ap Ok (sym made.slot));
+      before = made.before ∙ (parts.1 ∙ ap (slice_get t.devices) (sym made.slot));
+    }

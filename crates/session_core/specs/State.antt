@@ -1,0 +1,41 @@
+-- The decisions of one life.
+use Rattle.std.specs.Prelude.{◌≡◌, ◌+◌, ◌-◌, ◌≤◌, ◌^◌, ℕ, List, [], length, max}
+use Rattle.sessions.specs.Table.{TableState}
+use Rattle.sessions.specs.Decision.{ContinueAll, applied_all}
+use Rattle.sessions.specs.declared.decision.Decision.{Decision}
+
+-- The table that the taken decisions leave, the number at which this life began, how many decisions
+-- were made and taken in it, and those that were made and not taken, the oldest first.
+pub record CoreState : Type 0 where
+  pub base : TableState
+  pub opening : ℕ
+  pub made : ℕ
+  pub taken : ℕ
+  pub log : List Decision
+
+-- the table after every decision made
+abbrev pub now_of : CoreState → TableState
+now_of s = applied_all s.base s.log
+
+-- the sequence number of the last decision made
+abbrev pub last_number : CoreState → ℕ
+last_number s = s.opening + s.made
+
+-- no decision is made beyond this number
+abbrev pub LAST_NUMBER : ℕ
+LAST_NUMBER = 2 ^ 63 - 1
+
+-- how many decisions may wait
+abbrev pub MOST_UNTAKEN : ℕ
+MOST_UNTAKEN = 4096
+
+-- the log continues what was taken, none is missing from it, and it has its limits
+pub record IsLawful (s : CoreState) : Type 0 where
+  pub continues : ContinueAll s.base (s.opening + s.taken) s.log
+  pub count : s.taken + length s.log ≡ s.made
+  pub few : length s.log ≤ MOST_UNTAKEN
+  pub numbers : last_number s ≤ max s.opening LAST_NUMBER
+
+-- the core at the beginning of a life
+abbrev pub opened : TableState → ℕ → CoreState
+opened table seq = record { base = table; opening = seq; made = 0; taken = 0; log = [] }

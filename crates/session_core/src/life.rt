@@ -1,0 +1,172 @@
+// The decisions of one life.
+ghost use Rattle.std.specs.Prelude.{◌≡◌, ◌≤◌, ◌<◌, ◌↔◌, ℕ, IsTrue, MatchResult, take, drop, length, []};
+ghost use Rattle.lw_types.specs.declared.refusal.Refusal.TheVariants.{OutOfMemory};
+ghost use Rattle.session_core.specs.State.{now_of, opened, last_number};
+ghost use Rattle.session_core.specs.Events.{Turns, Decided, taken_from};
+ghost use Rattle.sessions.specs.Decision.{afters_of};
+
+use crate::Turn;
+use devices::{Command, Provisioning, Ranged};
+use lw_types::Refusal;
+use sessions::{Batch, Decision, Records, Table};
+use std::alloc::Global;
+use std::collections::VecDeque;
+use std::marker::Model;
+
+/// How many decisions a `take` asks for, from 1 to 64.
+pub type Most = Ranged<1, 64>;
+
+/// The most decisions that wait to be taken.
+const MOST_WAITING: usize = 4096;
+
+/// The greatest sequence number that a decision gets, 2^63 - 1.
+const LAST_SEQUENCE: u64 = (1 << 63) - 1;
+
+/// The decisions of one life. Its state is lawful whenever it can be seen: the untaken decisions
+/// continue what was taken, none is missing, and the table at hand is the one that they leave.
+#[derive(Drop)]
+pub struct Core {
+    alloc: Global,
+    base: Table,
+    now_table: Table,
+    opening: u64,
+    made: u64,
+    taken: u64,
+    log: VecDeque<Decision>,
+}
+
+impl Model for Core {
+    ghost use Rattle.session_core.specs.State.{CoreState};
+
+    ghost Value = { CoreState };
+
+    ghost use Rattle.session_core.specs.Kept.{state_of, IsKept};
+
+    ghost view = { state_of };
+
+    ghost invariant = { IsKept };
+}
+
+impl Core {
+    /// The core at the beginning of a life, over a copy of this table, whose last decision has the
+    /// number `seq`.
+    pub fn new(alloc: Global, table: &Table, seq: u64) -> Result<Self, Refusal>
+        ensures { MatchResult result (λ core. core ≡ opened table.now seq) (λ e. e ≡ OutOfMemory) }
+    {
+        Ok(Core {
+            alloc,
+            base: table.copy()?,
+            now_table: table.copy()?,
+            opening: seq,
+            made: 0,
+            taken: 0,
+            log: VecDeque::new(alloc),
+        })
+    }
+
+    /// The table after every decision made.
+    pub fn now(&self) -> &Table
+        ensures { result.now ≡ now_of self.now }
+    {
+        &self.now_table
+    }
+
+    /// The sequence number of the last decision made.
+    pub fn seq(&self) -> u64
+        ensures { result ≡ last_number self.now }
+    {
+        self.opening + self.made
+    }
+
+    /// How many decisions were made in this life.
+    pub fn made(&self) -> u64
+        ensures { result ≡ self.now.made }
+    {
+        self.made
+    }
+
+    /// An application brings a device, at this moment in milliseconds below 2^63. Refused with
+    /// `Backlog` where 4,096 decisions wait or no number is left, then with `DevEuiTaken` or
+    /// `TableFull`; with `OutOfMemory` for want of memory. A refusal changes nothing.
+    pub fn provision(&mut self, _moment: u64, provisioning: Provisioning) -> Turn
+        ensures { Turns self.old (Command.Provision provisioning) result self.new }
+    {
+        self.event(Command::Provision(provisioning))
+    }
+
+    /// Takes the oldest untaken decisions, at most `max` of them. After an `Err`, which is want of
+    /// memory, the core is as before. Its cost doesn't grow with the number of devices.
+    pub fn take(&mut self, max: Most) -> Result<Batch, Refusal>
+        ensures { MatchResult result
+            (λ batch. (batch ≡ take max self.old.log) × (self.new ≡ taken_from self.old max))
+            (λ e. (e ≡ OutOfMemory) × (self.new ≡ self.old)) }
+    {
+        let count = self.log.len().min(max.get() as usize);
+        let records = front_records(self.alloc, &self.log, count)?;
+        let mut batch = Batch::new(self.alloc)?;
+        move_front(&mut self.log, &mut batch, count);
+        self.base.place_all(&batch, records);
+        self.taken += count as u64;
+        Ok(batch)
+    }
+
+    // Decides one command of an event.
+    fn event(&mut self, command: Command) -> Turn
+        ensures { Turns self.old command result self.new }
+    {
+        let from = self.made;
+        match self.decide(command) {
+            Ok(()) => Turn {
+                from,
+                to: from + 1,
+                refused: None,
+            },
+            Err(refusal) => Turn {
+                from,
+                to: from,
+                refused: Some(refusal),
+            },
+        }
+    }
+
+    // Decides a command on the table as it is now, and keeps the decision.
+    fn decide(&mut self, command: Command) -> Result<(), Refusal>
+        ensures { Decided self.old command result self.new }
+    {
+        if self.log.len() >= MOST_WAITING || self.seq() >= LAST_SEQUENCE {
+            return Err(Refusal::Backlog);
+        }
+        let decision = self.now_table.decide(self.alloc, self.seq() + 1, command)?;
+        self.log.reserve(1)?;
+        self.now_table.apply(&decision)?;
+        self.log.push_back_reserved(decision);
+        self.made += 1;
+        Ok(())
+    }
+}
+
+// Copies of the records that the first decisions leave.
+fn front_records(alloc: Global, log: &VecDeque<Decision>, count: usize) -> Result<Records, Refusal>
+    requires { count ≤ length log.now.items }
+    ensures { MatchResult result (λ records. records ≡ afters_of (take count log.now.items)) (λ e. e ≡ OutOfMemory) }
+{
+    let mut records = Records::new(alloc);
+    for i in 0..count {
+        records.add(&log[i])?;
+    }
+    Ok(records)
+}
+
+// Moves the first decisions into an empty batch.
+fn move_front(log: &mut VecDeque<Decision>, batch: &mut Batch, count: usize)
+    requires within { count ≤ length log.old.items }
+    requires few { count ≤ 64 }
+    requires empty { batch.old ≡ [] }
+    ensures moved { batch.new ≡ take count log.old.items }
+    ensures left { log.new.items ≡ drop count log.old.items }
+{
+    for _i in 0..count {
+        let decision = log.pop_front();
+        batch.push(decision.unwrap());
+    }
+}
