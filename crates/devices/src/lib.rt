@@ -12,6 +12,8 @@ mod effects;
 mod mac_queue;
 mod queue;
 mod ranged;
+#[cfg(test)]
+mod tests;
 
 pub use activation::{Activation, CurrentSession, Session};
 pub use command::{Command, Provisioning};

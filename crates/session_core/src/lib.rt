@@ -3,6 +3,8 @@
 #![tactic(auto)]
 
 mod life;
+#[cfg(test)]
+mod tests;
 mod turn;
 
 pub use life::{Core, Most};

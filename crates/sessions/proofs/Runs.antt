@@ -144,25 +144,26 @@ pub Decides-ok : (t : TableState) (seq : ℕ) (c : Command) (d : Decision) → D
     → (s : Step) × (step t c ≡ Ok s) × IsDecision t seq c s d
 Decides-ok t seq c d h = go (step t c) refl h
   where
-  go : (r : Result Step Refusal) → step t c ≡ r → MatchResult r (λ s. IsDecision t seq c s d) (λ e. ◌≡◌ {A = Result Decision Refusal} (Ok d) (Err e))
-      → (s : Step) × (step t c ≡ Ok s) × IsDecision t seq c s d
-  go (Ok s) is found = (s, is, found)
-  go (Err e) is refused = ok-or-err e d _ (sym refused)
+    go : (r : Result Step Refusal) → step t c ≡ r → MatchResult r (λ s. IsDecision t seq c s d) (λ e. ◌≡◌ {A = Result Decision Refusal} (Ok d) (Err e))
+        → (s : Step) × (step t c ≡ Ok s) × IsDecision t seq c s d
+    go (Ok s) is found = (s, is, found)
+    go (Err e) is refused = ok-or-err e d _ (sym refused)
 
 -- a step of a table stands at its command's slot, on the record there
 step-parts : (t : TableState) (c : Command) (s : Step) → step t c ≡ Ok s → (place_for t c ≡ Ok s.slot) × (s.before ≡ slice_get t.devices s.slot)
 step-parts t c s h = at (place_for t c) refl h
   where
-  done : (slot : ℕ) (r : Result Outcome Refusal) → (r >>= λ o. Ok (step_at slot (slice_get t.devices slot) o)) ≡ Ok s → place_for t c ≡ Ok slot
-      → (place_for t c ≡ Ok s.slot) × (s.before ≡ slice_get t.devices s.slot)
-  done slot (Ok o) e is =
-      let same = same_Ok (step_at slot (slice_get t.devices slot) o) s e in
-      (is ∙ ap (λ (x : Step). Ok x.slot) same, sym (ap (λ (x : Step). x.before) same) ∙ ap (λ (x : Step). slice_get t.devices x.slot) same)
-  done slot (Err e') e is = ok-or-err e' s _ e
-  at : (p : Result ℕ Refusal) → place_for t c ≡ p → (p >>= λ slot. step1 t.net_id slot (slice_get t.devices slot) c >>= λ o. Ok (step_at slot (slice_get t.devices slot) o)) ≡ Ok s
-      → (place_for t c ≡ Ok s.slot) × (s.before ≡ slice_get t.devices s.slot)
-  at (Ok slot) is e = done slot (step1 t.net_id slot (slice_get t.devices slot) c) e is
-  at (Err e') is e = ok-or-err e' s _ e
+    done : (slot : ℕ) (r : Result Outcome Refusal) → (r >>= λ o. Ok (step_at slot (slice_get t.devices slot) o)) ≡ Ok s → place_for t c ≡ Ok slot
+        → (place_for t c ≡ Ok s.slot) × (s.before ≡ slice_get t.devices s.slot)
+    done slot (Ok o) e is =
+        let same = same_Ok (step_at slot (slice_get t.devices slot) o) s e in
+        (is ∙ ap (λ (x : Step). Ok x.slot) same, sym (ap (λ (x : Step). x.before) same) ∙ ap (λ (x : Step). slice_get t.devices x.slot) same)
+    done slot (Err e') e is = ok-or-err e' s _ e
+
+    at : (p : Result ℕ Refusal) → place_for t c ≡ p → (p >>= λ slot. step1 t.net_id slot (slice_get t.devices slot) c >>= λ o. Ok (step_at slot (slice_get t.devices slot) o)) ≡ Ok s
+        → (place_for t c ≡ Ok s.slot) × (s.before ≡ slice_get t.devices s.slot)
+    at (Ok slot) is e = done slot (step1 t.net_id slot (slice_get t.devices slot) c) e is
+    at (Err e') is e = ok-or-err e' s _ e
 
 -- a decision that is a step of a table was made of it
 pub Fits-decision : (t : TableState) (seq : ℕ) (c : Command) (s : Step) (d : Decision) → step t c ≡ Ok s → IsDecision t seq c s d → Fits t d

@@ -11,6 +11,8 @@ mod decision;
 pub mod laws;
 mod records;
 mod table;
+#[cfg(test)]
+mod tests;
 
 pub use batch::Batch;
 pub use decision::Decision;
