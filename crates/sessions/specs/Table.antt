@@ -1,5 +1,5 @@
 -- The table of a network's devices, and what commands do to it.
-use Rattle.std.specs.Prelude.{◌≡◌, ◌==◌, ◌<◌, ℕ, List, [], ◌∷◌, ◌++◌, length, take, drop, suc, nat_lt, if◌then◌else◌, Option, Some, None, Result, Ok, Err, slice_get}
+use Rattle.std.specs.Prelude.{◌≡◌, ◌==◌, ◌<◌, ◌≤◌, ℕ, List, [], ◌∷◌, ◌++◌, length, take, drop, suc, nat_lt, if◌then◌else◌, Option, Some, None, Result, Ok, Err, slice_get}
 use Rattle.std.specs.List.{position_from}
 use Rattle.std.specs.Option.{MatchOption}
 use Rattle.lw_types.specs.declared.refusal.Refusal.{Refusal}
@@ -47,6 +47,11 @@ CanPlace t slot device =
     MatchOption (slice_get t.devices slot)
     ((slot ≡ length t.devices) × (slot < t.slots) × (slot_of device.dev_eui.0 t.devices ≡ None))
     (λ old. old.dev_eui ≡ device.dev_eui)
+
+-- an image may put a record at a slot in use or at the next one, under a name that no other slot has
+abbrev pub CanPut : TableState → ℕ → Device → Type 0
+CanPut t slot device =
+    (slot ≤ length t.devices) × (slot < t.slots) × MatchOption (slot_of device.dev_eui.0 t.devices) (Unit {0}) (λ own. own ≡ slot)
 
 -- the table with this record at this slot
 abbrev pub placed : TableState → ℕ → Device → TableState

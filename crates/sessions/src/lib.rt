@@ -10,6 +10,7 @@ mod decide;
 mod decision;
 pub mod laws;
 mod records;
+mod replay;
 mod table;
 #[cfg(test)]
 mod tests;

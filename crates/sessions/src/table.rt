@@ -1,5 +1,5 @@
 // The table of a network's devices.
-ghost use Rattle.std.specs.Prelude.{◌≡◌, ◌≤◌, ◌<◌, ℕ, IfOk, MatchResult, length, slice_get};
+ghost use Rattle.std.specs.Prelude.{◌≡◌, ◌≤◌, ◌<◌, ℕ, IfOk, MatchResult, None, length, slice_get};
 ghost use Rattle.lw_types.specs.declared.refusal.Refusal.TheVariants.{OutOfMemory};
 
 use devices::{Device, Ranged};
@@ -118,5 +118,25 @@ impl Table {
             devices,
             index,
         })
+    }
+
+    /// Puts a record of a device that isn't there yet into a slot in use, in the place of another
+    /// device's. After an `Err`, which is want of memory, the table is as before.
+    pub(crate) fn rename(&mut self, slot: u16, device: Device) -> Result<(), Refusal>
+        requires used { slot < length self.old.devices }
+        requires new_name { slot_of device.dev_eui.0 self.old.devices ≡ None }
+        ensures { MatchResult result
+            (λ _. self.new ≡ placed self.old slot device)
+            (λ e. (e ≡ OutOfMemory) × (self.new ≡ self.old)) }
+    {
+        let at = slot as usize;
+        let most = self.slots.get() as usize;
+        self.index.reserve(most + 1)?;
+        let before = self.devices[at].dev_eui.0;
+        let _ = self.index.remove(&before);
+        let indexed: Result<_, _> = self.index.insert(device.dev_eui.0, slot);
+        let _ = indexed.unwrap();
+        self.devices[at] = device;
+        Ok(())
     }
 }
