@@ -82,7 +82,8 @@ impl Activation {
 
     /// The last JoinNonce granted.
     pub fn granted(&self) -> Option<JoinNonce>
-        ensures { result ≡ self.now.granted }
+        ensures value { result ≡ self.now.granted }
+        ensures in_order { AreInOrder self.now }
     {
         self.granted
     }
