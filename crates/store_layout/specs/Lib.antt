@@ -1,0 +1,2 @@
+pub mod Superblock
+pub mod Entries

@@ -1,0 +1,10 @@
+//! What the bytes of a store say: the superblock, and entries with the records of devices.
+#![tactic(auto)]
+
+mod entry;
+mod restore;
+mod superblock;
+
+pub use entry::{batch_entries, put_entry};
+pub use restore::replay;
+pub use superblock::Superblock;

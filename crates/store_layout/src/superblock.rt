@@ -1,0 +1,90 @@
+// The first bytes of a store.
+ghost use Rattle.std.specs.Prelude.{◌≡◌, ◌≢◌, ◌<◌, ◌≤◌, ◌^◌, ◌↔◌, ℕ, ◌∷◌, Ok, Err, IfOk, IfErr, ◌⊎◌, codes, take, slice_index};
+ghost use Rattle.lw_types.specs.declared.refusal.Refusal.TheVariants.{NotFormatted, WrongVersion, Damaged};
+ghost use Rattle.store_layout.specs.Superblock.{superblock, area_len, disk_len};
+
+use lw_types::{NetId, Refusal};
+use sessions::Slots;
+
+/// The gate of a formatted store.
+const OPEN: u8 = 0xA5;
+
+/// The network of a store, and how many devices it has room for.
+#[derive(Clone, Copy, Debug, PartialEq, Eq)]
+pub struct Superblock {
+    pub net_id: NetId,
+    pub slots: Slots,
+}
+
+impl Superblock {
+    /// The number of bytes.
+    pub const LEN: usize = 32;
+
+    /// The bytes, with an open gate in front.
+    pub fn to_bytes(&self) -> [u8; 32]
+        ensures { result ≡ superblock self.now.net_id self.now.slots }
+    {
+        let [_, n2, n1, n0] = u32::from(self.net_id.get()).to_be_bytes();
+        let [s3, s2, s1, s0] = (self.slots.get() as u32).to_be_bytes();
+        let [a7, a6, a5, a4, a3, a2, a1, a0] = self.area_len().to_be_bytes();
+        [
+            OPEN, b'L', b'N', b'S', b'T', b'O', b'R', b'E', 1, n2, n1, n0, s3, s2, s1, s0, a7, a6,
+            a5, a4, a3, a2, a1, a0, 0, 0, 0, 0, 0, 0, 0, 0,
+        ]
+    }
+
+    /// The length of one area in bytes.
+    pub fn area_len(&self) -> u64
+        ensures len { result ≡ area_len self.now.slots }
+        ensures small { result < 2 ^ 32 }
+    {
+        30 + self.slots.get() * 4305 + 1_048_576
+    }
+
+    /// The length of the whole disk in bytes.
+    pub fn disk_len(&self) -> u64
+        ensures { result ≡ disk_len self.now.slots }
+    {
+        32 + 2 * self.area_len()
+    }
+
+    /// The superblock that these bytes are. Refused with `NotFormatted` where the gate is closed or
+    /// the name isn't there, else with `WrongVersion` where the version isn't 1, else with `Damaged`
+    /// where another field is out of its range.
+    pub fn from_bytes(bytes: &[u8; 32]) -> Result<Self, Refusal>
+        ensures found { IfOk result (λ s. bytes.now ≡ superblock s.net_id s.slots) }
+        ensures only { (net_id slots : ℕ) → net_id < 64 → 1 ≤ slots → slots ≤ 4096 → bytes.now ≡ superblock net_id slots
+            → result ≡ Ok (record { net_id = net_id; slots = slots }) }
+        ensures not_formatted { (result ≡ Err NotFormatted) ↔ (take 8 bytes.now ≢ 165 ∷ codes "LNSTORE") }
+        ensures version { (result ≡ Err WrongVersion)
+            ↔ ((take 8 bytes.now ≡ 165 ∷ codes "LNSTORE") × (slice_index bytes.now 8 ≢ 1)) }
+        ensures refused { IfErr result (λ e. (e ≡ NotFormatted) ⊎ ((e ≡ WrongVersion) ⊎ (e ≡ Damaged))) }
+    {
+        if bytes[..8] != [OPEN, b'L', b'N', b'S', b'T', b'O', b'R', b'E'] {
+            return Err(Refusal::NotFormatted);
+        }
+        if bytes[8] != 1 {
+            return Err(Refusal::WrongVersion);
+        }
+        let net_id = u32::from_be_bytes([0, bytes[9], bytes[10], bytes[11]]);
+        let slots = u32::from_be_bytes([bytes[12], bytes[13], bytes[14], bytes[15]]);
+        match (NetId::new(net_id), Slots::new(u64::from(slots))) {
+            (Some(net_id), Some(slots)) => Superblock { net_id, slots }.checked(bytes),
+            _ => Err(Refusal::Damaged),
+        }
+    }
+
+    // This superblock, where the bytes are its own.
+    fn checked(self, bytes: &[u8; 32]) -> Result<Self, Refusal>
+        ensures same { (bytes.now ≡ superblock self.net_id self.slots) → result ≡ Ok self }
+        ensures other { (bytes.now ≢ superblock self.net_id self.slots) → result ≡ Err Damaged }
+        ensures found { IfOk result (λ s. (s ≡ self) × (bytes.now ≡ superblock self.net_id self.slots)) }
+        ensures refused { IfErr result (λ e. e ≡ Damaged) }
+    {
+        if bytes.as_slice() == self.to_bytes().as_slice() {
+            Ok(self)
+        } else {
+            Err(Refusal::Damaged)
+        }
+    }
+}
