@@ -1,5 +1,5 @@
 -- Byte texts in a line: hex, with a dash for no bytes.
-use Rattle.std.proofs.Common.{◌≡◌, ◌≢◌, ℕ, ◌*◌, ◌+◌, List, [], ◌∷◌, length, refl, sym, ap, ◌∙◌, arith}
+use Rattle.std.proofs.Common.{◌≡◌, ◌≢◌, ℕ, List, [], ◌∷◌, length, refl, sym, ap, ◌∙◌, arith}
 use Rattle.hex.specs.Hex.{IsBytes}
 use Rattle.lw_types.specs.Hex.{hex_text, field_text, IsHexText, IsFieldText}
 use Rattle.lw_types.proofs.UpperHex.{hex_text_injective, hex_text-nil, length-hex_text}

@@ -1,10 +1,10 @@
 -- Upper-case hex has one spelling: what its digits decode to is written as these digits again.
-use Rattle.std.proofs.Common.{◌≡◌, ℕ, zero, suc, ◌+◌, ◌*◌, ◌/◌, ◌%◌, ◌<◌, ◌==◌, Bool, true, false, not, ◌||◌, List, [], ◌∷◌, ◌++◌, length, get_or, take, ◌^◌, ◌-◌, slice_index, Option, Some, None, unwrap_or, Result, Ok, Err, refl, sym, ap, ◌∙◌, arith, inl, inr}
+use Rattle.std.proofs.Common.{◌≡◌, ℕ, suc, ◌+◌, ◌*◌, ◌/◌, ◌%◌, ◌<◌, ◌==◌, Bool, true, false, not, ◌||◌, List, [], ◌∷◌, ◌++◌, length, get_or, take, ◌^◌, ◌-◌, slice_index, Option, Some, None, unwrap_or, Result, Ok, Err, refl, sym, ap, ◌∙◌, arith, inl, inr}
 use Rattle.std.specs.List.{AllPass}
 use Rattle.std.specs.Prelude.{IfSome}
 use Rattle.std.specs.Fmt.{digit_glyph, digits, format_spec, padded_integral}
 use Rattle.std.specs.Result.{result_ok, result_unwrap_or}
-use Rattle.std.proofs.lemmas.Bool.{agree_below, agree_below_at, or_cases, not-true, eqb-true, both_ways}
+use Rattle.std.proofs.lemmas.Bool.{agree_below_at, or_cases, not-true, eqb-true, both_ways}
 use Rattle.std.proofs.lemmas.Fmt.{hex_byte}
 use Rattle.std.proofs.lemmas.List.{take_more}
 use Rattle.std.proofs.lemmas.List.Elements.{All-cons, All-head, All-nil, All-tail}

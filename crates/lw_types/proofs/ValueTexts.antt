@@ -1,8 +1,8 @@
 -- A value is its bytes, and so has one text.
-use Rattle.std.proofs.Common.{◌≡◌, ℕ, zero, suc, ◌*◌, ◌/◌, ◌%◌, ◌+◌, ◌<◌, ◌^◌, List, [], ◌∷◌, false, true, get_or, length, slice_index, Option, Some, None, refl, sym, ap, ◌∙◌, arith}
+use Rattle.std.proofs.Common.{◌≡◌, ℕ, zero, suc, ◌<◌, ◌^◌, List, [], ◌∷◌, false, true, get_or, length, slice_index, Option, Some, None, refl, sym, ap, ◌∙◌, arith}
 use Rattle.std.specs.Prelude.{IfSome, SomeIff}
 use Rattle.std.proofs.lemmas.List.Elements.{All-nil}
-use Rattle.std.specs.Int.{w32, w64, bytes_high_first, byte_at, from_be_bytes, to_be_bytes}
+use Rattle.std.specs.Int.{w32, w64, bytes_high_first, from_be_bytes, to_be_bytes}
 use Rattle.std.proofs.lemmas.Nat.{be_bytes_4, be_bytes_8, from_be_bytes-to_be_bytes_4, from_be_bytes-to_be_bytes_8}
 use Rattle.hex.specs.Hex.{IsBytes}
 use Rattle.lw_types.specs.declared.identifiers.Eui.{Eui}

@@ -1,5 +1,5 @@
 -- Decimals with one spelling.
-use Rattle.std.specs.Prelude.{ℕ, Bool, false, true, ◌&&◌, ◌||◌, ◌==◌, List, [], ◌∷◌, length, slice_index, nat_le}
+use Rattle.std.specs.Prelude.{ℕ, Bool, ◌&&◌, ◌||◌, ◌==◌, List, length, slice_index, nat_le}
 
 -- a digit from 1 to 9 stands first, or a 0 alone: no sign and no leading 0
 abbrev pub starts_plain : List ℕ → Bool

@@ -1,7 +1,8 @@
 -- The texts of bytes and of the values made of them: two upper-case hex digits a byte, the first byte first.
 use Rattle.std.specs.Prelude.{◌≡◌, ℕ, Bool, ◌&&◌, ◌||◌, nat_le, List, [], ◌∷◌, codes}
 use Rattle.std.specs.Int.{w32, w64, to_be_bytes}
-use Rattle.hex.specs.Hex.{encode_upper, IsBytes}
+use Rattle.hex.specs.Hex.{encode_upper}
+pub use Rattle.hex.specs.Hex.{IsBytes}
 use Rattle.lw_types.specs.declared.identifiers.Eui.{Eui}
 use Rattle.lw_types.specs.declared.identifiers.DevAddr.{DevAddr}
 use Rattle.lw_types.specs.declared.key.Key.{Key}

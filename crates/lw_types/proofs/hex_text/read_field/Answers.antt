@@ -1,6 +1,6 @@
 use Rattle.std.proofs.Common.{◌≡◌, rules, sym, ◌∙◌}
 use Rattle.std.proofs.lemmas.Result.{IfOk-weaker}
-use Rattle.lw_types.specs.Hex.{hex_text, field_text, IsFieldText}
+use Rattle.lw_types.specs.Hex.{hex_text, field_text}
 use Rattle.lw_types.proofs.FieldTexts.{dash_is_nothing, dash_is_text, not_empty, dash_alone, field_from_hex, hex_from_field, IsFieldText-from_hex, IsHexText-from_field}
 use Rattle.lw_types.proofs.hex_text.read_field.Goals as goal
 

@@ -1,5 +1,3 @@
-use Rattle.std.proofs.Common.{ap, sym, ◌∙◌}
-use Rattle.std.specs.Result.{result_unwrap_or}
 use Rattle.hex.proofs.HexLemmas.{decode_of-same}
 use Rattle.lw_types.proofs.UpperHex.{written_back, digits_from_hex, decode_of-hex_text}
 use Rattle.lw_types.proofs.hex_text.read_hex.Goals as goal

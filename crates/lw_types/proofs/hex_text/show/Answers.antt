@@ -1,6 +1,5 @@
 use Rattle.std.proofs.Output.{has_written_append, has_written_of_eq}
-use Rattle.std.proofs.lemmas.Grind.{common_steps}
-use Rattle.std.proofs.Common.{sym, arith, rules}
+use Rattle.std.proofs.Common.{arith, rules}
 use Rattle.lw_types.proofs.UpperHex.{hex_text-nil, hex_text-take_more}
 use Rattle.lw_types.proofs.hex_text.show.Goals as goal
 

@@ -1,5 +1,4 @@
 use Rattle.std.proofs.Common.{Some, ap}
-use Rattle.lw_types.specs.declared.identifiers.DevAddr.{DevAddr}
 use Rattle.lw_types.proofs.ValueTexts.{dev_addr_found, dev_addr_only, dev_addr_none}
 use Rattle.lw_types.proofs.identifiers.DevAddrFromText.from_text.Goals as goal
 

@@ -1,5 +1,4 @@
 use Rattle.std.proofs.Common.{Some, ap}
-use Rattle.lw_types.specs.declared.identifiers.Eui.{Eui}
 use Rattle.lw_types.proofs.ValueTexts.{eui_found, eui_only, eui_none}
 use Rattle.lw_types.proofs.identifiers.EuiFromText.from_text.Goals as goal
 

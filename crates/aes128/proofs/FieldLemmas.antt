@@ -1,0 +1,98 @@
+-- The field: products are linear, and stay bytes.
+use Rattle.std.proofs.Common.{◌≡◌, ℕ, zero, suc, ◌+◌, ◌-◌, ◌*◌, ◌/◌, ◌%◌, ◌<◌, ◌≤◌, subst, Bool, true, false, cond, eqb, ltb, refl, sym, ap, ◌∙◌, arith, lit<}
+use Rattle.std.proofs.lemmas.Bool.{ltb-true}
+use Rattle.std.proofs.lemmas.Nat.{xor_lt}
+use Rattle.std.specs.Int.Bits.{bit_xor, xor_assoc, xor_comm}
+use Rattle.aes128.specs.Field.{◌⊕◌, ◌•◌, times_x, terms_times}
+use Rattle.aes128.proofs.Below.{all_below, all_below-at, agree_below}
+
+-- the middle two of four summands change places
+pub interchange : (a b c d : ℕ) → (a ⊕ b) ⊕ (c ⊕ d) ≡ (a ⊕ c) ⊕ (b ⊕ d)
+interchange a b c d =
+    xor_assoc a b (c ⊕ d)
+    ∙ ap (bit_xor a) (sym (xor_assoc b c d) ∙ ap (λ (n : ℕ). n ⊕ d) (xor_comm b c) ∙ xor_assoc c b d)
+    ∙ sym (xor_assoc a c (b ⊕ d))
+
+pub xor_byte : (a b : ℕ) → a < 256 → b < 256 → a ⊕ b < 256
+xor_byte a b = xor_lt 8 a b
+
+pub times_x-xor : (a b : ℕ) → a < 256 → b < 256 → times_x (a ⊕ b) ≡ times_x a ⊕ times_x b
+unfolding all_below
+times_x-xor a b a_byte b_byte =
+    let rows : all_below (λ a. all_below (λ b. eqb (times_x (a ⊕ b)) (times_x a ⊕ times_x b)) 256) 256 ≡ true = refl in
+    agree_below (λ b. times_x (a ⊕ b)) (λ b. times_x a ⊕ times_x b) 256
+    (all_below-at (λ a. all_below (λ b. eqb (times_x (a ⊕ b)) (times_x a ⊕ times_x b)) 256) 256 rows a a_byte) b b_byte
+
+pub times_x-lt : (a : ℕ) → a < 256 → times_x a < 256
+unfolding all_below
+times_x-lt a byte = ltb-true (times_x a) 256 (all_below-at (λ a. ltb (times_x a) 256) 256 refl a byte)
+
+-- a summand that is there or not
+pub chosen-lt : (p : Bool) (b : ℕ) → b < 256 → cond p b 0 < 256
+chosen-lt true b byte = byte
+chosen-lt false b byte = lit< tt
+
+pub chosen-xor : (p : Bool) (b c : ℕ) → cond p (b ⊕ c) 0 ≡ cond p b 0 ⊕ cond p c 0
+chosen-xor true b c = refl
+chosen-xor false b c = refl
+
+pub terms_times-lt : (n a b : ℕ) → b < 256 → terms_times n a b < 256
+unfolding terms_times
+terms_times-lt zero a b byte = lit< tt
+terms_times-lt (suc n) a b byte =
+    xor_byte _ _ (chosen-lt (eqb (a % 2) 1) b byte) (times_x-lt (terms_times n (a / 2) b) (terms_times-lt n (a / 2) b byte))
+
+pub terms_times-xor : (n a b c : ℕ) → b < 256 → c < 256 → terms_times n a (b ⊕ c) ≡ terms_times n a b ⊕ terms_times n a c
+unfolding terms_times
+terms_times-xor zero a b c b_byte c_byte = refl
+terms_times-xor (suc n) a b c b_byte c_byte =
+    let rest : times_x (terms_times n (a / 2) (b ⊕ c)) ≡ times_x (terms_times n (a / 2) b) ⊕ times_x (terms_times n (a / 2) c) =
+    ap (λ (k : ℕ). times_x k) (terms_times-xor n (a / 2) b c b_byte c_byte)
+    ∙ times_x-xor (terms_times n (a / 2) b) (terms_times n (a / 2) c) (terms_times-lt n (a / 2) b b_byte) (terms_times-lt n (a / 2) c c_byte) in
+    ap (λ (k : ℕ). cond (eqb (a % 2) 1) (b ⊕ c) 0 ⊕ k) rest
+    ∙ ap (λ (k : ℕ). k ⊕ (times_x (terms_times n (a / 2) b) ⊕ times_x (terms_times n (a / 2) c))) (chosen-xor (eqb (a % 2) 1) b c)
+    ∙ interchange (cond (eqb (a % 2) 1) b 0) (cond (eqb (a % 2) 1) c 0) (times_x (terms_times n (a / 2) b)) (times_x (terms_times n (a / 2) c))
+
+pub product-lt : (a b : ℕ) → b < 256 → a • b < 256
+unfolding ◌•◌
+product-lt a b byte = terms_times-lt 8 a b byte
+
+pub product-xor : (a b c : ℕ) → b < 256 → c < 256 → a • (b ⊕ c) ≡ a • b ⊕ a • c
+unfolding ◌•◌
+product-xor a b c b_byte c_byte = terms_times-xor 8 a b c b_byte c_byte
+
+-- the products with small elements, by the doublings that make them
+pub one_times : (b : ℕ) → b < 256 → 1 • b ≡ b
+unfolding all_below ◌•◌ terms_times
+one_times b byte = agree_below (λ b. 1 • b) (λ b. b) 256 refl b byte
+
+pub two_times_low : (b : ℕ) → b < 128 → b * 2 % 256 ≡ 2 • b
+unfolding all_below ◌•◌ terms_times
+two_times_low b low = agree_below (λ b. b * 2 % 256) (λ b. 2 • b) 128 refl b low
+
+pub two_times_high : (b : ℕ) → 128 ≤ b → b < 256 → b * 2 % 256 ⊕ 27 ≡ 2 • b
+unfolding all_below ◌•◌ terms_times
+two_times_high b high byte =
+    let above : (b - 128) + 128 ≡ b = omega arith in
+    let P : ℕ → Type 0 = λ n. n * 2 % 256 ⊕ 27 ≡ 2 • n in
+    subst P above (agree_below (λ k. (k + 128) * 2 % 256 ⊕ 27) (λ k. 2 • (k + 128)) 128 refl (b - 128) (omega arith))
+
+pub three_times : (b : ℕ) → b < 256 → 3 • b ≡ 2 • b ⊕ b
+unfolding all_below ◌•◌ terms_times
+three_times b byte = agree_below (λ b. 3 • b) (λ b. 2 • b ⊕ b) 256 refl b byte
+
+pub nine_times : (b : ℕ) → b < 256 → 9 • b ≡ 2 • (2 • (2 • b)) ⊕ b
+unfolding all_below ◌•◌ terms_times
+nine_times b byte = agree_below (λ b. 9 • b) (λ b. 2 • (2 • (2 • b)) ⊕ b) 256 refl b byte
+
+pub eleven_times : (b : ℕ) → b < 256 → 11 • b ≡ 2 • (2 • (2 • b)) ⊕ 2 • b ⊕ b
+unfolding all_below ◌•◌ terms_times
+eleven_times b byte = agree_below (λ b. 11 • b) (λ b. 2 • (2 • (2 • b)) ⊕ 2 • b ⊕ b) 256 refl b byte
+
+pub thirteen_times : (b : ℕ) → b < 256 → 13 • b ≡ 2 • (2 • (2 • b)) ⊕ 2 • (2 • b) ⊕ b
+unfolding all_below ◌•◌ terms_times
+thirteen_times b byte = agree_below (λ b. 13 • b) (λ b. 2 • (2 • (2 • b)) ⊕ 2 • (2 • b) ⊕ b) 256 refl b byte
+
+pub fourteen_times : (b : ℕ) → b < 256 → 14 • b ≡ 2 • (2 • (2 • b)) ⊕ 2 • (2 • b) ⊕ 2 • b
+unfolding all_below ◌•◌ terms_times
+fourteen_times b byte = agree_below (λ b. 14 • b) (λ b. 2 • (2 • (2 • b)) ⊕ 2 • (2 • b) ⊕ 2 • b) 256 refl b byte

@@ -1,0 +1,130 @@
+// One round of the cipher, and what undoes it (FIPS 197 §5.1, §5.3).
+ghost use Rattle.std.specs.Prelude.{◌≡◌, ◌<◌, ◌+◌, ◌%◌, [], ◌∷◌, ◌++◌, map};
+ghost use Rattle.aes128.specs.Cipher.{xor, byte_at, column, s_box, shifted_column, sub_bytes, shift_rows, mix_columns};
+
+use crate::columns::{mixed, unmixed};
+use crate::substitution::{substituted, unsubstituted};
+use crate::sums::xor;
+
+// A column of the state after SubBytes and ShiftRows.
+#[inline(always)]
+fn shifted_column(state: &[u8; 16], c: usize) -> [u8; 4]
+    requires { c < 4 }
+    ensures { result ≡ map s_box (shifted_column state.now c) }
+{
+    [
+        substituted(state[4 * c]),
+        substituted(state[1 + 4 * ((c + 1) % 4)]),
+        substituted(state[2 + 4 * ((c + 2) % 4)]),
+        substituted(state[3 + 4 * ((c + 3) % 4)]),
+    ]
+}
+
+#[inline(always)]
+pub fn joined(a: [u8; 4], b: [u8; 4], c: [u8; 4], d: [u8; 4]) -> [u8; 16]
+    ensures { result ≡ column a 0 ++ (column b 0 ++ (column c 0 ++ column d 0)) }
+{
+    [
+        a[0], a[1], a[2], a[3], b[0], b[1], b[2], b[3], c[0], c[1], c[2], c[3], d[0], d[1], d[2],
+        d[3],
+    ]
+}
+
+#[inline(always)]
+pub fn round(state: &mut [u8; 16], key: &[u8; 16])
+    ensures { state.new ≡ xor (mix_columns (shift_rows (sub_bytes state.old))) key.now }
+{
+    *state = joined(
+        mixed(shifted_column(state, 0)),
+        mixed(shifted_column(state, 1)),
+        mixed(shifted_column(state, 2)),
+        mixed(shifted_column(state, 3)),
+    );
+    xor(state, key);
+}
+
+#[inline(always)]
+pub fn last_round(state: &mut [u8; 16], key: &[u8; 16])
+    ensures { state.new ≡ xor (shift_rows (sub_bytes state.old)) key.now }
+{
+    *state = joined(
+        shifted_column(state, 0),
+        shifted_column(state, 1),
+        shifted_column(state, 2),
+        shifted_column(state, 3),
+    );
+    xor(state, key);
+}
+
+// Column c of the state that SubBytes and ShiftRows take to this one.
+#[inline(always)]
+fn unshifted_column(state: &[u8; 16], c: usize) -> [u8; 4]
+    requires { c < 4 }
+    ensures { map s_box (column result 0) ≡ byte_at state.now 0 c ∷ byte_at state.now 1 ((c + 3) % 4)
+        ∷ byte_at state.now 2 ((c + 2) % 4) ∷ byte_at state.now 3 ((c + 1) % 4) ∷ [] }
+{
+    [
+        unsubstituted(state[4 * c]),
+        unsubstituted(state[1 + 4 * ((c + 3) % 4)]),
+        unsubstituted(state[2 + 4 * ((c + 2) % 4)]),
+        unsubstituted(state[3 + 4 * ((c + 1) % 4)]),
+    ]
+}
+
+// What undoes a last round but for its key: SubBytes and ShiftRows take the new state to the old one.
+#[inline(always)]
+fn unshift(state: &mut [u8; 16])
+    ensures { shift_rows (sub_bytes state.new) ≡ state.old }
+{
+    *state = joined(
+        unshifted_column(state, 0),
+        unshifted_column(state, 1),
+        unshifted_column(state, 2),
+        unshifted_column(state, 3),
+    );
+}
+
+#[inline(always)]
+pub fn column_at(state: &[u8; 16], c: usize) -> [u8; 4]
+    requires { c < 4 }
+    ensures { result ≡ column state.now c }
+{
+    [
+        state[4 * c],
+        state[1 + 4 * c],
+        state[2 + 4 * c],
+        state[3 + 4 * c],
+    ]
+}
+
+// What undoes MixColumns, which takes the new state to the old one.
+#[inline(always)]
+fn unmix(state: &mut [u8; 16])
+    ensures { mix_columns state.new ≡ state.old }
+{
+    *state = joined(
+        unmixed(column_at(state, 0)),
+        unmixed(column_at(state, 1)),
+        unmixed(column_at(state, 2)),
+        unmixed(column_at(state, 3)),
+    );
+}
+
+// A round takes the new state to the old one.
+#[inline(always)]
+pub fn unround(state: &mut [u8; 16], key: &[u8; 16])
+    ensures { xor (mix_columns (shift_rows (sub_bytes state.new))) key.now ≡ state.old }
+{
+    xor(state, key);
+    unmix(state);
+    unshift(state);
+}
+
+// The last round takes the new state to the old one.
+#[inline(always)]
+pub fn undo_last_round(state: &mut [u8; 16], key: &[u8; 16])
+    ensures { xor (shift_rows (sub_bytes state.new)) key.now ≡ state.old }
+{
+    xor(state, key);
+    unshift(state);
+}

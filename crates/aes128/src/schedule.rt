@@ -1,0 +1,112 @@
+// The key schedule (FIPS 197 §5.2), and the cipher over it (§5.1, §5.3).
+ghost use Rattle.std.specs.Prelude.{◌≡◌, List, ℕ, [], slice_index_or};
+ghost use Rattle.aes128.specs.Cipher.{xor, column, next_round_key, AreRoundKeys, encrypted};
+
+use crate::columns::doubled;
+use crate::rounds::{column_at, joined, last_round, round, undo_last_round, unround};
+use crate::substitution::substituted;
+use crate::sums::xor;
+use lw_types::Key;
+use std::marker::Model;
+
+/// The round keys of a key, computed once for any number of blocks. A contract sees the key.
+#[derive(Drop)]
+pub struct KeySchedule {
+    round_keys: [[u8; 16]; 11],
+}
+
+impl Model for KeySchedule {
+    ghost Value = { List ℕ };
+
+    ghost view = { λ s. slice_index_or s.round_keys 0 [] };
+
+    ghost invariant = { λ s. AreRoundKeys s.round_keys };
+}
+
+impl KeySchedule {
+    /// Expands the key.
+    pub fn new(key: &Key) -> Self
+        ensures { result ≡ key.now.0 }
+    {
+        let mut round_keys = [key.0; 11];
+        let mut constant = 1;
+        for r in 0..10 {
+            round_keys[r + 1] = next_round_key(&round_keys[r], constant);
+            constant = doubled(constant);
+        }
+        KeySchedule { round_keys }
+    }
+
+    /// Encrypts the block in place.
+    pub fn encrypt(&self, block: &mut [u8; 16])
+        ensures { block.new ≡ encrypted self.now block.old }
+    {
+        xor(block, &self.round_keys[0]);
+        for r in 0..9 {
+            round(block, &self.round_keys[r + 1]);
+        }
+        last_round(block, &self.round_keys[10]);
+    }
+
+    /// Decrypts the block in place: what is left is the one block whose encryption was there.
+    pub fn decrypt(&self, block: &mut [u8; 16])
+        ensures { encrypted self.now block.new ≡ block.old }
+    {
+        undo_last_round(block, &self.round_keys[10]);
+        for r in 0..9 {
+            unround(block, &self.round_keys[9 - r]);
+        }
+        xor(block, &self.round_keys[0]);
+    }
+}
+
+fn sum(a: [u8; 4], b: [u8; 4]) -> [u8; 4]
+    ensures { result ≡ xor (column a 0) (column b 0) }
+{
+    [a[0] ^ b[0], a[1] ^ b[1], a[2] ^ b[2], a[3] ^ b[3]]
+}
+
+fn next_round_key(key: &[u8; 16], constant: u8) -> [u8; 16]
+    ensures { result ≡ next_round_key constant key.now }
+{
+    let turned = [
+        substituted(key[13]) ^ constant,
+        substituted(key[14]),
+        substituted(key[15]),
+        substituted(key[12]),
+    ];
+    let first = sum(column_at(key, 0), turned);
+    let second = sum(column_at(key, 1), first);
+    let third = sum(column_at(key, 2), second);
+    let fourth = sum(column_at(key, 3), third);
+    joined(first, second, third, fourth)
+}
+
+#[cfg(test)]
+mod tests {
+    use super::*;
+
+    // A key, and the keys of its first and last round: FIPS 197 appendices A.1 and C.1.
+    const EXPANSIONS: [(u128, u128, u128); 2] = [
+        (
+            0x2b7e151628aed2a6abf7158809cf4f3c,
+            0xa0fafe1788542cb123a339392a6c7605,
+            0xd014f9a8c9ee2589e13f0cc8b6630ca6,
+        ),
+        (
+            0x000102030405060708090a0b0c0d0e0f,
+            0xd6aa74fdd2af72fadaa678f1d6ab76fe,
+            0x13111d7fe3944a17f307a78b4d2b30c5,
+        ),
+    ];
+
+    #[test]
+    fn the_key_expansions_of_the_standard(rt: HostRuntime) {
+        for (key, first, last) in EXPANSIONS {
+            let schedule = KeySchedule::new(&Key(key.to_be_bytes()));
+            assert_eq!(rt; schedule.round_keys[0], key.to_be_bytes());
+            assert_eq!(rt; schedule.round_keys[1], first.to_be_bytes());
+            assert_eq!(rt; schedule.round_keys[10], last.to_be_bytes());
+        }
+    }
+}

@@ -1,0 +1,37 @@
+-- The MICs, the sealed accept and the session keys of a join (TS001-1.0.4 §6.2). Nonces and NetIDs are numbers.
+use Rattle.std.specs.Prelude.{◌≡◌, ◌⊎◌, ℕ, zero, suc, ◌-◌, ◌*◌, ◌/◌, List, [], ◌∷◌, ◌++◌, length, take, drop, replicate}
+use Rattle.std.specs.Int.{w16, w32, to_le_bytes}
+use Rattle.aes128.specs.Cipher.{encrypted}
+use Rattle.aes_cmac.specs.Cmac.{cmac}
+
+-- the MIC of a Join-Request, and of a Join-Accept before it is sealed: of the MHDR and the fields after it
+unfoldable pub join_mic : List ℕ → List ℕ → List ℕ
+join_mic key message = take 4 (cmac key message)
+
+-- the MHDR, 12 bytes or with a CFList 28, and the MIC
+abbrev pub IsAcceptSize : ℕ → Type 0
+IsAcceptSize size = (size ≡ 17) ⊎ (size ≡ 33)
+
+-- the first n blocks of a list, each encrypted
+unfoldable pub encrypted_blocks : List ℕ → List ℕ → ℕ → List ℕ
+encrypted_blocks key bytes zero = []
+encrypted_blocks key bytes (suc n) = encrypted_blocks key bytes n ++ encrypted key (take 16 (drop (16 * n) bytes))
+
+-- a sealed Join-Accept as the device opens it: the MHDR, and the blocks after it encrypted
+abbrev pub opened : List ℕ → List ℕ → List ℕ
+opened key frame = take 1 frame ++ encrypted_blocks key (drop 1 frame) (length frame / 16)
+
+-- a Join-Accept whose last four bytes are its MIC
+abbrev pub with_mic : List ℕ → List ℕ → List ℕ
+with_mic key frame =
+    let fields = take (length frame - 4) frame in
+    fields ++ join_mic key fields
+
+-- the three low bytes of a number, the lowest first
+abbrev pub three_bytes : ℕ → List ℕ
+three_bytes n = take 3 (to_le_bytes w32 n)
+
+-- the session key of a kind: 1 for NwkSKey, 2 for AppSKey
+unfoldable pub session_key : List ℕ → ℕ → ℕ → ℕ → ℕ → List ℕ
+session_key key kind join_nonce net_id dev_nonce =
+    encrypted key (kind ∷ (three_bytes join_nonce ++ (three_bytes net_id ++ (to_le_bytes w16 dev_nonce ++ replicate 7 0))))

@@ -1,0 +1,6 @@
+mod AreaContents
+mod Batches
+mod Middle
+mod ReadsOn
+mod Spelling
+mod Steps

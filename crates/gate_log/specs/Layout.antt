@@ -1,0 +1,96 @@
+-- What the bytes of an area say: a checkpoint, and batches behind it, each behind its gate.
+use Rattle.std.specs.Prelude.{◌≡◌, ◌≢◌, ◌<◌, ◌^◌, ℕ, ◌+◌, List, [], ◌∷◌, ◌++◌, length, slice_index}
+use Rattle.std.specs.Int.{to_be_bytes, w16, w32, w64}
+use Rattle.gate_log.specs.declared.layout.Area.{Area}
+use Rattle.gate_log.specs.declared.layout.Header.{Header}
+use Rattle.gate_log.specs.declared.layout.BatchHead.{BatchHead}
+use Rattle.gate_log.specs.declared.layout.TheConstants.{OPEN}
+
+-- a batch: its head's numbers, and its entries as bytes
+pub record BatchValue : Type 0 where
+  pub last_sequence : ℕ
+  pub entry_count : ℕ
+  pub entries : List ℕ
+
+-- a disk as the log of one area sees it
+pub record Contents : Type 0 where
+  -- the bytes in front of the area
+  pub front : List ℕ
+  pub header : Header
+  pub records : List ℕ
+  pub batches : List BatchValue
+  -- the bytes behind the area
+  pub behind : List ℕ
+
+-- the fields of a header, the highest byte of each first
+unfoldable pub header_bytes : Header → List ℕ
+header_bytes h = h.version ∷ (to_be_bytes w64 h.generation ++ (to_be_bytes w64 h.sequence ++ (to_be_bytes w32 h.record_count ++ to_be_bytes w64 h.records_len)))
+
+-- the fields of a batch's head, the highest byte of each first
+unfoldable pub head_bytes : BatchHead → List ℕ
+head_bytes h = to_be_bytes w32 h.entries_len ++ (to_be_bytes w64 h.last_sequence ++ to_be_bytes w16 h.entry_count)
+
+abbrev pub head_of : BatchValue → BatchHead
+head_of b = record { entries_len = length b.entries; last_sequence = b.last_sequence; entry_count = b.entry_count }
+
+-- what stands behind a batch's gate
+abbrev pub body : BatchValue → List ℕ
+body b = head_bytes (head_of b) ++ b.entries
+
+-- batches, each behind its open gate
+abbrev pub open_batches : List BatchValue → List ℕ
+open_batches [] = []
+open_batches (b ∷ batches) = OPEN ∷ (body b ++ open_batches batches)
+
+-- the disk up to the gate of the next batch
+abbrev pub spelling : Contents → List ℕ
+spelling c = c.front ++ (OPEN ∷ (header_bytes c.header ++ (c.records ++ open_batches c.batches)))
+
+-- the numbers have their widths
+pub record IsHeader (h : Header) : Type 0 where
+  pub version : h.version < 2 ^ 8
+  pub generation : h.generation < 2 ^ 64
+  pub sequence : h.sequence < 2 ^ 64
+  pub record_count : h.record_count < 2 ^ 32
+  pub records_len : h.records_len < 2 ^ 64
+
+pub record IsHead (h : BatchHead) : Type 0 where
+  pub entries_len : h.entries_len < 2 ^ 32
+  pub last_sequence : h.last_sequence < 2 ^ 64
+  pub entry_count : h.entry_count < 2 ^ 16
+
+abbrev pub AreHeads : List BatchValue → Type 0
+AreHeads [] = Unit {0}
+AreHeads (b ∷ batches) = IsHead (head_of b) × AreHeads batches
+
+-- the contents lie in the area, and behind them the next gate and so many free bytes
+pub record Fits (area : Area) (c : Contents) (free : ℕ) : Type 0 where
+  pub front : length c.front ≡ area.start
+  pub back : length (spelling c) + 1 + free ≡ area.end
+  pub header : IsHeader c.header
+  pub records : length c.records ≡ c.header.records_len
+  pub batches : AreHeads c.batches
+
+-- the disk holds these contents: behind their spelling stands a closed gate
+pub record Holds (area : Area) (c : Contents) (disk : List ℕ) : Type 0 where
+  pub gate : ℕ
+  pub free : List ℕ
+  pub bytes : disk ≡ spelling c ++ (gate ∷ (free ++ c.behind))
+  pub closed : gate ≢ OPEN
+  pub fits : Fits area c (length free)
+
+-- the contents with one more batch
+abbrev pub with_batch : Contents → BatchValue → Contents
+with_batch c b = record c { batches = c.batches ++ b ∷ [] }
+
+-- the header of an area that was never written before
+abbrev pub fresh_header : ℕ → Header
+fresh_header version = record { version = version; generation = 1; sequence = 0; record_count = 0; records_len = 0 }
+
+-- the area's gate is closed, so that it holds nothing
+abbrev pub IsClosedArea : Area → List ℕ → Type 0
+IsClosedArea area disk = slice_index disk area.start ≢ OPEN
+
+-- the contents behind other bytes
+abbrev pub with_front : Contents → List ℕ → Contents
+with_front c front = record c { front = front }

@@ -1,0 +1,63 @@
+-- What the bytes of an area give when it is opened.
+use Rattle.std.specs.Prelude.{◌≡◌, ◌≢◌, ◌<◌, ◌≤◌, ℕ, ◌+◌, Bool, true, false, List, ◌∷◌, ◌++◌, length, take, drop, slice_index, MatchBool, Result, Ok, Err}
+use Rattle.disk.specs.Outlook.{Outlook}
+use Rattle.disk.specs.Outlook.Outlook.{AllSucceed}
+use Rattle.disk.specs.State.{State}
+use Rattle.gate_log.specs.declared.error.RecoverError.{RecoverError}
+use Rattle.gate_log.specs.declared.error.RecoverError.TheVariants.{Device, OutOfMemory, Damaged}
+use Rattle.gate_log.specs.declared.layout.Area.{Area}
+use Rattle.gate_log.specs.declared.layout.Header.{Header}
+use Rattle.gate_log.specs.declared.layout.TheConstants.{OPEN}
+use Rattle.gate_log.specs.Layout.{BatchValue, Contents, AreHeads, IsHead, IsHeader, body, head_of, header_bytes, open_batches}
+
+-- calls of a disk that only read, and whether one of them failed
+pub record OnlyReads {D : Type 0} (honest : Type 0) (state : D → State) (failures : D → ℕ) (outlook : D → Outlook) (old new : D) (failed : Bool) : Type 0 where
+  pub same : honest → state new ≡ state old
+  pub same_length : length (state new).content ≡ length (state old).content
+  pub cause : MatchBool failed (failures old < failures new) (failures new ≡ failures old)
+  pub unarmed : outlook old ≡ AllSucceed → (failed ≡ false) × (outlook new ≡ AllSucceed)
+
+-- whether a device failed
+abbrev pub is_device_error : RecoverError → Bool
+is_device_error Device = true
+is_device_error OutOfMemory = false
+is_device_error Damaged = false
+
+abbrev pub has_device_error : {T : Type 0} → Result T RecoverError → Bool
+has_device_error (Ok x) = false
+has_device_error (Err e) = is_device_error e
+
+-- an open gate with a header behind it
+pub record IsHeaderAt (disk : List ℕ) (at : ℕ) (h : Header) : Type 0 where
+  pub bytes : drop at disk ≡ OPEN ∷ (header_bytes h ++ drop (at + 30) disk)
+  pub header : IsHeader h
+
+-- an open gate with a batch behind it, and room for the next gate before the end
+pub record IsBatchAt (disk : List ℕ) (end at : ℕ) (b : BatchValue) : Type 0 where
+  pub bytes : drop at disk ≡ OPEN ∷ (body b ++ drop (at + 15 + length b.entries) disk)
+  pub head : IsHead (head_of b)
+  pub fits : at + 15 + length b.entries < end
+
+-- an open gate, and no batch that fits behind it
+pub record NoBatchAt (disk : List ℕ) (end at : ℕ) : Type 0 where
+  pub opened : slice_index disk at ≡ OPEN
+  pub none : (b : BatchValue) (rest : List ℕ) → IsHead (head_of b) → drop at disk ≡ OPEN ∷ (body b ++ rest) → end ≤ at + 15 + length b.entries
+
+-- batches from a position on, and behind them a closed gate before the end
+pub record AreBatchesAt (disk : List ℕ) (end at : ℕ) (batches : List BatchValue) : Type 0 where
+  pub gate : ℕ
+  pub rest : List ℕ
+  pub bytes : drop at disk ≡ open_batches batches ++ (gate ∷ rest)
+  pub closed : gate ≢ OPEN
+  pub fits : at + length (open_batches batches) < end
+  pub heads : AreHeads batches
+
+-- a disk's contents with this header, these records and these batches in the area
+abbrev pub contents_in : Area → List ℕ → Header → List ℕ → List BatchValue → Contents
+contents_in area disk header records batches = record {
+  front = take area.start disk;
+  header = header;
+  records = records;
+  batches = batches;
+  behind = drop area.end disk;
+}

@@ -1,0 +1,113 @@
+// The layout of an area: what its bytes say.
+ghost use Rattle.std.specs.Prelude.{◌≡◌, ◌≤◌, ◌+◌, length, take, drop};
+ghost use Rattle.std.specs.Int.{to_be_bytes, w16, w32, w64};
+
+/// A gate that is open; any other byte is a closed one.
+pub const OPEN: u8 = 0xA5;
+
+/// The gate that is written where one is to be closed.
+pub const CLOSED: u8 = 0;
+
+/// Where an area begins and ends on its disk, in bytes from the front.
+#[derive(Clone, Copy, Debug, PartialEq, Eq)]
+pub struct Area {
+    pub start: u64,
+    pub end: u64,
+}
+
+/// What stands behind an area's gate.
+#[derive(Clone, Copy, Debug, PartialEq, Eq)]
+pub struct Header {
+    pub version: u8,
+    pub generation: u64,
+    /// The sequence number at which the records were taken.
+    pub sequence: u64,
+    pub record_count: u32,
+    /// The length of the records in bytes.
+    pub records_len: u64,
+}
+
+/// What stands behind a batch's gate.
+#[derive(Clone, Copy)]
+pub struct BatchHead {
+    /// The length of the entries in bytes.
+    pub entries_len: u32,
+    pub last_sequence: u64,
+    pub entry_count: u16,
+}
+
+impl Header {
+    ghost use Rattle.gate_log.specs.Layout.{IsHeader, header_bytes};
+
+    /// The bytes of this header.
+    #[tactic(auto, unfolding(crate::specs::Layout::header_bytes))]
+    pub(crate) fn to_bytes(self) -> [u8; 29]
+        ensures { result ≡ header_bytes self }
+    {
+        let mut bytes = [self.version; 29];
+        bytes[1..9].copy_from_slice(&self.generation.to_be_bytes());
+        bytes[9..17].copy_from_slice(&self.sequence.to_be_bytes());
+        bytes[17..21].copy_from_slice(&self.record_count.to_be_bytes());
+        bytes[21..29].copy_from_slice(&self.records_len.to_be_bytes());
+        bytes
+    }
+
+    /// The header that these bytes spell.
+    pub(crate) fn from_bytes(bytes: &[u8]) -> Header
+        requires { length bytes.now ≡ 29 }
+        ensures spelled { header_bytes result ≡ bytes.now }
+        ensures in_range { IsHeader result }
+    {
+        Header {
+            version: bytes[0],
+            generation: u64_at(bytes, 1),
+            sequence: u64_at(bytes, 9),
+            record_count: u32_at(bytes, 17),
+            records_len: u64_at(bytes, 21),
+        }
+    }
+}
+
+impl BatchHead {
+    ghost use Rattle.gate_log.specs.Layout.{IsHead, head_bytes};
+
+    /// The head that these bytes spell.
+    pub(crate) fn from_bytes(bytes: &[u8]) -> BatchHead
+        requires { length bytes.now ≡ 14 }
+        ensures spelled { head_bytes result ≡ bytes.now }
+        ensures in_range { IsHead result }
+    {
+        BatchHead {
+            entries_len: u32_at(bytes, 0),
+            last_sequence: u64_at(bytes, 4),
+            entry_count: u16_at(bytes, 12),
+        }
+    }
+}
+
+fn u16_at(bytes: &[u8], at: usize) -> u16
+    requires { at + 2 ≤ length bytes.now }
+    ensures { to_be_bytes w16 result ≡ take 2 (drop at bytes.now) }
+{
+    let mut number = [0; 2];
+    number.copy_from_slice(&bytes[at..at + 2]);
+    u16::from_be_bytes(number)
+}
+
+fn u32_at(bytes: &[u8], at: usize) -> u32
+    requires { at + 4 ≤ length bytes.now }
+    ensures { to_be_bytes w32 result ≡ take 4 (drop at bytes.now) }
+{
+    let mut number = [0; 4];
+    number.copy_from_slice(&bytes[at..at + 4]);
+    u32::from_be_bytes(number)
+}
+
+fn u64_at(bytes: &[u8], at: usize) -> u64
+    requires { at + 8 ≤ length bytes.now }
+    ensures { to_be_bytes w64 result ≡ take 8 (drop at bytes.now) }
+{
+    let mut number = [0; 8];
+    number.copy_from_slice(&bytes[at..at + 8]);
+    u64::from_be_bytes(number)
+}

@@ -1,0 +1,160 @@
+// The phases of one batch, each spent by one call of the disk.
+ghost use Rattle.std.specs.Prelude.{◌≡◌, ◌<◌, ◌≤◌, ◌+◌, ◌^◌, length, IfOk, OnOk, OnErr};
+ghost use Rattle.disk.specs.State.{EveryImage};
+ghost use Rattle.gate_log.specs.Layout.{Contents, BatchValue, Holds, with_batch};
+ghost use Rattle.gate_log.specs.Log.{seen, disk_of, IsAtRest, IsOneCall};
+ghost use Rattle.gate_log.specs.Phases.{bytes_of, written_size, synced_size, opened_size, HoldsEither, IsBegun, IsWritten, IsBodySynced, IsGateWritten};
+
+use crate::layout::{CLOSED, OPEN};
+use crate::log::Log;
+use disk::{DeviceFailed, Disk};
+use std::alloc::{AllocError, Global};
+
+/// A batch of which nothing is written yet.
+pub struct Begun {
+    // The batch's body, and the closed gate of the next batch.
+    bytes: Vec<u8>,
+}
+
+/// A batch whose body is written, and may be torn.
+pub struct Written {
+    // How far behind the batch's gate the next one stands.
+    size: u64,
+}
+
+/// A batch whose body is on the disk, behind its closed gate.
+pub struct BodySynced {
+    size: u64,
+}
+
+/// A batch whose gate is open, and may be torn.
+pub struct GateWritten {
+    size: u64,
+}
+
+/// A batch that every crash leaves.
+pub struct Durable {
+    size: u64,
+}
+
+impl Begun {
+    #[tactic(auto, unfolding(crate::specs::Layout::head_bytes))]
+    /// A batch of these entries. All the memory that its phases need is taken here.
+    pub fn new(
+        alloc: Global,
+        last_sequence: u64,
+        entry_count: u16,
+        entries: &[u8],
+    ) -> Result<Begun, AllocError>
+        requires { length entries.now < 2 ^ 32 }
+        ensures begun { IfOk result
+            (λ begun. IsBegun begun (record {
+              last_sequence = last_sequence;
+              entry_count = entry_count;
+              entries = entries.now;
+            })) }
+        ensures size { IfOk result (λ begun. length (bytes_of begun) ≡ 15 + length entries.now) }
+    {
+        let mut bytes = Vec::with_capacity(alloc, entries.len() + 15)?;
+        bytes.extend_from_slice(&(entries.len() as u32).to_be_bytes())?;
+        bytes.extend_from_slice(&last_sequence.to_be_bytes())?;
+        bytes.extend_from_slice(&entry_count.to_be_bytes())?;
+        bytes.extend_from_slice(entries)?;
+        bytes.push(CLOSED)?;
+        Ok(Begun { bytes })
+    }
+
+    /// Writes the batch's body and the closed gate of the next batch.
+    pub fn write<D: Disk>(self, log: &mut Log<D>) -> Result<Written, DeviceFailed>
+        requires { (seen D.state log.old).next + length (bytes_of self)
+            < (seen D.state log.old).area.end }
+        ensures next { D.honest → (c : Contents) (b : BatchValue)
+            → IsAtRest (seen D.state log.old) c → IsBegun self b
+            → IfOk result (λ phase. IsWritten (seen D.state log.new) c b (written_size phase)) }
+        ensures images { D.honest → (c : Contents) → IsAtRest (seen D.state log.old) c
+            → EveryImage (D.state (disk_of log.new)) (Holds (seen D.state log.old).area c) }
+        ensures size { IfOk result (λ phase. written_size phase ≡ length (bytes_of self)) }
+        ensures area { (seen D.state log.new).area ≡ (seen D.state log.old).area }
+        ensures gate { (seen D.state log.new).next ≡ (seen D.state log.old).next }
+        ensures call { IsOneCall D.failures D.outlook log.old log.new result }
+    {
+        let Begun { bytes } = self;
+        log.disk.write_at(log.next + 1, &bytes)?;
+        Ok(Written {
+            size: bytes.len() as u64,
+        })
+    }
+}
+
+impl Written {
+    /// Syncs the batch's body.
+    pub fn sync<D: Disk>(self, log: &mut Log<D>) -> Result<BodySynced, DeviceFailed>
+        ensures next { D.honest → (c : Contents) (b : BatchValue)
+            → IsWritten (seen D.state log.old) c b (written_size self)
+            → IfOk result (λ phase. IsBodySynced (seen D.state log.new) c b (synced_size phase)) }
+        ensures images { D.honest → (c : Contents) (b : BatchValue)
+            → IsWritten (seen D.state log.old) c b (written_size self)
+            → EveryImage (D.state (disk_of log.new)) (Holds (seen D.state log.old).area c) }
+        ensures size { IfOk result (λ phase. synced_size phase ≡ written_size self) }
+        ensures area { (seen D.state log.new).area ≡ (seen D.state log.old).area }
+        ensures gate { (seen D.state log.new).next ≡ (seen D.state log.old).next }
+        ensures call { IsOneCall D.failures D.outlook log.old log.new result }
+    {
+        let Written { size } = self;
+        log.disk.sync()?;
+        Ok(BodySynced { size })
+    }
+}
+
+impl BodySynced {
+    /// Opens the batch's gate.
+    pub fn open_gate<D: Disk>(self, log: &mut Log<D>) -> Result<GateWritten, DeviceFailed>
+        ensures next { D.honest → (c : Contents) (b : BatchValue)
+            → IsBodySynced (seen D.state log.old) c b (synced_size self)
+            → IfOk result (λ phase. IsGateWritten (seen D.state log.new) c b (opened_size phase)) }
+        ensures images { D.honest → (c : Contents) (b : BatchValue)
+            → IsBodySynced (seen D.state log.old) c b (synced_size self)
+            → EveryImage (D.state (disk_of log.new)) (HoldsEither (seen D.state log.old).area c b) }
+        ensures size { IfOk result (λ phase. opened_size phase ≡ synced_size self) }
+        ensures area { (seen D.state log.new).area ≡ (seen D.state log.old).area }
+        ensures gate { (seen D.state log.new).next ≡ (seen D.state log.old).next }
+        ensures call { IsOneCall D.failures D.outlook log.old log.new result }
+    {
+        let BodySynced { size } = self;
+        log.disk.write_at(log.next, &[OPEN])?;
+        Ok(GateWritten { size })
+    }
+}
+
+impl GateWritten {
+    /// Syncs the batch's gate. Afterwards the batch is durable.
+    pub fn sync<D: Disk>(self, log: &mut Log<D>) -> Result<Durable, DeviceFailed>
+        requires { (seen D.state log.old).next + opened_size self < (seen D.state log.old).area.end }
+        ensures next { D.honest → (c : Contents) (b : BatchValue)
+            → IsGateWritten (seen D.state log.old) c b (opened_size self)
+            → OnOk result (IsAtRest (seen D.state log.new) (with_batch c b)) }
+        ensures durable { D.honest → (c : Contents) (b : BatchValue)
+            → IsGateWritten (seen D.state log.old) c b (opened_size self)
+            → OnOk result (EveryImage (D.state (disk_of log.new))
+            (Holds (seen D.state log.old).area (with_batch c b))) }
+        ensures images { D.honest → (c : Contents) (b : BatchValue)
+            → IsGateWritten (seen D.state log.old) c b (opened_size self)
+            → EveryImage (D.state (disk_of log.new)) (HoldsEither (seen D.state log.old).area c b) }
+        ensures area { (seen D.state log.new).area ≡ (seen D.state log.old).area }
+        ensures gate { OnOk result ((seen D.state log.new).next ≡ (seen D.state log.old).next + opened_size self) }
+        ensures same_gate { OnErr result ((seen D.state log.new).next ≡ (seen D.state log.old).next) }
+        ensures call { IsOneCall D.failures D.outlook log.old log.new result }
+    {
+        let GateWritten { size } = self;
+        log.disk.sync()?;
+        log.next += size;
+        Ok(Durable { size })
+    }
+}
+
+impl Durable {
+    /// Lets it go.
+    pub fn finish(self) {
+        let Durable { size: _ } = self;
+    }
+}

@@ -1,0 +1,130 @@
+-- The layout of a device record: numbers with the highest byte first, one field after another.
+use Rattle.std.specs.Prelude.{◌≡◌, ℕ, ◌^◌, ◌<◌, ◌≤◌, Bool, false, true, List, [], ◌∷◌, ◌++◌, length, Option, Some, None, IfSome}
+use Rattle.std.specs.List.{flat_map, AllByRecursion}
+use Rattle.std.specs.Int.{w16, w32, w64, bytes_high_first, to_be_bytes}
+use Rattle.lw_types.specs.Hex.{IsBytes}
+use Rattle.lw_types.specs.declared.key.Key.{Key}
+use Rattle.devices.specs.declared.Tag.{Tag}
+use Rattle.devices.specs.declared.activation.Session.{Session}
+use Rattle.devices.specs.declared.activation.CurrentSession.{CurrentSession}
+use Rattle.devices.specs.declared.queue.Item.{Item}
+use Rattle.devices.specs.declared.device.Device.{Device}
+use Rattle.devices.specs.Activation.{Grants, AreInOrder}
+use Rattle.devices.specs.MacQueue.{AreQueueable}
+
+-- ---- the fields
+
+abbrev pub flag : Bool → List ℕ
+flag false = 0 ∷ []
+flag true = 1 ∷ []
+
+-- three bytes
+abbrev pub nonce : ℕ → List ℕ
+nonce n = bytes_high_first 3 n
+
+-- a flag and two bytes, which are 0 where no number is there
+abbrev pub dev_nonce : Option ℕ → List ℕ
+dev_nonce None = 0 ∷ to_be_bytes w16 0
+dev_nonce (Some n) = 1 ∷ to_be_bytes w16 n
+
+-- a flag and four bytes, which are 0 where no tag is there
+abbrev pub awaited : Option Tag → List ℕ
+awaited None = 0 ∷ to_be_bytes w32 0
+awaited (Some tag) = 1 ∷ to_be_bytes w32 tag.0
+
+-- three bytes, which are 0 where nothing was granted
+abbrev pub granted : Option ℕ → List ℕ
+granted None = nonce 0
+granted (Some n) = nonce n
+
+abbrev pub session : Session → List ℕ
+session s = nonce s.join_nonce ++ (s.nwk_skey.0 ++ s.app_skey.0)
+
+abbrev pub current_session : CurrentSession → List ℕ
+current_session c = session c.session ++ (to_be_bytes w32 c.last_up ++ to_be_bytes w64 c.next_down)
+
+-- a flag, and behind a 1 the session
+abbrev pub optional : {X : Type 0} → (X → List ℕ) → Option X → List ℕ
+optional spelled None = 0 ∷ []
+optional spelled (Some x) = 1 ∷ spelled x
+
+abbrev pub activation : Grants → List ℕ
+activation g = granted g.granted ++ (optional current_session g.current ++ optional session g.pending)
+
+-- a byte of length, and that many bytes
+abbrev pub counted : List ℕ → List ℕ
+counted bytes = length bytes ∷ bytes
+
+abbrev pub item : Item → List ℕ
+item i = to_be_bytes w32 i.tag.0 ++ (i.port ∷ [] ++ (flag i.confirmed ++ counted i.payload))
+
+-- a byte with their number, and each item
+abbrev pub item_queue : List Item → List ℕ
+item_queue items = length items ∷ flat_map item items
+
+-- ---- the record
+
+-- what a device was brought with
+abbrev pub head : Device → List ℕ
+head d =
+    to_be_bytes w64 d.dev_eui.0
+    ++ (to_be_bytes w64 d.join_eui.0
+    ++ (d.app_key.0
+    ++ (d.application ∷ d.rx1_offset ∷ d.rx_delay ∷ [])))
+
+-- the one spelling of a device
+unfoldable pub spelling : Device → List ℕ
+spelling d =
+    head d
+    ++ (dev_nonce d.last_dev_nonce
+    ++ (activation d.activation
+    ++ (awaited d.awaited
+    ++ (counted d.mac_queue
+    ++ item_queue d.items))))
+
+-- ---- which values there are
+
+abbrev pub IsKey : Key → Type 0
+IsKey key = IsBytes key.0 × (length key.0 ≡ 16)
+
+abbrev pub IsJoinNonce : ℕ → Type 0
+IsJoinNonce n = (0 < n) × (n < 2 ^ 24)
+
+pub record IsSession (s : Session) : Type 0 where
+  pub join_nonce : IsJoinNonce s.join_nonce
+  pub nwk_skey : IsKey s.nwk_skey
+  pub app_skey : IsKey s.app_skey
+
+pub record IsCurrentSession (c : CurrentSession) : Type 0 where
+  pub session : IsSession c.session
+  pub last_up : c.last_up < 2 ^ 32
+  pub next_down : c.next_down ≤ 2 ^ 32
+
+pub record AreGrants (g : Grants) : Type 0 where
+  pub granted : IfSome g.granted IsJoinNonce
+  pub current : IfSome g.current IsCurrentSession
+  pub pending : IfSome g.pending IsSession
+  pub in_order : AreInOrder g
+
+pub record IsItem (i : Item) : Type 0 where
+  pub tag : i.tag.0 < 2 ^ 32
+  pub port : (1 ≤ i.port) × (i.port ≤ 223)
+  pub payload : IsBytes i.payload × (length i.payload ≤ 242)
+
+-- what a device was brought with is in its ranges
+pub record HeadIsInRange (d : Device) : Type 0 where
+  pub dev_eui : d.dev_eui.0 < 2 ^ 64
+  pub join_eui : d.join_eui.0 < 2 ^ 64
+  pub app_key : IsKey d.app_key
+  pub application : d.application ≤ 15
+  pub rx1_offset : d.rx1_offset ≤ 5
+  pub rx_delay : (1 ≤ d.rx_delay) × (d.rx_delay ≤ 15)
+
+-- a device whose fields are in their ranges, as each device of a program is
+pub record IsDevice (d : Device) : Type 0 where
+  pub head : HeadIsInRange d
+  pub last_dev_nonce : IfSome d.last_dev_nonce (λ n. n < 2 ^ 16)
+  pub activation : AreGrants d.activation
+  pub awaited : IfSome d.awaited (λ tag. tag.0 < 2 ^ 32)
+  pub mac_queue : IsBytes d.mac_queue × (length d.mac_queue ≤ 64) × AreQueueable d.mac_queue
+  pub items : (length d.items ≤ 16) × AllByRecursion IsItem d.items

@@ -1,0 +1,2 @@
+pub mod DeviceRecord
+pub mod Reading

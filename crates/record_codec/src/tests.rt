@@ -1,0 +1,147 @@
+use crate::{read_device, write_device};
+use devices::{
+    Activation, Application, CurrentSession, Device, Item, ItemQueue, MacQueue, NextDown, Payload,
+    Port, Provisioning, Rx1Offset, RxDelay, Session, Tag,
+};
+use lw_types::{Eui, JoinNonce, Key, Refusal};
+use std::alloc::Global;
+use std::test::Fail;
+
+// The record of a device that was just brought.
+const BROUGHT: [u8; 50] = [
+    0x11, 0x12, 0x13, 0x14, 0x15, 0x16, 0x17, 0x18, // DevEUI
+    1, 2, 3, 4, 5, 6, 7, 8, // JoinEUI
+    0x2B, 0x7E, 0x15, 0x16, 0x28, 0xAE, 0xD2, 0xA6, 0xAB, 0xF7, 0x15, 0x88, 0x09, 0xCF, 0x4F, 0x3C,
+    3, 0, 1, // application, RX1DROffset, delay
+    0, 0, 0, // no DevNonce
+    0, 0, 0, // nothing granted
+    0, 0, // no session
+    0, 0, 0, 0, 0, // no tag awaited
+    0, 0, // empty queues
+];
+
+fn brought(alloc: Global) -> Option<Device> {
+    let provisioning = Provisioning {
+        application: Application::new(3)?,
+        dev_eui: Eui(0x1112_1314_1516_1718),
+        join_eui: Eui(0x0102_0304_0506_0708),
+        app_key: Key([
+            0x2B, 0x7E, 0x15, 0x16, 0x28, 0xAE, 0xD2, 0xA6, 0xAB, 0xF7, 0x15, 0x88, 0x09, 0xCF,
+            0x4F, 0x3C,
+        ]),
+        rx1_offset: Rx1Offset::new(0)?,
+        rx_delay: RxDelay::new(1)?,
+    };
+    Some(Device::provisioned(alloc, &provisioning))
+}
+
+fn session(number: u32) -> Option<Session> {
+    Some(Session {
+        join_nonce: JoinNonce::new(number)?,
+        nwk_skey: Key([0xAA; 16]),
+        app_skey: Key([0xBB; 16]),
+    })
+}
+
+// A device with both sessions, a tag awaited and both queues used.
+fn busy(alloc: Global) -> Option<Device> {
+    let mut device = brought(alloc)?;
+    let current = CurrentSession {
+        session: session(0x01_0203)?,
+        last_up: u32::MAX,
+        next_down: NextDown::new(1 << 32)?,
+    };
+    device.last_dev_nonce = Some(0);
+    device.activation = Activation::new(
+        JoinNonce::new(0x01_0204),
+        Some(current),
+        session(0x01_0204),
+    )?;
+    device.awaited = Some(Tag(0));
+    device.mac_queue = MacQueue::new(Vec::from_slice(alloc, &[6, 4, 0]).ok()?).ok()?;
+    let item = Item {
+        tag: Tag(7),
+        port: Port::new(223)?,
+        confirmed: true,
+        payload: Payload::new(Vec::from_slice(alloc, b"hi").ok()?).ok()?,
+    };
+    let mut items = Vec::new(alloc);
+    items.push(item).ok()?;
+    device.items = ItemQueue::new(items).ok()?;
+    Some(device)
+}
+
+#[test]
+fn a_new_device_has_50_bytes(rt: HostRuntime) -> Result<(), Fail> {
+    let device = brought(rt.alloc()).ok_or("the values are in range")?;
+    let mut out = Vec::from_slice(rt.alloc(), &[9])?;
+    write_device(rt.alloc(), &device, &mut out)?;
+    assert_eq!(rt; out.len(), 51);
+    assert_eq!(rt; &out[1..], BROUGHT.as_slice());
+    assert_eq!(rt; read_device(rt.alloc(), &BROUGHT)?, device);
+    Ok(())
+}
+
+#[test]
+fn a_pending_session_takes_35_bytes_more(rt: HostRuntime) -> Result<(), Fail> {
+    let mut device = brought(rt.alloc()).ok_or("the values are in range")?;
+    device.activation = Activation::new(JoinNonce::new(1), None, session(1)).ok_or(
+        "the grants are in order",
+    )?;
+    let mut out = Vec::new(rt.alloc());
+    write_device(rt.alloc(), &device, &mut out)?;
+    assert_eq!(rt; out.len(), 85);
+    assert_eq!(rt; read_device(rt.alloc(), out.as_slice())?, device);
+    Ok(())
+}
+
+#[test]
+fn a_busy_device_is_read_back(rt: HostRuntime) -> Result<(), Fail> {
+    let device = busy(rt.alloc()).ok_or("the values are in range")?;
+    let mut out = Vec::new(rt.alloc());
+    write_device(rt.alloc(), &device, &mut out)?;
+    assert_eq!(rt; out.len(), 50 + 47 + 35 + 3 + 9);
+    assert_eq!(rt; read_device(rt.alloc(), out.as_slice())?, device);
+    Ok(())
+}
+
+#[test]
+fn what_is_no_record_is_damaged(rt: HostRuntime) -> Result<(), Fail> {
+    let table = [
+        (32, 16, "application"),
+        (33, 6, "RX1DROffset"),
+        (34, 0, "delay"),
+        (34, 16, "delay"),
+        (35, 2, "flag of the DevNonce"),
+        (37, 1, "a DevNonce that is not there"),
+        (41, 1, "a current session that is cut short"),
+        (43, 3, "flag of the tag"),
+        (47, 1, "a tag that is not there"),
+        (48, 1, "a MAC queue of no command"),
+        (49, 1, "an item that is cut short"),
+    ];
+    for (place, value, fault) in table {
+        let mut bytes = Vec::from_slice(rt.alloc(), &BROUGHT)?;
+        if let Some(byte) = bytes.get_mut(place) {
+            *byte = value;
+        }
+        let found = read_device(rt.alloc(), bytes.as_slice());
+        assert!(rt; matches!(found, Err(Refusal::Damaged)), "{fault}");
+    }
+    let mut long = Vec::from_slice(rt.alloc(), &BROUGHT)?;
+    long.push(0)?;
+    assert!(rt;
+        matches!(
+            read_device(rt.alloc(), long.as_slice()),
+            Err(Refusal::Damaged)
+        )
+    );
+    assert!(rt;
+        matches!(
+            read_device(rt.alloc(), &BROUGHT[..49]),
+            Err(Refusal::Damaged)
+        )
+    );
+    assert!(rt; matches!(read_device(rt.alloc(), &[]), Err(Refusal::Damaged)));
+    Ok(())
+}
