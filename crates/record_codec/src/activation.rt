@@ -1,6 +1,5 @@
 // Sessions, and what a device was granted.
 ghost use Rattle.std.specs.Prelude.{◌≡◌, ◌++◌, IfSome, OnOk};
-ghost use Rattle.devices.specs.Activation.{AreInOrder};
 ghost use Rattle.record_codec.specs.DeviceRecord.{activation, current_session, granted, session, AreGrants, IsCurrentSession, IsJoinNonce, IsSession};
 ghost use Rattle.record_codec.specs.Reading.{Gives, activation_at, current_at, granted_nonce, nonce_at, optional_at, seen_as, session_at};
 
@@ -112,7 +111,7 @@ fn put_granted(out: &mut Vec<u8>, nonce: Option<JoinNonce>) -> Result<(), AllocE
 /// Appends what was granted and the sessions.
 pub(crate) fn put_activation(out: &mut Vec<u8>, grants: &Activation) -> Result<(), AllocError>
     ensures written { OnOk result (out.new.items ≡ out.old.items ++ activation grants.now) }
-    ensures in_range { OnOk result (AreInOrder grants.now → AreGrants grants.now) }
+    ensures in_range { OnOk result (AreGrants grants.now) }
 {
     put_granted(out, grants.granted())?;
     match grants.current() {

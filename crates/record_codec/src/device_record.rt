@@ -3,7 +3,6 @@ ghost use Rattle.std.specs.Prelude.{◌≡◌, ◌<◌, ◌^◌, ◌++◌, ◌�
 ghost use Rattle.std.specs.Int.{w16};
 ghost use Rattle.lw_types.specs.declared.refusal.Refusal.TheVariants.{OutOfMemory, Damaged};
 ghost use Rattle.devices.specs.declared.device.Device.{Device};
-ghost use Rattle.devices.specs.Activation.{AreInOrder};
 ghost use Rattle.record_codec.specs.DeviceRecord.{awaited, dev_nonce, head, spelling, HeadIsInRange, IsDevice};
 ghost use Rattle.record_codec.specs.Reading.{Fails, Gives, awaited_at, device_at, eui_at, flagged_at, record_at};
 
@@ -129,7 +128,7 @@ fn put_awaited(out: &mut Vec<u8>, tag: Option<Tag>) -> Result<(), AllocError>
 #[tactic(auto, unfolding(crate::specs::DeviceRecord::spelling))]
 fn put_device(out: &mut Vec<u8>, device: &Device) -> Result<(), AllocError>
     ensures written { OnOk result (out.new.items ≡ out.old.items ++ spelling device.now) }
-    ensures in_range { OnOk result (AreInOrder device.now.activation → IsDevice device.now) }
+    ensures in_range { OnOk result (IsDevice device.now) }
 {
     put_head(out, device)?;
     put_dev_nonce(out, device.last_dev_nonce)?;
@@ -146,7 +145,7 @@ pub fn write_device(alloc: Global, device: &Device, out: &mut Vec<u8>) -> Result
     ensures err { OnErr result (out.new.items ≡ out.old.items) }
     ensures refused { IfErr result (λ e. e ≡ OutOfMemory) }
     // What is written is the record of a device that can be read again.
-    ensures in_range { OnOk result (AreInOrder device.now.activation → IsDevice device.now) }
+    ensures in_range { OnOk result (IsDevice device.now) }
 {
     let mut record = Vec::new(alloc);
     put_device(&mut record, device)?;

@@ -4,6 +4,8 @@
 mod entry;
 mod restore;
 mod superblock;
+#[cfg(test)]
+mod tests;
 
 pub use entry::{batch_entries, put_entry};
 pub use restore::replay;
