@@ -62,10 +62,6 @@ unfolding ◌•◌
 product-xor a b c b_byte c_byte = terms_times-xor 8 a b c b_byte c_byte
 
 -- the products with small elements, by the doublings that make them
-pub one_times : (b : ℕ) → b < 256 → 1 • b ≡ b
-unfolding all_below ◌•◌ terms_times
-one_times b byte = agree_below (λ b. 1 • b) (λ b. b) 256 refl b byte
-
 pub two_times_low : (b : ℕ) → b < 128 → b * 2 % 256 ≡ 2 • b
 unfolding all_below ◌•◌ terms_times
 two_times_low b low = agree_below (λ b. b * 2 % 256) (λ b. 2 • b) 128 refl b low
@@ -76,10 +72,6 @@ two_times_high b high byte =
     let above : (b - 128) + 128 ≡ b = omega arith in
     let P : ℕ → Type 0 = λ n. n * 2 % 256 ⊕ 27 ≡ 2 • n in
     subst P above (agree_below (λ k. (k + 128) * 2 % 256 ⊕ 27) (λ k. 2 • (k + 128)) 128 refl (b - 128) (omega arith))
-
-pub three_times : (b : ℕ) → b < 256 → 3 • b ≡ 2 • b ⊕ b
-unfolding all_below ◌•◌ terms_times
-three_times b byte = agree_below (λ b. 3 • b) (λ b. 2 • b ⊕ b) 256 refl b byte
 
 pub nine_times : (b : ℕ) → b < 256 → 9 • b ≡ 2 • (2 • (2 • b)) ⊕ b
 unfolding all_below ◌•◌ terms_times

@@ -5,3 +5,4 @@ pub mod WordLemmas
 pub mod StateLemmas
 pub mod RoundLemmas
 pub mod LawLemmas
+pub mod ColumnLemmas

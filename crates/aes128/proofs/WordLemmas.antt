@@ -6,7 +6,7 @@ use Rattle.std.specs.Int.Bits.{bit_xor, xor_assoc, xor_zero_r, xor_self}
 use Rattle.aes128.specs.Field.{◌⊕◌, ◌•◌, terms_times, word_product}
 use Rattle.aes128.specs.Cipher.{xor, column, state_of, mixed_column}
 use Rattle.aes128.proofs.Below.{all_below, all_below-at, both_true}
-use Rattle.aes128.proofs.FieldLemmas.{interchange, product-lt, product-xor, xor_byte, one_times, three_times, nine_times, eleven_times, thirteen_times, fourteen_times}
+use Rattle.aes128.proofs.FieldLemmas.{interchange, product-lt, product-xor, xor_byte, nine_times, eleven_times, thirteen_times, fourteen_times}
 
 pub length-xor : (xs ys : List ℕ) → length xs ≤ length ys → length (xor xs ys) ≡ length xs
 length-xor [] ys fits = refl
@@ -107,13 +107,13 @@ twice-xor p q a b c d e f g h v w =
     (record { first = entry-lt q0 q3 q2 q1 a b c d v; second = entry-lt q1 q0 q3 q2 a b c d v; third = entry-lt q2 q1 q0 q3 a b c d v; fourth = entry-lt q3 q2 q1 q0 a b c d v })
     (record { first = entry-lt q0 q3 q2 q1 e f g h w; second = entry-lt q1 q0 q3 q2 e f g h w; third = entry-lt q2 q1 q0 q3 e f g h w; fourth = entry-lt q3 q2 q1 q0 e f g h w })
 
-same : List ℕ → List ℕ → Bool
+unfoldable pub same : List ℕ → List ℕ → Bool
 same [] [] = true
 same [] (y ∷ ys) = false
 same (x ∷ xs) [] = false
 same (x ∷ xs) (y ∷ ys) = eqb x y && same xs ys
 
-same-true : (xs ys : List ℕ) → same xs ys ≡ true → xs ≡ ys
+pub same-true : (xs ys : List ℕ) → same xs ys ≡ true → xs ≡ ys
 unfolding same
 same-true [] [] h = refl
 same-true [] (y ∷ ys) h = cc
@@ -154,25 +154,6 @@ undone p q test a b c d v =
     let three : twice p q a b c 0 ≡ a ∷ b ∷ c ∷ 0 ∷ [] =
     simp xor_zero_r at (twice-xor p q a b 0 0 0 0 c 0 front_2 c_alone ∙ ap (λ (l : List ℕ). xor l (twice p q 0 0 c 0)) two ∙ ap (xor (a ∷ b ∷ 0 ∷ 0 ∷ [])) one_c) in
     simp xor_zero_r at (twice-xor p q a b c 0 0 0 0 d front_3 d_alone ∙ ap (λ (l : List ℕ). xor l (twice p q 0 0 0 d)) three ∙ ap (xor (a ∷ b ∷ c ∷ 0 ∷ [])) one_d)
-
--- MixColumns of a column, by doublings
-pub mixed_by_doubling : (a b c d e f g h : ℕ) → AreBytes a b c d → e ≡ 2 • a → f ≡ 2 • b → g ≡ 2 • c → h ≡ 2 • d
-    → (e ⊕ (f ⊕ b) ⊕ c ⊕ d) ∷ (a ⊕ f ⊕ (g ⊕ c) ⊕ d) ∷ (a ⊕ b ⊕ g ⊕ (h ⊕ d)) ∷ ((e ⊕ a) ⊕ b ⊕ c ⊕ h) ∷ [] ≡ mixed_column (a ∷ b ∷ c ∷ d ∷ [])
-mixed_by_doubling a b c d e f g h v two_a two_b two_c two_d =
-    rw (
-      three_times a v.first,
-      three_times b v.second,
-      three_times c v.third,
-      three_times d v.fourth,
-      one_times a v.first,
-      one_times b v.second,
-      one_times c v.third,
-      one_times d v.fourth,
-      two_a,
-      two_b,
-      two_c,
-      two_d,
-    ) refl
 
 -- the coefficients of InvMixColumns: 11 y^3 + 13 y^2 + 9 y + 14
 abbrev pub unmixing : List ℕ

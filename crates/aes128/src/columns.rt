@@ -1,4 +1,4 @@
-// The columns of a state: MixColumns, and what undoes it (FIPS 197 §5.1.3, §5.3.3).
+// Products with small elements, and what undoes MixColumns of a column (FIPS 197 §4.2, §5.3.3).
 ghost use Rattle.std.specs.Prelude.{◌≡◌, [], ◌∷◌};
 ghost use Rattle.aes128.specs.Field.{◌•◌};
 ghost use Rattle.aes128.specs.Cipher.{mixed_column};
@@ -12,23 +12,6 @@ pub fn doubled(byte: u8) -> u8
     } else {
         (byte << 1) ^ 0x1b
     }
-}
-
-#[inline(always)]
-pub fn mixed(column: [u8; 4]) -> [u8; 4]
-    ensures { result ≡ mixed_column column }
-{
-    let [a, b, c, d] = column;
-    let a2 = doubled(a);
-    let b2 = doubled(b);
-    let c2 = doubled(c);
-    let d2 = doubled(d);
-    [
-        a2 ^ (b2 ^ b) ^ c ^ d,
-        a ^ b2 ^ (c2 ^ c) ^ d,
-        a ^ b ^ c2 ^ (d2 ^ d),
-        (a2 ^ a) ^ b ^ c ^ d2,
-    ]
 }
 
 // The products of a byte with 9, 11, 13 and 14.

@@ -1,9 +1,9 @@
 // One round of the cipher, and what undoes it (FIPS 197 §5.1, §5.3).
 ghost use Rattle.std.specs.Prelude.{◌≡◌, ◌<◌, ◌+◌, ◌%◌, [], ◌∷◌, ◌++◌, map};
-ghost use Rattle.aes128.specs.Cipher.{xor, byte_at, column, s_box, shifted_column, sub_bytes, shift_rows, mix_columns};
+ghost use Rattle.aes128.specs.Cipher.{xor, byte_at, column, s_box, mixed_column, shifted_column, sub_bytes, shift_rows, mix_columns};
 
-use crate::columns::{mixed, unmixed};
-use crate::substitution::{substituted, unsubstituted};
+use crate::columns::unmixed;
+use crate::substitution::{mixed_substituted, substituted, unsubstituted};
 use crate::sums::xor;
 
 // A column of the state after SubBytes and ShiftRows.
@@ -18,6 +18,21 @@ fn shifted_column(state: &[u8; 16], c: usize) -> [u8; 4]
         substituted(state[2 + 4 * ((c + 2) % 4)]),
         substituted(state[3 + 4 * ((c + 3) % 4)]),
     ]
+}
+
+// A column of the state after a round.
+#[inline(always)]
+fn round_column(state: &[u8; 16], key: &[u8; 16], c: usize) -> [u8; 4]
+    requires { c < 4 }
+    ensures { result ≡ xor (mixed_column (map s_box (shifted_column state.now c))) (column key.now c) }
+{
+    mixed_substituted(
+        state[4 * c],
+        state[1 + 4 * ((c + 1) % 4)],
+        state[2 + 4 * ((c + 2) % 4)],
+        state[3 + 4 * ((c + 3) % 4)],
+        u32::from_le_bytes(column_at(key, c)),
+    )
 }
 
 #[inline(always)]
@@ -35,12 +50,11 @@ pub fn round(state: &mut [u8; 16], key: &[u8; 16])
     ensures { state.new ≡ xor (mix_columns (shift_rows (sub_bytes state.old))) key.now }
 {
     *state = joined(
-        mixed(shifted_column(state, 0)),
-        mixed(shifted_column(state, 1)),
-        mixed(shifted_column(state, 2)),
-        mixed(shifted_column(state, 3)),
+        round_column(state, key, 0),
+        round_column(state, key, 1),
+        round_column(state, key, 2),
+        round_column(state, key, 3),
     );
-    xor(state, key);
 }
 
 #[inline(always)]

@@ -46,7 +46,8 @@ pub trait Disk {
     /// Fills the buffer with the bytes from a position on. After an error the buffer has any bytes.
     fn read_at(&mut self, at: u64, buffer: &mut [u8]) -> Result<(), DeviceFailed>
         requires { at + length buffer.old ≤ length (state self.old).content }
-        ensures bytes { honest → OnOk result (buffer.new ≡ take (length buffer.old) (drop at (state self.old).content)) }
+        ensures bytes { honest
+            → OnOk result (buffer.new ≡ take (length buffer.old) (drop at (state self.old).content)) }
         ensures same { honest → state self.new ≡ state self.old }
         ensures same_length { length (state self.new).content ≡ length (state self.old).content }
         ensures cause { HasCause (failures self.old) (failures self.new) result }
@@ -55,7 +56,8 @@ pub trait Disk {
     /// Writes the bytes from a position on, and opens their positions. After an error any bytes may stand there.
     fn write_at(&mut self, at: u64, bytes: &[u8]) -> Result<(), DeviceFailed>
         requires { at + length bytes.now ≤ length (state self.old).content }
-        ensures written { honest → OnOk result ((state self.new).content ≡ written (state self.old).content at bytes.now) }
+        ensures written { honest
+            → OnOk result ((state self.new).content ≡ written (state self.old).content at bytes.now) }
         ensures opens { honest → Opens at (length bytes.now) (state self.old) (state self.new) }
         ensures same_length { length (state self.new).content ≡ length (state self.old).content }
         ensures cause { HasCause (failures self.old) (failures self.new) result }
@@ -63,7 +65,8 @@ pub trait Disk {
 
     /// Closes every open position. After an error all of them are open still.
     fn sync(&mut self) -> Result<(), DeviceFailed>
-        ensures settled { honest → OnOk result (IsSettledAt (state self.old).content (state self.new)) }
+        ensures settled { honest
+            → OnOk result (IsSettledAt (state self.old).content (state self.new)) }
         ensures unsettled { honest → OnErr result (state self.new ≡ state self.old) }
         ensures same_length { length (state self.new).content ≡ length (state self.old).content }
         ensures cause { HasCause (failures self.old) (failures self.new) result }

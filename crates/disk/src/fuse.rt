@@ -30,7 +30,8 @@ impl Fuse {
     /// Makes the nth call from now fail, while failures can be counted.
     pub fn arm(&mut self, n: u64)
         requires { 0 < n }
-        ensures armed { failures_of self.old + 1 < 2 ^ 64 → outlook_of self.new ≡ FailsAfter (n - 1) }
+        ensures armed { failures_of self.old + 1 < 2 ^ 64
+            → outlook_of self.new ≡ FailsAfter (n - 1) }
         ensures failures { failures_of self.new ≡ failures_of self.old }
     {
         self.left = if self.failures < u64::MAX {

@@ -4,10 +4,12 @@ ghost use Rattle.disk.specs.State.{State, NothingOpen, EveryImage, Opens, IsTorn
 
 /// Where nothing is open, a crash leaves the content.
 pub fn settled_disk_keeps_its_content()
-    ensures { (state : State) → NothingOpen state → EveryImage state (λ image. image ≡ state.content) }
+    ensures { (state : State) → NothingOpen state
+        → EveryImage state (λ image. image ≡ state.content) }
 {}
 
 /// Where nothing was open before one write, a crash leaves the content from before it, torn in the write's range.
 pub fn one_write_tears_its_range()
-    ensures { (at n : ℕ) (before after : State) → NothingOpen before → Opens at n before after → EveryImage after (IsTorn at n before.content) }
+    ensures { (at n : ℕ) (before after : State) → NothingOpen before → Opens at n before after
+        → EveryImage after (IsTorn at n before.content) }
 {}

@@ -8,7 +8,7 @@ ghost use Rattle.disk.specs.Outlook.Outlook.{Unknown, FailsAfter};
 use crate::Disk;
 
 /// What a crash leaves at the open positions; all others keep their bytes.
-#[derive(Drop)]
+#[derive(Debug, PartialEq, Eq, Drop)]
 pub enum Image {
     /// The bytes of the last sync that succeeded.
     Old,
@@ -26,7 +26,8 @@ pub trait Sim: Disk {
     /// no call. Where the disk has failed 2^64 - 1 times, it fails no more.
     fn arm(&mut self, n: u64)
         requires { 0 < n }
-        ensures armed { Self.failures self.old + 1 < 2 ^ 64 → Self.outlook self.new ≡ FailsAfter (n - 1) }
+        ensures armed { Self.failures self.old + 1 < 2 ^ 64
+            → Self.outlook self.new ≡ FailsAfter (n - 1) }
         ensures same { Self.state self.new ≡ Self.state self.old }
         ensures failures { Self.failures self.new ≡ Self.failures self.old };
 

@@ -19,8 +19,10 @@ pub fn copy(target: &mut [u8], source: &[u8], from: usize, to: usize)
     requires order { from ≤ to }
     requires target { to ≤ length target.old }
     requires source { to ≤ length source.now }
-    ensures inside { (i : ℕ) → from ≤ i → i < to → slice_index target.new i ≡ slice_index source.now i }
-    ensures outside { (i : ℕ) → (i < from) ⊎ (to ≤ i) → slice_index target.new i ≡ slice_index target.old i }
+    ensures inside { (i : ℕ) → from ≤ i → i < to
+        → slice_index target.new i ≡ slice_index source.now i }
+    ensures outside { (i : ℕ) → (i < from) ⊎ (to ≤ i)
+        → slice_index target.new i ≡ slice_index target.old i }
 {
     target[from..to].copy_from_slice(&source[from..to]);
 }
@@ -30,7 +32,8 @@ pub fn mark(marks: &mut [bool], from: usize, to: usize, value: bool)
     requires order { from ≤ to }
     requires within { to ≤ length marks.old }
     ensures inside { (i : ℕ) → from ≤ i → i < to → slice_index_or marks.new i false ≡ value }
-    ensures outside { (i : ℕ) → (i < from) ⊎ (to ≤ i) → slice_index_or marks.new i false ≡ slice_index_or marks.old i false }
+    ensures outside { (i : ℕ) → (i < from) ⊎ (to ≤ i)
+        → slice_index_or marks.new i false ≡ slice_index_or marks.old i false }
 {
     marks[from..to].fill(value);
 }
@@ -48,8 +51,10 @@ pub fn crash(
     requires within { to ≤ length content.old }
     requires synced { length synced.now ≡ length content.old }
     requires marks { length marks.now ≡ length content.old }
-    ensures inside { (i : ℕ) → from ≤ i → i < to → slice_index content.new i ≡ crashed_byte image.now (state_from content.old synced.now marks.now) i }
-    ensures outside { (i : ℕ) → (i < from) ⊎ (to ≤ i) → slice_index content.new i ≡ slice_index content.old i }
+    ensures inside { (i : ℕ) → from ≤ i → i < to
+        → slice_index content.new i ≡ crashed_byte image.now (state_from content.old synced.now marks.now) i }
+    ensures outside { (i : ℕ) → (i < from) ⊎ (to ≤ i)
+        → slice_index content.new i ≡ slice_index content.old i }
 {
     for i in from..to {
         if marks[i] {

@@ -8,7 +8,7 @@ use borrow.Rule.Slice.PartMut.{put_mid, post_of}
 use Rattle.std.specs.Int.Bits.{bit_xor, xor_assoc, xor_self, xor_zero_r}
 use Rattle.aes128.specs.Field.{◌⊕◌, power}
 use Rattle.aes128.specs.Cipher.{xor, encrypted, rounds, round_key, next_round_key, shift_rows, sub_bytes}
-use Rattle.frame_crypt.specs.declared.blocks.Dir.{Dir}
+use Rattle.frame_crypt.specs.declared.direction.Dir.{Dir}
 use Rattle.frame_crypt.specs.Frames.{frame_block, keystream, crypted}
 
 pub length-xor : (xs ys : List ℕ) → length xs ≤ length ys → length (xor xs ys) ≡ length xs

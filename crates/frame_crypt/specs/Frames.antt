@@ -3,8 +3,8 @@ use Rattle.std.specs.Prelude.{ℕ, zero, suc, ◌+◌, ◌/◌, List, [], ◌∷
 use Rattle.std.specs.Int.{w32, to_le_bytes}
 use Rattle.aes128.specs.Cipher.{xor, encrypted}
 use Rattle.aes_cmac.specs.Cmac.{cmac}
-use Rattle.frame_crypt.specs.declared.blocks.Dir.{Dir}
-use Rattle.frame_crypt.specs.declared.blocks.Dir.TheVariants.{Up, Down}
+use Rattle.frame_crypt.specs.declared.direction.Dir.{Dir}
+use Rattle.frame_crypt.specs.declared.direction.Dir.TheVariants.{Up, Down}
 
 -- the byte Dir
 abbrev pub direction_byte : Dir → ℕ

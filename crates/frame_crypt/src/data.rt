@@ -2,7 +2,7 @@
 ghost use Rattle.std.specs.Prelude.{◌≡◌, ◌≤◌, ◌<◌, length, take};
 ghost use Rattle.frame_crypt.specs.Frames.{crypted, data_mic, direction_byte, frame_block};
 
-use crate::blocks::Dir;
+use crate::direction::Dir;
 use crate::mac::first_four;
 use aes_cmac::cmac;
 use aes128::{KeySchedule, xor};

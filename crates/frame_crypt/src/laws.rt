@@ -1,6 +1,6 @@
 //! Laws of the frames' cryptography. Each stands on a function that does nothing.
 ghost use Rattle.std.specs.Prelude.{◌≡◌, ℕ, List, length};
-ghost use Rattle.frame_crypt.specs.declared.blocks.Dir.{Dir};
+ghost use Rattle.frame_crypt.specs.declared.direction.Dir.{Dir};
 ghost use Rattle.frame_crypt.specs.Frames.{crypted};
 
 /// To encrypt a payload twice gives it back, so decryption is encryption.

@@ -1,14 +1,14 @@
 //! The cryptography of LoRaWAN 1.0.4's frames: payloads, MICs, join accepts and session keys. No call takes memory.
 #![tactic(auto)]
 
-mod blocks;
 mod data;
+mod direction;
 mod join;
 pub mod laws;
 mod mac;
 
-pub use blocks::Dir;
 pub use data::{crypt_payload, data_mic};
+pub use direction::Dir;
 pub use join::{derive_keys, join_mic, seal_accept};
 
 #[cfg(test)]

@@ -5,7 +5,7 @@ use Rattle.disk.specs.State.{written}
 use Rattle.gate_log.specs.declared.layout.Area.{Area}
 use Rattle.gate_log.specs.declared.layout.Header.{Header}
 use Rattle.gate_log.specs.declared.layout.TheConstants.{OPEN}
-use Rattle.gate_log.specs.Layout.{BatchValue, Contents, Holds, IsHeader, header_bytes, open_batches, spelling, with_front}
+use Rattle.gate_log.specs.Layout.{BatchValue, Contents, Holds, IsHeader, header_bytes, open_batches, spelling}
 use Rattle.gate_log.specs.Recover.{AreBatchesAt, IsHeaderAt, contents_in}
 use Rattle.gate_log.proofs.Batches.{same_batches}
 use Rattle.gate_log.proofs.Spelling.{length-header_bytes, piece, same_front, same_header}
@@ -168,32 +168,53 @@ unique area disk c d h k = same c h ∙ sym (same d k)
     same : (e : Contents) → Holds area e disk → e ≡ contents_in area disk c.header c.records c.batches
     same e held = only area disk within c.header header c.records read h.fits.records c.batches (held_batches area disk within c.header header c h) e held
 
-pub new_front : (area : Area) (old new : List ℕ) (c : Contents) → Holds area c old → length new ≡ length old → drop area.start new ≡ drop area.start old → Holds area (with_front c (take area.start new)) new
-new_front area old new c h size same =
+front_within : (area : Area) (old new : List ℕ) (c : Contents) → Holds area c old → length new ≡ length old → length (take area.start new) ≡ area.start
+front_within area old new c h size =
+    let within = long_enough area old c h in
+    length-take-le area.start new (omega (arith, within, starts_within area old within c h, size))
+
+-- bytes outside of the area may change
+pub new_outside : (area : Area) (old new : List ℕ) (c : Contents) → Holds area c old → length new ≡ length old → take (area.end - area.start) (drop area.start new) ≡ take (area.end - area.start) (drop area.start old) → Holds area (contents_in area new c.header c.records c.batches) new
+new_outside area old new c h size same =
     let within = long_enough area old c h in
     let inside = starts_within area old within c h in
-    let front : length (take area.start new) ≡ area.start = length-take-le area.start new (omega (arith, within, inside, size)) in
+    let n = area.end - area.start in
+    let d = contents_in area new c.header c.records c.batches in
+    let tail = h.gate ∷ h.free in
+    let middle = OPEN ∷ (header_bytes c.header ++ (c.records ++ (open_batches c.batches ++ tail))) in
+    let start : drop area.start old ≡ middle ++ c.behind =
+    from_start area old within c h
+    ∙ ap (λ (l : List ℕ). OPEN ∷ (header_bytes c.header ++ (c.records ++ l))) (sym (append_assoc (open_batches c.batches) tail c.behind))
+    ∙ ap (λ (l : List ℕ). OPEN ∷ (header_bytes c.header ++ l)) (sym (append_assoc c.records (open_batches c.batches ++ tail) c.behind))
+    ∙ ap (λ (l : List ℕ). OPEN ∷ l) (sym (append_assoc (header_bytes c.header) (c.records ++ (open_batches c.batches ++ tail)) c.behind)) in
+    let long : length middle ≡ n =
+    omega (arith, h.fits.back, h.fits.front, length-spelling c, length-append (header_bytes c.header) (c.records ++ (open_batches c.batches ++ tail)), length-append c.records (open_batches c.batches ++ tail), length-append (open_batches c.batches) tail, length-header_bytes c.header) in
+    let kept : take n (drop area.start new) ≡ middle = same ∙ ap (λ (l : List ℕ). take n l) start ∙ take_at middle c.behind n long in
+    let behind : drop n (drop area.start new) ≡ drop area.end new = drop-drop n area.start new ∙ ap (λ (k : ℕ). drop k new) (omega (arith, inside)) in
+    let front = front_within area old new c h size in
     record {
       gate = h.gate;
       free = h.free;
       bytes =
           sym (take-append-drop area.start new)
-          ∙ ap (λ (l : List ℕ). take area.start new ++ l) (same ∙ from_start area old within c h)
-          ∙ sym (flat (with_front c (take area.start new)) (h.gate ∷ (h.free ++ c.behind)));
+          ∙ ap (λ (l : List ℕ). take area.start new ++ l) (sym (take-append-drop n (drop area.start new)) ∙ (λ i. kept i ++ behind i))
+          ∙ ap (λ (l : List ℕ). take area.start new ++ (OPEN ∷ l)) (append_assoc (header_bytes c.header) (c.records ++ (open_batches c.batches ++ tail)) (drop area.end new))
+          ∙ ap (λ (l : List ℕ). take area.start new ++ (OPEN ∷ (header_bytes c.header ++ l))) (append_assoc c.records (open_batches c.batches ++ tail) (drop area.end new))
+          ∙ ap (λ (l : List ℕ). take area.start new ++ (OPEN ∷ (header_bytes c.header ++ (c.records ++ l)))) (append_assoc (open_batches c.batches) tail (drop area.end new))
+          ∙ sym (flat d (h.gate ∷ (h.free ++ drop area.end new)));
       closed = h.closed;
       fits = record {
         front = front;
-        back = omega (arith, h.fits.back, h.fits.front, front, length-spelling c, length-spelling (with_front c (take area.start new)));
+        back = omega (arith, h.fits.back, h.fits.front, front, length-spelling c, length-spelling d);
         header = h.fits.header;
         records = h.fits.records;
         batches = h.fits.batches;
       };
     }
 
-pub new_front_length : (area : Area) (old new : List ℕ) (c : Contents) → Holds area c old → length new ≡ length old → length (spelling (with_front c (take area.start new))) ≡ length (spelling c)
-new_front_length area old new c h size =
-    let within = long_enough area old c h in
-    omega (arith, h.fits.front, length-take-le area.start new (omega (arith, within, starts_within area old within c h, size)), length-spelling c, length-spelling (with_front c (take area.start new)))
+pub new_outside_length : (area : Area) (old new : List ℕ) (c : Contents) → Holds area c old → length new ≡ length old → length (spelling (contents_in area new c.header c.records c.batches)) ≡ length (spelling c)
+new_outside_length area old new c h size =
+    omega (arith, h.fits.front, front_within area old new c h size, length-spelling c, length-spelling (contents_in area new c.header c.records c.batches))
 
 pub closed_holds_nothing : (area : Area) (disk : List ℕ) (c : Contents) → get_or disk area.start 0 ≢ OPEN → Holds area c disk → ⊥
 closed_holds_nothing area disk c shut h = closed_area area disk (long_enough area disk c h) shut c h

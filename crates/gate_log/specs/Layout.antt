@@ -24,7 +24,10 @@ pub record Contents : Type 0 where
 
 -- the fields of a header, the highest byte of each first
 unfoldable pub header_bytes : Header → List ℕ
-header_bytes h = h.version ∷ (to_be_bytes w64 h.generation ++ (to_be_bytes w64 h.sequence ++ (to_be_bytes w32 h.record_count ++ to_be_bytes w64 h.records_len)))
+header_bytes h =
+    h.version
+    ∷ (to_be_bytes w64 h.generation
+    ++ (to_be_bytes w64 h.sequence ++ (to_be_bytes w32 h.record_count ++ to_be_bytes w64 h.records_len)))
 
 -- the fields of a batch's head, the highest byte of each first
 unfoldable pub head_bytes : BatchHead → List ℕ
@@ -90,7 +93,3 @@ fresh_header version = record { version = version; generation = 1; sequence = 0;
 -- the area's gate is closed, so that it holds nothing
 abbrev pub IsClosedArea : Area → List ℕ → Type 0
 IsClosedArea area disk = slice_index disk area.start ≢ OPEN
-
--- the contents behind other bytes
-abbrev pub with_front : Contents → List ℕ → Contents
-with_front c front = record c { front = front }

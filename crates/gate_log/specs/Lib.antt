@@ -1,5 +1,6 @@
 pub mod Layout
 pub mod Log
+pub mod Message
 pub mod Opening
 pub mod Phases
 pub mod Recover

@@ -20,8 +20,9 @@ pub record LogState : Type 0 where
 abbrev pub seen : {D : Type 0} {g : _} → (D → State) → Log D g → LogState
 seen state log = record { disk = state log.disk; area = log.area; next = log.next }
 
--- one call of a log's disk: an error has its cause, and where the outlook is known it told of it
-pub record IsOneCall {D : Type 0} {g : _} {T : Type 0} (failures : D → ℕ) (outlook : D → Outlook) (old new : Log D g) (result : Result T DeviceFailed) : Type 0 where
+-- exactly one call of a log's disk: an error comes exactly where it failed, and it is the next of those foreseen
+pub record IsOneCall {D : Type 0} {g : _} {T : Type 0} (failures : D → ℕ) (outlook : D → Outlook)
+    (old new : Log D g) (result : Result T DeviceFailed) : Type 0 where
   pub cause : HasCause (failures old.disk) (failures new.disk) result
   pub foreseen : IsForeseen (outlook old.disk) (is_ok result) (outlook new.disk)
 

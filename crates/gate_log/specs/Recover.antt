@@ -11,7 +11,8 @@ use Rattle.gate_log.specs.declared.layout.TheConstants.{OPEN}
 use Rattle.gate_log.specs.Layout.{BatchValue, Contents, AreHeads, IsHead, IsHeader, body, head_of, header_bytes, open_batches}
 
 -- calls of a disk that only read, and whether one of them failed
-pub record OnlyReads {D : Type 0} (honest : Type 0) (state : D → State) (failures : D → ℕ) (outlook : D → Outlook) (old new : D) (failed : Bool) : Type 0 where
+pub record OnlyReads {D : Type 0} (honest : Type 0) (state : D → State) (failures : D → ℕ) (outlook : D → Outlook)
+    (old new : D) (failed : Bool) : Type 0 where
   pub same : honest → state new ≡ state old
   pub same_length : length (state new).content ≡ length (state old).content
   pub cause : MatchBool failed (failures old < failures new) (failures new ≡ failures old)
@@ -41,7 +42,8 @@ pub record IsBatchAt (disk : List ℕ) (end at : ℕ) (b : BatchValue) : Type 0 
 -- an open gate, and no batch that fits behind it
 pub record NoBatchAt (disk : List ℕ) (end at : ℕ) : Type 0 where
   pub opened : slice_index disk at ≡ OPEN
-  pub none : (b : BatchValue) (rest : List ℕ) → IsHead (head_of b) → drop at disk ≡ OPEN ∷ (body b ++ rest) → end ≤ at + 15 + length b.entries
+  pub none : (b : BatchValue) (rest : List ℕ) → IsHead (head_of b) → drop at disk ≡ OPEN ∷ (body b ++ rest)
+      → end ≤ at + 15 + length b.entries
 
 -- batches from a position on, and behind them a closed gate before the end
 pub record AreBatchesAt (disk : List ℕ) (end at : ℕ) (batches : List BatchValue) : Type 0 where

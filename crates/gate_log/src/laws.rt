@@ -1,7 +1,8 @@
 //! What follows from the layout alone. The functions do nothing: their contracts are the laws.
-ghost use Rattle.std.specs.Prelude.{◌≡◌, List, ℕ, length, take, drop};
+ghost use Rattle.std.specs.Prelude.{◌≡◌, List, ℕ, length, slice_range};
 ghost use Rattle.gate_log.specs.declared.layout.Area.{Area};
-ghost use Rattle.gate_log.specs.Layout.{Contents, Holds, IsClosedArea, spelling, with_front};
+ghost use Rattle.gate_log.specs.Layout.{Contents, Holds, IsClosedArea, spelling};
+ghost use Rattle.gate_log.specs.Recover.{contents_in};
 
 /// A disk holds one contents in an area, if any.
 pub fn a_disk_holds_one_contents()
@@ -9,14 +10,15 @@ pub fn a_disk_holds_one_contents()
         → c ≡ d }
 {}
 
-/// What an area holds stays where only bytes in front of it change.
-pub fn contents_stay_behind_a_new_front()
+/// What an area holds stays where only bytes outside of it change.
+pub fn contents_stay_where_others_change()
     ensures holds { (area : Area) (old new : List ℕ) (c : Contents) → Holds area c old
-        → length new ≡ length old → drop area.start new ≡ drop area.start old
-        → Holds area (with_front c (take area.start new)) new }
+        → length new ≡ length old
+        → slice_range new area.start area.end ≡ slice_range old area.start area.end
+        → Holds area (contents_in area new c.header c.records c.batches) new }
     ensures next { (area : Area) (old new : List ℕ) (c : Contents) → Holds area c old
         → length new ≡ length old
-        → length (spelling (with_front c (take area.start new))) ≡ length (spelling c) }
+        → length (spelling (contents_in area new c.header c.records c.batches)) ≡ length (spelling c) }
 {}
 
 /// A closed area holds nothing.

@@ -1,11 +1,12 @@
-use Rattle.std.proofs.Common.{List, ℕ, ap, ◌∙◌}
-use Rattle.aes128.specs.Cipher.{xor, mixed_column}
+use Rattle.std.proofs.Common.{ap, ◌∙◌, arith}
+use Rattle.aes128.specs.Cipher.{xor, sub_bytes, shift_rows, mix_columns}
 use Rattle.aes128.proofs.StateLemmas.{joined-same}
+use Rattle.aes128.proofs.WordLemmas.{state_columns}
 use Rattle.aes128.proofs.rounds.round.Goals as goal
 
 pub returns : goal.returns
 returns c =
-    c.xor.ensures ∙ ap (λ (s : List ℕ). xor s c.args.key.now) (c.joined.ensures
-    ∙ joined-same c.mixed.result c.mixed-2.result c.mixed-3.result c.mixed-4.result _ _ _ _
-    (c.mixed.ensures ∙ ap mixed_column c.shifted_column.ensures) (c.mixed-2.ensures ∙ ap mixed_column c.shifted_column-2.ensures)
-    (c.mixed-3.ensures ∙ ap mixed_column c.shifted_column-3.ensures) (c.mixed-4.ensures ∙ ap mixed_column c.shifted_column-4.ensures))
+    c.joined.ensures
+    ∙ joined-same c.round_column.result c.round_column-2.result c.round_column-3.result c.round_column-4.result _ _ _ _
+    c.round_column.ensures c.round_column-2.ensures c.round_column-3.ensures c.round_column-4.ensures
+    ∙ ap (xor (mix_columns (shift_rows (sub_bytes c.args.state.now)))) (state_columns c.args.key.now (omega arith))

@@ -1,5 +1,4 @@
-// The blocks that a data frame's cryptography begins from (TS001-1.0.4 §4.3.3, §4.4).
-ghost use Rattle.std.specs.Prelude.{◌≡◌};
+// The direction that a data frame's cryptography takes in (TS001-1.0.4 §4.3.3, §4.4).
 
 /// The direction of a data frame.
 #[derive(Clone, Copy, Debug, PartialEq, Eq)]
