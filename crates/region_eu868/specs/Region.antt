@@ -1,0 +1,26 @@
+-- The channels and data rates of EU868 (RP002-1.0.4 §2.5): DR 0 to 5 are SF12 to SF7 at 125 kHz.
+use Rattle.std.specs.Prelude.{◌≡◌, ◌<◌, ◌≤◌, ◌+◌, ◌-◌, ◌*◌, ℕ, List, [], ◌∷◌, slice_index, Contains, pos, ℤ, ◌+ℤ◌, ◌≤ℤ◌, neg_ℤ}
+use Rattle.std.specs.Prelude.{◌<ℤ◌}
+
+-- the channels that each device has from the start, in Hz
+abbrev pub channels : List ℕ
+channels = 868100000 ∷ 868300000 ∷ 868500000 ∷ []
+
+-- the largest MACPayload of each data rate, in bytes
+abbrev pub max_payloads : List ℕ
+max_payloads = 59 ∷ 59 ∷ 59 ∷ 123 ∷ 250 ∷ 250 ∷ []
+
+-- how far below 0 dB the SNR of each data rate may be, in quarter dB
+abbrev pub snr_depths : List ℕ
+snr_depths = 80 ∷ 70 ∷ 60 ∷ 50 ∷ 40 ∷ 30 ∷ []
+
+-- the SNR floor of a data rate, in quarter dB
+abbrev pub snr_floor : ℕ → ℤ
+snr_floor dr = neg_ℤ (pos (slice_index snr_depths dr))
+
+-- m is the number of whole dB by which an SNR is above the floor of its data rate, from 0 to 254
+pub record IsMargin (snr : ℤ) (dr m : ℕ) : Type 0 where
+  pub below : snr <ℤ (snr_floor dr +ℤ pos 4) → m ≡ 0
+  pub above : (snr_floor dr +ℤ pos (4 * 254)) ≤ℤ snr → m ≡ 254
+  pub between : snr_floor dr ≤ℤ snr → snr <ℤ (snr_floor dr +ℤ pos (4 * 255))
+      → ((snr_floor dr +ℤ pos (4 * m)) ≤ℤ snr) × (snr <ℤ (snr_floor dr +ℤ pos (4 * m + 4)))

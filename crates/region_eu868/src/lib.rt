@@ -1,0 +1,144 @@
+//! The channels and data rates of EU868 (RP002-1.0.4 §2.5), for class A devices with the three channels
+//! that they have from the start. No call takes memory.
+#![tactic(auto)]
+
+ghost use Rattle.std.specs.Prelude.{◌≡◌, ◌≤◌, ◌-◌, ◌↔◌, IsTrue, Contains, slice_index};
+ghost use Rattle.region_eu868.specs.Region.{channels, max_payloads, snr_depths, IsMargin};
+
+/// The frequency and the data rate of a receive window.
+#[derive(Clone, Copy, Debug, PartialEq, Eq)]
+pub struct Window {
+    /// In Hz.
+    pub frequency: u32,
+    pub data_rate: u8,
+}
+
+/// RX1: the uplink's frequency, and its data rate less the RX1DROffset, at least DR0.
+pub fn rx1(frequency: u32, data_rate: u8, offset: u8) -> Window
+    requires channel { Contains channels frequency }
+    requires data_rate { data_rate ≤ 5 }
+    requires offset { offset ≤ 5 }
+    ensures frequency { result.frequency ≡ frequency }
+    ensures data_rate { result.data_rate ≡ data_rate - offset }
+{
+    Window {
+        frequency,
+        data_rate: data_rate.saturating_sub(offset),
+    }
+}
+
+/// RX2: 869.525 MHz at DR0.
+pub fn rx2() -> Window
+    ensures { result ≡ record { frequency = 869525000; data_rate = 0 } }
+{
+    Window {
+        frequency: 869_525_000,
+        data_rate: 0,
+    }
+}
+
+/// The largest MACPayload at a data rate, in bytes.
+pub fn max_mac(data_rate: u8) -> u8
+    requires { data_rate ≤ 5 }
+    ensures { result ≡ slice_index max_payloads data_rate }
+{
+    match data_rate {
+        0..=2 => 59,
+        3 => 123,
+        _ => 250,
+    }
+}
+
+/// Whether a frequency in Hz is a channel.
+pub fn is_channel(frequency: u32) -> bool
+    ensures { IsTrue result ↔ Contains channels frequency }
+{
+    matches!(frequency, 868_100_000 | 868_300_000 | 868_500_000)
+}
+
+/// The whole dB by which an SNR, in quarter dB, is above the floor of its data rate, from 0 to 254.
+pub fn margin(snr: i16, data_rate: u8) -> u8
+    requires { data_rate ≤ 5 }
+    ensures { IsMargin snr data_rate result }
+{
+    let above = i32::from(snr) + i32::from(snr_depth(data_rate));
+    if above < 0 {
+        return 0;
+    }
+    (above.unsigned_abs() / 4).min(254) as u8
+}
+
+// How far below 0 dB the SNR may be at a data rate, in quarter dB.
+fn snr_depth(data_rate: u8) -> u8
+    requires { data_rate ≤ 5 }
+    ensures depth { result ≡ slice_index snr_depths data_rate }
+    ensures small { result ≤ 80 }
+{
+    match data_rate {
+        0 => 80,
+        1 => 70,
+        2 => 60,
+        3 => 50,
+        4 => 40,
+        _ => 30,
+    }
+}
+
+#[cfg(test)]
+mod tests {
+    use super::*;
+
+    #[test]
+    fn margins_are_whole_decibels(rt: HostRuntime) {
+        let cases = [
+            (-20, 5, 2),
+            (-100, 0, 0),
+            (32767, 0, 254),
+            (-32768, 5, 0),
+            (-80, 0, 0),
+            (-77, 0, 0),
+            (-76, 0, 1),
+            (939, 0, 254),
+            (935, 0, 253),
+        ];
+        for (snr, data_rate, wanted) in cases {
+            assert_eq!(rt;
+                margin(snr, data_rate),
+                wanted,
+                "SNR {snr} at DR{data_rate}"
+            );
+        }
+    }
+
+    #[test]
+    fn windows_and_channels_are_the_regions(rt: HostRuntime) {
+        for (data_rate, most) in [(0, 59), (1, 59), (2, 59), (3, 123), (4, 250), (5, 250)] {
+            assert_eq!(rt; max_mac(data_rate), most, "DR{data_rate}");
+        }
+        for (frequency, is) in [
+            (868_100_000, true),
+            (868_300_000, true),
+            (868_500_000, true),
+            (868_200_000, false),
+            (869_525_000, false),
+        ] {
+            assert_eq!(rt; is_channel(frequency), is, "{frequency} Hz");
+        }
+        let window = rx1(868_100_000, 2, 3);
+        assert_eq!(rt;
+            window,
+            Window {
+                frequency: 868_100_000,
+                data_rate: 0
+            }
+        );
+        assert_eq!(rt; rx1(868_500_000, 5, 2).data_rate, 3);
+        assert_eq!(rt;
+            rx2(),
+            Window {
+                frequency: 869_525_000,
+                data_rate: 0
+            }
+        );
+    }
+}
