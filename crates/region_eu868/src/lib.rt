@@ -5,6 +5,9 @@
 ghost use Rattle.std.specs.Prelude.{◌≡◌, ◌≤◌, ◌-◌, ◌↔◌, IsTrue, Contains, slice_index};
 ghost use Rattle.region_eu868.specs.Region.{channels, max_payloads, snr_depths, IsMargin};
 
+/// The frequency of RX2, in Hz.
+const RX2_FREQUENCY: u32 = 869_525_000;
+
 /// The frequency and the data rate of a receive window.
 #[derive(Clone, Copy, Debug, PartialEq, Eq)]
 pub struct Window {
@@ -32,7 +35,7 @@ pub fn rx2() -> Window
     ensures { result ≡ record { frequency = 869525000; data_rate = 0 } }
 {
     Window {
-        frequency: 869_525_000,
+        frequency: RX2_FREQUENCY,
         data_rate: 0,
     }
 }
