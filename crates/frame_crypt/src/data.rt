@@ -1,5 +1,5 @@
 // Data frames: the payload's encryption and the MIC (TS001-1.0.4 §4.3.3, §4.4).
-ghost use Rattle.std.specs.Prelude.{◌≡◌, ◌≤◌, ◌<◌, length, take};
+ghost use Rattle.std.specs.Prelude.{◌≡◌, ◌≤◌, length};
 ghost use Rattle.frame_crypt.specs.Frames.{crypted, data_mic, direction_byte, frame_block};
 
 use crate::direction::Dir;

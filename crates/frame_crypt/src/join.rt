@@ -1,7 +1,7 @@
 // Joins: MICs, the sealed accept and the session keys (TS001-1.0.4 §6.2).
 ghost use Rattle.std.specs.Prelude.{◌≡◌, length};
 ghost use Rattle.aes128.specs.Cipher.{encrypted};
-ghost use Rattle.frame_crypt.specs.Joins.{IsAcceptSize, join_mic, opened, session_key, three_bytes, with_mic};
+ghost use Rattle.frame_crypt.specs.Joins.{IsAcceptSize, join_mic, opened, session_key, with_mic};
 
 use crate::mac::first_four;
 use aes_cmac::cmac;

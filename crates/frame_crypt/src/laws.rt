@@ -1,5 +1,5 @@
 //! Laws of the frames' cryptography. Each stands on a function that does nothing.
-ghost use Rattle.std.specs.Prelude.{◌≡◌, ℕ, List, length};
+ghost use Rattle.std.specs.Prelude.{◌≡◌, ℕ, List};
 ghost use Rattle.frame_crypt.specs.declared.direction.Dir.{Dir};
 ghost use Rattle.frame_crypt.specs.Frames.{crypted};
 

@@ -1,4 +1,5 @@
--- Reading a device record from left to right, field by field.
+-- Reading a device record from left to right, field by field. That it gives back what is spelled, and
+-- nothing else, is what `read_device` ensures.
 use Rattle.std.specs.Prelude.{◌≡◌, ℕ, zero, suc, ◌^◌, Bool, false, true, ◌&&◌, List, [], ◌∷◌, length, take, drop, nat_le, nat_lt, ◌==◌, if◌then◌else◌, Option, Some, None, unwrap_or, option_map, Result, Ok, Err, ◌⊎◌}
 use Rattle.std.specs.Option.{option_map_or}
 use Rattle.std.specs.Int.{Width, w16, w32, w64, byte_len, from_be_bytes}

@@ -139,7 +139,8 @@ fn put_device(out: &mut Vec<u8>, device: &Device) -> Result<(), AllocError>
     Ok(())
 }
 
-/// Appends the record of a device, its one spelling.
+/// Appends the record of a device, its one spelling, of 50 to 4,180 bytes. For want of memory it is
+/// refused as `OutOfMemory`, and then nothing is appended.
 pub fn write_device(alloc: Global, device: &Device, out: &mut Vec<u8>) -> Result<(), Refusal>
     ensures ok { OnOk result (out.new.items ≡ out.old.items ++ spelling device.now) }
     ensures err { OnErr result (out.new.items ≡ out.old.items) }
