@@ -2,7 +2,7 @@
 use Rattle.std.proofs.Common.{Err, ◌≡◌, ◌+◌, ◌∙◌, ℕ, List, [], ◌∷◌, ◌++◌, length, Result, Ok, suc, sym, ap, subst, refl, arith}
 use Rattle.std.proofs.Common.{◌<◌, ◌≤◌, cond, nat_lt, Option, Some, None, take, drop, get_or}
 use Rattle.std.proofs.lemmas.Bool.{ltb-true}
-use Rattle.std.proofs.lemmas.List.{take_more, drop_more, take-append-drop}
+use Rattle.std.proofs.lemmas.List.{take_more, drop_more, take-append-drop, length-take-le}
 use Rattle.std.proofs.lemmas.Option.{slice_get_past}
 use Rattle.std.specs.Option.{MatchOption}
 use Rattle.std.specs.Result.{MatchResult}
@@ -15,8 +15,8 @@ use Rattle.std.specs.List.{slice_get}
 use Rattle.lw_types.specs.declared.refusal.Refusal.{Refusal}
 use Rattle.sessions.specs.Step.{Outcome, step1, outcome, provisioned_effects}
 use Rattle.sessions.proofs.Slots.{split}
-use Rattle.sessions.specs.Table.{TableState, Step, CanPlace, place_for, new_slot, slot_of, step, step_at, stepped, step_effects, folded, effects_of, ◌>>=◌}
-use Rattle.sessions.specs.Decision.{Decides, IsDecision, Fits, FitAll, AreNumbered, ContinueAll, applied, applied_all, commands_of, effects_in}
+use Rattle.sessions.specs.Table.{TableState, Step, CanPlace, CanPut, place_for, new_slot, slot_of, step, step_at, stepped, step_effects, folded, effects_of, ◌>>=◌}
+use Rattle.sessions.specs.Decision.{Continues, Decides, IsDecision, Fits, FitAll, AreNumbered, ContinueAll, applied, applied_all, commands_of, effects_in}
 use Rattle.sessions.specs.declared.decision.Decision.{Decision}
 
 -- a decision that was made of a table is the step of its command there
@@ -174,3 +174,43 @@ Fits-decision t seq c s d is made =
       place = ap (place_for t) made.command ∙ (parts.0 ∙ ap Ok (sym made.slot));
       before = made.before ∙ (parts.1 ∙ ap (slice_get t.devices) (sym made.slot));
     }
+
+-- the decision behind those that continue a table continues what they leave
+pub ContinueAll-next : (t : TableState) (seq n : ℕ) (d : Decision) (ds : List Decision) → n < length ds → d ≡ get_or ds n d
+    → ContinueAll t seq ds → Continues (applied_all t (take n ds)) (seq + n) d
+ContinueAll-next t seq n d ds within item all =
+    let at : drop n ds ≡ d ∷ drop (n + 1) ds = drop_more ds n d within ∙ ap (λ x. x ∷ drop (n + 1) ds) (sym item) in
+    let parts = ContinueAll-split t seq (take n ds) (drop n ds) (subst (ContinueAll t seq) (sym (take-append-drop n ds)) all) in
+    let long : length (take n ds) ≡ n = length-take-le n ds (omega arith) in
+    let left = applied_all t (take n ds) in
+    let rest : ContinueAll left (seq + n) (d ∷ drop (n + 1) ds) =
+    subst (λ k. ContinueAll left (seq + k) (d ∷ drop (n + 1) ds)) long (subst (ContinueAll left (seq + length (take n ds))) at parts.1) in
+    record { fits = rest.fit.0; number = rest.numbered.0 }
+
+-- one decision more
+pub ContinueAll-more : (t : TableState) (seq n : ℕ) (d : Decision) (ds : List Decision) → n < length ds → d ≡ get_or ds n d
+    → ContinueAll t seq (take n ds) → Continues (applied_all t (take n ds)) (seq + n) d → ContinueAll t seq (take (n + 1) ds)
+ContinueAll-more t seq n d ds within item front next =
+    let long : length (take n ds) ≡ n = length-take-le n ds (omega arith) in
+    let one : ContinueAll (applied_all t (take n ds)) (seq + n) (d ∷ []) = record { fit = (next.fits, tt); numbered = (next.number, tt) } in
+    let placed_so = ContinueAll-append t seq (take n ds) (d ∷ []) front (subst (λ k. ContinueAll (applied_all t (take n ds)) (seq + k) (d ∷ [])) (sym long) one) in
+    subst (ContinueAll t seq) (sym (take_more ds n d within ∙ ap (λ x. take n ds ++ x ∷ []) (sym item))) placed_so
+
+-- the record of a provisioning may be put as an image has it
+can_put_new : (t : TableState) (d : Decision) (p : Provisioning) → d.command ≡ Provision p → Fits t d → CanPut t d.slot d.after
+can_put_new t d p asked fits =
+    let place : new_slot t (slot_of p.dev_eui.0 t.devices) ≡ Ok d.slot = ap (place_for t) (sym asked) ∙ fits.place in
+    new_slot-ok t (slot_of p.dev_eui.0 t.devices) d.slot (CanPut t d.slot d.after) place (λ new last room.
+    let past : length t.devices ≤ d.slot = omega arith in
+    let empty = slice_get_past t.devices d.slot past in
+    let made : Ok (outcome (provisioned p) (provisioned_effects d.slot p)) ≡ Ok (outcome d.after d.effects) =
+    ap (λ b. step1 d.net_id d.slot b (Provision p)) (sym (fits.before ∙ empty)) ∙ (ap (step1 d.net_id d.slot d.before) (sym asked) ∙ d.is_step) in
+    let name : d.after.dev_eui.0 ≡ p.dev_eui.0 = ap (λ (o : Outcome). o.device.dev_eui.0) (sym (same_Ok _ _ made)) in
+    (omega arith, room, MatchOption-of_none (slot_of d.after.dev_eui.0 t.devices) _ _ (ap (λ e. slot_of e t.devices) name ∙ new) tt))
+
+put_by_command : (t : TableState) (d : Decision) (c : Command) → d.command ≡ c → Fits t d → CanPut t d.slot d.after
+put_by_command t d (Provision p) asked fits = can_put_new t d p asked fits
+
+-- the record of a decision that was made of a table may be put there
+pub CanPut-fits : (t : TableState) (d : Decision) → Fits t d → CanPut t d.slot d.after
+CanPut-fits t d fits = put_by_command t d d.command refl fits

@@ -1,6 +1,6 @@
 //! Laws on the definitions that the contracts of this crate cite. Nothing here does anything.
 ghost use Rattle.std.specs.Prelude.{◌≡◌, ◌++◌, ◌↔◌, ◌+◌, ℕ, List, length};
-ghost use Rattle.sessions.specs.Table.{TableState, CanPlace, folded, effects_of};
+ghost use Rattle.sessions.specs.Table.{TableState, CanPut, folded, effects_of};
 ghost use Rattle.sessions.specs.Decision.{Fits, FitAll, ContinueAll, applied_all, commands_of, effects_in};
 ghost use Rattle.sessions.specs.declared.decision.Decision.{Decision};
 
@@ -21,4 +21,9 @@ pub fn joining()
         ↔ (ContinueAll t seq first × ContinueAll (applied_all t first) (seq + length first) second) }
     ensures table { (t : TableState) (first second : List Decision) →
         applied_all t (first ++ second) ≡ applied_all (applied_all t first) second }
+{}
+
+/// The record of a decision that was made of a table may be put there as an image has it.
+pub fn decided_records_may_be_put()
+    ensures { (t : TableState) (d : Decision) → Fits t d → CanPut t d.slot d.after }
 {}

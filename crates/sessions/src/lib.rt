@@ -4,6 +4,7 @@
 //! and `effects` are what the command does to `before`.
 #![tactic(auto)]
 
+mod advance;
 mod batch;
 mod continuation;
 mod decide;

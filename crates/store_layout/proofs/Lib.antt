@@ -1,1 +1,2 @@
 pub mod EntryLaws
+pub mod Replays

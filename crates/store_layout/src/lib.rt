@@ -2,6 +2,7 @@
 #![tactic(auto)]
 
 mod entry;
+pub mod laws;
 mod restore;
 mod superblock;
 #[cfg(test)]

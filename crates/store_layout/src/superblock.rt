@@ -22,7 +22,8 @@ impl Superblock {
 
     /// The bytes, with an open gate in front.
     pub fn to_bytes(&self) -> [u8; 32]
-        ensures { result ≡ superblock self.now.net_id self.now.slots }
+        ensures bytes { result ≡ superblock self.now.net_id self.now.slots }
+        ensures in_range { (self.now.net_id < 64) × ((1 ≤ self.now.slots) × (self.now.slots ≤ 4096)) }
     {
         let [_, n2, n1, n0] = u32::from(self.net_id.get()).to_be_bytes();
         let [s3, s2, s1, s0] = (self.slots.get() as u32).to_be_bytes();
@@ -53,6 +54,7 @@ impl Superblock {
     /// where another field is out of its range.
     pub fn from_bytes(bytes: &[u8; 32]) -> Result<Self, Refusal>
         ensures found { IfOk result (λ s. bytes.now ≡ superblock s.net_id s.slots) }
+        ensures in_range { IfOk result (λ s. (s.net_id < 64) × ((1 ≤ s.slots) × (s.slots ≤ 4096))) }
         ensures only { (net_id slots : ℕ) → net_id < 64 → 1 ≤ slots → slots ≤ 4096 → bytes.now ≡ superblock net_id slots
             → result ≡ Ok (record { net_id = net_id; slots = slots }) }
         ensures not_formatted { (result ≡ Err NotFormatted) ↔ (take 8 bytes.now ≢ 165 ∷ codes "LNSTORE") }

@@ -1,0 +1,5 @@
+pub mod Holding
+pub mod Restoring
+pub mod EmptyStore
+pub mod Beginning
+pub mod Finding

@@ -1,0 +1,38 @@
+use Rattle.std.proofs.Common.{◌≡◌, ◌∙◌, [], List, ℕ, length, take, drop, ap, subst, arith}
+use Rattle.gate_log.specs.declared.layout.Area.{Area}
+use Rattle.gate_log.specs.Layout.{Contents, Holds, fresh_header}
+use Rattle.gate_log.specs.Recover.{contents_in}
+use Rattle.disk.specs.State.{IsTorn}
+use Rattle.store.specs.Image.{area_a}
+use Rattle.store.proofs.EmptyStore.{OnOk-map, OnOk-of, contents_after, front_after}
+use Rattle.store.proofs.formatting.write_closed.Goals as goal
+
+pub returns-clause-area : goal.returns-clause-area
+returns-clause-area g c honest =
+    let slots = c.args.superblock.now.slots in
+    let old = (g.D.Disk.state c.close_area.new.disk).content in
+    let new = (g.D.Disk.state c.format_area.new.disk).content in
+    let area = c.first_area.ensures in
+    let torn : IsTorn 32 31 old new = subst (λ (a : Area). IsTorn a.start 31 old new) area (c.format_area.ensures.opens honest).torn in
+    OnOk-map c.format_area.result
+    (λ (holds : Holds c.first_area.result (contents_in c.first_area.result old (fresh_header 1) [] []) new).
+    subst (λ (x : Contents). Holds (area_a slots) x new) (contents_after slots (fresh_header 1) old new torn)
+    (subst (λ (a : Area). Holds a (contents_in a old (fresh_header 1) [] []) new) area holds))
+    (c.format_area.ensures.formatted honest)
+
+pub returns-clause-body : goal.returns-clause-body
+returns-clause-body g c honest =
+    let net_id = c.args.superblock.now.net_id in
+    let slots = c.args.superblock.now.slots in
+    let bytes = c.to_bytes-bytes.result in
+    let first = (g.D.Disk.state c.args.disk.now).content in
+    let start = ap (λ (a : Area). a.start) c.second_area.ensures in
+    let area = ap (λ (a : Area). a.start) c.first_area.ensures in
+    let body = take 31 (drop 1 bytes) in
+    let old = (g.D.Disk.state c.close_area.new.disk).content in
+    let new = (g.D.Disk.state c.format_area.new.disk).content in
+    let torn : IsTorn 32 31 old new = subst (λ at. IsTorn at 31 old new) area (c.format_area.ensures.opens honest).torn in
+    let size : length body ≡ 31 = ap (λ (l : List ℕ). length (take 31 (drop 1 l))) c.to_bytes-bytes.ensures.bytes in
+    let front = front_after c.second_area.result.start first (g.D.Disk.state c.write_at.new.self).content old new body
+    (omega (arith, start)) size (omega (arith, c.requires)) (c.in_ok-write_at.ensures.written honest) (c.close_area.ensures.opens honest).torn torn in
+    OnOk-of c.format_area.result (front ∙ ap (λ (l : List ℕ). take 31 (drop 1 l)) c.to_bytes-bytes.ensures.bytes)

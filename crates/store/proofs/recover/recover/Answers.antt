@@ -1,0 +1,12 @@
+use Rattle.std.proofs.Common.{Err, sym, ap, subst, refl}
+use Rattle.gate_log.specs.declared.layout.Area.{Area}
+use Rattle.gate_log.specs.Layout.{Holds}
+use Rattle.gate_log.specs.Opening.{opened}
+use Rattle.store.proofs.recover.recover.Goals as goal
+
+pub returns-in-Err-Damaged-clause-refused : goal.returns-in-Err-Damaged-clause-refused
+returns-in-Err-Damaged-clause-refused g c honest a b =
+    let content = (g.D.Disk.state (opened c.args.opening.now)).content in (
+      refl,
+      λ held holds. c.in-Err-Damaged.ensures.damaged honest (ap Err c.in-Err-Damaged.field-0-is) held (subst (λ (x : Area). Holds x held content) (sym c.first_area.ensures) holds),
+    )

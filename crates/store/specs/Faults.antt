@@ -1,0 +1,59 @@
+-- Why an image holds no store. Of several reasons the first one here is answered.
+use Rattle.std.specs.Prelude.{◌≡◌, ◌≢◌, ◌<◌, ◌≤◌, ◌⊎◌, ◌↔◌, ℕ, List, ◌∷◌, length, take, slice_index, codes}
+use Rattle.lw_types.specs.declared.refusal.Refusal.{Refusal}
+use Rattle.lw_types.specs.declared.refusal.Refusal.TheVariants.{NotFormatted, Damaged, WrongVersion, WrongSize, DeviceFailed, OutOfMemory}
+use Rattle.gate_log.specs.declared.layout.Header.{Header}
+use Rattle.gate_log.specs.Layout.{IsClosedArea}
+use Rattle.gate_log.specs.Recover.{IsHeaderAt}
+use Rattle.sessions.specs.Table.{TableState}
+use Rattle.store_layout.specs.Superblock.{superblock, disk_len}
+use Rattle.store.specs.Image.{HoldsTable, area_a}
+
+-- the gate of a store is open, and its name is there
+abbrev pub IsNamed : List ℕ → Type 0
+IsNamed bytes = take 8 bytes ≡ 165 ∷ codes "LNSTORE"
+
+-- no store has these 32 bytes in front
+abbrev pub IsNoSuperblock : List ℕ → Type 0
+IsNoSuperblock bytes = (net_id slots : ℕ) → net_id < 64 → 1 ≤ slots → slots ≤ 4096 → bytes ≢ superblock net_id slots
+
+-- what is wrong with them: a closed gate or another name, else another version, else any other field
+pub record SuperblockFault (bytes : List ℕ) (e : Refusal) : Type 0 where
+  pub none : IsNoSuperblock bytes
+  pub not_formatted : (e ≡ NotFormatted) ↔ (¬ (IsNamed bytes))
+  pub version : (e ≡ WrongVersion) ↔ (IsNamed bytes × (slice_index bytes 8 ≢ 1))
+  pub others : (e ≡ NotFormatted) ⊎ ((e ≡ WrongVersion) ⊎ (e ≡ Damaged))
+
+-- the store that the superblock speaks of
+pub record IsStoreOf (image : List ℕ) (net_id slots : ℕ) : Type 0 where
+  pub net_id_range : net_id < 64
+  pub slots_range : (1 ≤ slots) × (slots ≤ 4096)
+  pub superblock : take 32 image ≡ superblock net_id slots
+
+-- what is wrong with the length or the superblock
+abbrev pub FrontFault : List ℕ → Refusal → Type 0
+FrontFault image e =
+    ((length image < 32) × (e ≡ WrongSize))
+    ⊎ ((32 ≤ length image)
+    × (SuperblockFault (take 32 image) e ⊎ ((net_id slots : ℕ) × IsStoreOf image net_id slots × (length image ≢ disk_len slots) × (e ≡ WrongSize))))
+
+-- what is wrong with the area
+abbrev pub AreaFault : List ℕ → ℕ → Refusal → Type 0
+AreaFault image slots e =
+    (IsClosedArea (area_a slots) image × (e ≡ Damaged))
+    ⊎ ((h : Header) × IsHeaderAt image 32 h × (((h.version ≢ 1) × (e ≡ WrongVersion)) ⊎ ((h.version ≡ 1) × (e ≡ Damaged))))
+
+-- what is wrong with an image that holds no table
+pub record IsFault (image : List ℕ) (e : Refusal) : Type 0 where
+  pub none : (t : TableState) (seq : ℕ) → ¬ (HoldsTable t seq image)
+  pub first : FrontFault image e ⊎ ((net_id slots : ℕ) × IsStoreOf image net_id slots × (length image ≡ disk_len slots) × AreaFault image slots e)
+
+-- a store has this many slots
+abbrev pub IsSlots : ℕ → Type 0
+IsSlots slots = (1 ≤ slots) × (slots ≤ 4096)
+
+-- why no store of so many slots is made on a disk of this length
+pub record IsFormatRefusal (slots len : ℕ) (e : Refusal) : Type 0 where
+  pub slots_range : (e ≡ Damaged) ↔ (¬ (IsSlots slots))
+  pub size : (e ≡ WrongSize) ↔ (IsSlots slots × (len ≢ disk_len slots))
+  pub others : (e ≡ Damaged) ⊎ ((e ≡ WrongSize) ⊎ ((e ≡ DeviceFailed) ⊎ (e ≡ OutOfMemory)))

@@ -1,0 +1,6 @@
+pub mod Image
+pub mod Found
+pub mod Faults
+pub mod State
+pub mod Commit
+pub mod Phases

@@ -1,0 +1,82 @@
+-- What the disk of a store holds while one batch is under way.
+use Rattle.std.specs.Prelude.{◌≡◌, ◌⊎◌, ℕ, List, length}
+use Rattle.gate_log.specs.Layout.{BatchValue, Contents, with_batch}
+use Rattle.gate_log.specs.Log.{IsAtRest}
+use Rattle.gate_log.specs.Phases.{IsBegun, IsWritten, IsBodySynced, IsGateWritten, bytes_of, written_size as log_written_size, synced_size as log_synced_size, opened_size as log_opened_size}
+use Rattle.sessions.specs.declared.decision.Decision.{Decision}
+use Rattle.store.specs.declared.phases.Begun.{Begun}
+use Rattle.store.specs.declared.phases.Written.{Written}
+use Rattle.store.specs.declared.phases.BodySynced.{BodySynced}
+use Rattle.store.specs.declared.phases.GateWritten.{GateWritten}
+use Rattle.store.specs.declared.phases.Durable.{Durable}
+use Rattle.store.specs.Commit.{Change, change_of}
+use Rattle.store.specs.Image.{HoldsTable, Says, area_a}
+use Rattle.store.specs.State.{StoreState}
+
+-- the change of each phase, and how many bytes of the journal it takes
+abbrev pub begun_change : Begun → Change
+begun_change begun = change_of begun.commit
+
+abbrev pub begun_size : Begun → ℕ
+begun_size begun = length (bytes_of begun.phase)
+
+abbrev pub written_change : Written → Change
+written_change written = change_of written.commit
+
+abbrev pub written_size : Written → ℕ
+written_size written = log_written_size written.phase
+
+abbrev pub synced_change : BodySynced → Change
+synced_change synced = change_of synced.commit
+
+abbrev pub synced_size : BodySynced → ℕ
+synced_size synced = log_synced_size synced.phase
+
+abbrev pub opened_change : GateWritten → Change
+opened_change opened = change_of opened.commit
+
+abbrev pub opened_size : GateWritten → ℕ
+opened_size opened = log_opened_size opened.phase
+
+abbrev pub durable_decisions : Durable → List Decision
+durable_decisions durable = durable.batch
+
+-- the batch as the journal has it: without it the contents say the store's table and number, and with it the change's
+pub record Journals (s : StoreState) (change : Change) (c : Contents) (b : BatchValue) : Type 0 where
+  pub area : s.log.area ≡ area_a s.table.slots
+  pub slots : change.table.slots ≡ s.table.slots
+  pub before : Says c s.table s.seq
+  pub after : Says (with_batch c b) change.table change.seq
+
+-- an image holds the table and number from before the change, or those that it leaves
+abbrev pub HoldsEither : StoreState → Change → List ℕ → Type 0
+HoldsEither s change image = HoldsTable s.table s.seq image ⊎ HoldsTable change.table change.seq image
+
+-- nothing of the batch is written
+pub record IsBegunOn (s : StoreState) (begun : Begun) : Type 0 where
+  pub contents : Contents
+  pub batch : BatchValue
+  pub journals : Journals s (begun_change begun) contents batch
+  pub rest : IsAtRest s.log contents
+  pub bytes : IsBegun begun.phase batch
+
+-- its body is written, and may be torn
+pub record IsWrittenOn (s : StoreState) (written : Written) : Type 0 where
+  pub contents : Contents
+  pub batch : BatchValue
+  pub journals : Journals s (written_change written) contents batch
+  pub log : IsWritten s.log contents batch (written_size written)
+
+-- its body is on the disk
+pub record IsSyncedOn (s : StoreState) (synced : BodySynced) : Type 0 where
+  pub contents : Contents
+  pub batch : BatchValue
+  pub journals : Journals s (synced_change synced) contents batch
+  pub log : IsBodySynced s.log contents batch (synced_size synced)
+
+-- its gate is open, and may be torn
+pub record IsOpenedOn (s : StoreState) (opened : GateWritten) : Type 0 where
+  pub contents : Contents
+  pub batch : BatchValue
+  pub journals : Journals s (opened_change opened) contents batch
+  pub log : IsGateWritten s.log contents batch (opened_size opened)

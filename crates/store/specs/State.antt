@@ -1,0 +1,49 @@
+-- A store as contracts see it.
+use Rattle.std.specs.Prelude.{◌≡◌, ◌≤◌, ℕ, ◌+◌, Bool, true, List, Result, MatchResult, is_ok}
+use Rattle.lw_types.specs.declared.refusal.Refusal.{Refusal}
+use Rattle.lw_types.specs.declared.refusal.Refusal.TheVariants.{DeviceFailed}
+use Rattle.disk.specs.Outlook.{Outlook, HasCause, IsForeseen}
+use Rattle.disk.specs.State.{State}
+use Rattle.gate_log.specs.Layout.{Contents}
+use Rattle.gate_log.specs.Log.{LogState, IsAtRest, seen as seen_log, disk_of as disk_of_log}
+use Rattle.sessions.specs.Table.{TableState}
+use Rattle.store.specs.declared.store.Store.{Store}
+use Rattle.store.specs.Image.{HoldsTable, Says, area_a}
+
+pub record StoreState : Type 0 where
+  pub log : LogState
+  -- the durable table, and the number of its last decision
+  pub table : TableState
+  pub seq : ℕ
+  -- whether a call of the disk failed
+  pub failed : Bool
+
+abbrev pub disk_of : {D : Type 0} {g : _} → Store D g → D
+disk_of store = disk_of_log store.log
+
+abbrev pub seen : {D : Type 0} {g : _} → (D → State) → Store D g → StoreState
+seen state store = record { log = seen_log state store.log; table = store.table; seq = store.seq; failed = store.failed }
+
+-- the largest batch fits behind the next gate
+abbrev pub IsRoomy : StoreState → Type 0
+IsRoomy s = s.log.next + 275536 ≤ s.log.area.end
+
+-- nothing is under way: the disk holds the store's table and number, and a crash changes nothing
+pub record IsSettled (s : StoreState) : Type 0 where
+  pub contents : Contents
+  pub area : s.log.area ≡ area_a s.table.slots
+  pub rest : IsAtRest s.log contents
+  pub says : Says contents s.table s.seq
+
+-- a store that was opened: it has what the disk held, and the disk holds nothing else
+pub record IsOpened (content : List ℕ) (s : StoreState) : Type 0 where
+  pub settled : IsSettled s
+  pub same : s.log.disk.content ≡ content
+  pub only : (t : TableState) (seq : ℕ) → HoldsTable t seq content → (t ≡ s.table) × (seq ≡ s.seq)
+
+-- one call of the store's disk: an error is the device's, comes exactly where that failed, and fails the store
+pub record IsOneCall {D : Type 0} {g : _} {T : Type 0} (failures : D → ℕ) (outlook : D → Outlook)
+    (old new : Store D g) (result : Result T Refusal) : Type 0 where
+  pub cause : HasCause (failures (disk_of old)) (failures (disk_of new)) result
+  pub foreseen : IsForeseen (outlook (disk_of old)) (is_ok result) (outlook (disk_of new))
+  pub failed : MatchResult result (λ _. new.failed ≡ old.failed) (λ e. (e ≡ DeviceFailed) × (new.failed ≡ true))

@@ -1,0 +1,23 @@
+//! The durable state of a network: a table of devices and the number of its last decision, kept on a
+//! disk as a checkpoint and batches of decisions behind it.
+//!
+//! Whatever a crash leaves, the disk holds the table that a beginning of the committed decisions
+//! leaves, and it ends where a batch ended.
+#![tactic(auto)]
+
+mod begin;
+mod commit;
+mod formatting;
+mod found;
+mod opening;
+mod phases;
+mod recover;
+mod restore;
+mod store;
+#[cfg(test)]
+mod tests;
+
+pub use formatting::{disk_len, format};
+pub use opening::{open, open_back};
+pub use phases::{Begun, BodySynced, Durable, GateWritten, Written};
+pub use store::Store;

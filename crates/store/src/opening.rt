@@ -1,0 +1,81 @@
+// Opens a store.
+ghost use Rattle.std.specs.Prelude.{◌≡◌, ◌≢◌, ◌<◌, ◌≤◌, ◌⊎◌, false, length, take, drop, IfOk, IfErr, OnOk, MatchResult};
+ghost use Rattle.lw_types.specs.declared.refusal.Refusal.TheVariants.{DeviceFailed, OutOfMemory};
+ghost use Rattle.disk.specs.Outlook.Outlook.{AllSucceed};
+ghost use Rattle.gate_log.specs.Opening.{opened};
+ghost use Rattle.store.specs.Faults.{IsFault};
+ghost use Rattle.store.specs.Found.{IsFound};
+ghost use Rattle.store.specs.State.{seen, disk_of, IsOpened};
+
+use crate::Store;
+use crate::found::Found;
+use crate::recover::read_store;
+use disk::Disk;
+use gate_log::Opening;
+use lw_types::Refusal;
+use std::alloc::Global;
+
+/// Opens the store on a disk, as [`open_back`] does.
+pub fn open<D: Disk + Drop>(alloc: Global, disk: D) -> Result<Store<D>, Refusal>
+    ensures opened { D.honest → IfOk result (λ store. IsOpened (D.state disk).content (seen D.state store)) }
+    ensures healthy { IfOk result (λ store. ((seen D.state store).failed ≡ false)
+        × (D.failures (disk_of store) ≡ D.failures disk)) }
+    ensures refused { D.honest → IfErr result (λ e. e ≢ DeviceFailed → e ≢ OutOfMemory
+        → IsFault (D.state disk).content e) }
+    ensures unarmed { D.outlook disk ≡ AllSucceed → IfErr result (λ e. e ≢ DeviceFailed) }
+{
+    match open_back(alloc, disk) {
+        Ok(store) => Ok(store),
+        Err((_, refusal)) => Err(refusal),
+    }
+}
+
+/// Opens the store on a disk. The disk is synced first, so that opening it again after a fault is like
+/// opening it after a crash that leaves the content. Refused with `DeviceFailed` exactly where a call
+/// of the disk failed; else the store has the table and the number that the disk holds, or, exactly
+/// where it holds none, the refusal is the first of these: `WrongSize` below 32 bytes, `NotFormatted`
+/// for a closed gate or another name, `WrongVersion` for another version, `Damaged` for another field
+/// out of range, `WrongSize` for another length than the superblock's, `Damaged` where the area is
+/// closed, `WrongVersion` for another version of records, and `Damaged` for all else. `OutOfMemory`
+/// comes for want of memory. With a refusal the disk comes back. The cost grows with the area's bytes.
+pub fn open_back<D: Disk>(alloc: Global, disk: D) -> Result<Store<D>, (D, Refusal)>
+    ensures opened { D.honest → IfOk result (λ store. IsOpened (D.state disk).content (seen D.state store)) }
+    ensures healthy { IfOk result (λ store. ((seen D.state store).failed ≡ false)
+        × (D.failures (disk_of store) ≡ D.failures disk)) }
+    ensures device { IfErr result (λ e. (e.1 ≡ DeviceFailed → D.failures disk < D.failures e.0)
+        × (e.1 ≢ DeviceFailed → D.failures e.0 ≡ D.failures disk)) }
+    ensures refused { D.honest → IfErr result (λ e. e.1 ≢ DeviceFailed → e.1 ≢ OutOfMemory
+        → IsFault (D.state disk).content e.1) }
+    ensures unarmed { D.outlook disk ≡ AllSucceed → IfErr result (λ e. e.1 ≢ DeviceFailed) }
+    ensures same { D.honest → IfErr result (λ e. (D.state e.0).content ≡ (D.state disk).content) }
+    ensures same_length { IfErr result (λ e. length (D.state e.0).content ≡ length (D.state disk).content) }
+{
+    let mut opening = match Opening::new(disk) {
+        Ok(opening) => opening,
+        Err((_, disk)) => return Err((disk, Refusal::DeviceFailed)),
+    };
+    match read_store(alloc, &mut opening) {
+        Ok(found) => Ok(found.into_store(opening)),
+        Err(refusal) => Err((opening.close(), refusal)),
+    }
+}
+
+impl Found {
+    /// The store with what was found on this disk.
+    pub(crate) fn into_store<D: Disk>(self, opening: Opening<D>) -> Store<D>
+        requires { self.area.end ≤ length (D.state (opened opening)).content }
+        ensures opened { D.honest → IsFound (D.state (opened opening)).content self
+            → IsOpened (D.state (opened opening)).content (seen D.state result) }
+        ensures healthy { (seen D.state result).failed ≡ false }
+        ensures disk { disk_of result ≡ opened opening }
+    {
+        let Found {
+            table,
+            spare,
+            seq,
+            area,
+            next,
+        } = self;
+        Store::new(opening.into_log(area, next), table, spare, seq)
+    }
+}

@@ -1,0 +1,203 @@
+// The phases of a commit, each spent by one call of the disk.
+ghost use Rattle.std.specs.Prelude.{◌≡◌, ◌<◌, ◌+◌, IfOk, OnOk, OnErr, MatchResult};
+ghost use Rattle.disk.specs.State.{EveryImage};
+ghost use Rattle.sessions.specs.Decision.{effects_in};
+ghost use Rattle.store.specs.Commit.{IsUnderWay};
+ghost use Rattle.store.specs.Image.{HoldsTable};
+ghost use Rattle.store.specs.Phases.{HoldsEither, IsBegunOn, IsWrittenOn, IsSyncedOn, IsOpenedOn, begun_change, begun_size, written_change, written_size, synced_change, synced_size, opened_change, opened_size, durable_decisions};
+ghost use Rattle.store.specs.State.{seen, disk_of, IsSettled, IsOneCall};
+
+use crate::Store;
+use crate::commit::Commit;
+use disk::Disk;
+use lw_types::Refusal;
+use sessions::Batch;
+
+/// A batch of which nothing is written yet.
+pub struct Begun {
+    pub(crate) phase: gate_log::Begun,
+    pub(crate) commit: Commit,
+}
+
+/// A batch whose body is written, and may be torn.
+pub struct Written {
+    phase: gate_log::Written,
+    commit: Commit,
+}
+
+/// A batch whose body is on the disk, behind its closed gate.
+pub struct BodySynced {
+    phase: gate_log::BodySynced,
+    commit: Commit,
+}
+
+/// A batch whose gate is open, and may be torn.
+pub struct GateWritten {
+    phase: gate_log::GateWritten,
+    commit: Commit,
+}
+
+/// A batch that every crash leaves. Its effects may leave.
+pub struct Durable {
+    batch: Batch,
+}
+
+impl Begun {
+    /// Writes the batch's body and the closed gate of the next batch. Refused with `DeviceFailed`
+    /// exactly where the disk failed; then the store has failed.
+    pub fn write<D: Disk>(self, store: &mut Store<D>) -> Result<Written, Refusal>
+        requires { IsUnderWay (seen D.state store.old) (begun_change self) (begun_size self) }
+        ensures next { D.honest → IsBegunOn (seen D.state store.old) self
+            → IfOk result (IsWrittenOn (seen D.state store.new)) }
+        ensures images { D.honest → IsBegunOn (seen D.state store.old) self
+            → EveryImage (D.state (disk_of store.new))
+            (HoldsTable (seen D.state store.old).table (seen D.state store.old).seq) }
+        ensures under_way { IfOk result (λ written. IsUnderWay (seen D.state store.new)
+            (written_change written) (written_size written)) }
+        ensures change { IfOk result (λ written. written_change written ≡ begun_change self) }
+        ensures table { (seen D.state store.new).table ≡ (seen D.state store.old).table }
+        ensures seq { (seen D.state store.new).seq ≡ (seen D.state store.old).seq }
+        ensures call { IsOneCall D.failures D.outlook store.old store.new result }
+    {
+        let Begun { phase, commit } = self;
+        match phase.write(&mut store.log) {
+            Ok(phase) => Ok(Written { phase, commit }),
+            Err(_) => Err(store.fail()),
+        }
+    }
+}
+
+impl Written {
+    /// Syncs the batch's body. Refused with `DeviceFailed` exactly where the disk failed; then the
+    /// store has failed.
+    pub fn sync<D: Disk>(self, store: &mut Store<D>) -> Result<BodySynced, Refusal>
+        requires { IsUnderWay (seen D.state store.old) (written_change self) (written_size self) }
+        ensures next { D.honest → IsWrittenOn (seen D.state store.old) self
+            → IfOk result (IsSyncedOn (seen D.state store.new)) }
+        ensures images { D.honest → IsWrittenOn (seen D.state store.old) self
+            → EveryImage (D.state (disk_of store.new))
+            (HoldsTable (seen D.state store.old).table (seen D.state store.old).seq) }
+        ensures under_way { IfOk result (λ synced. IsUnderWay (seen D.state store.new)
+            (synced_change synced) (synced_size synced)) }
+        ensures change { IfOk result (λ synced. synced_change synced ≡ written_change self) }
+        ensures table { (seen D.state store.new).table ≡ (seen D.state store.old).table }
+        ensures seq { (seen D.state store.new).seq ≡ (seen D.state store.old).seq }
+        ensures call { IsOneCall D.failures D.outlook store.old store.new result }
+    {
+        let Written { phase, commit } = self;
+        match phase.sync(&mut store.log) {
+            Ok(phase) => Ok(BodySynced { phase, commit }),
+            Err(_) => Err(store.fail()),
+        }
+    }
+}
+
+impl BodySynced {
+    /// Opens the batch's gate. Refused with `DeviceFailed` exactly where the disk failed; then the
+    /// store has failed.
+    pub fn open_gate<D: Disk>(self, store: &mut Store<D>) -> Result<GateWritten, Refusal>
+        requires { IsUnderWay (seen D.state store.old) (synced_change self) (synced_size self) }
+        ensures next { D.honest → IsSyncedOn (seen D.state store.old) self
+            → IfOk result (IsOpenedOn (seen D.state store.new)) }
+        ensures images { D.honest → IsSyncedOn (seen D.state store.old) self
+            → EveryImage (D.state (disk_of store.new))
+            (HoldsEither (seen D.state store.old) (synced_change self)) }
+        ensures under_way { IfOk result (λ opened. IsUnderWay (seen D.state store.new)
+            (opened_change opened) (opened_size opened)) }
+        ensures change { IfOk result (λ opened. opened_change opened ≡ synced_change self) }
+        ensures table { (seen D.state store.new).table ≡ (seen D.state store.old).table }
+        ensures seq { (seen D.state store.new).seq ≡ (seen D.state store.old).seq }
+        ensures call { IsOneCall D.failures D.outlook store.old store.new result }
+    {
+        let BodySynced { phase, commit } = self;
+        match phase.open_gate(&mut store.log) {
+            Ok(phase) => Ok(GateWritten { phase, commit }),
+            Err(_) => Err(store.fail()),
+        }
+    }
+}
+
+impl GateWritten {
+    /// Syncs the batch's gate. Afterwards the batch is durable, and the store has its table and its
+    /// number. Refused with `DeviceFailed` exactly where the disk failed; then the store has failed,
+    /// and whether the batch is on the disk is found out by opening it again.
+    pub fn sync<D: Disk>(self, store: &mut Store<D>) -> Result<Durable, Refusal>
+        requires { IsUnderWay (seen D.state store.old) (opened_change self) (opened_size self) }
+        ensures settled { D.honest → IsOpenedOn (seen D.state store.old) self
+            → OnOk result (IsSettled (seen D.state store.new)) }
+        ensures durable { D.honest → IsOpenedOn (seen D.state store.old) self
+            → OnOk result (EveryImage (D.state (disk_of store.new))
+            (HoldsTable (opened_change self).table (opened_change self).seq)) }
+        ensures images { D.honest → IsOpenedOn (seen D.state store.old) self
+            → EveryImage (D.state (disk_of store.new))
+            (HoldsEither (seen D.state store.old) (opened_change self)) }
+        ensures batch { IfOk result (λ durable. durable_decisions durable ≡ (opened_change self).decisions) }
+        ensures table { MatchResult result
+            (λ _. (seen D.state store.new).table ≡ (opened_change self).table)
+            (λ _. (seen D.state store.new).table ≡ (seen D.state store.old).table) }
+        ensures seq { MatchResult result
+            (λ _. (seen D.state store.new).seq ≡ (opened_change self).seq)
+            (λ _. (seen D.state store.new).seq ≡ (seen D.state store.old).seq) }
+        ensures call { IsOneCall D.failures D.outlook store.old store.new result }
+    {
+        let GateWritten { phase, commit } = self;
+        match phase.sync(&mut store.log) {
+            Ok(durable) => {
+                durable.finish();
+                Ok(store.adopt(commit))
+            }
+            Err(_) => Err(store.fail()),
+        }
+    }
+}
+
+impl Durable {
+    /// The decisions, which are on the disk.
+    pub fn into_batch(self) -> Batch
+        ensures { result ≡ durable_decisions self }
+    {
+        let Durable { batch } = self;
+        batch
+    }
+}
+
+impl<D: Disk> Store<D> {
+    ghost use Rattle.std.specs.Prelude.{true};
+    ghost use Rattle.lw_types.specs.declared.refusal.Refusal.TheVariants.{DeviceFailed};
+    ghost use Rattle.sessions.specs.Decision.{FitAll, applied_all};
+    ghost use Rattle.store.specs.Commit.{change_of};
+
+    // A call of the disk failed.
+    fn fail(&mut self) -> Refusal
+        ensures refusal { result ≡ DeviceFailed }
+        ensures store { seen D.state self.new ≡ record (seen D.state self.old) { failed = true } }
+        ensures disk { disk_of self.new ≡ disk_of self.old }
+    {
+        self.failed = true;
+        Refusal::DeviceFailed
+    }
+
+    // Takes over the table and the number of a batch that is on the disk.
+    fn adopt(&mut self, commit: Commit) -> Durable
+        requires fit { FitAll (seen D.state self.old).table commit.batch }
+        requires table { commit.table ≡ applied_all (seen D.state self.old).table commit.batch }
+        ensures store { seen D.state self.new ≡ record (seen D.state self.old) {
+          table = (change_of commit).table;
+          seq = (change_of commit).seq;
+        } }
+        ensures disk { disk_of self.new ≡ disk_of self.old }
+        ensures batch { durable_decisions result ≡ (change_of commit).decisions }
+    {
+        let Commit {
+            batch,
+            records,
+            table,
+            last,
+        } = commit;
+        let mut spare = std::mem::replace(&mut self.table, table);
+        spare.place_all(&batch, records);
+        self.spare = Some(spare);
+        self.seq = last;
+        Durable { batch }
+    }
+}

@@ -1,0 +1,99 @@
+// The table that a checkpoint and the batches behind it lead to.
+ghost use Rattle.std.specs.Prelude.{◌≡◌, ◌≢◌, ◌<◌, ◌≤◌, ◌↔◌, ◌^◌, ℕ, List, MatchResult};
+ghost use Rattle.lw_types.specs.declared.refusal.Refusal.TheVariants.{Damaged, OutOfMemory};
+ghost use Rattle.sessions.specs.Table.{TableState, empty_table, placed};
+ghost use Rattle.store_layout.specs.Entries.{Entry, put_all};
+ghost use Rattle.store.specs.Image.{IsBatchOn, IsCheckpoint, Lead, Restores};
+
+use gate_log::{Batch, Recovered};
+use lw_types::Refusal;
+use sessions::Table;
+use std::alloc::Global;
+use store_layout::{Superblock, laws, replay};
+
+/// The greatest generation of an area.
+const LAST_GENERATION: u64 = (1 << 63) - 1;
+
+/// The table and the number that an area leads to. Refused with `Damaged` exactly where it leads to
+/// none, and with `OutOfMemory` for want of memory.
+pub(crate) fn restore(
+    alloc: Global,
+    superblock: &Superblock,
+    recovered: &Recovered,
+) -> Result<(Table, u64), Refusal>
+    ensures { MatchResult result
+        (λ r. (recovered.now.header.generation < 2 ^ 63) × ((t : TableState) (seq : ℕ)
+        → Restores superblock.now.net_id superblock.now.slots recovered.now.header recovered.now.records.items recovered.now.batches.items t seq
+        ↔ ((t ≡ r.0) × (seq ≡ r.1))))
+        (λ e. e ≢ OutOfMemory → (e ≡ Damaged) × ((t : TableState) (seq : ℕ)
+        → recovered.now.header.generation < 2 ^ 63
+        → ¬ Restores superblock.now.net_id superblock.now.slots recovered.now.header recovered.now.records.items recovered.now.batches.items t seq)) }
+{
+    let header = recovered.header;
+    if header.generation > LAST_GENERATION {
+        return Err(Refusal::Damaged);
+    }
+    let mut table = checkpoint(alloc, superblock, &recovered.records, header.record_count)?;
+    let seq = replay_batches(alloc, &mut table, header.sequence, &recovered.batches)?;
+    Ok((table, seq))
+}
+
+// The table of a checkpoint's records.
+fn checkpoint(
+    alloc: Global,
+    superblock: &Superblock,
+    records: &[u8],
+    count: u32,
+) -> Result<Table, Refusal>
+    ensures { MatchResult result
+        (λ table. (t : TableState) → IsCheckpoint superblock.now.net_id superblock.now.slots records.now count t ↔ (t ≡ table))
+        (λ e. e ≢ OutOfMemory → (e ≡ Damaged) × ((t : TableState)
+        → ¬ IsCheckpoint superblock.now.net_id superblock.now.slots records.now count t)) }
+{
+    laws::bytes_replay_in_one_way();
+    let mut table = Table::new(alloc, superblock.net_id, superblock.slots)?;
+    replay(alloc, &mut table, records, count)?;
+    if table.devices().len() as u64 != u64::from(count) {
+        return Err(Refusal::Damaged);
+    }
+    Ok(table)
+}
+
+// Puts the records of batches on a table, and gives the number of the last decision.
+fn replay_batches(
+    alloc: Global,
+    table: &mut Table,
+    seq: u64,
+    batches: &[Batch],
+) -> Result<u64, Refusal>
+    ensures { MatchResult result
+        (λ last. (u : TableState) (n : ℕ) → Lead table.old seq batches.now u n ↔ ((u ≡ table.new) × (n ≡ last)))
+        (λ e. e ≢ OutOfMemory → (e ≡ Damaged) × ((u : TableState) (n : ℕ) → ¬ Lead table.old seq batches.now u n)) }
+{
+    let mut last = seq;
+    for batch in batches {
+        replay_batch(alloc, table, last, batch)?;
+        last = batch.last_sequence();
+    }
+    Ok(last)
+}
+
+// Puts the records of one batch on a table.
+fn replay_batch(alloc: Global, table: &mut Table, seq: u64, batch: &Batch) -> Result<(), Refusal>
+    ensures { MatchResult result
+        (λ _. (es : List Entry) × (IsBatchOn table.old seq batch.now es × ((table.new ≡ put_all table.old es)
+        × ((fs : List Entry) → IsBatchOn table.old seq batch.now fs → fs ≡ es))))
+        (λ e. e ≢ OutOfMemory → (e ≡ Damaged) × ((es : List Entry) → ¬ IsBatchOn table.old seq batch.now es)) }
+{
+    laws::bytes_replay_in_one_way();
+    let count = u64::from(batch.entry_count());
+    if count < 1 || count > 64 || batch.last_sequence().checked_sub(seq) != Some(count) {
+        return Err(Refusal::Damaged);
+    }
+    replay(
+        alloc,
+        table,
+        batch.entries(),
+        u32::from(batch.entry_count()),
+    )
+}

@@ -1,0 +1,89 @@
+// The store, and what it tells of itself.
+ghost use Rattle.std.specs.Prelude.{◌≡◌, ◌<◌, ◌+◌, ◌-◌, ◌^◌, ◌↔◌, IsTrue, false};
+ghost use Rattle.std.specs.Option.{ForSome};
+ghost use Rattle.disk.specs.Outlook.Outlook.{FailsAfter};
+ghost use Rattle.gate_log.specs.Log.{seen as seen_log, disk_of as disk_of_log};
+
+use disk::{Disk, Sim};
+use gate_log::Log;
+use lw_types::Refusal;
+use sessions::Table;
+
+/// The bytes of the journal that the largest batch takes, with its gate and the next one.
+const LARGEST_BATCH: u64 = 275_536;
+
+/// A durable table with its journal on a disk. After a call of the disk has failed, it answers no
+/// `begin` but with [`Refusal::Failed`]: it is closed, and its disk opened again.
+#[derive(Drop)]
+pub struct Store<D: Disk> {
+    pub(crate) log: Log<D>,
+    pub(crate) table: Table,
+    // The same table once more, on which the next batch is tried. A batch that is refused uses it up.
+    pub(crate) spare: Option<Table>,
+    pub(crate) seq: u64,
+    pub(crate) failed: bool,
+    ghost level: { ForSome spare (λ t. t ≡ table) },
+}
+
+impl<D: Disk> Store<D> {
+    ghost use Rattle.store.specs.State.{seen, disk_of, IsRoomy};
+
+    /// The store of a table, twice, and of the number of its last decision.
+    pub(crate) fn new(log: Log<D>, table: Table, spare: Table, seq: u64) -> Self
+        requires { spare ≡ table }
+        ensures store { seen D.state result
+            ≡ record { log = seen_log D.state log; table = table; seq = seq; failed = false } }
+        ensures disk { disk_of result ≡ disk_of_log log }
+    {
+        Store {
+            log,
+            table,
+            spare: Some(spare),
+            seq,
+            failed: false,
+        }
+    }
+
+    /// The durable table.
+    pub fn table(&self) -> &Table
+        ensures { result.now ≡ (seen D.state self.now).table }
+    {
+        &self.table
+    }
+
+    /// The number of the last durable decision.
+    pub fn seq(&self) -> u64
+        ensures { result ≡ (seen D.state self.now).seq }
+    {
+        self.seq
+    }
+
+    /// Whether the largest batch fits into the journal: 275,536 bytes are left in it.
+    pub fn roomy(&self) -> bool
+        ensures { IsTrue result ↔ IsRoomy (seen D.state self.now) }
+    {
+        self.log.room() >= LARGEST_BATCH
+    }
+
+    /// Gives the disk back.
+    pub fn close(self) -> D
+        ensures { result ≡ disk_of self }
+    {
+        self.log.close()
+    }
+}
+
+impl<D: Sim> Store<D> {
+    ghost use Rattle.store.specs.State.{seen, disk_of};
+
+    /// Makes the nth call of the disk from now fail.
+    pub fn arm(&mut self, n: u64)
+        requires { 0 < n }
+        ensures armed { D.failures (disk_of self.old) + 1 < 2 ^ 64
+            → D.outlook (disk_of self.new) ≡ FailsAfter (n - 1) }
+        ensures same { seen D.state self.new ≡ seen D.state self.old }
+        ensures failures { D.failures (disk_of self.new) ≡ D.failures (disk_of self.old) }
+    {
+        self.log.arm(n);
+    }
+}
