@@ -1,0 +1,31 @@
+-- The MAC commands of class A devices (TS001-1.0.4 §5). No other is known.
+use Rattle.std.specs.Prelude.{ℕ}
+use Rattle.mac_commands.specs.declared.cid.Cid.{Cid}
+use Rattle.mac_commands.specs.declared.cid.Cid.TheVariants.{LinkCheck, LinkAdr, DutyCycle, RxParamSetup, DevStatus, NewChannel, RxTimingSetup, TxParamSetup, DlChannel, DeviceTime}
+use Rattle.mac_commands.specs.declared.cid.Direction.{Direction}
+use Rattle.mac_commands.specs.declared.cid.Direction.TheVariants.{Up, Down}
+
+-- the identifier's byte, and the bytes of payload that follow it in an uplink and in a downlink
+pub record Row : Type 0 where
+  pub number : ℕ
+  pub up : ℕ
+  pub down : ℕ
+
+abbrev pub row : Cid → Row
+row LinkCheck = record { number = 0x02; up = 0; down = 2 }
+row LinkAdr = record { number = 0x03; up = 1; down = 4 }
+row DutyCycle = record { number = 0x04; up = 0; down = 1 }
+row RxParamSetup = record { number = 0x05; up = 1; down = 4 }
+row DevStatus = record { number = 0x06; up = 2; down = 0 }
+row NewChannel = record { number = 0x07; up = 1; down = 5 }
+row RxTimingSetup = record { number = 0x08; up = 0; down = 1 }
+row TxParamSetup = record { number = 0x09; up = 0; down = 1 }
+row DlChannel = record { number = 0x0A; up = 1; down = 4 }
+row DeviceTime = record { number = 0x0D; up = 0; down = 5 }
+
+abbrev pub number_of : Cid → ℕ
+number_of cid = (row cid).number
+
+abbrev pub payload_len : Direction → Cid → ℕ
+payload_len Up cid = (row cid).up
+payload_len Down cid = (row cid).down

@@ -1,0 +1,81 @@
+// Which MAC commands there are.
+ghost use Rattle.std.specs.Prelude.{◌≡◌, ◌≢◌, ◌≤◌, IfNone, IfSome};
+
+/// Which way a frame goes.
+#[derive(Clone, Copy, Debug, PartialEq, Eq)]
+pub enum Direction {
+    /// From the device to the network.
+    Up,
+    /// From the network to the device.
+    Down,
+}
+
+/// A command identifier. A request and its answer have the same one, in opposite directions.
+#[derive(Clone, Copy, Debug, PartialEq, Eq)]
+pub enum Cid {
+    LinkCheck = 0x02,
+    LinkAdr = 0x03,
+    DutyCycle = 0x04,
+    RxParamSetup = 0x05,
+    DevStatus = 0x06,
+    NewChannel = 0x07,
+    RxTimingSetup = 0x08,
+    TxParamSetup = 0x09,
+    DlChannel = 0x0A,
+    DeviceTime = 0x0D,
+}
+
+impl Cid {
+    ghost use Rattle.mac_commands.specs.declared.cid.Cid.{Cid};
+    ghost use Rattle.mac_commands.specs.Table.{number_of, payload_len};
+
+    /// The byte that stands for the identifier.
+    pub fn number(self) -> u8
+        ensures { result ≡ number_of self }
+    {
+        self as u8
+    }
+
+    /// The identifier that a byte stands for, where one is known.
+    pub fn from_number(number: u8) -> Option<Self>
+        ensures known { IfSome result (λ cid. number_of cid ≡ number) }
+        ensures unknown { IfNone result ((cid : Cid) → number_of cid ≢ number) }
+    {
+        match number {
+            0x02 => Some(Cid::LinkCheck),
+            0x03 => Some(Cid::LinkAdr),
+            0x04 => Some(Cid::DutyCycle),
+            0x05 => Some(Cid::RxParamSetup),
+            0x06 => Some(Cid::DevStatus),
+            0x07 => Some(Cid::NewChannel),
+            0x08 => Some(Cid::RxTimingSetup),
+            0x09 => Some(Cid::TxParamSetup),
+            0x0A => Some(Cid::DlChannel),
+            0x0D => Some(Cid::DeviceTime),
+            _ => None,
+        }
+    }
+
+    /// How many bytes of payload follow the identifier in a frame of this direction, at most 5.
+    pub fn payload_len(self, direction: Direction) -> usize
+        ensures length { result ≡ payload_len direction self }
+        ensures few { result ≤ 5 }
+    {
+        let (up, down) = match self {
+            Cid::LinkCheck => (0, 2),
+            Cid::LinkAdr => (1, 4),
+            Cid::DutyCycle => (0, 1),
+            Cid::RxParamSetup => (1, 4),
+            Cid::DevStatus => (2, 0),
+            Cid::NewChannel => (1, 5),
+            Cid::RxTimingSetup => (0, 1),
+            Cid::TxParamSetup => (0, 1),
+            Cid::DlChannel => (1, 4),
+            Cid::DeviceTime => (0, 5),
+        };
+        match direction {
+            Direction::Up => up,
+            Direction::Down => down,
+        }
+    }
+}

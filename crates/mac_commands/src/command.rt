@@ -1,0 +1,19 @@
+// MAC commands as values.
+use crate::CommandPayload;
+use crate::cid::Cid;
+
+/// A MAC command: its identifier and its payload, the bits of which aren't looked at.
+#[derive(Clone, Debug, PartialEq, Eq, Drop)]
+pub struct MacCommand {
+    pub cid: Cid,
+    pub payload: CommandPayload,
+}
+
+/// The MAC commands at the front of some bytes.
+#[derive(Debug, PartialEq, Eq, Drop)]
+pub struct Decoded {
+    /// The commands, in order.
+    pub commands: Vec<MacCommand>,
+    /// Where reading stopped: how many bytes the commands are.
+    pub stop: usize,
+}

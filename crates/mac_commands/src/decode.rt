@@ -1,0 +1,44 @@
+// MAC commands read from a frame.
+ghost use Rattle.std.specs.Prelude.{◌≡◌, IfErr, IfOk};
+ghost use Rattle.lw_types.specs.declared.refusal.Refusal.TheVariants.{OutOfMemory};
+ghost use Rattle.mac_commands.specs.declared.cid.Direction.TheVariants.{Up, Down};
+ghost use Rattle.mac_commands.specs.Commands.{AreCommands};
+
+use crate::cid::Direction;
+use crate::command::Decoded;
+use crate::front::read_front;
+use lw_types::Refusal;
+use std::alloc::Global;
+
+/// The MAC commands of an uplink, in its FOpts or its FRMPayload of port 0. Reading stops at an
+/// identifier that is not known and at a payload that is cut; the commands before it count.
+pub fn decode_up(alloc: Global, bytes: &[u8]) -> Result<Decoded, Refusal>
+    ensures read { IfOk result (λ d. AreCommands Up bytes.now d.commands.items d.stop) }
+    ensures refused { IfErr result (λ e. e ≡ OutOfMemory) }
+{
+    decode(alloc, Direction::Up, bytes)
+}
+
+/// The MAC commands of a downlink, read in the same way.
+pub fn decode_down(alloc: Global, bytes: &[u8]) -> Result<Decoded, Refusal>
+    ensures read { IfOk result (λ d. AreCommands Down bytes.now d.commands.items d.stop) }
+    ensures refused { IfErr result (λ e. e ≡ OutOfMemory) }
+{
+    decode(alloc, Direction::Down, bytes)
+}
+
+fn decode(alloc: Global, direction: Direction, bytes: &[u8]) -> Result<Decoded, Refusal>
+    ensures read { IfOk result (λ d. AreCommands direction bytes.now d.commands.items d.stop) }
+    ensures refused { IfErr result (λ e. e ≡ OutOfMemory) }
+{
+    let mut commands = Vec::new(alloc);
+    let mut rest = bytes;
+    while let Some(front) = read_front(direction, rest) {
+        commands.push(front.command(alloc)?)?;
+        rest = front.rest;
+    }
+    Ok(Decoded {
+        commands,
+        stop: bytes.len() - rest.len(),
+    })
+}

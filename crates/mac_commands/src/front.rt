@@ -1,0 +1,47 @@
+// The command at the front of some bytes.
+ghost use Rattle.std.specs.Prelude.{◌≡◌, ◌≤◌, IfNone, IfOk, IfSome, length};
+ghost use Rattle.mac_commands.specs.Commands.{BeginsWhole};
+ghost use Rattle.mac_commands.specs.Front.{IsFront};
+
+use crate::CommandPayload;
+use crate::cid::{Cid, Direction};
+use crate::command::MacCommand;
+use std::alloc::{AllocError, Global};
+
+/// A command that stands at the front of some bytes, and the bytes behind it.
+#[derive(Clone, Copy)]
+pub(crate) struct Front<'a> {
+    pub cid: Cid,
+    pub payload: &'a [u8],
+    pub rest: &'a [u8],
+}
+
+/// The whole command of this direction at the front of the bytes, where there is one.
+pub(crate) fn read_front(direction: Direction, bytes: &[u8]) -> Option<Front<'_>>
+    ensures found { IfSome result (λ f. IsFront direction bytes.now f) }
+    ensures few { IfSome result (λ f. length f.payload.now ≤ 5) }
+    ensures none { IfNone result (¬ BeginsWhole direction bytes.now) }
+{
+    let (number, behind) = bytes.split_first()?;
+    let cid = Cid::from_number(*number)?;
+    let (payload, rest) = behind.split_at_checked(cid.payload_len(direction))?;
+    Some(Front { cid, payload, rest })
+}
+
+impl Front<'_> {
+    ghost use Rattle.mac_commands.specs.Front.{command_of};
+
+    /// The command with a payload of its own.
+    pub fn command(self, alloc: Global) -> Result<MacCommand, AllocError>
+        requires { length self.payload.now ≤ 5 }
+        ensures { IfOk result (λ command. command ≡ command_of self.entry) }
+    {
+        match CommandPayload::new(Vec::from_slice(alloc, self.payload)?) {
+            Ok(payload) => Ok(MacCommand {
+                cid: self.cid,
+                payload,
+            }),
+            Err(_) => unreachable!(),
+        }
+    }
+}

@@ -1,0 +1,29 @@
+//! Laws of MAC commands as bytes, for crates that queue and send them.
+ghost use Rattle.std.specs.Prelude.{◌≡◌, ◌++◌, List, length, ℕ};
+ghost use Rattle.mac_commands.specs.declared.cid.Direction.{Direction};
+ghost use Rattle.mac_commands.specs.declared.command.MacCommand.{MacCommand};
+ghost use Rattle.mac_commands.specs.Commands.{AreCommands, Spells};
+
+/// Bytes are read in one way: as one list of commands, up to one place.
+pub fn bytes_are_read_in_one_way()
+    ensures commands { (direction : Direction) (bytes : List ℕ) (a : List MacCommand) (b : List MacCommand) (m : ℕ) (n : ℕ)
+        → AreCommands direction bytes a m → AreCommands direction bytes b n → a ≡ b }
+    ensures stop { (direction : Direction) (bytes : List ℕ) (a : List MacCommand) (b : List MacCommand) (m : ℕ) (n : ℕ)
+        → AreCommands direction bytes a m → AreCommands direction bytes b n → m ≡ n }
+{}
+
+/// What is written in whole commands is read again, all of it.
+pub fn whole_commands_are_read_to_the_end()
+    ensures { (direction : Direction) (bytes : List ℕ) (commands : List MacCommand)
+        → Spells direction bytes commands → AreCommands direction bytes commands (length bytes) }
+{}
+
+/// Whole commands behind whole commands are whole commands, and so is what is left of whole commands
+/// where some of them are taken from the front.
+pub fn whole_commands_join_and_part()
+    ensures join { (direction : Direction) (a : List ℕ) (b : List ℕ) (first : List MacCommand) (second : List MacCommand)
+        → Spells direction a first → Spells direction b second → Spells direction (a ++ b) (first ++ second) }
+    ensures part { (direction : Direction) (a : List ℕ) (b : List ℕ) (all : List MacCommand) (first : List MacCommand)
+        → Spells direction (a ++ b) all → Spells direction a first
+        → (second : List MacCommand) × (all ≡ first ++ second) × Spells direction b second }
+{}

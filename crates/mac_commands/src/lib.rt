@@ -1,0 +1,24 @@
+//! MAC commands as bytes (TS001-1.0.4 §5): read from an uplink or a downlink, written for a downlink, and
+//! chosen from a queue for the room that a downlink's FOpts has.
+#![tactic(auto)]
+
+mod cid;
+mod command;
+mod decode;
+mod encode;
+mod fit;
+mod front;
+pub mod laws;
+
+pub use cid::{Cid, Direction};
+pub use command::{Decoded, MacCommand};
+pub use decode::{decode_down, decode_up};
+pub use encode::encode_down;
+pub use fit::fit15;
+use lw_types::Bytes;
+
+/// The payload of a MAC command, of at most 5 bytes.
+pub type CommandPayload = Bytes<5>;
+
+#[cfg(test)]
+mod tests;
