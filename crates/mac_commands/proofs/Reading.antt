@@ -1,7 +1,7 @@
 -- Commands are read from the front, one after another, in one way.
-use Rattle.std.proofs.Common.{◌≡◌, ℕ, ◌+◌, ◌-◌, ◌<◌, ◌≤◌, List, [], ◌∷◌, ◌++◌, length, take, drop, min, refl, sym, ap, ◌∙◌, append_assoc, subst, arith, Option, Some, None}
+use Rattle.std.proofs.Common.{◌≡◌, ℕ, ◌-◌, ◌≤◌, List, [], ◌∷◌, ◌++◌, length, take, drop, min, refl, sym, ap, ◌∙◌, append_assoc, subst, arith, Option, Some, None}
 use Rattle.std.specs.Prelude.{◌==◌, if◌then◌else◌}
-use Rattle.std.specs.List.{flat_map, AllByRecursion}
+use Rattle.std.specs.List.{AllByRecursion}
 use Rattle.std.proofs.lemmas.Grind.{flat_map-append}
 use Rattle.std.proofs.Math.Seq.{take-append_seam, drop-append_seam, take-length, drop-length}
 use Rattle.std.proofs.lemmas.List.{append-nil, flat_map_more, length-append, length-drop, length-take-le, take-append-drop, take-append-le}
@@ -11,7 +11,7 @@ use Rattle.mac_commands.specs.declared.cid.Direction.{Direction}
 use Rattle.mac_commands.specs.declared.cid.Direction.TheVariants.{Down}
 use Rattle.mac_commands.specs.declared.command.MacCommand.{MacCommand}
 use Rattle.mac_commands.specs.Table.{number_of, payload_len}
-use Rattle.mac_commands.specs.Commands.{IsWhole, command_bytes, spelling, Spells, BeginsWhole, AreCommands, IsBeginning, IsLongestFit}
+use Rattle.mac_commands.specs.Commands.{IsWhole, command_bytes, spelling, Spells, BeginsWhole, AreCommands, IsLongestFit}
 
 -- ---- one command
 

@@ -16,11 +16,12 @@ command_bytes command = number_of command.cid ∷ command.payload
 abbrev pub spelling : List MacCommand → List ℕ
 spelling commands = flat_map command_bytes commands
 
--- the bytes are whole commands, and these
+-- the bytes are these commands, each of them whole
 pub record Spells (direction : Direction) (bytes : List ℕ) (commands : List MacCommand) : Type 0 where
   pub whole : AllByRecursion (IsWhole direction) commands
   pub spelled : bytes ≡ spelling commands
 
+-- the bytes are some whole commands
 abbrev pub AreWhole : Direction → List ℕ → Type 0
 AreWhole direction bytes = (commands : List MacCommand) × Spells direction bytes commands
 

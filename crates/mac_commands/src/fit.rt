@@ -1,6 +1,5 @@
 // What of a queue of MAC commands a downlink has room for.
 ghost use Rattle.std.specs.Prelude.{List};
-ghost use Rattle.mac_commands.specs.declared.cid.Direction.TheVariants.{Down};
 ghost use Rattle.mac_commands.specs.declared.command.MacCommand.{MacCommand};
 ghost use Rattle.mac_commands.specs.Commands.{AreCommands, IsLongestFit};
 
@@ -9,18 +8,20 @@ use crate::front::read_front;
 
 /// How many bytes of a queue of downlink commands, from its front and in whole commands, fit the room
 /// that is left of the 15 bytes of FOpts (TS001-1.0.4 §4.3.1.6): as many as possible. Takes no memory.
+#[tactic(auto, using(crate::proofs::Reading::is_longest))]
 pub fn fit15(queue: &[u8], room: u8) -> usize
     ensures { IsLongestFit queue.now room result }
 {
-    whole_len(&queue[..queue.len().min(usize::from(room))])
+    let within = queue.len().min(usize::from(room));
+    whole_len(Direction::Down, &queue[..within])
 }
 
-/// How many bytes the whole downlink commands at the front of some bytes are.
-fn whole_len(bytes: &[u8]) -> usize
-    ensures { (commands : List MacCommand) × AreCommands Down bytes.now commands result }
+/// How many bytes the whole commands of this direction at the front of some bytes are.
+fn whole_len(direction: Direction, bytes: &[u8]) -> usize
+    ensures { (commands : List MacCommand) × AreCommands direction bytes.now commands result }
 {
     let mut rest = bytes;
-    while let Some(front) = read_front(Direction::Down, rest) {
+    while let Some(front) = read_front(direction, rest) {
         rest = front.rest;
     }
     bytes.len() - rest.len()
