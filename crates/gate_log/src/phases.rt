@@ -84,6 +84,11 @@ impl Begun {
             size: bytes.len() as u64,
         })
     }
+
+    /// Lets the batch go, at a crash.
+    pub fn lose(self) {
+        let Begun { bytes: _ } = self;
+    }
 }
 
 impl Written {
@@ -104,6 +109,11 @@ impl Written {
         log.disk.sync()?;
         Ok(BodySynced { size })
     }
+
+    /// Lets the batch go, at a crash.
+    pub fn lose(self) {
+        let Written { size: _ } = self;
+    }
 }
 
 impl BodySynced {
@@ -123,6 +133,11 @@ impl BodySynced {
         let BodySynced { size } = self;
         log.disk.write_at(log.next, &[OPEN])?;
         Ok(GateWritten { size })
+    }
+
+    /// Lets the batch go, at a crash.
+    pub fn lose(self) {
+        let BodySynced { size: _ } = self;
     }
 }
 
@@ -149,6 +164,11 @@ impl GateWritten {
         log.disk.sync()?;
         log.next += size;
         Ok(Durable { size })
+    }
+
+    /// Lets the batch go, at a crash.
+    pub fn lose(self) {
+        let GateWritten { size: _ } = self;
     }
 }
 

@@ -3,3 +3,4 @@ pub mod Hex
 pub mod Decimal
 pub mod Words
 pub mod WordsLeft
+pub mod FrameCopy

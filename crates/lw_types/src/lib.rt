@@ -3,6 +3,7 @@
 
 mod bytes;
 mod decimal;
+mod frame_copy;
 mod hex_text;
 mod identifiers;
 mod key;
@@ -12,6 +13,7 @@ mod text;
 mod words;
 
 pub use bytes::Bytes;
+pub use frame_copy::{FrameCopy, PhyPayload, Reception};
 pub use hex_text::{ByteField, read_field, read_hex, write_hex};
 pub use identifiers::{DevAddr, Eui, JoinNonce, NetId};
 pub use key::Key;

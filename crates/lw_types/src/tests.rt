@@ -1,5 +1,6 @@
 use crate::{
-    ByteField, DevAddr, Eui, FromText, Key, NetId, Refusal, Words, read_field, read_hex, write_hex,
+    ByteField, DevAddr, Eui, FrameCopy, FromText, Key, NetId, Reception, Refusal, Words,
+    read_field, read_hex, write_hex,
 };
 use std::process::Abort;
 use std::test::Fail;
@@ -116,4 +117,26 @@ fn words_are_parted_by_one_space(rt: HostRuntime) {
     assert!(rt; words.next().is_some_and(|word| word.is_empty()));
     assert!(rt; words.next().is_some_and(|word| word == "a"));
     assert!(rt; words.next().is_none());
+}
+
+#[test]
+fn copies_have_at_most_255_bytes(rt: HostRuntime) -> Result<(), Fail> {
+    let reception = Reception {
+        gateway: Eui(0xB1),
+        frequency: 868_100_000,
+        data_rate: 5,
+        snr: -20,
+        rssi: -95,
+    };
+    let alloc = rt.alloc();
+    let bytes = [0x40; 256];
+    for len in [0, 17, 255] {
+        let copy = FrameCopy::new(alloc, reception, 50_000, &bytes[..len])?.copy()?;
+        assert_eq!(rt; copy.reception, reception);
+        assert_eq!(rt; copy.stamp, 50_000);
+        assert_eq!(rt; copy.phy_payload.as_slice(), &bytes[..len]);
+    }
+    let long = FrameCopy::new(alloc, reception, 50_000, &bytes);
+    assert!(rt; matches!(long, Err(Refusal::FrameTooLong)));
+    Ok(())
 }

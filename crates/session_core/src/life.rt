@@ -85,6 +85,13 @@ impl Core {
         self.made
     }
 
+    /// How many decisions wait to be taken.
+    pub fn untaken(&self) -> usize
+        ensures { result ≡ length self.now.log }
+    {
+        self.log.len()
+    }
+
     /// An application brings a device, at this moment in milliseconds below 2^63. Refused with
     /// `Backlog` where 4,096 decisions wait or no number is left, then with `DevEuiTaken` or
     /// `TableFull`; with `OutOfMemory` for want of memory. A refusal changes nothing.

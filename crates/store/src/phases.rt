@@ -65,6 +65,12 @@ impl Begun {
             Err(_) => Err(store.fail()),
         }
     }
+
+    /// Lets the batch go, at a crash.
+    pub fn lose(self) {
+        let Begun { phase, commit: _ } = self;
+        phase.lose();
+    }
 }
 
 impl Written {
@@ -90,6 +96,12 @@ impl Written {
             Err(_) => Err(store.fail()),
         }
     }
+
+    /// Lets the batch go, at a crash.
+    pub fn lose(self) {
+        let Written { phase, commit: _ } = self;
+        phase.lose();
+    }
 }
 
 impl BodySynced {
@@ -114,6 +126,12 @@ impl BodySynced {
             Ok(phase) => Ok(GateWritten { phase, commit }),
             Err(_) => Err(store.fail()),
         }
+    }
+
+    /// Lets the batch go, at a crash.
+    pub fn lose(self) {
+        let BodySynced { phase, commit: _ } = self;
+        phase.lose();
     }
 }
 
@@ -148,6 +166,12 @@ impl GateWritten {
             }
             Err(_) => Err(store.fail()),
         }
+    }
+
+    /// Lets the batch go, at a crash.
+    pub fn lose(self) {
+        let GateWritten { phase, commit: _ } = self;
+        phase.lose();
     }
 }
 

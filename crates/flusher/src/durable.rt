@@ -1,0 +1,58 @@
+// A durable batch, whose effects may leave.
+ghost use Rattle.std.specs.Prelude.{◌≡◌, ◌≤◌, ◌+◌, ◌++◌, length, vec_capacity};
+ghost use Rattle.sessions.specs.Decision.{effects_in};
+ghost use Rattle.store.specs.Phases.{durable_decisions};
+ghost use Rattle.flusher.specs.Released.{decisions_of, effects_of_all};
+
+use crate::{Released, Room};
+use sessions::{Batch, Decision};
+
+/// A batch that every crash leaves, and room for its effects. It must be spent: its effects leave by
+/// `release`, and at a crash they are lost.
+pub struct Durable {
+    batch: Batch,
+    room: Room,
+}
+
+impl Durable {
+    /// The last phase of a commit, with room for its effects.
+    pub fn new(durable: store::Durable, room: Room) -> Self
+        ensures { decisions_of result ≡ durable_decisions durable }
+    {
+        Durable {
+            batch: durable.into_batch(),
+            room,
+        }
+    }
+
+    /// The effects of the batch's decisions, in order and complete. Takes no memory.
+    pub fn release(self) -> Vec<Released>
+        ensures { effects_of_all result.items ≡ effects_in (decisions_of self) }
+    {
+        let Durable { batch, room } = self;
+        let Room { mut effects } = room;
+        for decision in batch.into_vec() {
+            release_one(decision, &mut effects);
+        }
+        effects
+    }
+
+    /// Loses the effects, as a crash does.
+    pub fn lose(self) {
+        let Durable { batch: _, room: _ } = self;
+    }
+}
+
+// Adds the effects of one decision.
+fn release_one(decision: Decision, out: &mut Vec<Released>)
+    requires { length out.old.items + 4 ≤ vec_capacity out.old }
+    ensures effects { effects_of_all out.new.items ≡ effects_of_all out.old.items ++ decision.effects }
+    ensures few { length out.new.items ≤ length out.old.items + 4 }
+    ensures room { vec_capacity out.old ≤ vec_capacity out.new }
+{
+    let Decision { effects, .. } = decision;
+    for effect in effects.into_vec() {
+        let pushed: Result<_, _> = out.push(Released::new(effect));
+        pushed.unwrap();
+    }
+}

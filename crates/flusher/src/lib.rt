@@ -1,0 +1,13 @@
+//! What leaves the network, and when: an effect is seen outside only as a [`Released`], which is made of
+//! a durable batch alone.
+#![tactic(auto)]
+
+mod durable;
+mod released;
+mod room;
+#[cfg(test)]
+mod tests;
+
+pub use durable::Durable;
+pub use released::Released;
+pub use room::Room;

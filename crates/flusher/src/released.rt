@@ -1,0 +1,28 @@
+// An effect that may leave.
+ghost use Rattle.std.specs.Prelude.{◌≡◌};
+
+use devices::Effect;
+
+/// An effect of a durable decision. It is made where a durable batch is released and nowhere else, so
+/// whoever has one may let the effect out.
+#[derive(Debug, Drop)]
+pub struct Released {
+    effect: Effect,
+}
+
+impl Released {
+    ghost use Rattle.flusher.specs.Released.{effect_of};
+
+    pub(crate) fn new(effect: Effect) -> Self
+        ensures { effect_of result ≡ effect }
+    {
+        Released { effect }
+    }
+
+    /// The effect.
+    pub fn effect(&self) -> &Effect
+        ensures { result.now ≡ effect_of self.now }
+    {
+        &self.effect
+    }
+}

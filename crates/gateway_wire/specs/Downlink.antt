@@ -1,0 +1,27 @@
+-- What a gateway is told of a frame that it is to send: numbers with the highest byte first.
+use Rattle.std.specs.Prelude.{ℕ, ◌+◌, List, ◌∷◌, ◌++◌, length}
+use Rattle.std.specs.Int.{w16, w32, w64, to_be_bytes}
+use Rattle.devices.specs.declared.effect.Downlink.{Downlink}
+use Rattle.devices.specs.declared.effect.Windows.{Windows}
+use Rattle.devices.specs.declared.effect.Windows.TheVariants.{Rx1, Rx1OrRx2}
+
+-- RX2 is one second after RX1; 0 where it isn't to be used
+abbrev pub rx2_delay : Windows → ℕ → ℕ
+rx2_delay Rx1 rx1_delay = 0
+rx2_delay Rx1OrRx2 rx1_delay = rx1_delay + 1
+
+-- the content of a downlink: 11 (hex), the gateway, its stamp of the uplink, Hz and data rate of RX1, the
+-- delays of RX1 and RX2, and the PHYPayload
+abbrev pub downlink_content : Downlink → List ℕ
+downlink_content d =
+    17 ∷ (to_be_bytes w64 d.gateway.0
+    ++ (to_be_bytes w32 d.stamp
+    ++ (to_be_bytes w32 d.frequency
+    ++ (d.data_rate ∷ d.delay ∷ rx2_delay d.windows d.delay ∷ d.frame))))
+
+-- a frame of the wire: the length of its content in two bytes, and the content
+abbrev pub wire_frame : List ℕ → List ℕ
+wire_frame content = to_be_bytes w16 (length content) ++ content
+
+abbrev pub downlink_frame : Downlink → List ℕ
+downlink_frame d = wire_frame (downlink_content d)

@@ -1,0 +1,32 @@
+-- What leaves the network by an effect, and on whose link.
+use Rattle.std.specs.Prelude.{ℕ, List, Option, Some, None}
+use Rattle.devices.specs.declared.effect.Effect.{Effect}
+use Rattle.devices.specs.declared.effect.Effect.TheVariants.{Forward, Accept, Down, Report}
+use Rattle.gateway_wire.specs.declared.emission.Emission.{Emission}
+use Rattle.gateway_wire.specs.declared.emission.Emission.TheVariants.{Gateway, Application}
+use Rattle.gateway_wire.specs.AppLine.{up_line, report_line}
+use Rattle.gateway_wire.specs.Downlink.{downlink_frame}
+
+-- payloads and reports go to the device's application, frames for the device to the gateway that heard it best
+abbrev pub emission : Effect → Emission
+emission (Forward application dev_eui join_nonce counter port payload copies best) =
+    Application application (up_line dev_eui join_nonce counter port payload copies best)
+emission (Report application dev_eui report) = Application application (report_line dev_eui report)
+emission (Accept dev_eui join_nonce downlink) = Gateway downlink.gateway (downlink_frame downlink)
+emission (Down dev_eui join_nonce counter downlink) = Gateway downlink.gateway (downlink_frame downlink)
+
+abbrev pub line_in : Emission → Option (List ℕ)
+line_in (Application application line) = Some line
+line_in (Gateway gateway frame) = None
+
+abbrev pub frame_in : Emission → Option (List ℕ)
+frame_in (Application application line) = None
+frame_in (Gateway gateway frame) = Some frame
+
+-- the line that an effect is to an application
+abbrev pub app_line : Effect → Option (List ℕ)
+app_line effect = line_in (emission effect)
+
+-- the frame that an effect is to a gateway
+abbrev pub gateway_bytes : Effect → Option (List ℕ)
+gateway_bytes effect = frame_in (emission effect)

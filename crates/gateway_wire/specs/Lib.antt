@@ -1,0 +1,5 @@
+pub mod AppLine
+pub mod Downlink
+pub mod Emission
+pub mod Request
+pub mod DeviceList

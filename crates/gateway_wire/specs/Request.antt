@@ -1,0 +1,43 @@
+-- What applications ask for: a line of words, each parted from the next by one space.
+use Rattle.std.specs.Prelude.{◌≡◌, ℕ, ◌<◌, ◌≤◌, ◌^◌, List, [], ◌∷◌, length, codes}
+use Rattle.std.specs.Fmt.{decimal}
+use Rattle.lw_types.specs.Hex.{IsBytes, eui_text, key_text}
+use Rattle.lw_types.specs.Words.{line_of}
+use Rattle.devices.specs.declared.command.Command.{Command}
+use Rattle.devices.specs.declared.command.Command.TheVariants as command
+use Rattle.gateway_wire.specs.declared.request.Request.{Request}
+use Rattle.gateway_wire.specs.declared.request.Request.TheVariants.{Provision}
+
+-- the name of the request and its fields
+abbrev pub request_words : Request → List (List ℕ)
+request_words (Provision dev_eui join_eui app_key rx1_offset rx_delay) =
+    codes "provision" ∷ eui_text dev_eui ∷ eui_text join_eui ∷ key_text app_key ∷ decimal rx1_offset ∷ decimal rx_delay ∷ []
+
+abbrev pub request_line : Request → List ℕ
+request_line r = line_of (request_words r)
+
+-- the fields are in their ranges
+abbrev pub IsRequest : Request → Type 0
+IsRequest (Provision dev_eui join_eui app_key rx1_offset rx_delay) =
+    (dev_eui.0 < 2 ^ 64) × (join_eui.0 < 2 ^ 64) × (IsBytes app_key.0 × (length app_key.0 ≡ 16))
+    × (rx1_offset ≤ 5) × ((1 ≤ rx_delay) × (rx_delay ≤ 15))
+
+-- the words of some request
+abbrev pub AreRequestWords : List (List ℕ) → Type 0
+AreRequestWords words = (r : Request) × IsRequest r × (words ≡ request_words r)
+
+-- the line of some request
+abbrev pub IsRequestLine : List ℕ → Type 0
+IsRequestLine line = (r : Request) × IsRequest r × (line ≡ request_line r)
+
+-- the command that an application asks for by a request
+abbrev pub command_of : ℕ → Request → Command
+command_of application (Provision dev_eui join_eui app_key rx1_offset rx_delay) =
+    command.Provision (record {
+      application = application;
+      dev_eui = dev_eui;
+      join_eui = join_eui;
+      app_key = app_key;
+      rx1_offset = rx1_offset;
+      rx_delay = rx_delay;
+    })

@@ -1,0 +1,49 @@
+// Downlinks as frames of the wire.
+ghost use Rattle.std.specs.Prelude.{◌≡◌, ◌≤◌, MatchResult};
+ghost use Rattle.lw_types.specs.declared.refusal.Refusal.TheVariants.{OutOfMemory};
+ghost use Rattle.gateway_wire.specs.Downlink.{downlink_frame, rx2_delay};
+
+use devices::{Downlink, Windows};
+use lw_types::{Bytes, Refusal};
+use std::alloc::Global;
+
+/// A frame of the wire for a gateway, the two bytes of its length in front.
+pub type WireFrame = Bytes<277>;
+
+/// The kind of content that a downlink is.
+const DOWNLINK: u8 = 0x11;
+
+/// How many bytes of content stand before the PHYPayload.
+const HEAD: usize = 20;
+
+/// The whole frame that asks a gateway to send a downlink.
+pub(crate) fn downlink_frame(alloc: Global, downlink: &Downlink) -> Result<WireFrame, Refusal>
+    ensures { MatchResult result (λ frame. frame ≡ downlink_frame downlink.now) (λ e. e ≡ OutOfMemory) }
+{
+    let phy_payload = downlink.frame.as_slice();
+    let len = HEAD + phy_payload.len();
+    let delay = downlink.delay.get() as u8;
+    let mut bytes = Vec::with_capacity(alloc, 2 + len)?;
+    bytes.extend_from_slice(&(len as u16).to_be_bytes())?;
+    bytes.push(DOWNLINK)?;
+    bytes.extend_from_slice(&downlink.gateway.0.to_be_bytes())?;
+    bytes.extend_from_slice(&downlink.stamp.to_be_bytes())?;
+    bytes.extend_from_slice(&downlink.frequency.to_be_bytes())?;
+    bytes.push(downlink.data_rate)?;
+    bytes.push(delay)?;
+    bytes.push(rx2_delay(downlink.windows, delay))?;
+    bytes.extend_from_slice(phy_payload)?;
+    let frame: Result<_, _> = WireFrame::new(bytes);
+    Ok(frame.unwrap())
+}
+
+// The delay of RX2 in seconds, which is one above that of RX1; 0 where RX2 isn't to be used.
+fn rx2_delay(windows: Windows, rx1_delay: u8) -> u8
+    requires { rx1_delay ≤ 15 }
+    ensures { result ≡ rx2_delay windows rx1_delay }
+{
+    match windows {
+        Windows::Rx1 => 0,
+        Windows::Rx1OrRx2 => rx1_delay + 1,
+    }
+}

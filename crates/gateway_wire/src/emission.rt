@@ -1,0 +1,101 @@
+// What leaves the network by an effect.
+ghost use Rattle.std.specs.Prelude.{◌≡◌, MatchResult};
+ghost use Rattle.lw_types.specs.declared.refusal.Refusal.TheVariants.{OutOfMemory};
+ghost use Rattle.gateway_wire.specs.Emission.{app_line, gateway_bytes};
+
+use crate::downlink::downlink_frame;
+use crate::report::{Heard, report_line};
+use crate::{Line, WireFrame};
+use devices::{Application, Effect};
+use lw_types::{ByteField, Eui, Refusal};
+use std::alloc::Global;
+
+/// What leaves the network by an effect, and on whose link.
+#[derive(Clone, Debug, PartialEq, Eq, Drop)]
+pub enum Emission {
+    /// A frame, for a gateway.
+    Gateway {
+        gateway: Eui,
+        frame: WireFrame,
+    },
+    /// A line, for an application.
+    Application {
+        application: Application,
+        line: Line,
+    },
+}
+
+impl Emission {
+    ghost use Rattle.gateway_wire.specs.Emission.{emission};
+
+    /// What leaves by this effect: payloads and reports go to the device's application, frames for the
+    /// device to the gateway that heard it best.
+    #[tactic(auto, unfolding(lw_types::specs::Words::line_of))]
+    pub fn of(alloc: Global, effect: &Effect) -> Result<Emission, Refusal>
+        ensures { MatchResult result (λ e. e ≡ emission effect.now) (λ e. e ≡ OutOfMemory) }
+    {
+        match effect {
+            Effect::Forward {
+                application,
+                dev_eui,
+                join_nonce,
+                counter,
+                port,
+                payload,
+                copies,
+                best,
+            } => {
+                let (nonce, port) = (join_nonce.get(), port.get());
+                let hex = ByteField(payload.as_slice());
+                let heard = Heard {
+                    copies: *copies,
+                    best,
+                };
+                let text = format!(in alloc;
+                    "up {dev_eui} {nonce} {counter} {port} {hex} {heard}"
+                )?;
+                Ok(Emission::Application {
+                    application: *application,
+                    line: Line::new(text),
+                })
+            }
+            Effect::Report {
+                application,
+                dev_eui,
+                report,
+            } => Ok(Emission::Application {
+                application: *application,
+                line: report_line(alloc, *dev_eui, report)?,
+            }),
+            Effect::Accept { downlink, .. } => Ok(Emission::Gateway {
+                gateway: downlink.gateway,
+                frame: downlink_frame(alloc, downlink)?,
+            }),
+            Effect::Down { downlink, .. } => Ok(Emission::Gateway {
+                gateway: downlink.gateway,
+                frame: downlink_frame(alloc, downlink)?,
+            }),
+        }
+    }
+}
+
+/// The line that tells an application of this effect; `None` where it is for a gateway.
+pub fn app_line(alloc: Global, effect: &Effect) -> Result<Option<Line>, Refusal>
+    ensures { MatchResult result (λ line. line ≡ app_line effect.now) (λ e. e ≡ OutOfMemory) }
+{
+    match Emission::of(alloc, effect)? {
+        Emission::Application { line, .. } => Ok(Some(line)),
+        Emission::Gateway { .. } => Ok(None),
+    }
+}
+
+/// The frame, with its length, that tells a gateway of this effect; `None` where it is for an
+/// application.
+pub fn gateway_bytes(alloc: Global, effect: &Effect) -> Result<Option<WireFrame>, Refusal>
+    ensures { MatchResult result (λ frame. frame ≡ gateway_bytes effect.now) (λ e. e ≡ OutOfMemory) }
+{
+    match Emission::of(alloc, effect)? {
+        Emission::Gateway { frame, .. } => Ok(Some(frame)),
+        Emission::Application { .. } => Ok(None),
+    }
+}

@@ -1,0 +1,83 @@
+// The list of a table's devices.
+ghost use Rattle.std.specs.Prelude.{◌≡◌, MatchResult, OnOk, IfOk, ◌++◌, unwrap_or};
+ghost use Rattle.std.specs.String.{string_bytes};
+ghost use Rattle.lw_types.specs.declared.refusal.Refusal.TheVariants.{OutOfMemory};
+ghost use Rattle.gateway_wire.specs.DeviceList.{device_line, last_line, list_text};
+
+use devices::Device;
+use lw_types::{JoinNonce, Refusal};
+use sessions::Table;
+use std::alloc::{AllocError, Global};
+use std::fmt;
+
+/// A line for each device, in order of slot, and a last line with their number and `seq`, the number
+/// of the last decision. Each line ends with a newline.
+pub fn list_text(alloc: Global, table: &Table, seq: u64) -> Result<String, Refusal>
+    ensures { MatchResult result (λ text. string_bytes text ≡ list_text table.now.devices seq) (λ e. e ≡ OutOfMemory) }
+{
+    let mut text = String::new(alloc);
+    let devices = table.devices();
+    for (slot, device) in devices.iter().enumerate() {
+        let line = device_line(alloc, slot, device)?;
+        text.push_str(line.as_str())?;
+    }
+    let last = last_line(alloc, devices.len(), seq)?;
+    text.push_str(last.as_str())?;
+    Ok(text)
+}
+
+// How many devices there are, and the number of the last decision.
+#[tactic(auto, unfolding(lw_types::specs::Words::line_of))]
+fn last_line(alloc: Global, count: usize, seq: u64) -> Result<String, AllocError>
+    ensures { IfOk result (λ text. string_bytes text ≡ last_line count seq) }
+{
+    let text = format!(in alloc; "devices {count} seq {seq}\n")?;
+    Ok(text)
+}
+
+// Slot, DevEUI, last JoinNonce granted, the session in use with its counters, and how many items wait.
+#[tactic(auto, unfolding(lw_types::specs::Words::line_of))]
+fn device_line(alloc: Global, slot: usize, device: &Device) -> Result<String, AllocError>
+    ensures { IfOk result (λ text. string_bytes text ≡ device_line slot device.now) }
+{
+    let dev_eui = device.dev_eui;
+    let granted = number_of(device.activation.granted());
+    let traffic = Traffic(device);
+    let text = format!(in alloc; "{slot} {dev_eui} {granted} {traffic}\n")?;
+    Ok(text)
+}
+
+// The session in use with its counters, and how many items wait.
+#[derive(Clone, Copy)]
+struct Traffic<'a>(&'a Device);
+
+impl fmt::Display for Traffic<'_> {
+    ghost use Rattle.std.specs.Prelude.{Some};
+    ghost use Rattle.lw_types.specs.Words.{line_of};
+    ghost use Rattle.gateway_wire.specs.DeviceList.{traffic_words};
+
+    ghost output = { λ t. Some (line_of (traffic_words t.0.now)) };
+
+    #[tactic(auto, unfolding(lw_types::specs::Words::line_of))]
+    fn fmt<W: fmt::Write>(&self, f: &mut fmt::Formatter<W>) -> fmt::Result {
+        let items = self.0.items.as_slice().len();
+        match self.0.activation.current() {
+            None => write!(f, "- - - {items}"),
+            Some(current) => {
+                let nonce = current.session.join_nonce.get();
+                let (last_up, next_down) = (current.last_up, current.next_down.get());
+                write!(f, "{nonce} {last_up} {next_down} {items}")
+            }
+        }
+    }
+}
+
+// The number of a JoinNonce, and 0 for none.
+fn number_of(join_nonce: Option<JoinNonce>) -> u32
+    ensures { result ≡ unwrap_or join_nonce 0 }
+{
+    match join_nonce {
+        None => 0,
+        Some(join_nonce) => join_nonce.get(),
+    }
+}

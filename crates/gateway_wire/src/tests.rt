@@ -1,0 +1,350 @@
+use crate::{
+    Emission, Request, app_line, gateway_bytes, list_text, next_ranged, next_value, read_line,
+    read_request,
+};
+use devices::{
+    Activation, Application, Command, Copies, CurrentSession, Device, Downlink, Effect, Frame,
+    Item, ItemQueue, NextDown, Payload, Port, Provisioning, Reception, Report, Rx1Offset, RxDelay,
+    Session, Tag, Windows,
+};
+use lw_types::{Eui, JoinNonce, Key, NetId, Refusal, Words, read_hex};
+use sessions::{Slots, Table};
+use std::alloc::Global;
+use std::test::Fail;
+
+const DEVICE: Eui = Eui(0x1112131415161718);
+
+const GATEWAY: Eui = Eui(0xB1);
+
+fn application() -> Result<Application, Fail> {
+    Ok(Application::new(3).ok_or("application")?)
+}
+
+fn nonce(number: u32) -> Result<JoinNonce, Fail> {
+    Ok(JoinNonce::new(number).ok_or("join nonce")?)
+}
+
+fn payload(alloc: Global, hex: &str) -> Result<Payload, Fail> {
+    Ok(Payload::new(read_hex(alloc, hex)?).ok().ok_or("payload")?)
+}
+
+fn downlink(
+    alloc: Global,
+    data_rate: u8,
+    windows: Windows,
+    frame: Vec<u8>,
+) -> Result<Effect, Fail> {
+    Ok(Effect::Down {
+        dev_eui: DEVICE,
+        join_nonce: nonce(1)?,
+        counter: 0,
+        downlink: Downlink {
+            gateway: GATEWAY,
+            stamp: 50_000,
+            frequency: 868_100_000,
+            data_rate,
+            delay: RxDelay::new(1).ok_or("delay")?,
+            windows,
+            frame: Frame::new(frame).ok().ok_or("frame")?,
+        },
+    })
+}
+
+fn report(report: Report) -> Result<Effect, Fail> {
+    Ok(Effect::Report {
+        application: application()?,
+        dev_eui: DEVICE,
+        report,
+    })
+}
+
+#[test]
+fn downlinks_are_frames_of_the_wire(rt: HostRuntime) -> Result<(), Fail> {
+    let alloc = rt.alloc();
+    let short = read_hex(alloc, "6001000054300000AABBCCDD")?;
+    let mut long = read_hex(alloc, "600100005400010007")?;
+    long.extend_from_slice(&[0x5A; 104])?;
+    let mut long_bytes = read_hex(
+        alloc,
+        "00851100000000000000B10000C35033BE27A0050100600100005400010007",
+    )?;
+    long_bytes.extend_from_slice(&[0x5A; 104])?;
+    let cases = [
+        (
+            downlink(alloc, 0, Windows::Rx1OrRx2, short)?,
+            read_hex(
+                alloc,
+                "00201100000000000000B10000C35033BE27A00001026001000054300000AABBCCDD",
+            )?,
+        ),
+        (downlink(alloc, 5, Windows::Rx1, long)?, long_bytes),
+    ];
+    for (effect, bytes) in &cases {
+        let frame = gateway_bytes(alloc, effect)?.ok_or("for a gateway")?;
+        assert_eq!(rt; frame.as_slice(), bytes.as_slice());
+        assert!(rt; app_line(alloc, effect)?.is_none());
+        match Emission::of(alloc, effect)? {
+            Emission::Gateway { gateway, frame } => {
+                assert_eq!(rt; gateway, GATEWAY);
+                assert_eq!(rt; frame.as_slice(), bytes.as_slice());
+            }
+            Emission::Application { .. } => assert!(rt; false),
+        }
+    }
+    Ok(())
+}
+
+#[test]
+fn an_accept_goes_to_its_gateway(rt: HostRuntime) -> Result<(), Fail> {
+    let alloc = rt.alloc();
+    let accept = Effect::Accept {
+        dev_eui: DEVICE,
+        join_nonce: nonce(1)?,
+        downlink: Downlink {
+            gateway: GATEWAY,
+            stamp: 1,
+            frequency: 868_500_000,
+            data_rate: 2,
+            delay: RxDelay::new(5).ok_or("delay")?,
+            windows: Windows::Rx1OrRx2,
+            frame: Frame::empty(alloc),
+        },
+    };
+    let frame = gateway_bytes(alloc, &accept)?.ok_or("for a gateway")?;
+    let bytes = read_hex(alloc, "00141100000000000000B10000000133C44220020506")?;
+    assert_eq!(rt; frame.as_slice(), bytes.as_slice());
+    Ok(())
+}
+
+#[test]
+fn applications_are_told_in_lines(rt: HostRuntime) -> Result<(), Fail> {
+    let alloc = rt.alloc();
+    let forward = Effect::Forward {
+        application: application()?,
+        dev_eui: DEVICE,
+        join_nonce: nonce(16_777_215)?,
+        counter: 4_294_967_295,
+        port: Port::new(223).ok_or("port")?,
+        payload: payload(alloc, "00FF")?,
+        copies: Copies::new(32).ok_or("copies")?,
+        best: Reception {
+            gateway: GATEWAY,
+            frequency: 868_100_000,
+            data_rate: 5,
+            snr: -20,
+            rssi: -95,
+        },
+    };
+    let cases = [
+        (
+            forward,
+            "up 1112131415161718 16777215 4294967295 223 00FF 32 00000000000000B1 868100000 5 -20 -95",
+        ),
+        (
+            report(Report::Provisioned { slot: 0 })?,
+            "provisioned 1112131415161718 0",
+        ),
+        (
+            report(Report::Queued { tag: Tag(9) })?,
+            "queued 1112131415161718 9",
+        ),
+        (
+            report(Report::MacQueued {
+                commands: payload(alloc, "06")?,
+            })?,
+            "macqueued 1112131415161718 06",
+        ),
+        (
+            report(Report::Acked {
+                tag: Tag(4_294_967_295),
+            })?,
+            "acked 1112131415161718 4294967295",
+        ),
+        (
+            report(Report::Lost { tag: Tag(0) })?,
+            "lost 1112131415161718 0",
+        ),
+        (
+            report(Report::Mac {
+                join_nonce: nonce(1)?,
+                commands: payload(alloc, "0307")?,
+            })?,
+            "mac 1112131415161718 1 0307",
+        ),
+        (
+            report(Report::Mac {
+                join_nonce: nonce(1)?,
+                commands: payload(alloc, "")?,
+            })?,
+            "mac 1112131415161718 1 -",
+        ),
+        (
+            report(Report::Spent {
+                join_nonce: nonce(1)?,
+            })?,
+            "spent 1112131415161718 1",
+        ),
+    ];
+    for (effect, text) in &cases {
+        let line = app_line(alloc, effect)?.ok_or("for an application")?;
+        assert_eq!(rt; line.as_str(), *text);
+        assert!(rt; gateway_bytes(alloc, effect)?.is_none());
+        match Emission::of(alloc, effect)? {
+            Emission::Application {
+                application: to,
+                line,
+            } => {
+                assert_eq!(rt; to, application()?);
+                assert_eq!(rt; line.as_str(), *text);
+            }
+            Emission::Gateway { .. } => assert!(rt; false),
+        }
+    }
+    Ok(())
+}
+
+#[test]
+fn an_emission_is_copied_whole(rt: HostRuntime) -> Result<(), Fail> {
+    let alloc = rt.alloc();
+    let emission = Emission::of(alloc, &report(Report::Provisioned { slot: 7 })?)?;
+    assert!(rt; emission.clone()? == emission);
+    let other = Emission::of(alloc, &report(Report::Provisioned { slot: 8 })?)?;
+    assert!(rt; emission != other);
+    Ok(())
+}
+
+const KEY: Key = Key([
+    0x2B, 0x7E, 0x15, 0x16, 0x28, 0xAE, 0xD2, 0xA6, 0xAB, 0xF7, 0x15, 0x88, 0x09, 0xCF, 0x4F, 0x3C,
+]);
+
+fn provision() -> Result<Request, Fail> {
+    Ok(Request::Provision {
+        dev_eui: DEVICE,
+        join_eui: Eui(0x0102030405060708),
+        app_key: KEY,
+        rx1_offset: Rx1Offset::new(5).ok_or("offset")?,
+        rx_delay: RxDelay::new(15).ok_or("delay")?,
+    })
+}
+
+#[test]
+fn a_provisioning_is_asked_for(rt: HostRuntime) -> Result<(), Fail> {
+    let alloc = rt.alloc();
+    let fields = "1112131415161718 0102030405060708 2B7E151628AED2A6ABF7158809CF4F3C 5 15";
+    let line = format!(in alloc; "provision {fields}")?;
+    let request = read_line(alloc, line.as_str())?;
+    assert!(rt; request == provision()?);
+    let request = read_request(alloc, "provision", Words::of(fields))?;
+    assert!(rt; request.clone()? == provision()?);
+    let command = request.into_command(application()?);
+    assert!(rt;
+        command
+            == Command::Provision(Provisioning {
+                application: application()?,
+                dev_eui: DEVICE,
+                join_eui: Eui(0x0102030405060708),
+                app_key: KEY,
+                rx1_offset: Rx1Offset::new(5).ok_or("offset")?,
+                rx_delay: RxDelay::new(15).ok_or("delay")?,
+            })
+    );
+    Ok(())
+}
+
+#[test]
+fn other_lines_are_refused(rt: HostRuntime) {
+    let lines = [
+        "",
+        "provision",
+        " provision 1112131415161718 0102030405060708 2B7E151628AED2A6ABF7158809CF4F3C 0 1",
+        "Provision 1112131415161718 0102030405060708 2B7E151628AED2A6ABF7158809CF4F3C 0 1",
+        "provision  1112131415161718 0102030405060708 2B7E151628AED2A6ABF7158809CF4F3C 0 1",
+        "provision 1112131415161718 0102030405060708 2B7E151628AED2A6ABF7158809CF4F3C 0 1 ",
+        "provision 1112131415161718 0102030405060708 2B7E151628AED2A6ABF7158809CF4F3C 0 1 1",
+        "provision 1112131415161718 0102030405060708 2B7E151628AED2A6ABF7158809CF4F3C 0",
+        "provision 1112131415161718 0102030405060708 2B7E151628AED2A6ABF7158809CF4F3C 0 0",
+        "provision 1112131415161718 0102030405060708 2B7E151628AED2A6ABF7158809CF4F3C 0 16",
+        "provision 1112131415161718 0102030405060708 2B7E151628AED2A6ABF7158809CF4F3C 6 1",
+        "provision 1112131415161718 0102030405060708 2B7E151628AED2A6ABF7158809CF4F3C 00 1",
+        "provision 1112131415161718 0102030405060708 2B7E151628AED2A6ABF7158809CF4F3C +0 1",
+        "provision 1112131415161718 0102030405060708 2b7e151628aed2a6abf7158809cf4f3c 0 1",
+        "provision 1112131415161718 0102030405060708 2B7E151628AED2A6ABF7158809CF4F3 0 1",
+        "provision 1112131415161718 010203040506070 2B7E151628AED2A6ABF7158809CF4F3C 0 1",
+        "provision - 0102030405060708 2B7E151628AED2A6ABF7158809CF4F3C 0 1",
+        "queue 1112131415161718 9 7 u AA",
+        "mac 1112131415161718 06",
+    ];
+    for line in lines {
+        assert!(rt;
+            matches!(read_line(rt.alloc(), line), Err(Refusal::BadMessage)),
+            "{line}"
+        );
+    }
+}
+
+#[test]
+fn words_are_values(rt: HostRuntime) {
+    let mut words = Words::of("7 15 16 x");
+    assert_eq!(rt; next_value(&mut words), Some(7u8));
+    assert_eq!(rt; next_ranged(&mut words), Application::new(15));
+    let sixteen: Option<Application> = next_ranged(&mut words);
+    assert!(rt; sixteen.is_none());
+    let number: Option<u32> = next_value(&mut words);
+    assert!(rt; number.is_none());
+    let nothing: Option<u32> = next_value(&mut words);
+    assert!(rt; nothing.is_none());
+}
+
+fn brought(dev_eui: Eui) -> Result<Provisioning, Fail> {
+    Ok(Provisioning {
+        application: application()?,
+        dev_eui,
+        join_eui: Eui(1),
+        app_key: Key([7; 16]),
+        rx1_offset: Rx1Offset::new(0).ok_or("offset")?,
+        rx_delay: RxDelay::new(1).ok_or("delay")?,
+    })
+}
+
+#[test]
+fn devices_are_listed_by_slot(rt: HostRuntime) -> Result<(), Fail> {
+    let alloc = rt.alloc();
+    let net_id = NetId::new(0x2A).ok_or("net id")?;
+    let mut table = Table::new(alloc, net_id, Slots::new(8).ok_or("slots")?)?;
+    let empty = list_text(alloc, &table, 0)?;
+    assert_eq!(rt; empty.as_str(), "devices 0 seq 0\n");
+    table.put(0, Device::provisioned(alloc, &brought(DEVICE)?))?;
+    let one = list_text(alloc, &table, 1)?;
+    assert_eq!(rt;
+        one.as_str(),
+        "0 1112131415161718 0 - - - 0\ndevices 1 seq 1\n"
+    );
+    let mut busy = Device::provisioned(alloc, &brought(Eui(0xAB))?);
+    let session = Session {
+        join_nonce: nonce(3)?,
+        nwk_skey: Key([1; 16]),
+        app_skey: Key([2; 16]),
+    };
+    let current = CurrentSession {
+        session,
+        last_up: 70,
+        next_down: NextDown::new(1 << 32).ok_or("next down")?,
+    };
+    busy.activation = Activation::new(Some(nonce(5)?), Some(current), None).ok_or("in order")?;
+    let item = Item {
+        tag: Tag(9),
+        port: Port::new(7).ok_or("port")?,
+        confirmed: false,
+        payload: payload(alloc, "AA")?,
+    };
+    busy.items = ItemQueue::new(vec![in alloc; item]?)
+        .ok()
+        .ok_or("one item")?;
+    table.put(1, busy)?;
+    let two = list_text(alloc, &table, u64::MAX)?;
+    assert_eq!(rt;
+        two.as_str(),
+        "0 1112131415161718 0 - - - 0\n1 00000000000000AB 5 3 70 4294967296 1\ndevices 2 seq 18446744073709551615\n"
+    );
+    Ok(())
+}

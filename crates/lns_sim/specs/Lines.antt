@@ -1,0 +1,19 @@
+-- The lines of an input.
+use Rattle.std.specs.Prelude.{◌≡◌, ◌==◌, ◌<◌, ◌⊎◌, ℕ, Bool, false, List, [], ◌∷◌, ◌++◌, length, All, Option, Some, None}
+use denote.Ref.{Bor}
+
+abbrev pub is_newline : ℕ → Bool
+is_newline byte = byte == 10
+
+-- no newline stands in it
+abbrev pub IsLine : List ℕ → Type 0
+IsLine line = All (λ byte. is_newline byte ≡ false) line
+
+-- a line that ends at a newline, or where the input ends
+abbrev pub IsSplit : List ℕ → List ℕ → List ℕ → Type 0
+IsSplit input line rest = (input ≡ line ++ 10 ∷ rest) ⊎ ((input ≡ line) × (rest ≡ []))
+
+-- the first line of an input and what is left behind it; no input has no line
+abbrev pub TakesLine : List ℕ → Option (Bor (List ℕ)) → List ℕ → Type 0
+TakesLine input None rest = (input ≡ []) × (rest ≡ [])
+TakesLine input (Some line) rest = (0 < length input) × (IsLine line.now × IsSplit input line.now rest)

@@ -1,0 +1,62 @@
+// A script that was read.
+use crate::lines::Lines;
+use crate::{Format, read_format, read_step};
+use lw_types::Refusal;
+use std::alloc::Global;
+use world::Step;
+
+/// A line behind the first one.
+#[derive(Clone, Copy, Debug, PartialEq, Eq)]
+pub enum Row {
+    /// A step, the next one in order.
+    Step,
+    /// No step.
+    BadLine,
+}
+
+/// What a script asks for.
+#[derive(Debug, PartialEq, Eq, Drop)]
+pub enum Plan {
+    /// Nothing: it has no line.
+    Nothing,
+    /// Nothing: its first line formats no store.
+    BadStart,
+    /// A store, and steps on it.
+    Run {
+        format: Format,
+        /// The steps in order.
+        steps: Vec<Step>,
+        /// The lines behind the first one: `Row::Step` as often as there are steps.
+        rows: Vec<Row>,
+    },
+}
+
+impl Plan {
+    /// The plan of a script. Refused with `OutOfMemory` alone.
+    pub fn read(alloc: Global, input: &[u8]) -> Result<Plan, Refusal> {
+        let mut lines = Lines::of(input);
+        let Some(first) = lines.next() else {
+            return Ok(Plan::Nothing);
+        };
+        let Some(format) = read_format(first) else {
+            return Ok(Plan::BadStart);
+        };
+        let mut steps = Vec::new(alloc);
+        let mut rows = Vec::new(alloc);
+        for line in lines {
+            match read_step(alloc, line) {
+                Ok(step) => {
+                    steps.push(step)?;
+                    rows.push(Row::Step)?;
+                }
+                Err(Refusal::OutOfMemory) => return Err(Refusal::OutOfMemory),
+                Err(_) => rows.push(Row::BadLine)?,
+            }
+        }
+        Ok(Plan::Run {
+            format,
+            steps,
+            rows,
+        })
+    }
+}

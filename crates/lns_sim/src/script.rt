@@ -1,0 +1,69 @@
+// A script from its input to its output.
+use crate::answers::write_refusal;
+use crate::{Format, Outcome, Plan, Row, write_outcome};
+use disk::MemDisk;
+use lw_types::Refusal;
+use sessions::Slots;
+use std::alloc::Global;
+use std::io;
+use std::io::{BufWriter, ErrorKind, Read, Write};
+use store::disk_len;
+use world::{Step, World, run};
+
+/// Reads a script to its end, plays it on a new disk in memory, and writes the answers: one to each
+/// line. Want of memory before the first step is answered alone. Fails where a read or a write fails.
+pub fn script<R: Read, W: Write>(alloc: Global, reader: &mut R, writer: &mut W) -> io::Result<()> {
+    if let Ok(mut out) = BufWriter::new(alloc, &mut *writer) {
+        let outcome = read_outcome(alloc, reader)?;
+        write_outcome(alloc, &mut out, &outcome)?;
+        return out.flush();
+    }
+    write_refusal(writer, Refusal::OutOfMemory)
+}
+
+// What a script comes to. Fails where a read fails.
+fn read_outcome<R: Read>(alloc: Global, reader: &mut R) -> io::Result<Outcome> {
+    let mut input = Vec::new(alloc);
+    match reader.read_to_end(&mut input) {
+        Ok(_) => Ok(outcome_of(alloc, input.as_slice())),
+        Err(error) if error.kind() == ErrorKind::OutOfMemory => {
+            Ok(Outcome::Refused(Refusal::OutOfMemory))
+        }
+        Err(error) => Err(error),
+    }
+}
+
+// What an input comes to.
+fn outcome_of(alloc: Global, input: &[u8]) -> Outcome {
+    let played = match Plan::read(alloc, input) {
+        Ok(Plan::Nothing) => Ok(Outcome::Nothing),
+        Ok(Plan::BadStart) => Ok(Outcome::BadStart),
+        Ok(
+            Plan::Run {
+                format,
+                steps,
+                rows,
+            },
+        ) => play(alloc, format, steps.as_slice(), rows),
+        Err(refusal) => Err(refusal),
+    };
+    match played {
+        Ok(outcome) => outcome,
+        Err(refusal) => Outcome::Refused(refusal),
+    }
+}
+
+// Formats a disk in memory and takes the steps on it.
+fn play(alloc: Global, format: Format, steps: &[Step], rows: Vec<Row>) -> Result<Outcome, Refusal> {
+    let slots = u64::from(format.slots);
+    let disk_len = disk_len(Slots::new(slots).ok_or(Refusal::Damaged)?);
+    let disk = MemDisk::new(alloc, vec![in alloc; 0; disk_len as usize]?)?;
+    let mut world = World::format(alloc, disk, format.net_id, slots)?;
+    let answers = run(&mut world, alloc, steps);
+    let _ = world.close();
+    Ok(Outcome::Played {
+        disk_len,
+        rows,
+        answers: answers?,
+    })
+}

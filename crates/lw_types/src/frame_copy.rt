@@ -1,0 +1,68 @@
+// A frame as one gateway heard it.
+ghost use Rattle.std.specs.Prelude.{◌≡◌, length, nat_le, Err, MatchBool, MatchResult};
+ghost use Rattle.lw_types.specs.FrameCopy.{frame_copy};
+ghost use Rattle.lw_types.specs.declared.refusal.Refusal.TheVariants.{FrameTooLong, OutOfMemory};
+
+use crate::bytes::Bytes;
+use crate::identifiers::Eui;
+use crate::refusal::Refusal;
+use std::alloc::Global;
+
+/// How a gateway heard a frame.
+#[derive(Clone, Copy, Debug, PartialEq, Eq)]
+pub struct Reception {
+    pub gateway: Eui,
+    /// In Hz.
+    pub frequency: u32,
+    pub data_rate: u8,
+    /// In quarter dB.
+    pub snr: i16,
+    /// In dBm.
+    pub rssi: i16,
+}
+
+/// A PHYPayload, of at most 255 bytes (TS001-1.0.4 §4.1).
+pub type PhyPayload = Bytes<255>;
+
+/// A frame as one gateway heard it: of one frame each gateway in reach has a copy.
+#[derive(Clone, Debug, PartialEq, Eq, Drop)]
+pub struct FrameCopy {
+    pub reception: Reception,
+    /// The gateway's moment of the frame's end, in microseconds.
+    pub stamp: u32,
+    pub phy_payload: PhyPayload,
+}
+
+impl FrameCopy {
+    /// The copy of a frame with this PHYPayload. More than 255 bytes are refused as `FrameTooLong`,
+    /// whether or not there is memory; else want of memory as `OutOfMemory`.
+    pub fn new(
+        alloc: Global,
+        reception: Reception,
+        stamp: u32,
+        phy_payload: &[u8],
+    ) -> Result<Self, Refusal>
+        ensures { MatchBool (nat_le (length phy_payload.now) 255)
+            (MatchResult result (λ copy. copy ≡ frame_copy reception stamp phy_payload.now) (λ e. e ≡ OutOfMemory))
+            (result ≡ Err FrameTooLong) }
+    {
+        if phy_payload.len() > 255 {
+            return Err(Refusal::FrameTooLong);
+        }
+        match Bytes::new(Vec::from_slice(alloc, phy_payload)?) {
+            Ok(phy_payload) => Ok(FrameCopy {
+                reception,
+                stamp,
+                phy_payload,
+            }),
+            Err(_) => Err(Refusal::FrameTooLong),
+        }
+    }
+
+    /// The same copy, in memory of its own.
+    pub fn copy(&self) -> Result<Self, Refusal>
+        ensures { MatchResult result (λ copy. copy ≡ self.now) (λ e. e ≡ OutOfMemory) }
+    {
+        Ok(self.clone()?)
+    }
+}

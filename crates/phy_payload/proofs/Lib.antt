@@ -1,0 +1,4 @@
+pub mod Codec
+pub mod FrameFields
+pub mod FrameLaws
+pub mod Lengths

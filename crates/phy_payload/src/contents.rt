@@ -1,0 +1,90 @@
+// What a data frame carries (TS001-1.0.4 §4.3.1.6, §4.3.2, §4.3.3).
+ghost use Rattle.std.specs.Prelude.{◌≡◌, ◌+◌, ◌≤◌, length};
+ghost use Rattle.phy_payload.specs.Contents.{carried, payload_len};
+
+use lw_types::Bytes;
+use std::alloc::AllocError;
+use std::marker::Model;
+
+/// MAC commands in the frame's header, of at most 15 bytes.
+pub type FOpts = Bytes<15>;
+
+/// The payload of a frame with a port, encrypted as on air, of at most 242 bytes.
+pub type FrmPayload = Bytes<242>;
+
+/// A port and the payload for it. On port 0 these are MAC commands.
+#[derive(Clone, Debug, PartialEq, Eq, Drop)]
+pub struct Message {
+    pub f_port: u8,
+    pub frm_payload: FrmPayload,
+}
+
+/// FOpts and, where there is a port, FPort and FRMPayload. FOpts and FRMPayload have at most 242 bytes
+/// together, so that the frame has at most 255.
+#[derive(Debug, PartialEq, Eq, Drop)]
+pub struct Contents {
+    f_opts: FOpts,
+    message: Option<Message>,
+}
+
+impl Model for Contents {
+    ghost use Rattle.std.specs.Prelude.{◌+◌, ◌≤◌, length};
+    ghost use Rattle.phy_payload.specs.Contents.{Carried, payload_len};
+
+    ghost Value = { Carried };
+
+    ghost view = { λ c. record { f_opts = c.f_opts; message = c.message } };
+
+    ghost invariant = { λ c. length c.f_opts + payload_len c.message ≤ 242 };
+
+    ghost inverse = { λ v. record { f_opts = v.f_opts; message = v.message } };
+}
+
+impl Contents {
+    ghost use Rattle.std.specs.Option.{option_copied};
+
+    /// These parts. FOpts and FRMPayload may have at most 242 bytes together.
+    pub fn new(f_opts: FOpts, message: Option<Message>) -> Self
+        requires { length f_opts + payload_len message ≤ 242 }
+        ensures { result ≡ carried f_opts message }
+    {
+        Contents { f_opts, message }
+    }
+
+    /// FOpts, at most 15 bytes.
+    pub fn f_opts(&self) -> &[u8]
+        ensures bytes { result.now ≡ self.now.f_opts }
+        ensures few { length self.now.f_opts ≤ 15 }
+    {
+        self.f_opts.as_slice()
+    }
+
+    /// FPort and FRMPayload, where there is a port.
+    pub fn message(&self) -> Option<&Message>
+        ensures message { option_copied result ≡ self.now.message }
+        ensures fits { length self.now.f_opts + payload_len self.now.message ≤ 242 }
+    {
+        self.message.as_ref()
+    }
+
+    /// FOpts, and the port with its payload.
+    pub fn into_parts(self) -> (FOpts, Option<Message>)
+        ensures f_opts { result.0 ≡ self.f_opts }
+        ensures message { result.1 ≡ self.message }
+        ensures fits { length self.f_opts + payload_len self.message ≤ 242 }
+    {
+        let Contents { f_opts, message } = self;
+        (f_opts, message)
+    }
+}
+
+impl Clone for Contents {
+    ghost is_clone = { λ s t. t ≡ s };
+
+    fn clone(&self) -> Result<Self, AllocError> {
+        Ok(Contents {
+            f_opts: self.f_opts.clone()?,
+            message: self.message.clone()?,
+        })
+    }
+}

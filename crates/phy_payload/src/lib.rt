@@ -1,0 +1,25 @@
+//! The frames of LoRaWAN 1.0.4 and their bytes, the PHYPayload (TS001-1.0.4 §4): each frame has one
+//! spelling, and no two share one.
+#![tactic(auto)]
+
+mod contents;
+mod control;
+mod data_frame;
+mod input;
+mod join;
+pub mod laws;
+mod mhdr;
+mod phy;
+mod read;
+mod write;
+
+pub use contents::{Contents, FOpts, FrmPayload, Message};
+pub use control::Control;
+pub use data_frame::DataFrame;
+pub use join::{JoinAccept, JoinRequest};
+pub use phy::{Mic, Phy};
+pub use read::decode;
+pub use write::encode;
+
+#[cfg(test)]
+mod tests;

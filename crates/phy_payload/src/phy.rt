@@ -1,0 +1,18 @@
+// Frames of each kind.
+use crate::data_frame::DataFrame;
+use crate::join::{JoinAccept, JoinRequest};
+
+/// A message integrity code (TS001-1.0.4 §4.4, §6.2.5).
+#[derive(Clone, Copy, Debug, PartialEq, Eq)]
+pub struct Mic(pub [u8; 4]);
+
+/// The most bytes of a frame.
+pub(crate) const LONGEST: usize = 255;
+
+/// A frame (TS001-1.0.4 §4.2.1).
+#[derive(Clone, Debug, PartialEq, Eq, Drop)]
+pub enum Phy {
+    JoinRequest(JoinRequest),
+    JoinAccept(JoinAccept),
+    DataFrame(DataFrame),
+}

@@ -1,0 +1,130 @@
+// From frames to bytes.
+ghost use Rattle.std.specs.Prelude.{◌≡◌, ◌<◌, ◌^◌, ◌∷◌, ◌++◌, MatchResult, OnOk};
+ghost use Rattle.std.specs.Int.{w64, to_le_bytes};
+ghost use Rattle.lw_types.specs.Hex.{IsBytes};
+ghost use Rattle.lw_types.specs.declared.refusal.Refusal.TheVariants.{OutOfMemory};
+ghost use Rattle.phy_payload.specs.Frame.{data_message, data_type, mhdr, port_and_payload, request_message, sealed_bytes, spelling, Fits, IsCarried, IsDataFrame, IsJoinAccept, IsJoinRequest, IsMessage, IsMic, IsPhy};
+
+use crate::contents::{Contents, Message};
+use crate::control::Control;
+use crate::data_frame::DataFrame;
+use crate::join::{JoinAccept, JoinRequest};
+use crate::mhdr;
+use crate::phy::{Mic, Phy};
+use lw_types::{Eui, Refusal};
+use std::alloc::{AllocError, Global};
+
+fn put_eui(out: &mut Vec<u8>, eui: Eui) -> Result<(), AllocError>
+    ensures written { OnOk result (out.new.items ≡ out.old.items ++ to_le_bytes w64 eui.0) }
+    ensures in_range { eui.0 < 2 ^ 64 }
+{
+    out.extend_from_slice(&eui.0.to_le_bytes())
+}
+
+fn put_mic(out: &mut Vec<u8>, mic: Mic) -> Result<(), AllocError>
+    ensures written { OnOk result (out.new.items ≡ out.old.items ++ mic.0) }
+    ensures in_range { IsMic mic }
+{
+    out.extend_from_slice(&mic.0)
+}
+
+fn put_bytes(out: &mut Vec<u8>, bytes: &[u8]) -> Result<(), AllocError>
+    ensures written { OnOk result (out.new.items ≡ out.old.items ++ bytes.now) }
+    ensures in_range { IsBytes bytes.now }
+{
+    out.extend_from_slice(bytes)
+}
+
+fn put_join_request(out: &mut Vec<u8>, request: &JoinRequest) -> Result<(), AllocError>
+    ensures written { OnOk result (out.new.items ≡ out.old.items ++ (request_message request.now ++ request.now.mic.0)) }
+    ensures in_range { OnOk result (IsJoinRequest request.now) }
+{
+    out.push(mhdr::JOIN_REQUEST)?;
+    put_eui(out, request.join_eui)?;
+    put_eui(out, request.dev_eui)?;
+    out.extend_from_slice(&request.dev_nonce.to_le_bytes())?;
+    put_mic(out, request.mic)?;
+    Ok(())
+}
+
+fn put_join_accept(out: &mut Vec<u8>, accept: &JoinAccept) -> Result<(), AllocError>
+    ensures written { OnOk result (out.new.items ≡ out.old.items ++ mhdr 1 ∷ sealed_bytes accept.now) }
+    ensures in_range { OnOk result (IsJoinAccept accept.now) }
+{
+    out.push(mhdr::JOIN_ACCEPT)?;
+    match accept {
+        JoinAccept::Short { sealed } => put_bytes(out, sealed),
+        JoinAccept::WithCfList { sealed } => put_bytes(out, sealed),
+    }
+}
+
+// The MHDR of a data frame.
+fn data_header(control: Control, confirmed: bool) -> u8
+    ensures { result ≡ mhdr (data_type control confirmed) }
+{
+    match (control, confirmed) {
+        (Control::Uplink { .. }, false) => mhdr::UNCONFIRMED_DATA_UP,
+        (Control::Downlink { .. }, false) => mhdr::UNCONFIRMED_DATA_DOWN,
+        (Control::Uplink { .. }, true) => mhdr::CONFIRMED_DATA_UP,
+        (Control::Downlink { .. }, true) => mhdr::CONFIRMED_DATA_DOWN,
+    }
+}
+
+fn put_message(out: &mut Vec<u8>, message: &Message) -> Result<(), AllocError>
+    ensures written { OnOk result (out.new.items ≡ out.old.items ++ message.now.f_port ∷ message.now.frm_payload) }
+    ensures in_range { OnOk result (IsMessage message.now) }
+{
+    out.push(message.f_port)?;
+    put_bytes(out, message.frm_payload.as_slice())
+}
+
+// FOpts, FPort and FRMPayload.
+fn put_contents(out: &mut Vec<u8>, contents: &Contents) -> Result<(), AllocError>
+    ensures written { OnOk result (out.new.items ≡ out.old.items ++ (contents.now.f_opts ++ port_and_payload contents.now.message)) }
+    ensures in_range { OnOk result (IsCarried contents.now) }
+{
+    put_bytes(out, contents.f_opts())?;
+    if let Some(message) = contents.message() {
+        put_message(out, message)?;
+    }
+    Ok(())
+}
+
+fn put_data_frame(out: &mut Vec<u8>, frame: &DataFrame) -> Result<(), AllocError>
+    ensures written { OnOk result (out.new.items ≡ out.old.items ++ (data_message frame.now ++ frame.now.mic.0)) }
+    ensures in_range { OnOk result (IsDataFrame frame.now) }
+{
+    out.push(data_header(frame.control, frame.confirmed))?;
+    out.extend_from_slice(&frame.dev_addr.0.to_le_bytes())?;
+    let f_opts_len = frame.contents.f_opts().len() as u8;
+    out.push(frame.control.f_ctrl(f_opts_len))?;
+    out.extend_from_slice(&frame.f_cnt.to_le_bytes())?;
+    put_contents(out, &frame.contents)?;
+    put_mic(out, frame.mic)?;
+    Ok(())
+}
+
+#[tactic(auto, unfolding(crate::specs::Frame::spelling))]
+fn put_frame(out: &mut Vec<u8>, frame: &Phy) -> Result<(), AllocError>
+    ensures written { OnOk result (out.new.items ≡ out.old.items ++ spelling frame.now) }
+    ensures in_range { OnOk result (Fits frame.now) }
+{
+    match frame {
+        Phy::JoinRequest(request) => put_join_request(out, request),
+        Phy::JoinAccept(accept) => put_join_accept(out, accept),
+        Phy::DataFrame(data) => put_data_frame(out, data),
+    }
+}
+
+/// Appends the bytes of a frame, its one spelling of 12 to 255 bytes. For want of memory it is refused as
+/// `OutOfMemory`, and then nothing is appended.
+pub fn encode(alloc: Global, frame: &Phy, out: &mut Vec<u8>) -> Result<(), Refusal>
+    ensures { MatchResult result
+        (λ _. IsPhy (spelling frame.now) frame.now × (out.new.items ≡ out.old.items ++ spelling frame.now))
+        (λ e. (e ≡ OutOfMemory) × (out.new.items ≡ out.old.items)) }
+{
+    let mut bytes = Vec::new(alloc);
+    put_frame(&mut bytes, frame)?;
+    out.extend_from_slice(bytes.as_slice())?;
+    Ok(())
+}

@@ -1,0 +1,36 @@
+// What a world answers to a step.
+use gateway_wire::Emission;
+use lw_types::Refusal;
+use session_core::Turn;
+use sessions::Table;
+
+/// The answer to one step.
+#[derive(Drop)]
+pub enum Answer {
+    /// To an event: the decisions that it made, and why its own command was not decided.
+    Turn(Turn),
+    /// To a take: so many decisions were taken, and their commit began.
+    Taken(usize),
+    /// To a take whose commit was refused for want of memory: so many decisions were taken and are
+    /// lost in this life.
+    GivenUp(usize),
+    /// To a take: the area has no room for another batch.
+    Full,
+    /// There is nothing to take, call, release or emit; or, to a take, what is under way has to end
+    /// first; or the store could not be opened. Nothing has changed.
+    Idle,
+    /// To a call: the device call succeeded.
+    Called,
+    /// To a fail: the next device call will fail.
+    Armed,
+    /// To a release: so many effects were released, 0 where a batch has none.
+    Released(usize),
+    /// To an emit: what left.
+    Emitted(Emission),
+    /// To a crash: the store was opened with so many devices, and its last decision has this number.
+    Opened { devices: usize, seq: u64 },
+    /// To a list: the table after every decision made, and the number of the last one.
+    Listed { table: Table, seq: u64 },
+    /// The step was refused: for want of memory, or by the store or its device.
+    Refused(Refusal),
+}

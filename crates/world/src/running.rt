@@ -1,0 +1,29 @@
+// Runs of steps.
+ghost use Rattle.std.specs.Prelude.{◌≡◌, IfOk, IfErr, length};
+ghost use Rattle.lw_types.specs.declared.refusal.Refusal.TheVariants.{OutOfMemory};
+ghost use Rattle.world.specs.Sound.{IsSound};
+
+use crate::{Answer, Step, World};
+use disk::Sim;
+use lw_types::Refusal;
+use std::alloc::Global;
+
+/// Takes the steps one after another, and gives the answer to each. Refused with `OutOfMemory` before
+/// the first step, and then nothing was done.
+pub fn run<D: Sim + Drop>(
+    world: &mut World<D>,
+    alloc: Global,
+    steps: &[Step],
+) -> Result<Vec<Answer>, Refusal>
+    requires { IsSound D.state world.old }
+    ensures sound { IsSound D.state world.new }
+    ensures answers { IfOk result (λ answers. length answers.items ≡ length steps.now) }
+    ensures refused { IfErr result (λ e. (e ≡ OutOfMemory) × (world.new ≡ world.old)) }
+{
+    let mut answers = Vec::with_capacity(alloc, steps.len())?;
+    for step in steps {
+        let pushed: Result<_, _> = answers.push(world.step(alloc, step));
+        pushed.unwrap();
+    }
+    Ok(answers)
+}

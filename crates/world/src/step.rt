@@ -1,0 +1,32 @@
+// What a world is told to do.
+use devices::{Provisioning, Ranged};
+use disk::Image;
+use session_core::Most;
+
+/// A moment in milliseconds, below 2^63.
+pub type Moment = Ranged<0, 9_223_372_036_854_775_807>;
+
+/// One step of a world. A crash falls between two steps, since no step makes more than one device
+/// call but a crash itself, which opens the store.
+#[derive(Debug, PartialEq, Eq, Drop)]
+pub enum Step {
+    /// An application brings a device at this moment.
+    Provision {
+        moment: Moment,
+        provisioning: Provisioning,
+    },
+    /// The flusher takes the oldest decisions, at most so many, and begins their commit.
+    Take(Most),
+    /// One device call of what is under way.
+    Call,
+    /// The next device call is to fail.
+    Fail,
+    /// The effects of the batch that became durable are released.
+    Release,
+    /// The oldest released effect leaves.
+    Emit,
+    /// The table as it is now is looked at.
+    List,
+    /// The disk crashes to this image, and the store is opened again.
+    Crash(Image),
+}
