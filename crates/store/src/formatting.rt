@@ -39,7 +39,7 @@ pub fn disk_len(slots: Slots) -> u64
 /// Makes a store without devices. Refused with `Damaged` exactly where `slots` is not from 1 to
 /// 4,096, else with `WrongSize` exactly where the disk hasn't the length of such a store, else with
 /// `DeviceFailed` exactly where a call of the disk failed, and with `OutOfMemory` for want of memory,
-/// before any call. It makes seven calls of the disk, and its cost grows with the number of slots.
+/// before any call. It makes eight calls of the disk, and its cost grows with the number of slots.
 pub fn format<D: Disk + Drop>(
     alloc: Global,
     disk: D,
