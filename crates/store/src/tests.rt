@@ -1,11 +1,8 @@
-ghost use Rattle.std.specs.Prelude.{◌≡◌, is_ok, length};
-ghost use Rattle.disk.specs.MemDisk.{state_of, disk_failures};
-ghost use Rattle.disk.specs.Outlook.{HasCause};
 ghost use Rattle.store.specs.State.{seen, IsRoomy};
 
 use crate::{Store, disk_len, format, open, open_back};
 use devices::{Application, Command, Provisioning, Rx1Offset, RxDelay};
-use disk::{DeviceFailed, Disk, Image, MemDisk, Sim};
+use disk::{Disk, Image, MemDisk, Sim};
 use lw_types::{Eui, Key, NetId, Refusal};
 use sessions::{Batch, Slots, Table};
 use std::alloc::Global;
@@ -28,65 +25,6 @@ const FRONT: [u8; 62] = [
 
 // A byte that stands nowhere on the disks of these tests.
 const TORN: u8 = 0xDD;
-
-// A disk of which the power is cut after so many calls: the later ones fail and change nothing.
-#[derive(Drop)]
-struct Cut {
-    disk: MemDisk,
-    left: u64,
-}
-
-impl Cut {
-    // One call: whether there is power for it.
-    fn call(&mut self) -> Result<(), DeviceFailed>
-        ensures same_length { length (state_of self.new.disk).content ≡ length (state_of self.old.disk).content }
-        ensures cause { HasCause (disk_failures self.old.disk) (disk_failures self.new.disk) result }
-    {
-        match self.left.checked_sub(1) {
-            Some(left) => {
-                self.left = left;
-                Ok(())
-            }
-            None => {
-                self.disk.arm(1);
-                self.disk.sync()
-            }
-        }
-    }
-}
-
-impl Disk for Cut {
-    ghost use Rattle.disk.specs.MemDisk.{state_of, disk_failures};
-    ghost use Rattle.disk.specs.Outlook.Outlook.{Unknown};
-
-    ghost state = { λ cut. state_of cut.disk };
-
-    ghost failures = { λ cut. disk_failures cut.disk };
-
-    ghost outlook = { λ _. Unknown };
-
-    // A write that fails opens no position.
-    ghost honest = { ⊥ };
-
-    fn len(&self) -> u64 {
-        self.disk.len()
-    }
-
-    fn read_at(&mut self, at: u64, buffer: &mut [u8]) -> Result<(), DeviceFailed> {
-        self.call()?;
-        self.disk.read_at(at, buffer)
-    }
-
-    fn write_at(&mut self, at: u64, bytes: &[u8]) -> Result<(), DeviceFailed> {
-        self.call()?;
-        self.disk.write_at(at, bytes)
-    }
-
-    fn sync(&mut self) -> Result<(), DeviceFailed> {
-        self.call()?;
-        self.disk.sync()
-    }
-}
 
 fn net_id() -> Result<NetId, Fail> {
     Ok(NetId::new(0x2A).ok_or("net id")?)
@@ -135,13 +73,7 @@ fn next_of<D: Disk>(alloc: Global, store: &Store<D>, count: u64) -> Result<Batch
 fn commit<D: Disk>(alloc: Global, store: &mut Store<D>, batch: Batch) -> Result<(), Refusal>
     requires { IsRoomy (seen D.state store.old) }
 {
-    let begun = store.begin(alloc, batch)?;
-    let written = begun.write(store)?;
-    let synced = written.sync(store)?;
-    let opened = synced.open_gate(store)?;
-    let durable = opened.sync(store)?;
-    let _ = durable.into_batch();
-    Ok(())
+    begin_commit(alloc, store, batch, 4)
 }
 
 // A store with one device.
@@ -189,108 +121,90 @@ fn a_new_store_has_its_layout(rt: HostRuntime) -> Result<(), Fail> {
     Ok(())
 }
 
-// A store on a copy of this disk, with power for so many calls.
-fn powered(alloc: Global, image: &[u8], calls: u64) -> Result<Store<Cut>, Fail> {
-    let disk = MemDisk::new(alloc, image.to_vec(alloc)?)?;
-    Ok(open(alloc, Cut { disk, left: calls })?)
+// The first calls of a commit, of which there are four.
+fn begin_commit<D: Disk>(
+    alloc: Global,
+    store: &mut Store<D>,
+    batch: Batch,
+    calls: u64,
+) -> Result<(), Refusal>
+    requires { IsRoomy (seen D.state store.old) }
+{
+    let begun = store.begin(alloc, batch)?;
+    let written = begun.write(store)?;
+    if calls == 1 {
+        written.lose();
+        return Ok(());
+    }
+    let synced = written.sync(store)?;
+    if calls == 2 {
+        synced.lose();
+        return Ok(());
+    }
+    let opened = synced.open_gate(store)?;
+    if calls == 3 {
+        opened.lose();
+        return Ok(());
+    }
+    let durable = opened.sync(store)?;
+    let _ = durable.into_batch();
+    Ok(())
 }
 
-// What is left on a disk of opening it and of a commit of five provisionings after so many calls.
-fn cut_commit(rt: &impl Abort, alloc: Global, image: &[u8], calls: u64) -> Result<MemDisk, Fail> {
-    let mut store = powered(alloc, image, calls)?;
+// What is left on a disk of a commit of five provisionings after so many calls.
+fn cut_commit(rt: &impl Abort, alloc: Global, calls: u64) -> Result<MemDisk, Fail> {
+    let mut store = fresh(alloc)?;
     let batch = next_of(alloc, &store, 5)?;
     assert!(rt; store.roomy());
-    let _ = commit(alloc, &mut store, batch);
-    Ok(store.close().disk)
+    begin_commit(alloc, &mut store, batch, calls)?;
+    Ok(store.close())
 }
 
-// What the images of a crash hold where the power is cut after so many calls of a commit.
-#[derive(Clone, Copy)]
-struct Crash {
+// The first position that is open after so many calls of a commit, and how many are.
+fn open_positions(
+    rt: &impl Abort,
+    alloc: Global,
     calls: u64,
-    // The first position that is open, and how many are.
-    first: Option<usize>,
-    open: usize,
-    // The devices that are left of the five.
-    old: usize,
-    new: usize,
-    fill: usize,
+) -> Result<(Option<usize>, usize), Fail> {
+    let mut disk = cut_commit(rt, alloc, calls)?;
+    disk.crash(&Image::Fill(TORN));
+    let content = disk.content();
+    let torn = content.iter().filter(|byte| **byte == TORN).count();
+    Ok((content.iter().position(|byte| *byte == TORN), torn))
 }
 
-fn crashes(rt: &impl Abort, alloc: Global, wanted: &[Crash]) -> Result<(), Fail> {
-    let image = fresh(alloc)?.close().content().to_vec(alloc)?;
-    let unused = powered(alloc, &image, 100)?.close().left;
-    let opening = 100_u64.checked_sub(unused).ok_or("calls")?;
-    for crash in wanted {
-        let calls = crash.calls;
-        let left = opening.checked_add(calls).ok_or("calls")?;
-        let mut disk = cut_commit(rt, alloc, &image, left)?;
-        disk.crash(&Image::Fill(TORN));
-        let content = disk.content();
-        assert!(rt; content.len() >= 1_000);
-        let front = &content[..1_000];
-        let torn = front.iter().filter(|byte| **byte == TORN).count();
-        let first = front.iter().position(|byte| *byte == TORN);
-        assert_eq!(rt; (first, torn), (crash.first, crash.open), "{calls} calls");
-        for (kind, devices) in [
-            (Image::Old, crash.old),
-            (Image::New, crash.new),
-            (Image::Fill(0xA5), crash.fill),
-        ] {
-            let mut disk = cut_commit(rt, alloc, &image, left)?;
-            disk.crash(&kind);
-            let opened = open(alloc, disk)?;
-            assert_eq!(rt;
-                opened.table().devices().len(),
-                devices,
-                "{calls} calls, {kind:?}"
-            );
-            assert_eq!(rt; opened.seq(), devices as u64, "{calls} calls, {kind:?}");
-        }
+#[test]
+fn a_commit_writes_what_the_layout_says(rt: HostRuntime) -> Result<(), Fail> {
+    let alloc = rt.alloc();
+    for (calls, wanted) in [
+        (1, (Some(63), 290)),
+        (2, (None, 0)),
+        (3, (Some(62), 1)),
+        (4, (None, 0)),
+    ] {
+        assert_eq!(rt; open_positions(&rt, alloc, calls)?, wanted, "{calls} calls");
     }
     Ok(())
 }
 
 #[test]
-fn a_crash_before_the_gate_leaves_nothing_of_a_batch(rt: HostRuntime) -> Result<(), Fail> {
-    let body = Crash {
-        calls: 1,
-        first: Some(63),
-        open: 290,
-        old: 0,
-        new: 0,
-        fill: 0,
-    };
-    let synced = Crash {
-        calls: 2,
-        first: None,
-        open: 0,
-        old: 0,
-        new: 0,
-        fill: 0,
-    };
-    crashes(&rt, rt.alloc(), &[body, synced])
-}
-
-#[test]
-fn a_crash_after_the_gate_leaves_all_of_a_batch(rt: HostRuntime) -> Result<(), Fail> {
-    let gate = Crash {
-        calls: 3,
-        first: Some(62),
-        open: 1,
-        old: 0,
-        new: 5,
-        fill: 5,
-    };
-    let synced = Crash {
-        calls: 4,
-        first: None,
-        open: 0,
-        old: 5,
-        new: 5,
-        fill: 5,
-    };
-    crashes(&rt, rt.alloc(), &[gate, synced])
+fn a_crash_leaves_all_of_a_batch_or_nothing(rt: HostRuntime) -> Result<(), Fail> {
+    let alloc = rt.alloc();
+    for (calls, old, new, fill) in [(1, 0, 0, 0), (2, 0, 0, 0), (3, 0, 5, 5), (4, 5, 5, 5)] {
+        for (kind, devices) in [
+            (Image::Old, old),
+            (Image::New, new),
+            (Image::Fill(0xA5), fill),
+        ] {
+            let mut disk = cut_commit(&rt, alloc, calls)?;
+            disk.crash(&kind);
+            let opened = open(alloc, disk)?;
+            let found = opened.table().devices().len();
+            assert_eq!(rt; found, devices, "{calls} calls, {kind:?}");
+            assert_eq!(rt; opened.seq(), devices as u64, "{calls} calls, {kind:?}");
+        }
+    }
+    Ok(())
 }
 
 // A sync fails in the second commit: that of the body, and that of the gate.

@@ -1,0 +1,657 @@
+// Scripts and their whole answers.
+use crate::script;
+use std::alloc::Global;
+use std::io::Write;
+use std::process::Abort;
+use std::str;
+use std::test::Fail;
+
+const FORMAT: &str = "format 00002A 8\n";
+
+const FIRST: &str =
+    "provision 0 3 1112131415161718 0102030405060708 2B7E151628AED2A6ABF7158809CF4F3C 0 1\n";
+
+const SECOND: &str =
+    "provision 7 4 00000000000000D2 0102030405060708 2B7E151628AED2A6ABF7158809CF4F3C 5 15\n";
+
+const THIRD: &str =
+    "provision 3 15 00000000000000D3 0102030405060708 2B7E151628AED2A6ABF7158809CF4F3C 2 1\n";
+
+const FOURTH_AND_FIFTH: &str = "\
+provision 8 3 00000000000000D4 0102030405060708 2B7E151628AED2A6ABF7158809CF4F3C 0 1
+provision 8 3 00000000000000D5 0102030405060708 2B7E151628AED2A6ABF7158809CF4F3C 0 1
+";
+
+const SIXTH_TO_NINTH: &str = "\
+provision 8 3 00000000000000D6 0102030405060708 2B7E151628AED2A6ABF7158809CF4F3C 0 1
+provision 8 3 00000000000000D7 0102030405060708 2B7E151628AED2A6ABF7158809CF4F3C 0 1
+provision 8 3 00000000000000D8 0102030405060708 2B7E151628AED2A6ABF7158809CF4F3C 0 1
+provision 8 3 00000000000000D9 0102030405060708 2B7E151628AED2A6ABF7158809CF4F3C 0 1
+";
+
+const COMMIT: &str = "take 64\ncall\ncall\ncall\ncall\n";
+
+// The pieces of a script, and its answers.
+type Script = (&'static [&'static str], &'static str);
+
+// Scripts whose device calls succeed.
+const COMMITS: [Script; 8] = [
+    // One device, from its line to the disk, out, and back after a crash.
+    (
+        &[FORMAT, FIRST, COMMIT, "release\nemit\ncrash old\nlist\n"],
+        "\
+formatted 2166124
+turn 0 1
+taken 1
+called
+called
+called
+called
+released 1
+app 3 provisioned 1112131415161718 0
+opened 1 1
+0 1112131415161718 0 - - - 0
+devices 1 seq 1
+",
+    ),
+    // The same with lines between that are no steps, and without a newline at the end.
+    (
+        &[
+            FORMAT,
+            "\n",
+            FIRST,
+            "fail \ntake 65\ntake 64\ncall\r\ncall\ncall\ncall\ncall\ntick 9\nrelease\nemit\n",
+            FORMAT,
+            "crash old\ncrash\nlist",
+        ],
+        "\
+formatted 2166124
+bad line
+turn 0 1
+bad line
+bad line
+taken 1
+bad line
+called
+called
+called
+called
+bad line
+released 1
+app 3 provisioned 1112131415161718 0
+bad line
+opened 1 1
+bad line
+0 1112131415161718 0 - - - 0
+devices 1 seq 1
+",
+    ),
+    // There is nothing to do.
+    (
+        &[FORMAT, "take 1\ncall\nrelease\nemit\nlist\n"],
+        "\
+formatted 2166124
+idle
+idle
+idle
+idle
+devices 0 seq 0
+",
+    ),
+    // A batch ends before the next one begins, and effects leave in order.
+    (
+        &[
+            FORMAT,
+            FIRST,
+            SECOND,
+            THIRD,
+            "take 1\ntake 1\ncall\ncall\ncall\ntake 1\nrelease\ncall\ntake 1\ncall\nemit\n",
+            "release\nrelease\ntake 64\ncall\ncall\ncall\ncall\nrelease\ntake 1\n",
+            "emit\nemit\nemit\nemit\ncrash new\nlist\n",
+        ],
+        "\
+formatted 2166124
+turn 0 1
+turn 1 2
+turn 2 3
+taken 1
+idle
+called
+called
+called
+idle
+idle
+called
+idle
+idle
+idle
+released 1
+idle
+taken 2
+called
+called
+called
+called
+released 2
+idle
+app 3 provisioned 1112131415161718 0
+app 4 provisioned 00000000000000D2 1
+app 15 provisioned 00000000000000D3 2
+idle
+opened 3 3
+0 1112131415161718 0 - - - 0
+1 00000000000000D2 0 - - - 0
+2 00000000000000D3 0 - - - 0
+devices 3 seq 3
+",
+    ),
+    // A crash loses the effects that were not emitted.
+    (
+        &[
+            FORMAT,
+            FIRST,
+            SECOND,
+            COMMIT,
+            "release\nemit\ncrash old\nemit\nrelease\n",
+        ],
+        "\
+formatted 2166124
+turn 0 1
+turn 1 2
+taken 2
+called
+called
+called
+called
+released 2
+app 3 provisioned 1112131415161718 0
+opened 2 2
+idle
+idle
+",
+    ),
+    // It loses those that were not released, and the decisions that were not taken. A turn counts the
+    // decisions of its life.
+    (
+        &[
+            FORMAT,
+            FIRST,
+            SECOND,
+            "take 1\ncall\ncall\ncall\ncall\nlist\ncrash old\nrelease\nemit\ntake 1\nlist\n",
+            SECOND,
+        ],
+        "\
+formatted 2166124
+turn 0 1
+turn 1 2
+taken 1
+called
+called
+called
+called
+0 1112131415161718 0 - - - 0
+1 00000000000000D2 0 - - - 0
+devices 2 seq 2
+opened 1 1
+idle
+idle
+idle
+0 1112131415161718 0 - - - 0
+devices 1 seq 1
+turn 0 1
+",
+    ),
+    // Every open position reads as an open gate, and the next batch closes the one behind it.
+    (
+        &[
+            FORMAT,
+            FIRST,
+            SECOND,
+            "take 64\ncall\ncrash fill\n",
+            THIRD,
+            COMMIT,
+            "crash old\nlist\n",
+        ],
+        "\
+formatted 2166124
+turn 0 1
+turn 1 2
+taken 2
+called
+opened 0 0
+turn 0 1
+taken 1
+called
+called
+called
+called
+opened 1 1
+0 00000000000000D3 0 - - - 0
+devices 1 seq 1
+",
+    ),
+    // A DevEUI is there once, in the log as on the disk, and a table has so many slots.
+    (
+        &[
+            FORMAT,
+            FIRST,
+            FIRST,
+            SECOND,
+            THIRD,
+            FOURTH_AND_FIFTH,
+            SIXTH_TO_NINTH,
+            COMMIT,
+            "crash old\n",
+            FIRST,
+            SIXTH_TO_NINTH,
+        ],
+        "\
+formatted 2166124
+turn 0 1
+turn 1 1 refused 16
+turn 1 2
+turn 2 3
+turn 3 4
+turn 4 5
+turn 5 6
+turn 6 7
+turn 7 8
+turn 8 8 refused 17
+taken 8
+called
+called
+called
+called
+opened 8 8
+turn 0 0 refused 16
+turn 0 0 refused 16
+turn 0 0 refused 16
+turn 0 0 refused 16
+turn 0 0 refused 17
+",
+    ),
+];
+
+// Scripts with a device call that fails.
+const FAULTS: [Script; 8] = [
+    // A sync fails: the commit ends, nothing is taken any more, and nothing became durable.
+    (
+        &[
+            FORMAT,
+            FIRST,
+            "take 64\ncall\nfail\ncall\ncall\ntake 64\ncrash new\n",
+        ],
+        "\
+formatted 2166124
+turn 0 1
+taken 1
+called
+armed
+refused 40
+idle
+refused 41
+opened 0 0
+",
+    ),
+    // The same, going on: devices are still decided on, and the next life begins from the disk.
+    (
+        &[
+            FORMAT,
+            FIRST,
+            "take 64\ncall\nfail\ncall\nrelease\nemit\n",
+            SECOND,
+            "take 64\nlist\ncrash new\ntake 64\n",
+            SECOND,
+            COMMIT,
+            "crash fill\nlist\n",
+        ],
+        "\
+formatted 2166124
+turn 0 1
+taken 1
+called
+armed
+refused 40
+idle
+idle
+turn 1 2
+refused 41
+0 1112131415161718 0 - - - 0
+1 00000000000000D2 0 - - - 0
+devices 2 seq 2
+opened 0 0
+idle
+turn 0 1
+taken 1
+called
+called
+called
+called
+opened 1 1
+0 00000000000000D2 0 - - - 0
+devices 1 seq 1
+",
+    ),
+    // A sync fails in the second commit: the first device stays, and is told.
+    (
+        &[
+            FORMAT,
+            FIRST,
+            COMMIT,
+            "release\n",
+            SECOND,
+            "take 64\ncall\nfail\ncall\ntake 1\nemit\ncrash old\nlist\n",
+        ],
+        "\
+formatted 2166124
+turn 0 1
+taken 1
+called
+called
+called
+called
+released 1
+turn 1 2
+taken 1
+called
+armed
+refused 40
+refused 41
+app 3 provisioned 1112131415161718 0
+opened 1 1
+0 1112131415161718 0 - - - 0
+devices 1 seq 1
+",
+    ),
+    // The sync of an opening fails.
+    (
+        &[FORMAT, "fail\ncrash old\nlist\ncrash old\n"],
+        "\
+formatted 2166124
+armed
+refused 40
+idle
+opened 0 0
+",
+    ),
+    // Until the store is opened again every step but a crash is idle, and arms nothing.
+    (
+        &[
+            FORMAT,
+            "fail\ncrash new\n",
+            FIRST,
+            "take 64\ncall\nfail\nrelease\nemit\nlist\nno step\ncrash old\ncrash old\n",
+            FIRST,
+        ],
+        "\
+formatted 2166124
+armed
+refused 40
+idle
+idle
+idle
+idle
+idle
+idle
+idle
+bad line
+opened 0 0
+opened 0 0
+turn 0 1
+",
+    ),
+    // Two fails are one.
+    (
+        &[FORMAT, "fail\nfail\ncrash old\ncrash new\ncrash fill\n"],
+        "\
+formatted 2166124
+armed
+armed
+refused 40
+opened 0 0
+opened 0 0
+",
+    ),
+    // A fail waits for a device call.
+    (
+        &[
+            FORMAT,
+            "fail\n",
+            FIRST,
+            "take 64\nrelease\nlist\ncall\ncall\n",
+        ],
+        "\
+formatted 2166124
+armed
+turn 0 1
+taken 1
+idle
+0 1112131415161718 0 - - - 0
+devices 1 seq 1
+refused 40
+idle
+",
+    ),
+    // A fail stays over a crash.
+    (
+        &[
+            FORMAT,
+            FIRST,
+            "take 64\ncall\ncall\ncall\nfail\ncrash new\ncrash fill\nlist\n",
+        ],
+        "\
+formatted 2166124
+turn 0 1
+taken 1
+called
+called
+called
+armed
+refused 40
+opened 1 1
+0 1112131415161718 0 - - - 0
+devices 1 seq 1
+",
+    ),
+];
+
+// The answers to a script.
+fn played(alloc: Global, input: &[u8]) -> Result<Vec<u8>, Fail> {
+    let mut input = input;
+    let mut out = Vec::new(alloc);
+    script(alloc, &mut input, &mut out)?;
+    Ok(out)
+}
+
+// Plays the pieces of a script, and compares the answers.
+fn compare(rt: &impl Abort, alloc: Global, row: &Script) -> Result<(), Fail> {
+    let (pieces, wanted) = row;
+    let mut input = Vec::new(alloc);
+    for piece in *pieces {
+        input.write_all(piece.as_bytes())?;
+    }
+    let out = played(alloc, input.as_slice())?;
+    assert_eq!(rt; str::from_utf8(out.as_slice()).ok(), Some(*wanted));
+    Ok(())
+}
+
+#[test]
+fn commits_are_answered(rt: HostRuntime) -> Result<(), Fail> {
+    for row in &COMMITS {
+        compare(&rt, rt.alloc(), row)?;
+    }
+    Ok(())
+}
+
+#[test]
+fn faults_are_answered(rt: HostRuntime) -> Result<(), Fail> {
+    for row in &FAULTS {
+        compare(&rt, rt.alloc(), row)?;
+    }
+    Ok(())
+}
+
+#[test]
+fn a_first_line_formats_or_ends_the_run(rt: HostRuntime) -> Result<(), Fail> {
+    let ends: [(&[u8], &str); 11] = [
+        (b"", ""),
+        (b"format 00002A 8", "formatted 2166124\n"),
+        (b"format 000000 1\n", "formatted 2105854\n"),
+        (b"format 00002A 0\nlist\n", "refused 44\n"),
+        (b"format 00002A 4097\nlist\n", "refused 44\n"),
+        (b"format 00002A 4294967295\nlist\n", "refused 44\n"),
+        (b"format 00002A 4294967296\nlist\n", "bad line\n"),
+        (b"\nformat 00002A 8\n", "bad line\n"),
+        (b"format 00002A 8\r\nlist\n", "bad line\n"),
+        (b"format 00002A \xFF\nlist\n", "bad line\n"),
+        (b"list\nlist\n", "bad line\n"),
+    ];
+    for (input, wanted) in ends {
+        let out = played(rt.alloc(), input)?;
+        assert_eq!(rt; str::from_utf8(out.as_slice()).ok(), Some(wanted));
+    }
+    for line in [
+        "format",
+        "format 00002A",
+        "format 00002A 08",
+        "format 00002A 8 ",
+        "format 00002A  8",
+        "format 00002a 8",
+        "format 2A 8",
+        "format 000040 8",
+    ] {
+        let out = played(rt.alloc(), line.as_bytes())?;
+        assert_eq!(rt; out.as_slice(), b"bad line\n".as_slice(), "{line}");
+    }
+    Ok(())
+}
+
+#[test]
+fn other_lines_are_no_steps(rt: HostRuntime) -> Result<(), Fail> {
+    let alloc = rt.alloc();
+    let mut input = FORMAT.as_bytes().to_vec(alloc)?;
+    input.write_all(NO_STEPS)?;
+    let mut wanted = b"formatted 2166124\n".as_slice().to_vec(alloc)?;
+    repeat(&mut wanted, "bad line\n", 49)?;
+    let out = played(alloc, input.as_slice())?;
+    assert_eq!(rt; out.as_slice(), wanted.as_slice());
+    Ok(())
+}
+
+// Lines that are no steps: 49.
+const NO_STEPS: &[u8] = b"\
+-
+
+\x20
+call\x20
+ call
+call\r
+Call
+call call
+calls
+crash
+crash\x20
+crash A5
+crash  old
+crash old new
+take
+take\x20
+take 0
+take 65
+take 064
+take +1
+take -1
+take 1\x20
+take  1
+take 1\r
+take 18446744073709551617
+format 00002A 8
+checkpoint
+next 1
+tick 0
+hear 0 00000000000000B1 868100000 5 -20 -95 50000 -
+queue 0 3 1112131415161718 9 7 u AA
+mac 0 3 1112131415161718 06
+provision 9223372036854775808 3 1112131415161718 0102030405060708 2B7E151628AED2A6ABF7158809CF4F3C 0 1
+provision -1 3 1112131415161718 0102030405060708 2B7E151628AED2A6ABF7158809CF4F3C 0 1
+provision 00 3 1112131415161718 0102030405060708 2B7E151628AED2A6ABF7158809CF4F3C 0 1
+provision 0 16 1112131415161718 0102030405060708 2B7E151628AED2A6ABF7158809CF4F3C 0 1
+provision 0 3 1112131415161718 0102030405060708 2B7E151628AED2A6ABF7158809CF4F3C 6 1
+provision 0 3 1112131415161718 0102030405060708 2B7E151628AED2A6ABF7158809CF4F3C 0 0
+provision 0 3 1112131415161718 0102030405060708 2B7E151628AED2A6ABF7158809CF4F3C 0 16
+provision 0 3 1112131415161718 0102030405060708 2b7e151628aed2a6abf7158809cf4f3c 0 1
+provision 0 3 1112131415161718 0102030405060708 2B7E151628AED2A6ABF7158809CF4F3 0 1
+provision 0 3 111213141516171 0102030405060708 2B7E151628AED2A6ABF7158809CF4F3C 0 1
+provision 0 3  1112131415161718 0102030405060708 2B7E151628AED2A6ABF7158809CF4F3C 0 1
+provision 0 3 1112131415161718 0102030405060708 2B7E151628AED2A6ABF7158809CF4F3C 0 1\x20
+provision 0 3 1112131415161718 0102030405060708 2B7E151628AED2A6ABF7158809CF4F3C 0 1 2
+provision 0 3 1112131415161718 0102030405060708 2B7E151628AED2A6ABF7158809CF4F3C 0 1\r
+provision 0 3 1112131415161718 0102030405060708 2B7E151628AED2A6ABF7158809CF4F3C 0
+provision 0 1112131415161718 0102030405060708 2B7E151628AED2A6ABF7158809CF4F3C 0 1
+call\xFF
+";
+
+// The same line so often.
+fn repeat(out: &mut Vec<u8>, line: &str, times: u8) -> Result<(), Fail> {
+    for _ in 0..times {
+        out.write_all(line.as_bytes())?;
+    }
+    Ok(())
+}
+
+// A batch of five, on its way.
+const FIVE_TAKEN: (&[&str], &str) = (
+    &[FORMAT, FIRST, SECOND, THIRD, FOURTH_AND_FIFTH, "take 64\n"],
+    "formatted 2166124\nturn 0 1\nturn 1 2\nturn 2 3\nturn 3 4\nturn 4 5\ntaken 5\n",
+);
+
+// A batch of one, on its way behind a durable one.
+const SECOND_TAKEN: (&[&str], &str) = (
+    &[FORMAT, FIRST, COMMIT, "release\n", SECOND, "take 64\n"],
+    "\
+formatted 2166124
+turn 0 1
+taken 1
+called
+called
+called
+called
+released 1
+turn 1 2
+taken 1
+",
+);
+
+const SUCCEEDS: (&str, &str) = ("call\n", "called\n");
+
+const FAILS: (&str, &str) = ("fail\ncall\n", "armed\nrefused 40\n");
+
+// A batch is there whole or not at all: after so many calls, and a last one, with each image of a crash.
+#[test]
+fn a_crash_leaves_whole_batches(rt: HostRuntime) -> Result<(), Fail> {
+    let alloc = rt.alloc();
+    let cases = [
+        (&FIVE_TAKEN, 0, &SUCCEEDS, [0, 0, 0]),
+        (&FIVE_TAKEN, 1, &SUCCEEDS, [0, 0, 0]),
+        (&FIVE_TAKEN, 2, &SUCCEEDS, [0, 5, 5]),
+        (&FIVE_TAKEN, 3, &SUCCEEDS, [5, 5, 5]),
+        (&SECOND_TAKEN, 1, &FAILS, [1, 1, 1]),
+        (&SECOND_TAKEN, 3, &FAILS, [1, 2, 2]),
+    ];
+    for (start, called, last, devices) in &cases {
+        for (image, count) in ["old", "new", "fill"].into_iter().zip(*devices) {
+            let mut input = Vec::new(alloc);
+            for piece in start.0 {
+                input.write_all(piece.as_bytes())?;
+            }
+            repeat(&mut input, "call\n", *called)?;
+            write!(input, "{}crash {image}\n", last.0)?;
+            let mut wanted = start.1.as_bytes().to_vec(alloc)?;
+            repeat(&mut wanted, "called\n", *called)?;
+            write!(wanted, "{}opened {count} {count}\n", last.1)?;
+            let out = played(alloc, input.as_slice())?;
+            assert_eq!(rt; out.as_slice(), wanted.as_slice(), "{called} {image}");
+        }
+    }
+    Ok(())
+}
