@@ -1,7 +1,7 @@
 // The decisions of one life.
 ghost use Rattle.std.specs.Prelude.{◌≡◌, ◌≤◌, ◌<◌, ◌↔◌, ℕ, IsTrue, MatchResult, take, drop, length, []};
 ghost use Rattle.lw_types.specs.declared.refusal.Refusal.TheVariants.{OutOfMemory};
-ghost use Rattle.session_core.specs.State.{now_of, opened, last_number};
+ghost use Rattle.session_core.specs.State.{IsLawful, now_of, opened, last_number};
 ghost use Rattle.session_core.specs.Events.{Turns, Decided, taken_from};
 ghost use Rattle.sessions.specs.Decision.{afters_of};
 
@@ -66,14 +66,16 @@ impl Core {
 
     /// The table after every decision made.
     pub fn now(&self) -> &Table
-        ensures { result.now ≡ now_of self.now }
+        ensures table { result.now ≡ now_of self.now }
+        ensures lawful { IsLawful self.now }
     {
         &self.now_table
     }
 
     /// The sequence number of the last decision made.
     pub fn seq(&self) -> u64
-        ensures { result ≡ last_number self.now }
+        ensures number { result ≡ last_number self.now }
+        ensures lawful { IsLawful self.now }
     {
         self.opening + self.made
     }
@@ -87,7 +89,8 @@ impl Core {
 
     /// How many decisions wait to be taken.
     pub fn untaken(&self) -> usize
-        ensures { result ≡ length self.now.log }
+        ensures count { result ≡ length self.now.log }
+        ensures lawful { IsLawful self.now }
     {
         self.log.len()
     }
@@ -96,7 +99,8 @@ impl Core {
     /// `Backlog` where 4,096 decisions wait or no number is left, then with `DevEuiTaken` or
     /// `TableFull`; with `OutOfMemory` for want of memory. A refusal changes nothing.
     pub fn provision(&mut self, _moment: u64, provisioning: Provisioning) -> Turn
-        ensures { Turns self.old (Command.Provision provisioning) result self.new }
+        ensures turns { Turns self.old (Command.Provision provisioning) result self.new }
+        ensures lawful { IsLawful self.old }
     {
         self.event(Command::Provision(provisioning))
     }
@@ -104,9 +108,10 @@ impl Core {
     /// Takes the oldest untaken decisions, at most `max` of them. After an `Err`, which is want of
     /// memory, the core is as before. Its cost doesn't grow with the number of devices.
     pub fn take(&mut self, max: Most) -> Result<Batch, Refusal>
-        ensures { MatchResult result
+        ensures taken { MatchResult result
             (λ batch. (batch ≡ take max self.old.log) × (self.new ≡ taken_from self.old max))
             (λ e. (e ≡ OutOfMemory) × (self.new ≡ self.old)) }
+        ensures lawful { IsLawful self.old }
     {
         let count = self.log.len().min(max.get() as usize);
         let records = front_records(self.alloc, &self.log, count)?;
@@ -119,7 +124,8 @@ impl Core {
 
     // Decides one command of an event.
     fn event(&mut self, command: Command) -> Turn
-        ensures { Turns self.old command result self.new }
+        ensures turns { Turns self.old command result self.new }
+        ensures lawful { IsLawful self.old }
     {
         let from = self.made;
         match self.decide(command) {

@@ -2,7 +2,7 @@
 use Rattle.std.proofs.Common.{Err, ◌≡◌, ◌+◌, ◌∙◌, ℕ, List, [], ◌∷◌, ◌++◌, length, Result, Ok, suc, sym, ap, subst, refl, arith}
 use Rattle.std.proofs.Common.{◌<◌, ◌≤◌, cond, nat_lt, Option, Some, None, take, drop, get_or}
 use Rattle.std.proofs.lemmas.Bool.{ltb-true}
-use Rattle.std.proofs.lemmas.List.{take_more, drop_more, take-append-drop, length-take-le}
+use Rattle.std.proofs.lemmas.List.{append_assoc, take_more, drop_more, take-append-drop, length-take-le}
 use Rattle.std.proofs.lemmas.Option.{slice_get_past}
 use Rattle.std.specs.Option.{MatchOption}
 use Rattle.std.specs.Result.{MatchResult}
@@ -68,6 +68,18 @@ effects_of-fit t [] fit = refl
 effects_of-fit t (d ∷ ds) fit =
     ap (λ s. step_effects s ++ effects_of (stepped t s) (commands_of ds)) (step-fits t d fit.0)
     ∙ ap (λ es. d.effects ++ es) (effects_of-fit (applied t d) ds fit.1)
+
+pub folded-append : (t : TableState) (first second : List Command) → folded t (first ++ second) ≡ folded (folded t first) second
+folded-append t [] second = refl
+folded-append t (command ∷ first) second = folded-append (stepped t (step t command)) first second
+
+pub effects_of-append : (t : TableState) (first second : List Command)
+    → effects_of t (first ++ second) ≡ effects_of t first ++ effects_of (folded t first) second
+effects_of-append t [] second = refl
+effects_of-append t (command ∷ first) second =
+    let s = step t command in
+    ap (λ es. step_effects s ++ es) (effects_of-append (stepped t s) first second)
+    ∙ sym (append_assoc (step_effects s) (effects_of (stepped t s) first) (effects_of (folded (stepped t s) first) second))
 
 pub applied_all-append : (t : TableState) (first second : List Decision) → applied_all t (first ++ second) ≡ applied_all (applied_all t first) second
 applied_all-append t [] second = refl

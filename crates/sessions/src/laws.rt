@@ -1,5 +1,6 @@
 //! Laws on the definitions that the contracts of this crate cite. Nothing here does anything.
 ghost use Rattle.std.specs.Prelude.{◌≡◌, ◌++◌, ◌↔◌, ◌+◌, ℕ, List, length};
+ghost use Rattle.devices.specs.declared.command.Command.{Command};
 ghost use Rattle.sessions.specs.Table.{TableState, CanPut, folded, effects_of};
 ghost use Rattle.sessions.specs.Decision.{Fits, FitAll, ContinueAll, applied_all, commands_of, effects_in};
 ghost use Rattle.sessions.specs.declared.decision.Decision.{Decision};
@@ -11,6 +12,15 @@ pub fn folding()
         folded t (commands_of ds) ≡ applied_all t ds }
     ensures effects { (t : TableState) (ds : List Decision) → FitAll t ds →
         effects_of t (commands_of ds) ≡ effects_in ds }
+{}
+
+/// Two runs of commands, one after the other, leave the table that the second leaves on the table of
+/// the first, and have the effects of both in order.
+pub fn composing()
+    ensures table { (t : TableState) (first second : List Command) →
+        folded t (first ++ second) ≡ folded (folded t first) second }
+    ensures effects { (t : TableState) (first second : List Command) →
+        effects_of t (first ++ second) ≡ effects_of t first ++ effects_of (folded t first) second }
 {}
 
 /// Two runs of decisions, one after the other, continue a table where the second continues what the

@@ -21,9 +21,9 @@ invariant_of-self-2 c =
     let d = c.in_ok-decision.decision in
     let items : c.push_back_reserved.new.self.items ≡ c.self.inside.log.items ++ d ∷ [] = c.push_back_reserved.ensures.items ∙ ap (λ (l : List Decision). l ++ d ∷ []) c.reserve.ensures.items in
     let room : length s.log < 4096 = omega (arith, c.self.inside.log.ok.0) in
-    let number = c.seq.ensures ∙ ap last_number (sym c.self.view_is) in
+    let number = c.seq.ensures.number ∙ ap last_number (sym c.self.view_is) in
     let below : last_number s < 2 ^ 63 - 1 = omega (arith, number) in
-    let found = fits-decided s c.args.command d (decided s c.self.inside.now_table c.seq-2.result c.args.command d c.self.invariant.table (c.seq-2.ensures ∙ ap last_number (sym c.self.view_is)) c.in_ok-decision.ensures) in
+    let found = fits-decided s c.args.command d (decided s c.self.inside.now_table c.seq-2.result c.args.command d c.self.invariant.table (c.seq-2.ensures.number ∙ ap last_number (sym c.self.view_is)) c.in_ok-decision.ensures) in
     let with_log : List Decision → CoreState = λ l. record { base = s.base; opening = s.opening; made = s.made + 1; taken = s.taken; log = l } in
     record {
       lawful = subst (λ (l : List Decision). IsLawful (with_log l)) (sym items) (lawful-made s d c.self.invariant.lawful room below found.0 found.1);
@@ -36,9 +36,9 @@ returns c =
     let d = c.in_ok-decision.decision in
     let items : c.push_back_reserved.new.self.items ≡ c.self.inside.log.items ++ d ∷ [] = c.push_back_reserved.ensures.items ∙ ap (λ (l : List Decision). l ++ d ∷ []) c.reserve.ensures.items in
     let room : length s.log < 4096 = omega (arith, c.self.inside.log.ok.0) in
-    let number = c.seq.ensures ∙ ap last_number (sym c.self.view_is) in
+    let number = c.seq.ensures.number ∙ ap last_number (sym c.self.view_is) in
     let below : last_number s < 2 ^ 63 - 1 = omega (arith, number) in
-    let made = decided s c.self.inside.now_table c.seq-2.result c.args.command d c.self.invariant.table (c.seq-2.ensures ∙ ap last_number (sym c.self.view_is)) c.in_ok-decision.ensures in
+    let made = decided s c.self.inside.now_table c.seq-2.result c.args.command d c.self.invariant.table (c.seq-2.ensures.number ∙ ap last_number (sym c.self.view_is)) c.in_ok-decision.ensures in
     let with_log : List Decision → CoreState = λ l. record { base = s.base; opening = s.opening; made = s.made + 1; taken = s.taken; log = l } in
     subst (λ (old : CoreState). Decided old c.args.command (Ok tt) (with_log c.push_back_reserved.new.self.items)) c.self.view_is
     (decided-made s c.args.command d room below made (with_log c.push_back_reserved.new.self.items) (ap with_log items))
