@@ -25,9 +25,10 @@ impl Durable {
         }
     }
 
-    /// The effects of the batch's decisions, in order and complete. Takes no memory.
+    /// The effects of the batch's decisions, in order and complete, 256 at most. Takes no memory.
     pub fn release(self) -> Vec<Released>
-        ensures { effects_of_all result.items ≡ effects_in (decisions_of self) }
+        ensures effects { effects_of_all result.items ≡ effects_in (decisions_of self) }
+        ensures few { length result.items ≤ 256 }
     {
         let Durable { batch, room } = self;
         let Room { mut effects } = room;

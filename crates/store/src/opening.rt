@@ -2,6 +2,7 @@
 ghost use Rattle.std.specs.Prelude.{◌≡◌, ◌≢◌, ◌<◌, ◌≤◌, ◌⊎◌, false, length, take, drop, IfOk, IfErr, OnOk, MatchResult};
 ghost use Rattle.lw_types.specs.declared.refusal.Refusal.TheVariants.{DeviceFailed, OutOfMemory};
 ghost use Rattle.disk.specs.Outlook.Outlook.{AllSucceed};
+ghost use Rattle.disk.specs.State.{NothingOpen};
 ghost use Rattle.gate_log.specs.Opening.{opened};
 ghost use Rattle.store.specs.Faults.{IsFault};
 ghost use Rattle.store.specs.Found.{IsFound};
@@ -48,6 +49,7 @@ pub fn open_back<D: Disk>(alloc: Global, disk: D) -> Result<Store<D>, (D, Refusa
         → IsFault (D.state disk).content e.1) }
     ensures unarmed { D.outlook disk ≡ AllSucceed → IfErr result (λ e. e.1 ≢ DeviceFailed) }
     ensures same { D.honest → IfErr result (λ e. (D.state e.0).content ≡ (D.state disk).content) }
+    ensures still { D.honest → NothingOpen (D.state disk) → IfErr result (λ e. NothingOpen (D.state e.0)) }
     ensures same_length { IfErr result (λ e. length (D.state e.0).content ≡ length (D.state disk).content) }
 {
     let mut opening = match Opening::new(disk) {

@@ -1,1 +1,4 @@
 pub mod Sound
+pub mod Course
+pub mod Answers
+pub mod Follows

@@ -1,9 +1,9 @@
--- The commit under way is the store's.
-use Rattle.std.specs.Prelude.{ℕ}
+-- The commit under way is the store's, and what it releases will fit.
+use Rattle.std.specs.Prelude.{◌≡◌, ℕ, ◌≤◌, ◌+◌, length, vec_capacity}
 use Rattle.disk.specs.State.{State}
 use Rattle.store.specs.Commit.{IsUnderWay}
 use Rattle.store.specs.Phases.{begun_change, begun_size, written_change, written_size, synced_change, synced_size, opened_change, opened_size}
-use Rattle.store.specs.State.{StoreState, seen}
+use Rattle.store.specs.State.{StoreState, seen, disk_of}
 use Rattle.world.specs.declared.commit.Commit.{Commit}
 use Rattle.world.specs.declared.commit.Commit.TheVariants.{Idle, Failed, Begun, Written, BodySynced, GateWritten, Durable}
 use Rattle.world.specs.declared.life.Life.{Life}
@@ -24,10 +24,27 @@ IsOnItsWay s (Durable durable) = Unit {0}
 abbrev pub IsSoundLife : {D : Type 0} {g : _} → (D → State) → Life D g → Type 0
 IsSoundLife state life = IsOnItsWay (seen state life.store) life.commit
 
-abbrev pub IsSoundPlace : {D : Type 0} {g : _} → (D → State) → Place D g → Type 0
-IsSoundPlace state (Open life) = IsSoundLife state life
-IsSoundPlace state (Closed disk) = Unit {0}
-IsSoundPlace state Crashing = Unit {0}
+-- there is room among the released effects for those of a batch on its way: so many are there, and so many fit
+abbrev pub HasRoom : Commit → ℕ → ℕ → Type 0
+HasRoom Idle there fit = Unit {0}
+HasRoom Failed there fit = Unit {0}
+HasRoom commit there fit = there + 256 ≤ fit
+
+abbrev pub IsSoundPlace : {D : Type 0} {g : _} → (D → State) → Place D g → ℕ → ℕ → Type 0
+IsSoundPlace state (Open life) there fit = IsSoundLife state life × HasRoom life.commit there fit
+IsSoundPlace state (Closed disk) there fit = Unit {0}
+IsSoundPlace state Crashing there fit = ⊥
 
 abbrev pub IsSound : {D : Type 0} {g : _} → (D → State) → World D g → Type 0
-IsSound state world = IsSoundPlace state world.place
+IsSound state world = IsSoundPlace state world.place (length world.released.items) (vec_capacity world.released)
+
+-- not within a crash
+abbrev pub IsSomewhere : {D : Type 0} {g : _} → Place D g → Type 0
+IsSomewhere (Open life) = Unit {0}
+IsSomewhere (Closed disk) = Unit {0}
+IsSomewhere Crashing = ⊥
+
+abbrev pub HasDisk : {D : Type 0} {g : _} → Place D g → D → Type 0
+HasDisk (Open life) disk = disk ≡ disk_of life.store
+HasDisk (Closed d) disk = disk ≡ d
+HasDisk Crashing disk = ⊥

@@ -1,11 +1,17 @@
 // The steps of one life.
-ghost use Rattle.std.specs.Prelude.{◌≡◌, IfOk};
-ghost use Rattle.world.specs.Sound.{IsSoundLife};
-ghost use Rattle.store.specs.State.{seen, IsRoomy};
+ghost use Rattle.std.specs.Prelude.{◌≡◌, ◌≢◌, ◌++◌, ◌+◌, ◌≤◌, ℕ, [], length, vec_capacity, IfOk, IfErr, MatchResult};
+ghost use Rattle.lw_types.specs.declared.refusal.Refusal.TheVariants.{OutOfMemory};
+ghost use Rattle.session_core.specs.State.{opened};
+ghost use Rattle.store.specs.State.{seen, disk_of, IsRoomy};
+ghost use Rattle.world.specs.declared.commit.Commit.TheVariants as commits;
+ghost use Rattle.world.specs.declared.step.Step.TheVariants as steps;
+ghost use Rattle.world.specs.declared.answer.Answer.TheVariants as answers;
+ghost use Rattle.world.specs.Follows.{IsOwn, MovesLife, Lets};
+ghost use Rattle.world.specs.Sound.{IsSoundLife, HasRoom};
 
 use crate::commit::Commit;
 use crate::life::Life;
-use crate::{Answer, Moment};
+use crate::{Answer, Moment, Step};
 use devices::Provisioning;
 use disk::Sim;
 use flusher::{Durable, Released, Room};
@@ -21,7 +27,12 @@ const MOST_EFFECTS: usize = 256;
 impl<D: Sim> Life<D> {
     /// A life that begins with this store.
     pub(crate) fn new(alloc: Global, store: Store<D>) -> Result<Self, (D, Refusal)>
-        ensures { IfOk result (IsSoundLife D.state) }
+        ensures store { IfOk result (λ life. seen D.state life.store ≡ seen D.state store) }
+        ensures disk { IfOk result (λ life. disk_of life.store ≡ disk_of store) }
+        ensures core { IfOk result (λ life. life.core
+            ≡ opened (seen D.state store).table (seen D.state store).seq) }
+        ensures idle { IfOk result (λ life. life.commit ≡ commits.Idle) }
+        ensures refused { IfErr result (λ e. (e.0 ≡ disk_of store) × (e.1 ≡ OutOfMemory)) }
     {
         match Core::new(alloc, store.table(), store.seq()) {
             Ok(core) => Ok(Life {
@@ -33,18 +44,50 @@ impl<D: Sim> Life<D> {
         }
     }
 
+    /// One step, other than to emit or to crash.
+    pub(crate) fn step(&mut self, alloc: Global, step: &Step, released: &mut Vec<Released>) -> Answer
+        requires own { IsOwn step.now }
+        requires sound { IsSoundLife D.state self.old }
+        requires room { HasRoom self.old.commit (length released.old.items) (vec_capacity released.old) }
+        ensures sound { IsSoundLife D.state self.new }
+        ensures room { HasRoom self.new.commit (length released.new.items) (vec_capacity released.new) }
+        ensures course { MovesLife D.state self.old step.now result self.new }
+        ensures left { Lets D.state self.old step.now result released.old.items released.new.items }
+    {
+        match step {
+            Step::Provision {
+                moment,
+                provisioning,
+            } => self.provision(*moment, *provisioning),
+            Step::Take(most) => self.take(alloc, *most, released),
+            Step::Call => self.call(),
+            Step::Fail => self.fail(),
+            Step::Release => self.release(released),
+            Step::List => self.list(),
+            Step::Emit | Step::Crash(_) => unreachable!(),
+        }
+    }
+
     /// An application brings a device.
     pub(crate) fn provision(&mut self, moment: Moment, provisioning: Provisioning) -> Answer
         requires { IsSoundLife D.state self.old }
-        ensures { IsSoundLife D.state self.new }
+        ensures sound { IsSoundLife D.state self.new }
+        ensures commit { self.new.commit ≡ self.old.commit }
+        ensures course { MovesLife D.state self.old (steps.Provision moment provisioning) result self.new }
     {
         Answer::Turn(self.core.provision(moment.get(), provisioning))
     }
 
-    /// The flusher takes a batch and begins its commit.
+    /// The flusher takes a batch and begins its commit. `Full` comes only where the journal has no room
+    /// for the largest batch.
     pub(crate) fn take(&mut self, alloc: Global, most: Most, released: &mut Vec<Released>) -> Answer
-        requires { IsSoundLife D.state self.old }
-        ensures { IsSoundLife D.state self.new }
+        requires sound { IsSoundLife D.state self.old }
+        requires room { HasRoom self.old.commit (length released.old.items) (vec_capacity released.old) }
+        ensures sound { IsSoundLife D.state self.new }
+        ensures room { HasRoom self.new.commit (length released.new.items) (vec_capacity released.new) }
+        ensures released { released.new.items ≡ released.old.items }
+        ensures full { result ≡ answers.Full → ¬ (IsRoomy (seen D.state self.old.store)) }
+        ensures course { MovesLife D.state self.old (steps.Take most) result self.new }
     {
         match &self.commit {
             Commit::Failed => return Answer::Refused(Refusal::Failed),
@@ -71,9 +114,16 @@ impl<D: Sim> Life<D> {
         most: Most,
         released: &mut Vec<Released>,
     ) -> Result<Answer, Refusal>
-        requires sound { IsSoundLife D.state self.old }
+        requires idle { self.old.commit ≡ commits.Idle }
+        requires some { self.old.core.log ≢ [] }
         requires roomy { IsRoomy (seen D.state self.old.store) }
-        ensures { IsSoundLife D.state self.new }
+        ensures sound { IsSoundLife D.state self.new }
+        ensures room { HasRoom self.new.commit (length released.new.items) (vec_capacity released.new) }
+        ensures released { released.new.items ≡ released.old.items }
+        ensures full { IfOk result (λ answer. answer ≢ answers.Full) }
+        ensures course { MatchResult result
+            (λ answer. MovesLife D.state self.old (steps.Take most) answer self.new)
+            (λ e. (e ≡ OutOfMemory) × (self.new ≡ self.old)) }
     {
         let room = Room::new(alloc)?;
         released.reserve(MOST_EFFECTS)?;
@@ -101,7 +151,9 @@ impl<D: Sim> Life<D> {
     /// One device call of what is under way.
     pub(crate) fn call(&mut self) -> Answer
         requires { IsSoundLife D.state self.old }
-        ensures { IsSoundLife D.state self.new }
+        ensures sound { IsSoundLife D.state self.new }
+        ensures room { (there fit : ℕ) → HasRoom self.old.commit there fit → HasRoom self.new.commit there fit }
+        ensures course { MovesLife D.state self.old steps.Call result self.new }
     {
         match mem::replace(&mut self.commit, Commit::Failed) {
             Commit::Begun(phase, room) => match phase.write(&mut self.store) {
@@ -140,25 +192,29 @@ impl<D: Sim> Life<D> {
     /// The next device call is to fail.
     pub(crate) fn fail(&mut self) -> Answer
         requires { IsSoundLife D.state self.old }
-        ensures { IsSoundLife D.state self.new }
+        ensures sound { IsSoundLife D.state self.new }
+        ensures commit { self.new.commit ≡ self.old.commit }
+        ensures course { MovesLife D.state self.old steps.Fail result self.new }
     {
         self.store.arm(1);
         Answer::Armed
     }
 
-    /// The effects of the batch that became durable are released.
+    /// The effects of the batch that became durable are released. Takes no memory.
     pub(crate) fn release(&mut self, released: &mut Vec<Released>) -> Answer
-        requires { IsSoundLife D.state self.old }
-        ensures { IsSoundLife D.state self.new }
+        requires sound { IsSoundLife D.state self.old }
+        requires room { HasRoom self.old.commit (length released.old.items) (vec_capacity released.old) }
+        ensures sound { IsSoundLife D.state self.new }
+        ensures room { HasRoom self.new.commit (length released.new.items) (vec_capacity released.new) }
+        ensures course { MovesLife D.state self.old steps.Release result self.new }
+        ensures left { Lets D.state self.old steps.Release result released.old.items released.new.items }
     {
         match mem::replace(&mut self.commit, Commit::Idle) {
             Commit::Durable(durable) => {
-                let mut effects = durable.release();
+                let effects = durable.release();
                 let count = effects.len();
-                match released.append(&mut effects) {
-                    Ok(()) => Answer::Released(count),
-                    Err(_) => Answer::Refused(Refusal::OutOfMemory),
-                }
+                add(effects, released);
+                Answer::Released(count)
             }
             other => {
                 self.set(other);
@@ -168,7 +224,9 @@ impl<D: Sim> Life<D> {
     }
 
     /// The table as it is now.
-    pub(crate) fn list(&self) -> Answer {
+    pub(crate) fn list(&self) -> Answer
+        ensures { MovesLife D.state self.now steps.List result self.now }
+    {
         match self.core.now().copy() {
             Ok(table) => Answer::Listed {
                 table,
@@ -179,7 +237,9 @@ impl<D: Sim> Life<D> {
     }
 
     /// Ends the life: what is under way is lost, and the disk comes back.
-    pub(crate) fn end(self) -> D {
+    pub(crate) fn end(self) -> D
+        ensures { result ≡ disk_of self.store }
+    {
         let Life {
             store,
             core: _,
@@ -187,5 +247,16 @@ impl<D: Sim> Life<D> {
         } = self;
         commit.lose();
         store.close()
+    }
+}
+
+// Adds effects behind others.
+fn add(effects: Vec<Released>, released: &mut Vec<Released>)
+    requires { length released.old.items + length effects.items ≤ vec_capacity released.old }
+    ensures items { released.new.items ≡ released.old.items ++ effects.items }
+{
+    for effect in effects {
+        let pushed: Result<_, _> = released.push(effect);
+        pushed.unwrap();
     }
 }

@@ -1,6 +1,7 @@
 // Runs of steps.
 ghost use Rattle.std.specs.Prelude.{◌≡◌, IfOk, IfErr, length};
 ghost use Rattle.lw_types.specs.declared.refusal.Refusal.TheVariants.{OutOfMemory};
+ghost use Rattle.world.specs.Follows.{Runs};
 ghost use Rattle.world.specs.Sound.{IsSound};
 
 use crate::{Answer, Step, World};
@@ -18,6 +19,7 @@ pub fn run<D: Sim + Drop>(
     requires { IsSound D.state world.old }
     ensures sound { IsSound D.state world.new }
     ensures answers { IfOk result (λ answers. length answers.items ≡ length steps.now) }
+    ensures course { IfOk result (λ answers. Runs D.state world.old steps.now answers.items world.new) }
     ensures refused { IfErr result (λ e. (e ≡ OutOfMemory) × (world.new ≡ world.old)) }
 {
     let mut answers = Vec::with_capacity(alloc, steps.len())?;

@@ -1,6 +1,14 @@
 // The steps of a world.
-ghost use Rattle.std.specs.Prelude.{◌≡◌, IfOk, IfErr, length};
-ghost use Rattle.world.specs.Sound.{IsSound, IsSoundPlace};
+ghost use Rattle.std.specs.Prelude.{◌≡◌, ◌≢◌, ℕ, false, IfOk, IfErr, length};
+ghost use Rattle.lw_types.specs.declared.refusal.Refusal.TheVariants.{DeviceFailed};
+ghost use Rattle.disk.specs.Outlook.Outlook.{AllSucceed};
+ghost use Rattle.sessions.specs.Table.{empty_table};
+ghost use Rattle.store.specs.Faults.{IsFormatRefusal};
+ghost use Rattle.store.specs.State.{seen, IsSettled};
+ghost use Rattle.world.specs.declared.step.Step.TheVariants as steps;
+ghost use Rattle.world.specs.Course.{beginning};
+ghost use Rattle.world.specs.Follows.{Follows, Moves, Reopens, Begins};
+ghost use Rattle.world.specs.Sound.{IsSound, IsSoundPlace, HasDisk};
 
 use crate::life::Life;
 use crate::place::Place;
@@ -10,11 +18,15 @@ use gateway_wire::Emission;
 use lw_types::{NetId, Refusal};
 use std::alloc::Global;
 use std::mem;
+use store::Store;
 
 impl<D: Sim + Drop> World<D> {
     /// A world with a new store on this disk. Refused as [`store::format`] is, and with `OutOfMemory`.
     pub fn format(alloc: Global, disk: D, net_id: NetId, slots: u64) -> Result<Self, Refusal>
-        ensures { IfOk result (IsSound D.state) }
+        ensures sound { IfOk result (IsSound D.state) }
+        ensures course { IfOk result (Follows D.state (empty_table net_id slots) beginning) }
+        ensures refused { IfErr result (IsFormatRefusal slots (length (D.state disk).content)) }
+        ensures unarmed { D.outlook disk ≡ AllSucceed → IfErr result (λ e. e ≢ DeviceFailed) }
     {
         let store = store::format(alloc, disk, net_id, slots)?;
         match Life::new(alloc, store) {
@@ -30,24 +42,14 @@ impl<D: Sim + Drop> World<D> {
     /// One step.
     pub(crate) fn step(&mut self, alloc: Global, step: &Step) -> Answer
         requires { IsSound D.state self.old }
-        ensures { IsSound D.state self.new }
+        ensures sound { IsSound D.state self.new }
+        ensures course { Moves D.state self.old step.now result self.new }
     {
         match step {
             Step::Crash(image) => self.crash(alloc, image),
             Step::Emit => self.emit(alloc),
             _ => match &mut self.place {
-                Place::Open(life) => match step {
-                    Step::Provision {
-                        moment,
-                        provisioning,
-                    } => life.provision(*moment, *provisioning),
-                    Step::Take(most) => life.take(alloc, *most, &mut self.released),
-                    Step::Call => life.call(),
-                    Step::Fail => life.fail(),
-                    Step::Release => life.release(&mut self.released),
-                    Step::List => life.list(),
-                    Step::Emit | Step::Crash(_) => Answer::Idle,
-                },
+                Place::Open(life) => life.step(alloc, step, &mut self.released),
                 Place::Closed(_) | Place::Crashing => Answer::Idle,
             },
         }
@@ -56,7 +58,8 @@ impl<D: Sim + Drop> World<D> {
     // The oldest released effect leaves.
     fn emit(&mut self, alloc: Global) -> Answer
         requires { IsSound D.state self.old }
-        ensures { IsSound D.state self.new }
+        ensures sound { IsSound D.state self.new }
+        ensures course { Moves D.state self.old steps.Emit result self.new }
     {
         match self.released.get(self.emitted) {
             None => Answer::Idle,
@@ -74,46 +77,21 @@ impl<D: Sim + Drop> World<D> {
     // not emitted are lost.
     fn crash(&mut self, alloc: Global, image: &Image) -> Answer
         requires { IsSound D.state self.old }
-        ensures { IsSound D.state self.new }
+        ensures sound { IsSound D.state self.new }
+        ensures course { Moves D.state self.old (steps.Crash image.now) result self.new }
     {
         self.emitted = self.released.len();
-        let mut disk = match mem::replace(&mut self.place, Place::Crashing) {
-            Place::Open(life) => life.end(),
-            Place::Closed(disk) => disk,
-            Place::Crashing => return Answer::Idle,
-        };
+        let mut disk = mem::replace(&mut self.place, Place::Crashing).end();
         disk.crash(image);
-        match store::open_back(alloc, disk) {
-            Ok(store) => self.begin(alloc, store),
-            Err((disk, refusal)) => self.refuse(disk, refusal),
-        }
-    }
-
-    // A life begins with this store.
-    fn begin(&mut self, alloc: Global, store: store::Store<D>) -> Answer
-        ensures { IsSound D.state self.new }
-    {
-        let devices = store.table().devices().len();
-        let seq = store.seq();
-        match Life::new(alloc, store) {
-            Ok(life) => {
-                self.put(Place::Open(life));
-                Answer::Opened { devices, seq }
-            }
-            Err((disk, refusal)) => self.refuse(disk, refusal),
-        }
-    }
-
-    // The opening was refused.
-    fn refuse(&mut self, disk: D, refusal: Refusal) -> Answer
-        ensures { IsSound D.state self.new }
-    {
-        self.put(Place::Closed(disk));
-        Answer::Refused(refusal)
+        let (place, answer) = reopen(alloc, disk);
+        self.put(place);
+        answer
     }
 
     fn put(&mut self, place: Place<D>)
-        ensures { self.new.place ≡ place }
+        ensures place { self.new.place ≡ place }
+        ensures released { self.new.released ≡ self.old.released }
+        ensures emitted { self.new.emitted ≡ self.old.emitted }
     {
         match mem::replace(&mut self.place, place) {
             Place::Open(life) => {
@@ -123,17 +101,41 @@ impl<D: Sim + Drop> World<D> {
         }
     }
 
-    /// Ends the world: what is under way is lost, and the disk comes back, but from within a crash.
-    pub fn close(self) -> Option<D> {
+    /// Ends the world: what is under way is lost, and the disk comes back.
+    pub fn close(self) -> D
+        requires { IsSound D.state self }
+        ensures { HasDisk self.place result }
+    {
         let World {
             place,
             released: _,
             emitted: _,
         } = self;
-        match place {
-            Place::Open(life) => Some(life.end()),
-            Place::Closed(disk) => Some(disk),
-            Place::Crashing => None,
-        }
+        place.end()
+    }
+}
+
+// The store on a disk that crashed is opened, and a life begins with it.
+fn reopen<D: Sim>(alloc: Global, disk: D) -> (Place<D>, Answer)
+    ensures sound { (there fit : ℕ) → IsSoundPlace D.state result.0 there fit }
+    ensures course { Reopens D.state (D.state disk) result.1 result.0 }
+{
+    match store::open_back(alloc, disk) {
+        Ok(store) => begin(alloc, store),
+        Err((disk, refusal)) => (Place::Closed(disk), Answer::Refused(refusal)),
+    }
+}
+
+// A life begins with a store that was opened.
+fn begin<D: Sim>(alloc: Global, store: Store<D>) -> (Place<D>, Answer)
+    ensures sound { (there fit : ℕ) → IsSoundPlace D.state result.0 there fit }
+    ensures course { (seen D.state store).failed ≡ false → IsSettled (seen D.state store)
+        → Begins D.state (seen D.state store) result.1 result.0 }
+{
+    let devices = store.table().devices().len();
+    let seq = store.seq();
+    match Life::new(alloc, store) {
+        Ok(life) => (Place::Open(life), Answer::Opened { devices, seq }),
+        Err((disk, refusal)) => (Place::Closed(disk), Answer::Refused(refusal)),
     }
 }

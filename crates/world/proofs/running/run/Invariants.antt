@@ -1,8 +1,12 @@
--- the world is sound, each step so far has its answer, and there is room for the others
-use Rattle.std.proofs.Common.{◌≡◌, ◌≤◌, length, vec_capacity}
+-- the world is sound, each step so far has its right answer and led here, and there is room for the other answers
+use Rattle.std.proofs.Common.{◌≡◌, ◌≤◌, length, take, vec_capacity}
+use Rattle.world.specs.Follows.{Runs}
 use Rattle.world.specs.Sound.{IsSound}
 use Rattle.world.proofs.running.run.Given as goal
 
 abbrev pub invariant-loop-step : goal.invariant-loop-step
 invariant-loop-step g l =
-    IsSound g.D.Disk.state l.world × ((length l.answers.items ≡ l.step-index) × (length l.steps ≤ vec_capacity l.answers))
+    let state = g.D.Disk.state in
+    IsSound state l.world
+    × (Runs state l.fn.world (take l.step-index l.steps) l.answers.items l.world
+    × ((length l.answers.items ≡ l.step-index) × (length l.steps ≤ vec_capacity l.answers)))

@@ -1,0 +1,139 @@
+-- What a world is at a place of its course.
+use Rattle.std.specs.Prelude.{◌≡◌, ◌+◌, ◌⊎◌, ℕ, true, false, List, [], ◌∷◌, ◌++◌, length}
+use Rattle.devices.specs.declared.command.Command.{Command}
+use Rattle.disk.specs.declared.sim.Image.{Image}
+use Rattle.disk.specs.State.{State, NothingOpen, EveryImage}
+use Rattle.flusher.specs.declared.released.Released.{Released}
+use Rattle.sessions.specs.Table.{TableState, folded, effects_of}
+use Rattle.sessions.specs.Decision.{commands_of, effects_in}
+use Rattle.store.specs.Image.{HoldsTable}
+use Rattle.store.specs.State.{StoreState, seen, disk_of, IsSettled}
+use Rattle.store.specs.Commit.{Change}
+use Rattle.store.specs.Phases.{IsBegunOn, IsWrittenOn, IsSyncedOn, IsOpenedOn, begun_change, written_change, synced_change, opened_change}
+use Rattle.flusher.specs.Released.{decisions_of, effects_of_all}
+use Rattle.world.specs.declared.commit.Commit.{Commit}
+use Rattle.world.specs.declared.commit.Commit.TheVariants as commits
+use Rattle.world.specs.declared.life.Life.{Life}
+use Rattle.world.specs.declared.place.Place.{Place}
+use Rattle.world.specs.declared.place.Place.TheVariants.{Open, Closed, Crashing}
+use Rattle.world.specs.declared.lives.World.{World}
+use Rattle.world.specs.declared.step.Step.{Step}
+use Rattle.world.specs.declared.answer.Answer.{Answer}
+use Rattle.world.specs.Course.{Course, Stage, effects_under_way, after, course_of}
+use Rattle.world.specs.Course.Stage.{Rest, Begun, Written, Synced, Opened, Durable, Stopped, Unsure}
+use Rattle.world.specs.Answers.{Leaves, AnswersOpen, AnswersCrash, IsRight, AreRight}
+use Rattle.world.specs.declared.step.Step.TheVariants as steps
+
+-- one list is what is left of the other when some of it is dropped
+abbrev pub IsSubsequence : {A : Type 0} → List A → List A → Type 0
+IsSubsequence xs [] = xs ≡ []
+IsSubsequence {A} xs (y ∷ ys) = IsSubsequence xs ys ⊎ ((rest : List A) × (xs ≡ y ∷ rest) × IsSubsequence rest ys)
+
+-- whatever a crash leaves of this disk holds the table and the number of commands that a crash may leave
+abbrev pub Survives : TableState → Course → State → Type 0
+Survives start c state =
+    EveryImage state (λ image. (kept : List Command) × Leaves c kept × HoldsTable (folded start kept) (length kept) image)
+
+-- the commands whose table the store has
+abbrev pub stored : Stage → List Command → List Command → List Command
+stored Durable settled flying = settled ++ flying
+stored stage settled flying = settled
+
+-- those that left the log of the core
+abbrev pub taken : Course → List Command
+taken c = c.settled ++ (c.flying ++ c.given_up)
+
+-- the batch of a change that is on its way is the one under way
+pub record IsFlying (c : Course) (at : Stage) (change : Change) : Type 0 where
+  pub stage : c.stage ≡ at
+  pub commands : commands_of change.decisions ≡ c.flying
+
+-- the commit is at the course's stage
+abbrev pub IsAt : TableState → Course → StoreState → Commit → Type 0
+IsAt start c s commits.Idle = (c.stage ≡ Rest) × ((c.flying ≡ []) × IsSettled s)
+IsAt start c s commits.Failed = (c.stage ≡ Stopped) ⊎ (c.stage ≡ Unsure)
+IsAt start c s (commits.Begun phase room) = IsFlying c Begun (begun_change phase) × IsBegunOn s phase
+IsAt start c s (commits.Written phase room) = IsFlying c Written (written_change phase) × IsWrittenOn s phase
+IsAt start c s (commits.BodySynced phase room) = IsFlying c Synced (synced_change phase) × IsSyncedOn s phase
+IsAt start c s (commits.GateWritten phase room) = IsFlying c Opened (opened_change phase) × IsOpenedOn s phase
+IsAt start c s (commits.Durable durable) =
+    (c.stage ≡ Durable) × ((effects_in (decisions_of durable) ≡ effects_under_way start c) × IsSettled s)
+
+-- no device call of this store failed
+abbrev pub IsHealthy : StoreState → Commit → Type 0
+IsHealthy s commits.Failed = Unit {0}
+IsHealthy s commit = s.failed ≡ false
+
+pub record FollowsLife {D : Type 0} {g : _} (state : D → State) (start : TableState) (c : Course) (life : Life D g) : Type 0 where
+  -- the store has the table of what is on the disk, and the core that of what was taken and of what waits
+  pub table : (seen state life.store).table ≡ folded start (stored c.stage c.settled c.flying)
+  pub seq : (seen state life.store).seq ≡ length (stored c.stage c.settled c.flying)
+  pub base : life.core.base ≡ folded start (taken c)
+  pub number : life.core.opening + life.core.taken ≡ length (taken c)
+  pub untaken : commands_of life.core.log ≡ c.untaken
+  pub made : life.core.made ≡ c.made
+  pub commit : IsAt start c (seen state life.store) life.commit
+  pub healthy : IsHealthy (seen state life.store) life.commit
+  pub survives : Survives start c (state (disk_of life.store))
+
+abbrev pub FollowsPlace : {D : Type 0} {g : _} → (D → State) → TableState → Course → Place D g → Type 0
+FollowsPlace state start c (Open life) = (c.is_open ≡ true) × FollowsLife state start c life
+FollowsPlace state start c (Closed disk) = (c.is_open ≡ false) × (NothingOpen (state disk) × Survives start c (state disk))
+FollowsPlace state start c Crashing = ⊥
+
+-- The world is where its course is. What has left over all lives is part of the effects of commands that every
+-- crash leaves.
+pub record Follows {D : Type 0} {g : _} (state : D → State) (start : TableState) (c : Course) (world : World D g) : Type 0 where
+  pub place : FollowsPlace state start c world.place
+  pub left : effects_of_all world.released.items ≡ c.left
+  pub emitted : world.emitted ≡ c.emitted
+  pub once : IsSubsequence c.left (effects_of start c.settled)
+
+-- a step of a life whose store is open: whatever course it follows, the answer is right, and it goes on following
+abbrev pub MovesLife : {D : Type 0} {g : _} → (D → State) → Life D g → Step → Answer → Life D g → Type 0
+MovesLife state old step answer new =
+    (start : TableState) (c : Course) → FollowsLife state start c old
+    → AnswersOpen start c step answer × FollowsLife state start (after start c step answer) new
+
+-- the same of a world
+abbrev pub Moves : {D : Type 0} {g : _} → (D → State) → World D g → Step → Answer → World D g → Type 0
+Moves state old step answer new =
+    (start : TableState) (c : Course) → Follows state start c old
+    → IsRight start c step answer × Follows state start (after start c step answer) new
+
+-- and of a run of steps
+abbrev pub Runs : {D : Type 0} {g : _} → (D → State) → World D g → List Step → List Answer → World D g → Type 0
+Runs state old steps answers new =
+    (start : TableState) (c : Course) → Follows state start c old
+    → AreRight start c steps answers × Follows state start (course_of start c steps answers) new
+
+-- a step of a life alone
+abbrev pub IsOwn : Step → Type 0
+IsOwn steps.Emit = ⊥
+IsOwn (steps.Crash image) = ⊥
+IsOwn step = Unit {0}
+
+-- what such a step released is what the course says
+abbrev pub Lets : {D : Type 0} {g : _} → (D → State) → Life D g → Step → Answer → List Released → List Released → Type 0
+Lets state life step answer old new =
+    (start : TableState) (c : Course) → FollowsLife state start c life
+    → effects_of_all old ≡ c.left → effects_of_all new ≡ (after start c step answer).left
+
+-- a store with the table and the number of commands that a crash may leave
+abbrev pub IsLeft : TableState → Course → TableState → ℕ → Type 0
+IsLeft start c table seq = (kept : List Command) × Leaves c kept × (table ≡ folded start kept) × (seq ≡ length kept)
+
+-- an opening answered so, and led here
+abbrev pub Opens : {D : Type 0} {g : _} → (D → State) → TableState → Course → Answer → Place D g → Type 0
+Opens state start c answer place =
+    AnswersCrash start c answer × ((image : Image) → FollowsPlace state start (after start c (steps.Crash image) answer) place)
+
+-- the same of a disk after a crash
+abbrev pub Reopens : {D : Type 0} {g : _} → (D → State) → State → Answer → Place D g → Type 0
+Reopens state disk answer place =
+    (start : TableState) (c : Course) → NothingOpen disk → Survives start c disk → Opens state start c answer place
+
+-- and of a store that was opened
+abbrev pub Begins : {D : Type 0} {g : _} → (D → State) → StoreState → Answer → Place D g → Type 0
+Begins state store answer place =
+    (start : TableState) (c : Course) → IsLeft start c store.table store.seq → Opens state start c answer place
