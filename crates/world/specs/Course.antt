@@ -74,13 +74,13 @@ abbrev pub turned : Course → Command → Option Refusal → Course
 turned c command None = record c { untaken = c.untaken ++ command ∷ []; made = c.made + 1 }
 turned c command (Some e) = c
 
--- the oldest commands that wait become a batch
+-- the oldest commands that wait become a batch, at most so many
 abbrev pub begun : Course → ℕ → Course
-begun c n = record c { flying = take n c.untaken; stage = Begun; untaken = drop n c.untaken }
+begun c most = record c { flying = take most c.untaken; stage = Begun; untaken = drop most c.untaken }
 
 -- or they are lost
 abbrev pub gave_up : Course → ℕ → Course
-gave_up c n = record c { given_up = c.given_up ++ take n c.untaken; untaken = drop n c.untaken }
+gave_up c most = record c { given_up = c.given_up ++ take most c.untaken; untaken = drop most c.untaken }
 
 -- a device call more succeeded
 abbrev pub succeeded : Stage → Stage
@@ -131,8 +131,8 @@ closed c = record c { emitted = length c.left; is_open = false }
 -- the course after a step that was answered so; `start` is the table as it was formatted
 abbrev pub after : TableState → Course → Step → Answer → Course
 after start c (steps.Provision moment p) (answers.Turn turn) = turned c (commands.Provision p) turn.refused
-after start c (steps.Take most) (answers.Taken n) = begun c n
-after start c (steps.Take most) (answers.GivenUp n) = gave_up c n
+after start c (steps.Take most) (answers.Taken n) = begun c most
+after start c (steps.Take most) (answers.GivenUp n) = gave_up c most
 after start c (steps.Take most) (answers.Refused OutOfStep) = gave_up c most
 after start c steps.Call answers.Called = record c { stage = succeeded c.stage }
 after start c steps.Call (answers.Refused e) = record c { stage = failed c.stage }

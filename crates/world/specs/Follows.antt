@@ -1,13 +1,15 @@
 -- What a world is at a place of its course.
 use Rattle.std.specs.Prelude.{◌≡◌, ◌+◌, ◌⊎◌, ℕ, true, false, List, [], ◌∷◌, ◌++◌, length}
 use Rattle.devices.specs.declared.command.Command.{Command}
+use Rattle.devices.specs.declared.effect.Effect.{Effect}
+use Rattle.session_core.specs.State.{CoreState}
 use Rattle.disk.specs.declared.sim.Image.{Image}
 use Rattle.disk.specs.State.{State, NothingOpen, EveryImage}
 use Rattle.flusher.specs.declared.released.Released.{Released}
 use Rattle.sessions.specs.Table.{TableState, folded, effects_of}
 use Rattle.sessions.specs.Decision.{commands_of, effects_in}
 use Rattle.store.specs.Image.{HoldsTable}
-use Rattle.store.specs.State.{StoreState, seen, disk_of, IsSettled}
+use Rattle.store.specs.State.{StoreState, seen, IsSettled}
 use Rattle.store.specs.Commit.{Change}
 use Rattle.store.specs.Phases.{IsBegunOn, IsWrittenOn, IsSyncedOn, IsOpenedOn, begun_change, written_change, synced_change, opened_change}
 use Rattle.flusher.specs.Released.{decisions_of, effects_of_all}
@@ -44,37 +46,42 @@ abbrev pub taken : Course → List Command
 taken c = c.settled ++ (c.flying ++ c.given_up)
 
 -- the batch of a change that is on its way is the one under way
-pub record IsFlying (c : Course) (at : Stage) (change : Change) : Type 0 where
-  pub stage : c.stage ≡ at
-  pub commands : commands_of change.decisions ≡ c.flying
+pub record IsFlying (current : Stage) (flying : List Command) (at : Stage) (change : Change) : Type 0 where
+  pub stage : current ≡ at
+  pub commands : commands_of change.decisions ≡ flying
 
--- the commit is at the course's stage
-abbrev pub IsAt : TableState → Course → StoreState → Commit → Type 0
-IsAt start c s commits.Idle = (c.stage ≡ Rest) × ((c.flying ≡ []) × IsSettled s)
-IsAt start c s commits.Failed = (c.stage ≡ Stopped) ⊎ (c.stage ≡ Unsure)
-IsAt start c s (commits.Begun phase room) = IsFlying c Begun (begun_change phase) × IsBegunOn s phase
-IsAt start c s (commits.Written phase room) = IsFlying c Written (written_change phase) × IsWrittenOn s phase
-IsAt start c s (commits.BodySynced phase room) = IsFlying c Synced (synced_change phase) × IsSyncedOn s phase
-IsAt start c s (commits.GateWritten phase room) = IsFlying c Opened (opened_change phase) × IsOpenedOn s phase
-IsAt start c s (commits.Durable durable) =
-    (c.stage ≡ Durable) × ((effects_in (decisions_of durable) ≡ effects_under_way start c) × IsSettled s)
+-- the commit is at the stage of the course, with the commands under way, on a store whose table had these effects
+-- still to come
+abbrev pub IsAt : Stage → List Command → List Effect → StoreState → Commit → Type 0
+IsAt stage flying effects s commits.Idle = (stage ≡ Rest) × ((flying ≡ []) × IsSettled s)
+IsAt stage flying effects s commits.Failed = (stage ≡ Stopped) ⊎ (stage ≡ Unsure)
+IsAt stage flying effects s (commits.Begun phase room) = IsFlying stage flying Begun (begun_change phase) × IsBegunOn s phase
+IsAt stage flying effects s (commits.Written phase room) = IsFlying stage flying Written (written_change phase) × IsWrittenOn s phase
+IsAt stage flying effects s (commits.BodySynced phase room) = IsFlying stage flying Synced (synced_change phase) × IsSyncedOn s phase
+IsAt stage flying effects s (commits.GateWritten phase room) = IsFlying stage flying Opened (opened_change phase) × IsOpenedOn s phase
+IsAt stage flying effects s (commits.Durable durable) =
+    (stage ≡ Durable) × ((effects_in (decisions_of durable) ≡ effects) × IsSettled s)
 
 -- no device call of this store failed
 abbrev pub IsHealthy : StoreState → Commit → Type 0
 IsHealthy s commits.Failed = Unit {0}
 IsHealthy s commit = s.failed ≡ false
 
-pub record FollowsLife {D : Type 0} {g : _} (state : D → State) (start : TableState) (c : Course) (life : Life D g) : Type 0 where
-  -- the store has the table of what is on the disk, and the core that of what was taken and of what waits
-  pub table : (seen state life.store).table ≡ folded start (stored c.stage c.settled c.flying)
-  pub seq : (seen state life.store).seq ≡ length (stored c.stage c.settled c.flying)
-  pub base : life.core.base ≡ folded start (taken c)
-  pub number : life.core.opening + life.core.taken ≡ length (taken c)
-  pub untaken : commands_of life.core.log ≡ c.untaken
-  pub made : life.core.made ≡ c.made
-  pub commit : IsAt start c (seen state life.store) life.commit
-  pub healthy : IsHealthy (seen state life.store) life.commit
-  pub survives : Survives start c (state (disk_of life.store))
+-- The store has the table of what is on the disk, the core that of what was taken and of what waits, and the commit
+-- is where the course says.
+pub record IsLife (start : TableState) (c : Course) (s : StoreState) (core : CoreState) (commit : Commit) : Type 0 where
+  pub table : s.table ≡ folded start (stored c.stage c.settled c.flying)
+  pub seq : s.seq ≡ length (stored c.stage c.settled c.flying)
+  pub base : core.base ≡ folded start (taken c)
+  pub number : core.opening + core.taken ≡ length (taken c)
+  pub untaken : commands_of core.log ≡ c.untaken
+  pub made : core.made ≡ c.made
+  pub under_way : IsAt c.stage c.flying (effects_under_way start c) s commit
+  pub healthy : IsHealthy s commit
+  pub survives : Survives start c s.log.disk
+
+abbrev pub FollowsLife : {D : Type 0} {g : _} → (D → State) → TableState → Course → Life D g → Type 0
+FollowsLife state start c life = IsLife start c (seen state life.store) life.core life.commit
 
 abbrev pub FollowsPlace : {D : Type 0} {g : _} → (D → State) → TableState → Course → Place D g → Type 0
 FollowsPlace state start c (Open life) = (c.is_open ≡ true) × FollowsLife state start c life

@@ -181,6 +181,7 @@ impl<D: Sim> Life<D> {
 
     // A device call succeeded, and this is the commit after it.
     fn called(&mut self, commit: Commit) -> Answer
+        ensures answer { result ≡ answers.Called }
         ensures commit { self.new.commit ≡ commit }
         ensures store { self.new.store ≡ self.old.store }
         ensures core { self.new.core ≡ self.old.core }
