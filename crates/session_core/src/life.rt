@@ -108,6 +108,7 @@ impl Core {
     /// Takes the oldest untaken decisions, at most `max` of them. After an `Err`, which is want of
     /// memory, the core is as before. Its cost doesn't grow with the number of devices.
     pub fn take(&mut self, max: Most) -> Result<Batch, Refusal>
+        ensures asked { 1 ≤ max }
         ensures taken { MatchResult result
             (λ batch. (batch ≡ take max self.old.log) × (self.new ≡ taken_from self.old max))
             (λ e. (e ≡ OutOfMemory) × (self.new ≡ self.old)) }

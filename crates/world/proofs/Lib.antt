@@ -1,1 +1,3 @@
 pub mod Deciding
+pub mod Taking
+pub mod Calling

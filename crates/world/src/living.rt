@@ -134,8 +134,8 @@ impl<D: Sim> Life<D> {
                 self.set(Commit::Begun(begun, room));
                 Ok(Answer::Taken(count))
             }
-            Err(Refusal::OutOfMemory) => Ok(Answer::GivenUp(count)),
-            Err(refusal) => Ok(Answer::Refused(refusal)),
+            Err(Refusal::OutOfStep) => Ok(Answer::Refused(Refusal::OutOfStep)),
+            Err(_) => Ok(Answer::GivenUp(count)),
         }
     }
 
