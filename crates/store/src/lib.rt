@@ -9,6 +9,7 @@ mod begin;
 mod commit;
 mod formatting;
 mod found;
+pub mod laws;
 mod opening;
 mod phases;
 mod recover;

@@ -1,3 +1,6 @@
 pub mod Deciding
 pub mod Taking
 pub mod Calling
+pub mod Subsequences
+pub mod Opening
+pub mod Going

@@ -29,6 +29,7 @@ impl<D: Sim + Drop> World<D> {
         ensures unarmed { D.outlook disk ≡ AllSucceed → IfErr result (λ e. e ≢ DeviceFailed) }
     {
         let store = store::format(alloc, disk, net_id, slots)?;
+        store::laws::a_settled_store_is_on_its_disk();
         match Life::new(alloc, store) {
             Ok(life) => Ok(World {
                 place: Place::Open(life),
@@ -83,6 +84,7 @@ impl<D: Sim + Drop> World<D> {
         self.emitted = self.released.len();
         let mut disk = mem::replace(&mut self.place, Place::Crashing).end();
         disk.crash(image);
+        disk::laws::settled_disk_keeps_its_content();
         let (place, answer) = reopen(alloc, disk);
         self.put(place);
         answer
@@ -120,6 +122,7 @@ fn reopen<D: Sim>(alloc: Global, disk: D) -> (Place<D>, Answer)
     ensures sound { (there fit : ℕ) → IsSoundPlace D.state result.0 there fit }
     ensures course { Reopens D.state (D.state disk) result.1 result.0 }
 {
+    disk::laws::settled_disk_keeps_its_content();
     match store::open_back(alloc, disk) {
         Ok(store) => begin(alloc, store),
         Err((disk, refusal)) => (Place::Closed(disk), Answer::Refused(refusal)),
@@ -132,6 +135,7 @@ fn begin<D: Sim>(alloc: Global, store: Store<D>) -> (Place<D>, Answer)
     ensures course { (seen D.state store).failed ≡ false → IsSettled (seen D.state store)
         → Begins D.state (seen D.state store) result.1 result.0 }
 {
+    store::laws::a_settled_store_is_on_its_disk();
     let devices = store.table().devices().len();
     let seq = store.seq();
     match Life::new(alloc, store) {

@@ -1,0 +1,81 @@
+-- What the steps of a life leave of the rest of a course.
+use Rattle.std.proofs.Common.{◌≡◌, ℕ, Bool, true, false, MatchBool, List, [], ◌∷◌, ◌++◌, Option, Some, None, sym, ap, subst, refl}
+use Rattle.lw_types.specs.declared.refusal.Refusal.{Refusal}
+use Rattle.lw_types.specs.declared.refusal.Refusal.TheVariants.{OutOfStep}
+use Rattle.disk.specs.declared.sim.Image.{Image}
+use Rattle.devices.specs.declared.command.Provisioning.{Provisioning}
+use Rattle.devices.specs.declared.command.Command.TheVariants as commands
+use Rattle.devices.specs.declared.command.Command.{Command}
+use Rattle.sessions.specs.Table.{TableState, folded, effects_of}
+use Rattle.sessions.proofs.Runs.{effects_of-append}
+use Rattle.world.specs.declared.answer.Answer.{Answer}
+use Rattle.world.specs.declared.answer.Answer.TheVariants as answers
+use Rattle.world.specs.declared.step.Step.{Step}
+use Rattle.world.specs.declared.step.Step.TheVariants as steps
+use Rattle.world.specs.Course.{Course, after, turned, effects_under_way}
+use Rattle.world.specs.Answers.{AnswersOpen, AnswersClosed, IsRight}
+use Rattle.world.specs.Follows.{IsSubsequence, IsOwn}
+use Rattle.world.proofs.Subsequences.{extended}
+
+-- the effects that were emitted, and whether the store is open, stay
+pub record Keeps (start : TableState) (c next : Course) : Type 0 where
+  pub emitted : next.emitted ≡ c.emitted
+  pub is_open : next.is_open ≡ c.is_open
+  pub once : IsSubsequence c.left (effects_of start c.settled) → IsSubsequence next.left (effects_of start next.settled)
+
+turn_keeps : (start : TableState) (c : Course) (command : Command) (refused : Option Refusal) → Keeps start c (turned c command refused)
+turn_keeps start c command None = record { emitted = refl; is_open = refl; once = λ h. h }
+turn_keeps start c command (Some e) = record { emitted = refl; is_open = refl; once = λ h. h }
+
+event_keeps : (start : TableState) (c : Course) (moment : ℕ) (p : Provisioning) (answer : Answer) → Keeps start c (after start c (steps.Provision moment p) answer)
+event_keeps start c moment p (answers.Turn turn) = turn_keeps start c (commands.Provision p) turn.refused
+event_keeps start c moment p answer = record { emitted = refl; is_open = refl; once = λ h. h }
+
+refusal_keeps : (start : TableState) (c : Course) (most : ℕ) (e : Refusal) → Keeps start c (after start c (steps.Take most) (answers.Refused e))
+refusal_keeps start c most OutOfStep = record { emitted = refl; is_open = refl; once = λ h. h }
+refusal_keeps start c most e = record { emitted = refl; is_open = refl; once = λ h. h }
+
+take_keeps : (start : TableState) (c : Course) (most : ℕ) (answer : Answer) → Keeps start c (after start c (steps.Take most) answer)
+take_keeps start c most (answers.Taken n) = record { emitted = refl; is_open = refl; once = λ h. h }
+take_keeps start c most (answers.GivenUp n) = record { emitted = refl; is_open = refl; once = λ h. h }
+take_keeps start c most (answers.Refused e) = refusal_keeps start c most e
+take_keeps start c most answer = record { emitted = refl; is_open = refl; once = λ h. h }
+
+call_keeps : (start : TableState) (c : Course) (answer : Answer) → Keeps start c (after start c steps.Call answer)
+call_keeps start c answers.Called = record { emitted = refl; is_open = refl; once = λ h. h }
+call_keeps start c (answers.Refused e) = record { emitted = refl; is_open = refl; once = λ h. h }
+call_keeps start c answer = record { emitted = refl; is_open = refl; once = λ h. h }
+
+release_keeps : (start : TableState) (c : Course) (answer : Answer) → Keeps start c (after start c steps.Release answer)
+release_keeps start c (answers.Released n) = record {
+  emitted = refl;
+  is_open = refl;
+  once = λ h.
+      subst (IsSubsequence (c.left ++ effects_under_way start c)) (sym (effects_of-append start c.settled c.flying))
+      (extended c.left (effects_of start c.settled) (effects_under_way start c) h);
+}
+release_keeps start c answer = record { emitted = refl; is_open = refl; once = λ h. h }
+
+pub step_keeps : (start : TableState) (c : Course) (step : Step) (answer : Answer) → IsOwn step → Keeps start c (after start c step answer)
+step_keeps start c (steps.Provision moment p) answer own = event_keeps start c moment p answer
+step_keeps start c (steps.Take most) answer own = take_keeps start c most answer
+step_keeps start c steps.Call answer own = call_keeps start c answer
+step_keeps start c steps.Release answer own = release_keeps start c answer
+step_keeps start c steps.Fail answer own = record { emitted = refl; is_open = refl; once = λ h. h }
+step_keeps start c steps.List answer own = record { emitted = refl; is_open = refl; once = λ h. h }
+step_keeps start c steps.Emit answer own = absurd own
+step_keeps start c (steps.Crash image) answer own = absurd own
+
+-- the answer to a step of a life that is open
+pub right_open : (start : TableState) (c : Course) (step : Step) (answer : Answer) → c.is_open ≡ true → AnswersOpen start c step answer → IsRight start c step answer
+right_open start c step answer is right = subst (λ b. MatchBool b (AnswersOpen start c step answer) (AnswersClosed start c step answer)) (sym is) right
+
+-- and to one of a closed world
+pub right_closed : (start : TableState) (c : Course) (step : Step) (answer : Answer) → c.is_open ≡ false → AnswersClosed start c step answer → IsRight start c step answer
+right_closed start c step answer is right = subst (λ b. MatchBool b (AnswersOpen start c step answer) (AnswersClosed start c step answer)) (sym is) right
+
+-- a step that is neither
+pub is_own : (step : Step) → (step ≡ steps.Emit → ⊥) → ((image : Image) → step ≡ steps.Crash image → ⊥) → IsOwn step
+is_own steps.Emit emit crash = emit refl
+is_own (steps.Crash image) emit crash = crash image refl
+is_own step emit crash = tt

@@ -1,0 +1,38 @@
+use Rattle.std.proofs.Common.{◌≡◌, ◌∙◌, length, refl, ap, subst, sym, arith}
+use Rattle.std.proofs.lemmas.List.{length-map}
+use Rattle.flusher.specs.Released.{effect_of, effects_of_all}
+use Rattle.world.specs.declared.step.Step.TheVariants as steps
+use Rattle.world.specs.Course.{after}
+use Rattle.world.specs.Answers.{AnswersCrash}
+use Rattle.world.specs.Follows.{FollowsPlace}
+use Rattle.world.specs.Sound.{HasDisk}
+use Rattle.world.proofs.Opening.{disk_survives, crashed_survives, both_ways, crash_left, crash_emitted, crash_once}
+use Rattle.world.proofs.lives.World.crash.Goals as goal
+
+pub returns-clause-course : goal.returns-clause-course
+returns-clause-course g c start course f =
+    let state = g.D.Disk.state in
+    let world = c.args.self.now in
+    let image = c.args.image.now in
+    let answer = c.reopen-place.result.1 in
+    let came = subst (λ p. HasDisk p c.end-disk.result) c.replace.ensures.value c.end-disk.ensures in
+    let survives = crashed_survives start course (state c.end-disk.result) (state c.crash.new.self)
+        (disk_survives state start course world.place c.end-disk.result f.place came) c.crash.ensures.permitted
+        (c.settled_disk_keeps_its_content.ensures (state c.crash.new.self) c.crash.ensures.settled.nothing_open) in
+    let opened = c.reopen-place.ensures.course start course c.crash.ensures.settled.nothing_open survives in
+    let next = after start course (steps.Crash image) answer in
+    (
+      both_ways course.is_open (AnswersCrash start course answer) opened.0,
+      record {
+        place = subst (FollowsPlace state start next) (sym c.put.ensures.place) (opened.1 image);
+        left = ap (λ r. effects_of_all r.items) c.put.ensures.released ∙ (f.left ∙ sym (crash_left start course image answer opened.0));
+        emitted =
+            let put = c.put.ensures.emitted in
+            let there = c.len-self.ensures in
+            let effects = length-map world.released.items effect_of in
+            let left = ap length f.left in
+            let wanted = crash_emitted start course image answer opened.0 in
+            omega (arith, put, there, effects, left, wanted, world.released.ok.0);
+        once = crash_once start course image answer opened.0 f.once;
+      },
+    )
