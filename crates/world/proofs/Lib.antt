@@ -4,3 +4,4 @@ pub mod Calling
 pub mod Subsequences
 pub mod Opening
 pub mod Going
+pub mod Runs
