@@ -1,5 +1,5 @@
 // Makes a store on a new disk.
-ghost use Rattle.std.specs.Prelude.{◌≡◌, ◌≢◌, ◌<◌, false, [], length, take, drop, IfOk, IfErr, OnOk, IsTrue, is_ok};
+ghost use Rattle.std.specs.Prelude.{◌≡◌, ◌≢◌, ◌<◌, false, [], length, take, drop, IfOk, IfErr, OnOk, MatchResult, IsTrue, is_ok};
 ghost use Rattle.lw_types.specs.declared.refusal.Refusal.TheVariants.{DeviceFailed};
 ghost use Rattle.disk.specs.Outlook.{HasCause};
 ghost use Rattle.disk.specs.Outlook.Outlook.{AllSucceed};
@@ -53,7 +53,9 @@ pub fn format<D: Disk + Drop>(
     ensures settled { D.honest → IfOk result (λ store. IsSettled (seen D.state store)) }
     ensures fits { IfOk result (λ _. IsSlots slots × (length (D.state disk).content ≡ disk_len slots)) }
     ensures refused { IfErr result (IsFormatRefusal slots (length (D.state disk).content)) }
-    ensures unarmed { D.outlook disk ≡ AllSucceed → IfErr result (λ e. e ≢ DeviceFailed) }
+    ensures unarmed { D.outlook disk ≡ AllSucceed → MatchResult result
+        (λ store. D.outlook (disk_of store) ≡ AllSucceed)
+        (λ e. e ≢ DeviceFailed) }
 {
     let slots = Slots::new(slots).ok_or(Refusal::Damaged)?;
     let superblock = Superblock { net_id, slots };

@@ -23,7 +23,9 @@ pub fn open<D: Disk + Drop>(alloc: Global, disk: D) -> Result<Store<D>, Refusal>
         × (D.failures (disk_of store) ≡ D.failures disk)) }
     ensures refused { D.honest → IfErr result (λ e. e ≢ DeviceFailed → e ≢ OutOfMemory
         → IsFault (D.state disk).content e) }
-    ensures unarmed { D.outlook disk ≡ AllSucceed → IfErr result (λ e. e ≢ DeviceFailed) }
+    ensures unarmed { D.outlook disk ≡ AllSucceed → MatchResult result
+        (λ store. D.outlook (disk_of store) ≡ AllSucceed)
+        (λ e. e ≢ DeviceFailed) }
 {
     match open_back(alloc, disk) {
         Ok(store) => Ok(store),
@@ -47,7 +49,9 @@ pub fn open_back<D: Disk>(alloc: Global, disk: D) -> Result<Store<D>, (D, Refusa
         × (e.1 ≢ DeviceFailed → D.failures e.0 ≡ D.failures disk)) }
     ensures refused { D.honest → IfErr result (λ e. e.1 ≢ DeviceFailed → e.1 ≢ OutOfMemory
         → IsFault (D.state disk).content e.1) }
-    ensures unarmed { D.outlook disk ≡ AllSucceed → IfErr result (λ e. e.1 ≢ DeviceFailed) }
+    ensures unarmed { D.outlook disk ≡ AllSucceed → MatchResult result
+        (λ store. D.outlook (disk_of store) ≡ AllSucceed)
+        (λ e. (e.1 ≢ DeviceFailed) × (D.outlook e.0 ≡ AllSucceed)) }
     ensures same { D.honest → IfErr result (λ e. (D.state e.0).content ≡ (D.state disk).content) }
     ensures still { D.honest → NothingOpen (D.state disk) → IfErr result (λ e. NothingOpen (D.state e.0)) }
     ensures same_length { IfErr result (λ e. length (D.state e.0).content ≡ length (D.state disk).content) }
