@@ -1,4 +1,4 @@
-use Rattle.std.proofs.Common.{◌≡◌, ◌∙◌, ◌+◌, take, sym, ap, subst, refl, arith}
+use Rattle.std.proofs.Common.{◌∙◌, ◌+◌, take, sym, ap, subst, refl, arith}
 use Rattle.std.proofs.lemmas.Bool.{false≢true}
 use Rattle.sessions.specs.Table.{TableState}
 use Rattle.sessions.specs.Decision.{Continues, ContinueAll, applied, applied_all}
