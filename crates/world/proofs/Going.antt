@@ -1,11 +1,13 @@
 -- What the steps of a life leave of the rest of a course.
-use Rattle.std.proofs.Common.{◌≡◌, ℕ, Bool, true, false, MatchBool, List, [], ◌∷◌, ◌++◌, Option, Some, None, sym, ap, subst, refl}
+use Rattle.std.proofs.Common.{◌≡◌, ◌∙◌, ℕ, Bool, true, false, MatchBool, List, [], ◌∷◌, ◌++◌, Option, Some, None, sym, ap, subst, refl}
+use Rattle.std.proofs.lemmas.List.{append-nil}
 use Rattle.lw_types.specs.declared.refusal.Refusal.{Refusal}
 use Rattle.lw_types.specs.declared.refusal.Refusal.TheVariants.{OutOfStep}
 use Rattle.disk.specs.declared.sim.Image.{Image}
 use Rattle.devices.specs.declared.command.Provisioning.{Provisioning}
 use Rattle.devices.specs.declared.command.Command.TheVariants as commands
 use Rattle.devices.specs.declared.command.Command.{Command}
+use Rattle.devices.specs.declared.effect.Effect.{Effect}
 use Rattle.sessions.specs.Table.{TableState, folded, effects_of}
 use Rattle.sessions.proofs.Runs.{effects_of-append}
 use Rattle.world.specs.declared.answer.Answer.{Answer}
@@ -17,34 +19,36 @@ use Rattle.world.specs.Answers.{AnswersOpen, AnswersClosed, IsRight}
 use Rattle.world.specs.Follows.{IsSubsequence, IsOwn}
 use Rattle.world.proofs.Subsequences.{extended}
 
--- the effects that were emitted, and whether the store is open, stay
+-- the effects that were emitted, and whether the store is open, stay, and what has left grows at its end
 pub record Keeps (start : TableState) (c next : Course) : Type 0 where
   pub emitted : next.emitted ≡ c.emitted
   pub is_open : next.is_open ≡ c.is_open
   pub once : IsSubsequence c.left (effects_of start c.settled) → IsSubsequence next.left (effects_of start next.settled)
+  pub complete : c.left ≡ effects_of start c.settled → next.left ≡ effects_of start next.settled
+  pub grown : (more : List Effect) × (next.left ≡ c.left ++ more)
 
 turn_keeps : (start : TableState) (c : Course) (command : Command) (refused : Option Refusal) → Keeps start c (turned c command refused)
-turn_keeps start c command None = record { emitted = refl; is_open = refl; once = λ h. h }
-turn_keeps start c command (Some e) = record { emitted = refl; is_open = refl; once = λ h. h }
+turn_keeps start c command None = record { emitted = refl; is_open = refl; once = λ h. h; complete = λ h. h; grown = ([], sym (append-nil c.left)) }
+turn_keeps start c command (Some e) = record { emitted = refl; is_open = refl; once = λ h. h; complete = λ h. h; grown = ([], sym (append-nil c.left)) }
 
 event_keeps : (start : TableState) (c : Course) (moment : ℕ) (p : Provisioning) (answer : Answer) → Keeps start c (after start c (steps.Provision moment p) answer)
 event_keeps start c moment p (answers.Turn turn) = turn_keeps start c (commands.Provision p) turn.refused
-event_keeps start c moment p answer = record { emitted = refl; is_open = refl; once = λ h. h }
+event_keeps start c moment p answer = record { emitted = refl; is_open = refl; once = λ h. h; complete = λ h. h; grown = ([], sym (append-nil c.left)) }
 
 refusal_keeps : (start : TableState) (c : Course) (most : ℕ) (e : Refusal) → Keeps start c (after start c (steps.Take most) (answers.Refused e))
-refusal_keeps start c most OutOfStep = record { emitted = refl; is_open = refl; once = λ h. h }
-refusal_keeps start c most e = record { emitted = refl; is_open = refl; once = λ h. h }
+refusal_keeps start c most OutOfStep = record { emitted = refl; is_open = refl; once = λ h. h; complete = λ h. h; grown = ([], sym (append-nil c.left)) }
+refusal_keeps start c most e = record { emitted = refl; is_open = refl; once = λ h. h; complete = λ h. h; grown = ([], sym (append-nil c.left)) }
 
 take_keeps : (start : TableState) (c : Course) (most : ℕ) (answer : Answer) → Keeps start c (after start c (steps.Take most) answer)
-take_keeps start c most (answers.Taken n) = record { emitted = refl; is_open = refl; once = λ h. h }
-take_keeps start c most (answers.GivenUp n) = record { emitted = refl; is_open = refl; once = λ h. h }
+take_keeps start c most (answers.Taken n) = record { emitted = refl; is_open = refl; once = λ h. h; complete = λ h. h; grown = ([], sym (append-nil c.left)) }
+take_keeps start c most (answers.GivenUp n) = record { emitted = refl; is_open = refl; once = λ h. h; complete = λ h. h; grown = ([], sym (append-nil c.left)) }
 take_keeps start c most (answers.Refused e) = refusal_keeps start c most e
-take_keeps start c most answer = record { emitted = refl; is_open = refl; once = λ h. h }
+take_keeps start c most answer = record { emitted = refl; is_open = refl; once = λ h. h; complete = λ h. h; grown = ([], sym (append-nil c.left)) }
 
 call_keeps : (start : TableState) (c : Course) (answer : Answer) → Keeps start c (after start c steps.Call answer)
-call_keeps start c answers.Called = record { emitted = refl; is_open = refl; once = λ h. h }
-call_keeps start c (answers.Refused e) = record { emitted = refl; is_open = refl; once = λ h. h }
-call_keeps start c answer = record { emitted = refl; is_open = refl; once = λ h. h }
+call_keeps start c answers.Called = record { emitted = refl; is_open = refl; once = λ h. h; complete = λ h. h; grown = ([], sym (append-nil c.left)) }
+call_keeps start c (answers.Refused e) = record { emitted = refl; is_open = refl; once = λ h. h; complete = λ h. h; grown = ([], sym (append-nil c.left)) }
+call_keeps start c answer = record { emitted = refl; is_open = refl; once = λ h. h; complete = λ h. h; grown = ([], sym (append-nil c.left)) }
 
 release_keeps : (start : TableState) (c : Course) (answer : Answer) → Keeps start c (after start c steps.Release answer)
 release_keeps start c (answers.Released n) = record {
@@ -53,16 +57,18 @@ release_keeps start c (answers.Released n) = record {
   once = λ h.
       subst (IsSubsequence (c.left ++ effects_under_way start c)) (sym (effects_of-append start c.settled c.flying))
       (extended c.left (effects_of start c.settled) (effects_under_way start c) h);
+  complete = λ h. ap (λ l. l ++ effects_under_way start c) h ∙ sym (effects_of-append start c.settled c.flying);
+  grown = (effects_under_way start c, refl);
 }
-release_keeps start c answer = record { emitted = refl; is_open = refl; once = λ h. h }
+release_keeps start c answer = record { emitted = refl; is_open = refl; once = λ h. h; complete = λ h. h; grown = ([], sym (append-nil c.left)) }
 
 pub step_keeps : (start : TableState) (c : Course) (step : Step) (answer : Answer) → IsOwn step → Keeps start c (after start c step answer)
 step_keeps start c (steps.Provision moment p) answer own = event_keeps start c moment p answer
 step_keeps start c (steps.Take most) answer own = take_keeps start c most answer
 step_keeps start c steps.Call answer own = call_keeps start c answer
 step_keeps start c steps.Release answer own = release_keeps start c answer
-step_keeps start c steps.Fail answer own = record { emitted = refl; is_open = refl; once = λ h. h }
-step_keeps start c steps.List answer own = record { emitted = refl; is_open = refl; once = λ h. h }
+step_keeps start c steps.Fail answer own = record { emitted = refl; is_open = refl; once = λ h. h; complete = λ h. h; grown = ([], sym (append-nil c.left)) }
+step_keeps start c steps.List answer own = record { emitted = refl; is_open = refl; once = λ h. h; complete = λ h. h; grown = ([], sym (append-nil c.left)) }
 step_keeps start c steps.Emit answer own = absurd own
 step_keeps start c (steps.Crash image) answer own = absurd own
 

@@ -5,3 +5,4 @@ pub mod Subsequences
 pub mod Opening
 pub mod Going
 pub mod Runs
+pub mod OneLife

@@ -1,7 +1,10 @@
 // Runs of steps.
 ghost use Rattle.std.specs.Prelude.{◌≡◌, IfOk, IfErr, length};
 ghost use Rattle.lw_types.specs.declared.refusal.Refusal.TheVariants.{OutOfMemory};
-ghost use Rattle.world.specs.Follows.{Runs};
+ghost use Rattle.sessions.specs.Table.{TableState};
+ghost use Rattle.world.specs.Course.{beginning, course_of};
+ghost use Rattle.world.specs.Follows.{Follows, Runs};
+ghost use Rattle.world.specs.OneLife.{HasNoCrash, IsOneLife};
 ghost use Rattle.world.specs.Sound.{IsSound};
 
 use crate::{Answer, Step, World};
@@ -20,6 +23,8 @@ pub fn run<D: Sim + Drop>(
     ensures sound { IsSound D.state world.new }
     ensures answers { IfOk result (λ answers. length answers.items ≡ length steps.now) }
     ensures course { IfOk result (λ answers. Runs D.state world.old steps.now answers.items world.new) }
+    ensures one_life { IfOk result (λ answers. (start : TableState) → Follows D.state start beginning world.old
+        → HasNoCrash steps.now → IsOneLife start (course_of start beginning steps.now answers.items) steps.now answers.items) }
     ensures refused { IfErr result (λ e. (e ≡ OutOfMemory) × (world.new ≡ world.old)) }
 {
     let mut answers = Vec::with_capacity(alloc, steps.len())?;

@@ -1,9 +1,11 @@
 use Rattle.std.proofs.Common.{◌≡◌, ◌∙◌, ◌+◌, ◌<◌, ◌≤◌, List, [], ◌∷◌, ◌++◌, cond, is_ok, length, take, get_or, sym, ap, subst, arith}
-use Rattle.std.proofs.lemmas.List.{take_more, length_push}
+use Rattle.std.proofs.lemmas.List.{take_more, take_all, length_push}
 use Rattle.world.specs.declared.answer.Answer.{Answer}
 use Rattle.world.specs.declared.step.Step.{Step}
 use Rattle.world.specs.Follows.{Runs}
 use Rattle.world.proofs.Runs.{runs_on}
+use Rattle.world.specs.Course.{beginning}
+use Rattle.world.proofs.OneLife.{one_life}
 use Rattle.world.proofs.running.run.Goals as goal
 
 pub loop-step-preserved : goal.loop-step-preserved
@@ -25,3 +27,13 @@ loop-step-preserved g c =
      (subst (λ ss. Runs state c.args.world.now ss c.push-pushed.new.self.items c.step.new.self) (sym next)
       (subst (λ told. Runs state c.args.world.now (take at steps ++ step ∷ []) told c.step.new.self) (sym added) runs),
       (omega (arith, longer, before.1.1.0), omega (arith, before.1.1.1))))
+
+pub returns-clause-one_life : goal.returns-clause-one_life
+returns-clause-one_life g c start f still =
+    let state = g.D.Disk.state in
+    let steps = c.args.steps.now in
+    let told = c.loop-step.answers.items in
+    let at = c.loop-step.step-index in
+    let past : length steps ≤ at = omega (arith, c.loop-step-test.false) in
+    let runs = subst (λ ss. Runs state c.args.world.now ss told c.loop-step.world) (take_all at steps past) c.loop-step.invariant.1.0 in
+    one_life start steps told (runs start beginning f).0 still

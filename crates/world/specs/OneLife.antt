@@ -1,0 +1,42 @@
+-- One life: from a new world on, no crash among the steps.
+use Rattle.std.specs.Prelude.{◌≡◌, ℕ, List, [], ◌∷◌, take, map}
+use Rattle.lw_types.specs.declared.refusal.Refusal.TheVariants.{OutOfStep}
+use Rattle.sessions.specs.Table.{TableState, effects_of}
+use Rattle.gateway_wire.specs.declared.emission.Emission.{Emission}
+use Rattle.gateway_wire.specs.Emission.{emission}
+use Rattle.world.specs.declared.step.Step.{Step}
+use Rattle.world.specs.declared.step.Step.TheVariants as steps
+use Rattle.world.specs.declared.answer.Answer.{Answer}
+use Rattle.world.specs.declared.answer.Answer.TheVariants as answers
+use Rattle.world.specs.Course.{Course}
+
+-- no step is a crash
+abbrev pub HasNoCrash : List Step → Type 0
+HasNoCrash [] = Unit {0}
+HasNoCrash (steps.Crash image ∷ rest) = ⊥
+HasNoCrash (step ∷ rest) = HasNoCrash rest
+
+-- no batch was lost for want of memory
+abbrev pub NoneGivenUp : List Answer → Type 0
+NoneGivenUp [] = Unit {0}
+NoneGivenUp (answers.GivenUp n ∷ rest) = ⊥
+NoneGivenUp (answer ∷ rest) = NoneGivenUp rest
+
+-- no take was answered that its batch is out of step
+abbrev pub NoneOutOfStep : List Step → List Answer → Type 0
+NoneOutOfStep (steps.Take most ∷ rest) (answers.Refused OutOfStep ∷ others) = ⊥
+NoneOutOfStep (step ∷ rest) (answer ∷ others) = NoneOutOfStep rest others
+NoneOutOfStep rest others = Unit {0}
+
+-- what was emitted, in order
+abbrev pub emitted : List Answer → List Emission
+emitted [] = []
+emitted (answers.Emitted e ∷ rest) = e ∷ emitted rest
+emitted (answer ∷ rest) = emitted rest
+
+-- What one life gave: the effects of the commands whose batches were released, in order and complete; of these a
+-- beginning was emitted; and no batch was out of step, unless one before it was lost.
+pub record IsOneLife (start : TableState) (c : Course) (steps : List Step) (told : List Answer) : Type 0 where
+  pub released : c.left ≡ effects_of start c.settled
+  pub emitted : emitted told ≡ map emission (take c.emitted c.left)
+  pub in_step : NoneGivenUp told → NoneOutOfStep steps told
