@@ -2,3 +2,4 @@ pub mod Sound
 pub mod Course
 pub mod Answers
 pub mod Follows
+pub mod Plain
