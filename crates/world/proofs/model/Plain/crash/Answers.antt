@@ -27,8 +27,15 @@ landed old settled flying untaken emitted =
     record {
       start = old.start;
       course = record {
-        settled = settled; flying = flying; stage = Stage.Rest; given_up = []; untaken = untaken; made = 0;
-        left = old.course.left; emitted = emitted; is_open = true;
+        settled = settled;
+        flying = flying;
+        stage = Stage.Rest;
+        given_up = [];
+        untaken = untaken;
+        made = 0;
+        left = old.course.left;
+        emitted = emitted;
+        is_open = true;
       };
     }
 
@@ -39,14 +46,15 @@ crashed : (v old : PlainState) → v ≡ old → (image : Image) (flew : Bool) (
     → Goes old (Crash image) (Opened devices seq) (landed v kept flying untaken emitted)
 crashed v old is image flew kept flying untaken devices seq emitted leaves found number count none empty lost =
     let settled : kept ≡ take seq (decided v.course) =
-        found ∙ (sym (beginning-kept flew v.course) ∙ ap (λ n. take n (decided v.course)) (ap length (sym found) ∙ sym number)) in
+    found ∙ (sym (beginning-kept flew v.course) ∙ ap (λ n. take n (decided v.course)) (ap length (sym found) ∙ sym number)) in
     let new = landed v in
-    subst (λ (o : PlainState). Goes o (Crash image) (Opened devices seq) (landed v kept flying untaken emitted)) is
-    (either v.course.is_open (kept, subst (Leaves v.course) (sym found) leaves, number, count),
-    ap (λ s. new s flying untaken emitted) settled
-    ∙ (ap (λ f. new (take seq (decided v.course)) f untaken emitted) none
-    ∙ (ap (λ u. new (take seq (decided v.course)) [] u emitted) empty
-    ∙ ap (new (take seq (decided v.course)) [] []) lost)))
+    subst (λ (o : PlainState). Goes o (Crash image) (Opened devices seq) (landed v kept flying untaken emitted)) is (
+      either v.course.is_open (kept, subst (Leaves v.course) (sym found) leaves, number, count),
+      ap (λ s. new s flying untaken emitted) settled
+          ∙ (ap (λ f. new (take seq (decided v.course)) f untaken emitted) none
+          ∙ (ap (λ u. new (take seq (decided v.course)) [] u emitted) empty
+          ∙ ap (new (take seq (decided v.course)) [] []) lost)),
+    )
 
 pub returns : goal.returns
 returns c =
