@@ -115,7 +115,9 @@ fn scripts(alloc: Global, opening: &str, first: char) -> Result<Vec<Step>, Fail>
         for letter in opening.chars() {
             steps.push(step_of(second, letter)?)?;
         }
-        for letter in [first, second, 'l', 'e', 'o'] {
+        steps.push(step_of(second, first)?)?;
+        steps.push(step_of(second, second)?)?;
+        for letter in "leo".chars() {
             steps.push(step_of(second, letter)?)?;
         }
     }
