@@ -7,6 +7,8 @@ mod commit;
 mod life;
 mod lives;
 mod living;
+#[cfg(test)]
+mod model;
 mod place;
 mod running;
 mod step;
