@@ -3,6 +3,7 @@ ghost use Rattle.std.specs.Prelude.{◌≡◌, IfOk, IfErr, length};
 ghost use Rattle.lw_types.specs.declared.refusal.Refusal.TheVariants.{OutOfMemory};
 ghost use Rattle.world.specs.Follows.{Runs};
 ghost use Rattle.world.specs.Sound.{IsSound};
+ghost use Rattle.world.specs.Cause.{AreCauses, failures_at};
 
 use crate::{Answer, Step, World};
 use disk::Sim;
@@ -19,6 +20,8 @@ pub fn run<D: Sim + Drop>(
     requires { IsSound D.state world.old }
     ensures sound { IsSound D.state world.new }
     ensures answers { IfOk result (λ answers. length answers.items ≡ length steps.now) }
+    ensures cause { IfOk result (λ answers.
+        AreCauses (failures_at D.failures world.old.place) answers.items (failures_at D.failures world.new.place)) }
     ensures course { IfOk result (λ answers. Runs D.state world.old steps.now answers.items world.new) }
     ensures refused { IfErr result (λ e. (e ≡ OutOfMemory) × (world.new ≡ world.old)) }
 {

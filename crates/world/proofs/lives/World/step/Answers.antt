@@ -1,4 +1,6 @@
 use Rattle.std.proofs.Common.{◌≡◌, ◌∙◌, true, ap, subst, sym}
+use Rattle.store.specs.State.{disk_of}
+use Rattle.world.specs.Cause.{IsCause, failures_at}
 use Rattle.world.specs.Course.{Course, after}
 use Rattle.world.specs.declared.place.Place.TheVariants.{Open}
 use Rattle.world.specs.Follows.{FollowsPlace}
@@ -8,6 +10,7 @@ use Rattle.world.proofs.lives.World.step.Goals as goal
 pub returns-in-Open : goal.returns-in-Open
 returns-in-Open g c =
     let state = g.D.Disk.state in
+    let failures = g.D.Disk.failures in
     let step = c.args.step.now in
     let answer = c.step.result in
     let own = is_own step c.in_default.not-Emit c.in_default.not-Crash in
@@ -26,4 +29,5 @@ returns-in-Open g c =
               once = kept.once f.once;
             },
           );
+      cause = subst (λ p. IsCause (failures_at failures p) answer (failures (disk_of c.step.new.self.store))) (sym c.in-Open.is) c.step.ensures.cause;
     }
