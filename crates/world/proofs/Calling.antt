@@ -1,5 +1,5 @@
 -- What a device call does to a course.
-use Rattle.std.proofs.Common.{◌≡◌, ◌∙◌, ◌+◌, ◌⊎◌, inl, inr, ℕ, false, List, [], ◌∷◌, ◌++◌, length, sym, ap, subst, refl, arith, length-append}
+use Rattle.std.proofs.Common.{◌≡◌, ◌∙◌, ◌⊎◌, inl, inr, ℕ, List, ◌++◌, length, sym, ap, subst, refl, arith, length-append}
 use Rattle.std.proofs.lemmas.List.{length-map}
 use Rattle.disk.specs.State.{IsPermitted, EveryImage}
 use Rattle.devices.specs.declared.command.Command.{Command}
@@ -14,7 +14,7 @@ use Rattle.store.specs.declared.phases.BodySynced.{BodySynced}
 use Rattle.store.specs.declared.phases.GateWritten.{GateWritten}
 use Rattle.store.specs.Commit.{Change, IsUnderWay}
 use Rattle.store.specs.Image.{HoldsTable}
-use Rattle.store.specs.Phases.{HoldsEither, IsBegunOn, IsWrittenOn, IsSyncedOn, IsOpenedOn, begun_change, written_change, synced_change, opened_change}
+use Rattle.store.specs.Phases.{HoldsEither, IsWrittenOn, IsSyncedOn, IsOpenedOn, begun_change, written_change, synced_change, opened_change}
 use Rattle.store.specs.State.{StoreState, IsSettled}
 use Rattle.flusher.specs.declared.room.Room.{Room}
 use Rattle.flusher.specs.declared.durable.Durable.{Durable}
@@ -28,7 +28,7 @@ use Rattle.world.specs.declared.step.Step.TheVariants as steps
 use Rattle.world.specs.Answers.{AnswersCall}
 use Rattle.world.specs.Course.{Course, Stage, after, succeeded, failed}
 use Rattle.world.specs.Course.Stage.{Begun as Began, Written as Wrote, Synced, Opened, Durable as IsDurable, Stopped, Unsure}
-use Rattle.world.specs.Follows.{IsLife, Survives}
+use Rattle.world.specs.Follows.{IsLife}
 
 -- what holds of a course at a stage
 pub at_stage : (P : Course → Type 0) (c : Course) (st : Stage) → c.stage ≡ st → P (record c { stage = st }) → P c
@@ -127,8 +127,10 @@ module _ (start : TableState) (c : Course) (s s' : StoreState) (core : CoreState
       → (image : List ℕ) → IsPermitted s'.log.disk image
       → (kept : List Command) × ((kept ≡ c.settled) ⊎ (kept ≡ c.settled ++ c.flying)) × HoldsTable (folded start kept) (length kept) image
   either change size table_is seq_is way commands images image p =
-      elim (images image p) [ inl h ↦ (c.settled, inl refl, holds_before start c.settled c.flying s change size table_is seq_is way commands image h)
-                            | inr h ↦ (c.settled ++ c.flying, inr refl, holds_ahead start c.settled c.flying s change size table_is seq_is way commands image h) ]
+      elim (images image p) [
+        | inl h ↦ (c.settled, inl refl, holds_before start c.settled c.flying s change size table_is seq_is way commands image h)
+        | inr h ↦ (c.settled ++ c.flying, inr refl, holds_ahead start c.settled c.flying s change size table_is seq_is way commands image h)
+      ]
 
   pub open_ok : (phase : BodySynced) (next : GateWritten) (size : ℕ) → IsLife start (record c { stage = Synced }) s core (commits.BodySynced phase room)
       → s'.failed ≡ s.failed → opened_change next ≡ synced_change phase → IsOpenedOn s' next → IsUnderWay s (synced_change phase) size
@@ -179,12 +181,15 @@ made_durable start c s s' core room phase size durable f table seq failed decisi
       number = f.number;
       untaken = f.untaken;
       made = f.made;
-      under_way =
-          (refl,
-           (ap effects_in decisions
-           ∙ (sym (effects_of-fit s.table change.decisions way.legal.continues.fit)
-           ∙ (ap (effects_of s.table) commands ∙ ap (λ t. effects_of t c.flying) f.table)),
-           settled));
+      under_way = (
+        refl,
+        (
+          ap effects_in decisions
+              ∙ (sym (effects_of-fit s.table change.decisions way.legal.continues.fit)
+              ∙ (ap (effects_of s.table) commands ∙ ap (λ t. effects_of t c.flying) f.table)),
+          settled,
+        ),
+      );
       healthy = failed ∙ f.healthy;
       survives = λ image p. (c.settled ++ c.flying, refl, holds_ahead start c.settled c.flying s change size f.table f.seq way commands image (images image p));
     }

@@ -1,5 +1,5 @@
 -- What a course decides is what its core decides.
-use Rattle.std.proofs.Common.{◌≡◌, ◌∙◌, ◌+◌, ℕ, List, [], ◌∷◌, ◌++◌, length, ◌&&◌, cond, nat_lt, Option, Some, None, Result, Ok, Err, sym, ap, subst, arith, append_assoc, length-append}
+use Rattle.std.proofs.Common.{◌≡◌, ◌∙◌, ◌+◌, ℕ, [], ◌∷◌, ◌++◌, length, ◌&&◌, cond, nat_lt, Option, Some, None, Result, Ok, Err, sym, ap, subst, arith, append_assoc, length-append}
 use Rattle.std.specs.Option.{MatchOption}
 use Rattle.std.specs.Result.{MatchResult}
 use Rattle.std.proofs.lemmas.List.{length-map, map-append}
@@ -7,7 +7,6 @@ use Rattle.lw_types.specs.declared.refusal.Refusal.{Refusal}
 use Rattle.lw_types.specs.declared.refusal.Refusal.TheVariants.{OutOfMemory, Backlog}
 use Rattle.devices.specs.declared.command.Command.{Command}
 use Rattle.sessions.specs.Table.{TableState, Step, folded, step}
-use Rattle.sessions.specs.Decision.{commands_of}
 use Rattle.sessions.specs.declared.decision.Decision.{Decision}
 use Rattle.sessions.proofs.Runs.{folded-fit, folded-append}
 use Rattle.session_core.specs.State.{CoreState, IsLawful, now_of, last_number, MOST_UNTAKEN, LAST_NUMBER}
@@ -77,9 +76,10 @@ module _ (start : TableState) (c : Course) (s : StoreState) (core : CoreState) (
       (λ e. (turn.refused ≡ Some e) × Stays core turn new)
       → IsTurn c w turn × IsLife start (turned c command turn.refused) s new commit
   any_turn command new turn (Ok st) at outcome = ok_turn command st new turn.from turn.to turn.refused at outcome
-  any_turn command new turn (Err e) at (refused, stays) =
-      (record { from = at ∙ f.made; answer = (refused, stays.none) },
-      subst (λ r. IsLife start (turned c command r) s new commit) (sym refused) (same new stays.same))
+  any_turn command new turn (Err e) at (refused, stays) = (
+    record { from = at ∙ f.made; answer = (refused, stays.none) },
+    subst (λ r. IsLife start (turned c command r) s new commit) (sym refused) (same new stays.same),
+  )
 
   -- the turn of a command of the core is one of the course
   pub turn_is : (command : Command) (turn : Turn) (new : CoreState) → Turns core command turn new

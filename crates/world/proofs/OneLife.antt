@@ -1,5 +1,5 @@
 -- One life, step by step.
-use Rattle.std.proofs.Common.{◌≡◌, ◌≢◌, ◌∙◌, ◌+◌, ◌<◌, ◌≤◌, ◌⊎◌, inl, inr, ℕ, Bool, true, false, MatchBool, List, [], ◌∷◌, ◌++◌, slice_get, Option, Some, None, length, take, map, sym, ap, subst, refl, arith, append_assoc, length-append}
+use Rattle.std.proofs.Common.{◌≡◌, ◌≢◌, ◌∙◌, ◌≤◌, ◌⊎◌, inl, inr, ℕ, true, MatchBool, List, [], ◌∷◌, ◌++◌, slice_get, Option, Some, None, length, take, map, sym, ap, subst, refl, arith, append_assoc, length-append}
 use Rattle.std.specs.Option.{MatchOption}
 use Rattle.std.proofs.lemmas.List.{append-nil, take-append-le, map_more}
 use Rattle.std.proofs.lemmas.Option.{slice_get_within, get_or_from_slice_get}
@@ -9,7 +9,6 @@ use Rattle.lw_types.specs.Refusal.{number_of}
 use Rattle.devices.specs.declared.command.Command.{Command}
 use Rattle.devices.specs.declared.effect.Effect.{Effect}
 use Rattle.sessions.specs.Table.{TableState, effects_of}
-use Rattle.sessions.proofs.Runs.{effects_of-append}
 use Rattle.gateway_wire.specs.declared.emission.Emission.{Emission}
 use Rattle.gateway_wire.specs.Emission.{emission}
 use Rattle.world.specs.declared.answer.Answer.{Answer}

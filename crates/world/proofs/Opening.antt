@@ -1,8 +1,8 @@
 -- What a crash and an opening do to a course.
-use Rattle.std.proofs.Common.{◌≡◌, ◌≢◌, ◌∙◌, ◌+◌, ◌⊎◌, inl, inr, ℕ, Bool, true, false, List, [], ◌∷◌, ◌++◌, length, take, MatchBool, sym, ap, subst, refl, arith, append_assoc}
+use Rattle.std.proofs.Common.{◌≡◌, ◌≢◌, ◌∙◌, ◌⊎◌, inl, inr, ℕ, Bool, true, false, List, ◌++◌, length, take, MatchBool, sym, ap, subst, refl, arith, append_assoc}
 use Rattle.std.proofs.lemmas.List.{append-nil, take_at}
 use Rattle.disk.specs.declared.sim.Image.{Image}
-use Rattle.disk.specs.State.{State, EveryImage, IsPermitted, NothingOpen, IsSettledAt}
+use Rattle.disk.specs.State.{State, EveryImage, IsPermitted}
 use Rattle.lw_types.specs.declared.refusal.Refusal.{Refusal}
 use Rattle.lw_types.specs.declared.refusal.Refusal.TheVariants.{OutOfMemory, DeviceFailed}
 use Rattle.lw_types.specs.Refusal.{number_of}
@@ -10,9 +10,9 @@ use Rattle.devices.specs.declared.command.Command.{Command}
 use Rattle.devices.specs.declared.effect.Effect.{Effect}
 use Rattle.sessions.specs.Table.{TableState, folded, effects_of}
 use Rattle.sessions.proofs.Runs.{effects_of-append}
-use Rattle.session_core.specs.State.{CoreState, opened}
+use Rattle.session_core.specs.State.{opened}
 use Rattle.store.specs.Image.{HoldsTable}
-use Rattle.store.specs.State.{StoreState, IsSettled, disk_of}
+use Rattle.store.specs.State.{StoreState, IsSettled}
 use Rattle.world.specs.declared.commit.Commit.TheVariants as commits
 use Rattle.world.specs.declared.place.Place.{Place}
 use Rattle.world.specs.declared.place.Place.TheVariants.{Open, Closed, Crashing}
@@ -23,7 +23,7 @@ use Rattle.world.specs.Course.{Course, Stage, decided, reopened, after}
 use Rattle.world.specs.Course.Stage.{Rest, Begun, Written, Synced, Opened, Durable, Stopped, Unsure}
 use Rattle.world.specs.Answers.{Leaves, MayLeave, AnswersCrash}
 use Rattle.world.specs.Sound.{HasDisk}
-use Rattle.world.specs.Follows.{FollowsPlace, IsLife, IsSubsequence, IsLeft, Survives}
+use Rattle.world.specs.Follows.{FollowsPlace, IsLife, IsSubsequence, Survives}
 use Rattle.world.proofs.Subsequences.{longer}
 
 -- the content is always permitted
@@ -44,10 +44,10 @@ either Stopped settled flying kept h = inl h
 pub kept_front : (c : Course) (kept : List Command) → Leaves c kept → take (length kept) (decided c) ≡ kept
 kept_front c kept leaves =
     elim (either c.stage c.settled c.flying kept leaves) [
-      inl is ↦ subst (λ k. take (length k) (decided c) ≡ k) (sym is) (take_at c.settled (c.flying ++ (c.given_up ++ c.untaken)) (length c.settled) refl)
-    | inr is ↦ subst (λ k. take (length k) (decided c) ≡ k) (sym is)
-        (ap (take (length (c.settled ++ c.flying))) (sym (append_assoc c.settled c.flying (c.given_up ++ c.untaken)))
-        ∙ take_at (c.settled ++ c.flying) (c.given_up ++ c.untaken) (length (c.settled ++ c.flying)) refl)
+      | inl is ↦ subst (λ k. take (length k) (decided c) ≡ k) (sym is) (take_at c.settled (c.flying ++ (c.given_up ++ c.untaken)) (length c.settled) refl)
+      | inr is ↦ subst (λ k. take (length k) (decided c) ≡ k) (sym is)
+          (ap (take (length (c.settled ++ c.flying))) (sym (append_assoc c.settled c.flying (c.given_up ++ c.untaken)))
+          ∙ take_at (c.settled ++ c.flying) (c.given_up ++ c.untaken) (length (c.settled ++ c.flying)) refl)
     ]
 
 -- it holds every command of which an effect has left
@@ -55,10 +55,10 @@ pub kept_once : (start : TableState) (c : Course) (left : List Effect) (kept : L
     → IsSubsequence left (effects_of start kept)
 kept_once start c left kept leaves once =
     elim (either c.stage c.settled c.flying kept leaves) [
-      inl is ↦ subst (λ k. IsSubsequence left (effects_of start k)) (sym is) once
-    | inr is ↦ subst (λ k. IsSubsequence left (effects_of start k)) (sym is)
-        (subst (IsSubsequence left) (sym (effects_of-append start c.settled c.flying))
-        (longer left (effects_of start c.settled) (effects_of (folded start c.settled) c.flying) once))
+      | inl is ↦ subst (λ k. IsSubsequence left (effects_of start k)) (sym is) once
+      | inr is ↦ subst (λ k. IsSubsequence left (effects_of start k)) (sym is)
+          (subst (IsSubsequence left) (sym (effects_of-append start c.settled c.flying))
+          (longer left (effects_of start c.settled) (effects_of (folded start c.settled) c.flying) once))
     ]
 
 -- the life that begins with what a crash left
@@ -80,10 +80,12 @@ life_opened start c kept n s leaves n_is settled healthy table seq held =
       made = refl;
       under_way = (refl, (refl, settled));
       healthy = healthy;
-      survives = λ image p.
-          (take n (decided c), refl,
-           subst (λ m. HoldsTable (folded start (take n (decided c))) m image) seq_is
-           (subst (λ t. HoldsTable t s.seq image) table_is (held image p)));
+      survives = λ image p. (
+        take n (decided c),
+        refl,
+        subst (λ m. HoldsTable (folded start (take n (decided c))) m image) seq_is
+            (subst (λ t. HoldsTable t s.seq image) table_is (held image p)),
+      );
     }
 
 -- an opening is refused for these two reasons, where others are ruled out

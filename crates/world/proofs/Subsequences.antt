@@ -1,5 +1,5 @@
 -- Lists of which some elements were dropped.
-use Rattle.std.proofs.Common.{◌≡◌, inl, inr, List, [], ◌∷◌, ◌++◌, ap, subst, sym, refl}
+use Rattle.std.proofs.Common.{inl, inr, List, [], ◌∷◌, ◌++◌, ap, subst, sym, refl}
 use Rattle.world.specs.Follows.{IsSubsequence}
 
 pub nothing : {A : Type 0} (ys : List A) → IsSubsequence [] ys

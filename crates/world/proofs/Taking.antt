@@ -1,12 +1,11 @@
 -- What a take does to a course.
-use Rattle.std.proofs.Common.{◌≡◌, ◌≢◌, ◌∙◌, ◌+◌, ◌<◌, ◌≤◌, ◌⊎◌, inl, inr, ℕ, zero, suc, Bool, false, List, [], ◌∷◌, ◌++◌, length, take, drop, Result, Ok, Err, MatchBool, MatchResult, sym, ap, subst, refl, arith, append_assoc, length-append, take-append-drop}
+use Rattle.std.proofs.Common.{◌≡◌, ◌≢◌, ◌∙◌, ◌+◌, ◌≤◌, ℕ, zero, suc, Bool, false, List, [], ◌∷◌, ◌++◌, length, take, drop, MatchBool, sym, ap, subst, refl, arith, append_assoc, length-append, take-append-drop}
 use Rattle.std.proofs.lemmas.List.{length-map, take-map, drop-map, append-nil}
-use Rattle.lw_types.specs.declared.refusal.Refusal.{Refusal}
 use Rattle.lw_types.specs.Refusal.{number_of}
-use Rattle.lw_types.specs.declared.refusal.Refusal.TheVariants.{OutOfMemory, OutOfStep, Failed}
+use Rattle.lw_types.specs.declared.refusal.Refusal.TheVariants.{OutOfMemory, OutOfStep}
 use Rattle.devices.specs.declared.command.Command.{Command}
 use Rattle.sessions.specs.Table.{TableState, folded}
-use Rattle.sessions.specs.Decision.{ContinueAll, AreNumbered, IsLegalContinuation, FitAll, applied_all, commands_of}
+use Rattle.sessions.specs.Decision.{ContinueAll, AreNumbered, IsLegalContinuation, applied_all, commands_of}
 use Rattle.sessions.specs.declared.decision.Decision.{Decision}
 use Rattle.sessions.proofs.Runs.{folded-fit, folded-append, ContinueAll-split}
 use Rattle.session_core.specs.State.{CoreState, IsLawful}
@@ -17,13 +16,9 @@ use Rattle.store.specs.Phases.{IsBegunOn, begun_change}
 use Rattle.flusher.specs.declared.room.Room.{Room}
 use Rattle.world.specs.declared.commit.Commit.{Commit}
 use Rattle.world.specs.declared.commit.Commit.TheVariants as commits
-use Rattle.world.specs.declared.answer.Answer.{Answer}
-use Rattle.world.specs.declared.answer.Answer.TheVariants as answers
-use Rattle.world.specs.declared.step.Step.TheVariants as steps
-use Rattle.world.specs.Course.{Course, begun, gave_up, after}
+use Rattle.world.specs.Course.{Course, begun, gave_up}
 use Rattle.world.specs.Course.Stage.{Rest}
-use Rattle.world.specs.Answers.{AnswersTake, Takes}
-use Rattle.world.specs.Follows.{IsLife, IsAt, taken}
+use Rattle.world.specs.Follows.{IsLife}
 
 -- what holds of a course at rest holds of a course whose stage is at rest and under way nothing
 pub at_rest : (P : Course → Type 0) (c : Course) → c.stage ≡ Rest → c.flying ≡ [] → P (record c { stage = Rest; flying = [] }) → P c
@@ -127,7 +122,7 @@ module _ (start : TableState) (c : Course) (s : StoreState) (core : CoreState) (
   pub none_lost : (ds : List Decision) → ds ≡ take most core.log → IsLegalContinuation s.table s.seq ds → c.given_up ≡ []
   none_lost ds is legal =
       let same : s.seq ≡ core.opening + core.taken = one_number s.seq (core.opening + core.taken) ds legal.continues.numbered
-          (subst (AreNumbered (core.opening + core.taken)) (sym is) continues.numbered) legal.some in
+      (subst (AreNumbered (core.opening + core.taken)) (sym is) continues.numbered) legal.some in
       let settled = f.seq in
       let before = f.number in
       let whole = length-append c.settled c.given_up in

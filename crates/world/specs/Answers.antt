@@ -1,5 +1,5 @@
 -- Which answers are right in a course.
-use Rattle.std.specs.Prelude.{◌≡◌, ◌≢◌, ◌+◌, ◌⊎◌, ℕ, Bool, true, false, List, [], ◌∷◌, ◌++◌, length, take, nat_lt, ◌&&◌, if◌then◌else◌, slice_get, Option, Some, None, Result, Err, MatchBool, MatchResult}
+use Rattle.std.specs.Prelude.{◌≡◌, ◌≢◌, ◌+◌, ◌⊎◌, ℕ, List, [], ◌∷◌, ◌++◌, length, take, nat_lt, ◌&&◌, if◌then◌else◌, slice_get, Some, Result, Err, MatchBool, MatchResult}
 use Rattle.std.specs.Option.{MatchOption}
 use Rattle.lw_types.specs.declared.refusal.Refusal.{Refusal}
 use Rattle.lw_types.specs.declared.refusal.Refusal.TheVariants as refusals

@@ -1,4 +1,5 @@
 pub mod Sound
+pub mod Cause
 pub mod Course
 pub mod Answers
 pub mod Follows

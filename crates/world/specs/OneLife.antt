@@ -1,5 +1,5 @@
 -- One life: from a new world on, no crash among the steps.
-use Rattle.std.specs.Prelude.{◌≡◌, ℕ, List, [], ◌∷◌, take, map}
+use Rattle.std.specs.Prelude.{◌≡◌, List, [], ◌∷◌, take, map}
 use Rattle.lw_types.specs.declared.refusal.Refusal.TheVariants.{OutOfStep}
 use Rattle.sessions.specs.Table.{TableState, effects_of}
 use Rattle.gateway_wire.specs.declared.emission.Emission.{Emission}

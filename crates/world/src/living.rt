@@ -6,6 +6,7 @@ ghost use Rattle.store.specs.State.{seen, disk_of, IsRoomy};
 ghost use Rattle.world.specs.declared.commit.Commit.TheVariants as commits;
 ghost use Rattle.world.specs.declared.step.Step.TheVariants as steps;
 ghost use Rattle.world.specs.declared.answer.Answer.TheVariants as answers;
+ghost use Rattle.world.specs.Cause.{IsCause};
 ghost use Rattle.world.specs.Follows.{IsOwn, MovesLife, Lets};
 ghost use Rattle.world.specs.Sound.{IsSoundLife, HasRoom};
 
@@ -45,13 +46,19 @@ impl<D: Sim> Life<D> {
     }
 
     /// One step, other than to emit or to crash.
-    pub(crate) fn step(&mut self, alloc: Global, step: &Step, released: &mut Vec<Released>) -> Answer
+    pub(crate) fn step(
+        &mut self,
+        alloc: Global,
+        step: &Step,
+        released: &mut Vec<Released>,
+    ) -> Answer
         requires own { IsOwn step.now }
         requires sound { IsSoundLife D.state self.old }
         requires room { HasRoom self.old.commit (length released.old.items) (vec_capacity released.old) }
         ensures sound { IsSoundLife D.state self.new }
         ensures room { HasRoom self.new.commit (length released.new.items) (vec_capacity released.new) }
         ensures course { MovesLife D.state self.old step.now result self.new }
+        ensures cause { IsCause (D.failures (disk_of self.old.store)) result (D.failures (disk_of self.new.store)) }
         ensures left { Lets D.state self.old step.now result released.old.items released.new.items }
     {
         match step {
@@ -74,6 +81,7 @@ impl<D: Sim> Life<D> {
         ensures sound { IsSoundLife D.state self.new }
         ensures commit { self.new.commit ≡ self.old.commit }
         ensures course { MovesLife D.state self.old (steps.Provision moment provisioning) result self.new }
+        ensures cause { IsCause (D.failures (disk_of self.old.store)) result (D.failures (disk_of self.new.store)) }
     {
         Answer::Turn(self.core.provision(moment.get(), provisioning))
     }
@@ -88,6 +96,7 @@ impl<D: Sim> Life<D> {
         ensures released { released.new.items ≡ released.old.items }
         ensures full { result ≡ answers.Full → ¬ (IsRoomy (seen D.state self.old.store)) }
         ensures course { MovesLife D.state self.old (steps.Take most) result self.new }
+        ensures cause { IsCause (D.failures (disk_of self.old.store)) result (D.failures (disk_of self.new.store)) }
     {
         match &self.commit {
             Commit::Failed => return Answer::Refused(Refusal::Failed),
@@ -124,6 +133,7 @@ impl<D: Sim> Life<D> {
         ensures course { MatchResult result
             (λ answer. MovesLife D.state self.old (steps.Take most) answer self.new)
             (λ e. (e ≡ OutOfMemory) × (self.new ≡ self.old)) }
+        ensures cause { IfOk result (λ answer. IsCause (D.failures (disk_of self.old.store)) answer (D.failures (disk_of self.new.store))) }
     {
         let room = Room::new(alloc)?;
         released.reserve(MOST_EFFECTS)?;
@@ -154,6 +164,7 @@ impl<D: Sim> Life<D> {
         ensures sound { IsSoundLife D.state self.new }
         ensures room { (there fit : ℕ) → HasRoom self.old.commit there fit → HasRoom self.new.commit there fit }
         ensures course { MovesLife D.state self.old steps.Call result self.new }
+        ensures cause { IsCause (D.failures (disk_of self.old.store)) result (D.failures (disk_of self.new.store)) }
     {
         match mem::replace(&mut self.commit, Commit::Failed) {
             Commit::Begun(phase, room) => match phase.write(&mut self.store) {
@@ -196,6 +207,7 @@ impl<D: Sim> Life<D> {
         ensures sound { IsSoundLife D.state self.new }
         ensures commit { self.new.commit ≡ self.old.commit }
         ensures course { MovesLife D.state self.old steps.Fail result self.new }
+        ensures cause { IsCause (D.failures (disk_of self.old.store)) result (D.failures (disk_of self.new.store)) }
     {
         self.store.arm(1);
         Answer::Armed
@@ -208,6 +220,7 @@ impl<D: Sim> Life<D> {
         ensures sound { IsSoundLife D.state self.new }
         ensures room { HasRoom self.new.commit (length released.new.items) (vec_capacity released.new) }
         ensures course { MovesLife D.state self.old steps.Release result self.new }
+        ensures cause { IsCause (D.failures (disk_of self.old.store)) result (D.failures (disk_of self.new.store)) }
         ensures left { Lets D.state self.old steps.Release result released.old.items released.new.items }
     {
         match mem::replace(&mut self.commit, Commit::Idle) {
@@ -226,7 +239,8 @@ impl<D: Sim> Life<D> {
 
     /// The table as it is now.
     pub(crate) fn list(&self) -> Answer
-        ensures { MovesLife D.state self.now steps.List result self.now }
+        ensures course { MovesLife D.state self.now steps.List result self.now }
+        ensures cause { IsCause (D.failures (disk_of self.now.store)) result (D.failures (disk_of self.now.store)) }
     {
         match self.core.now().copy() {
             Ok(table) => Answer::Listed {

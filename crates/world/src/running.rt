@@ -6,6 +6,7 @@ ghost use Rattle.world.specs.Course.{beginning, course_of};
 ghost use Rattle.world.specs.Follows.{Follows, Runs};
 ghost use Rattle.world.specs.OneLife.{HasNoCrash, IsOneLife};
 ghost use Rattle.world.specs.Sound.{IsSound};
+ghost use Rattle.world.specs.Cause.{AreCauses, failures_at};
 
 use crate::{Answer, Step, World};
 use disk::Sim;
@@ -22,6 +23,8 @@ pub fn run<D: Sim + Drop>(
     requires { IsSound D.state world.old }
     ensures sound { IsSound D.state world.new }
     ensures answers { IfOk result (λ answers. length answers.items ≡ length steps.now) }
+    ensures cause { IfOk result (λ answers.
+        AreCauses (failures_at D.failures world.old.place) answers.items (failures_at D.failures world.new.place)) }
     ensures course { IfOk result (λ answers. Runs D.state world.old steps.now answers.items world.new) }
     ensures one_life { IfOk result (λ answers. (start : TableState) → Follows D.state start beginning world.old
         → HasNoCrash steps.now → IsOneLife start (course_of start beginning steps.now answers.items) steps.now answers.items) }

@@ -4,8 +4,9 @@ ghost use Rattle.lw_types.specs.declared.refusal.Refusal.TheVariants.{DeviceFail
 ghost use Rattle.disk.specs.Outlook.Outlook.{AllSucceed};
 ghost use Rattle.sessions.specs.Table.{empty_table};
 ghost use Rattle.store.specs.Faults.{IsFormatRefusal};
-ghost use Rattle.store.specs.State.{seen, IsSettled};
+ghost use Rattle.store.specs.State.{seen, disk_of, IsSettled};
 ghost use Rattle.world.specs.declared.step.Step.TheVariants as steps;
+ghost use Rattle.world.specs.Cause.{IsCause, failures_at};
 ghost use Rattle.world.specs.Course.{beginning};
 ghost use Rattle.world.specs.Follows.{Follows, Moves, Reopens, Begins};
 ghost use Rattle.world.specs.Sound.{IsSound, IsSoundPlace, HasDisk};
@@ -25,6 +26,7 @@ impl<D: Sim + Drop> World<D> {
     pub fn format(alloc: Global, disk: D, net_id: NetId, slots: u64) -> Result<Self, Refusal>
         ensures sound { IfOk result (IsSound D.state) }
         ensures course { IfOk result (Follows D.state (empty_table net_id slots) beginning) }
+        ensures failures { IfOk result (λ world. failures_at D.failures world.place ≡ D.failures disk) }
         ensures refused { IfErr result (IsFormatRefusal slots (length (D.state disk).content)) }
         ensures unarmed { D.outlook disk ≡ AllSucceed → IfErr result (λ e. e ≢ DeviceFailed) }
     {
@@ -45,6 +47,7 @@ impl<D: Sim + Drop> World<D> {
         requires { IsSound D.state self.old }
         ensures sound { IsSound D.state self.new }
         ensures course { Moves D.state self.old step.now result self.new }
+        ensures cause { IsCause (failures_at D.failures self.old.place) result (failures_at D.failures self.new.place) }
     {
         match step {
             Step::Crash(image) => self.crash(alloc, image),
@@ -61,6 +64,7 @@ impl<D: Sim + Drop> World<D> {
         requires { IsSound D.state self.old }
         ensures sound { IsSound D.state self.new }
         ensures course { Moves D.state self.old steps.Emit result self.new }
+        ensures cause { IsCause (failures_at D.failures self.old.place) result (failures_at D.failures self.new.place) }
     {
         match self.released.get(self.emitted) {
             None => Answer::Idle,
@@ -80,6 +84,7 @@ impl<D: Sim + Drop> World<D> {
         requires { IsSound D.state self.old }
         ensures sound { IsSound D.state self.new }
         ensures course { Moves D.state self.old (steps.Crash image.now) result self.new }
+        ensures cause { IsCause (failures_at D.failures self.old.place) result (failures_at D.failures self.new.place) }
     {
         self.emitted = self.released.len();
         let mut disk = mem::replace(&mut self.place, Place::Crashing).end();
@@ -121,6 +126,7 @@ impl<D: Sim + Drop> World<D> {
 fn reopen<D: Sim>(alloc: Global, disk: D) -> (Place<D>, Answer)
     ensures sound { (there fit : ℕ) → IsSoundPlace D.state result.0 there fit }
     ensures course { Reopens D.state (D.state disk) result.1 result.0 }
+    ensures cause { IsCause (D.failures disk) result.1 (failures_at D.failures result.0) }
 {
     disk::laws::settled_disk_keeps_its_content();
     match store::open_back(alloc, disk) {
@@ -134,6 +140,7 @@ fn begin<D: Sim>(alloc: Global, store: Store<D>) -> (Place<D>, Answer)
     ensures sound { (there fit : ℕ) → IsSoundPlace D.state result.0 there fit }
     ensures course { (seen D.state store).failed ≡ false → IsSettled (seen D.state store)
         → Begins D.state (seen D.state store) result.1 result.0 }
+    ensures cause { IsCause (D.failures (disk_of store)) result.1 (failures_at D.failures result.0) }
 {
     store::laws::a_settled_store_is_on_its_disk();
     let devices = store.table().devices().len();

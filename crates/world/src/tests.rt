@@ -74,9 +74,11 @@ fn step_of(script: char, letter: char) -> Result<Step, Fail> {
 
 const LETTERS: &str = "abtTcfreonl";
 
-// Scripts that lead to a stage: nothing is there, a batch has begun, its gate is open, it is durable,
-// and a device call failed before the gate and on it.
-const OPENINGS: [&str; 6] = ["", "abt", "abtccc", "abtcccc", "abtcfc", "abtcccfc"];
+// Scripts that lead to a stage: nothing is there, two commands wait, a batch has begun, so many of its
+// four device calls succeeded, and one of them failed.
+const OPENINGS: [&str; 11] = [
+    "", "ab", "abt", "abtc", "abtcc", "abtccc", "abtcccc", "abtfc", "abtcfc", "abtccfc", "abtcccfc",
+];
 
 // Whether the answers are the same, tables by their devices.
 fn same(one: &Answer, other: &Answer) -> bool {

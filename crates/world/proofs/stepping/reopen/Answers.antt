@@ -1,9 +1,7 @@
-use Rattle.std.proofs.Common.{◌≡◌, ◌∙◌, ℕ, List, length, inl, refl, ap, subst, sym}
-use Rattle.disk.specs.State.{NothingOpen, IsPermitted}
+use Rattle.std.proofs.Common.{◌∙◌, List, length, refl, subst, sym}
 use Rattle.devices.specs.declared.command.Command.{Command}
 use Rattle.sessions.specs.Table.{folded}
 use Rattle.store.specs.Image.{HoldsTable}
-use Rattle.store.specs.State.{seen}
 use Rattle.world.specs.Answers.{Leaves}
 use Rattle.world.proofs.Opening.{content_permitted, two_reasons}
 use Rattle.world.proofs.stepping.reopen.Goals as goal
@@ -22,10 +20,15 @@ returns-in-Err-clause-course g c start course nothing_open survives =
     let disk = g.D.Disk.state c.args.disk in
     let now = g.D.Disk.state c.in-Err.disk in
     let found = survives disk.content (content_permitted disk) in
-    let still = c.in-Err.ensures.still honest nothing_open in
-    (
+    let still = c.in-Err.ensures.still honest nothing_open in (
       two_reasons c.in-Err.refusal (λ device memory. (c.in-Err.ensures.refused honest device memory).none (folded start found.0) (length found.0) found.2),
-      λ image. (refl, (still, λ image p.
-          subst (λ bytes. (kept : List Command) × Leaves course kept × HoldsTable (folded start kept) (length kept) bytes)
-          (sym (c.settled_disk_keeps_its_content.ensures now still image p ∙ c.in-Err.ensures.same honest)) found)),
+      λ image. (
+        refl,
+        (
+          still,
+          λ image p.
+              subst (λ bytes. (kept : List Command) × Leaves course kept × HoldsTable (folded start kept) (length kept) bytes)
+              (sym (c.settled_disk_keeps_its_content.ensures now still image p ∙ c.in-Err.ensures.same honest)) found,
+        ),
+      ),
     )

@@ -1,4 +1,4 @@
-use Rattle.std.proofs.Common.{rules, ◌≡◌, ◌≢◌, ◌∙◌, List, [], inr, length, refl, ap, subst, sym}
+use Rattle.std.proofs.Common.{rules, ◌≢◌, ◌∙◌, List, [], inr, length, refl, ap, subst, sym}
 use Rattle.sessions.specs.Decision.{IsLegalContinuation}
 use Rattle.sessions.specs.declared.decision.Decision.{Decision}
 use Rattle.session_core.specs.Events.{taken_from}
@@ -24,14 +24,16 @@ returns-in-Ok-clause-course g c start course f =
     let lawful = c.take.ensures.lawful in
     let way = when_healthy s.failed _ _ f1.healthy c.in-Ok.ensures.answer in
     let none = none_lost start course s life.core lawful most f0 c.in_ok-batch.batch took.0
-        (subst (IsLegalContinuation s.table s.seq) c.in-Ok.ensures.batch way.legal) in
+    (subst (IsLegalContinuation s.table s.seq) c.in-Ok.ensures.batch way.legal) in
     let l0 = under_way start course s life.core lawful most f0 c.in-Ok.begun c.in_ok-room.room none
-        (c.in-Ok.ensures.batch ∙ took.0) (c.in-Ok.ensures.begun f1.under_way.1.1) in
+    (c.in-Ok.ensures.batch ∙ took.0) (c.in-Ok.ensures.begun f1.under_way.1.1) in
     let P : Course → Type 0 = λ k. AnswersTake k.stage k most (answers.Taken c.len-count.result)
-        × IsLife start (begun k most) (seen g.D.Disk.state c.set.new.self.store) c.set.new.self.core c.set.new.self.commit in
+    × IsLife start (begun k most) (seen g.D.Disk.state c.set.new.self.store) c.set.new.self.core c.set.new.self.commit in
     at_rest P course f1.under_way.0 f1.under_way.1.0 (
-      (waits start course s life.core lawful most f0 c.requires.some,
-       (none, c.len-count.ensures.len ∙ (ap (λ (ds : List Decision). length ds) took.0 ∙ count start course s life.core lawful most f0))),
+      (
+        waits start course s life.core lawful most f0 c.requires.some,
+        (none, c.len-count.ensures.len ∙ (ap (λ (ds : List Decision). length ds) took.0 ∙ count start course s life.core lawful most f0)),
+      ),
       moved start (begun (record course { stage = Rest; flying = [] }) most) s (seen g.D.Disk.state c.set.new.self.store)
           (taken_from life.core most) c.set.new.self.core (commits.Begun c.in-Ok.begun c.in_ok-room.room) c.set.new.self.commit
           (ap (seen g.D.Disk.state) c.set.ensures.store ∙ c.in-Ok.ensures.same) (c.set.ensures.core ∙ took.1) c.set.ensures.commit l0,
@@ -49,10 +51,12 @@ returns-in-Err-OutOfStep-clause-course g c start course f =
     let illegal = (when_healthy s.failed _ _ f1.healthy c.in-Err-OutOfStep.ensures.answer
     (subst (λ e. e ≢ OutOfMemory) (sym c.in-Err-OutOfStep.field-0-is) no_memory)).1 in
     let P : Course → Type 0 = λ k. AnswersTake k.stage k most (answers.Refused OutOfStep)
-        × IsLife start (gave_up k most) (seen g.D.Disk.state c.begin.new.self) c.take.new.self life.commit in
+    × IsLife start (gave_up k most) (seen g.D.Disk.state c.begin.new.self) c.take.new.self life.commit in
     at_rest P course f1.under_way.0 f1.under_way.1.0 (
-      (waits start course s life.core lawful most f0 c.requires.some,
-       inr (refl, λ none. illegal (subst (IsLegalContinuation s.table s.seq) (sym took.0) (is_legal start course s life.core lawful most f0 c.take.ensures.asked c.requires.some none)))),
+      (
+        waits start course s life.core lawful most f0 c.requires.some,
+        inr (refl, λ none. illegal (subst (IsLegalContinuation s.table s.seq) (sym took.0) (is_legal start course s life.core lawful most f0 c.take.ensures.asked c.requires.some none))),
+      ),
       moved start (gave_up (record course { stage = Rest; flying = [] }) most) s (seen g.D.Disk.state c.begin.new.self)
           (taken_from life.core most) c.take.new.self commits.Idle life.commit
           c.in-Err-OutOfStep.ensures.same took.1 c.requires.idle (lost start course s life.core lawful most f0),
@@ -68,16 +72,19 @@ returns g c =
       room = search rules;
       released = search rules;
       full = search rules;
+      cause = ap g.D.Disk.failures c.begin.ensures.disk;
       course = λ start course f.
           let f1 = subst (λ k. IsLife start course s life.core k) c.requires.idle f in
           let f0 = to_rest (λ k. IsLife start k s life.core commits.Idle) course f1.under_way.0 f1.under_way.1.0 f1 in
           let took = c.in_ok-batch.ensures.taken in
           let lawful = c.take.ensures.lawful in
           let P : Course → Type 0 = λ k. AnswersTake k.stage k most (answers.GivenUp c.len-count.result)
-              × IsLife start (gave_up k most) (seen g.D.Disk.state c.begin.new.self) c.take.new.self life.commit in
+          × IsLife start (gave_up k most) (seen g.D.Disk.state c.begin.new.self) c.take.new.self life.commit in
           at_rest P course f1.under_way.0 f1.under_way.1.0 (
-            (waits start course s life.core lawful most f0 c.requires.some,
-             c.len-count.ensures.len ∙ (ap (λ (ds : List Decision). length ds) took.0 ∙ count start course s life.core lawful most f0)),
+            (
+              waits start course s life.core lawful most f0 c.requires.some,
+              c.len-count.ensures.len ∙ (ap (λ (ds : List Decision). length ds) took.0 ∙ count start course s life.core lawful most f0),
+            ),
             moved start (gave_up (record course { stage = Rest; flying = [] }) most) s (seen g.D.Disk.state c.begin.new.self)
                 (taken_from life.core most) c.take.new.self commits.Idle life.commit
                 c.begin.ensures.same took.1 c.requires.idle (lost start course s life.core lawful most f0),

@@ -28,7 +28,7 @@ returns-in-Ok-clause-course g c start course f =
     let l = write_ok start course s s' life.core room e.table e.seq phase c.in-Ok.next f2 e.call.failed e.change (e.next honest on) (e.images honest on) in
     succeeds start course now c.called.new.self.core c.called.new.self.commit Began stage c.called.result c.called.ensures.answer (inl refl)
     (moved start (record course { stage = Wrote }) s' now life.core c.called.new.self.core (commits.Written c.in-Ok.next room) c.called.new.self.commit
-     (ap (seen state) c.called.ensures.store) c.called.ensures.core c.called.ensures.commit l)
+    (ap (seen state) c.called.ensures.store) c.called.ensures.core c.called.ensures.commit l)
 
 pub returns-in-Err-clause-course : goal.returns-in-Err-clause-course
 returns-in-Err-clause-course g c start course f =
@@ -66,7 +66,7 @@ returns-in-Ok-sync-clause-course g c start course f =
     let l = sync_ok start course s s' life.core room e.table e.seq phase c.in-Ok-sync.next f2 e.call.failed e.change (e.next honest on) (e.images honest on) in
     succeeds start course now c.called-in-Ok-sync.new.self.core c.called-in-Ok-sync.new.self.commit Wrote stage c.called-in-Ok-sync.result c.called-in-Ok-sync.ensures.answer (inl refl)
     (moved start (record course { stage = Synced }) s' now life.core c.called-in-Ok-sync.new.self.core (commits.BodySynced c.in-Ok-sync.next room) c.called-in-Ok-sync.new.self.commit
-     (ap (seen state) c.called-in-Ok-sync.ensures.store) c.called-in-Ok-sync.ensures.core c.called-in-Ok-sync.ensures.commit l)
+    (ap (seen state) c.called-in-Ok-sync.ensures.store) c.called-in-Ok-sync.ensures.core c.called-in-Ok-sync.ensures.commit l)
 
 pub returns-in-Err-sync-clause-course : goal.returns-in-Err-sync-clause-course
 returns-in-Err-sync-clause-course g c start course f =
@@ -104,7 +104,7 @@ returns-in-Ok-open_gate-clause-course g c start course f =
     let l = open_ok start course s s' life.core room e.table e.seq phase c.in-Ok-open_gate.next (synced_size phase) f2 e.call.failed e.change (e.next honest on) (subst (IsOnItsWay s) (sym c.replace.ensures.value ∙ c.in-BodySynced.is) c.requires) (e.images honest on) in
     succeeds start course now c.called-in-Ok-open_gate.new.self.core c.called-in-Ok-open_gate.new.self.commit Synced stage c.called-in-Ok-open_gate.result c.called-in-Ok-open_gate.ensures.answer (inl refl)
     (moved start (record course { stage = Opened }) s' now life.core c.called-in-Ok-open_gate.new.self.core (commits.GateWritten c.in-Ok-open_gate.next room) c.called-in-Ok-open_gate.new.self.commit
-     (ap (seen state) c.called-in-Ok-open_gate.ensures.store) c.called-in-Ok-open_gate.ensures.core c.called-in-Ok-open_gate.ensures.commit l)
+    (ap (seen state) c.called-in-Ok-open_gate.ensures.store) c.called-in-Ok-open_gate.ensures.core c.called-in-Ok-open_gate.ensures.commit l)
 
 pub returns-in-Err-open_gate-clause-course : goal.returns-in-Err-open_gate-clause-course
 returns-in-Err-open_gate-clause-course g c start course f =
@@ -142,7 +142,7 @@ returns-in-Ok-sync-2-clause-course g c start course f =
     let l = made_durable start course s s' life.core room phase (opened_size phase) c.new.result f2 e.table e.seq e.call.failed (c.new.ensures ∙ e.batch) (subst (IsOnItsWay s) (sym c.replace.ensures.value ∙ c.in-GateWritten.is) c.requires) (e.settled honest on) (e.durable honest on) in
     succeeds start course now c.called-in-Ok-sync-2.new.self.core c.called-in-Ok-sync-2.new.self.commit Opened stage c.called-in-Ok-sync-2.result c.called-in-Ok-sync-2.ensures.answer (inl refl)
     (moved start (record course { stage = IsDurable }) s' now life.core c.called-in-Ok-sync-2.new.self.core (commits.Durable c.new.result) c.called-in-Ok-sync-2.new.self.commit
-     (ap (seen state) c.called-in-Ok-sync-2.ensures.store) c.called-in-Ok-sync-2.ensures.core c.called-in-Ok-sync-2.ensures.commit l)
+    (ap (seen state) c.called-in-Ok-sync-2.ensures.store) c.called-in-Ok-sync-2.ensures.core c.called-in-Ok-sync-2.ensures.commit l)
 
 pub returns-in-Err-sync-2-clause-course : goal.returns-in-Err-sync-2-clause-course
 returns-in-Err-sync-2-clause-course g c start course f =

@@ -1,12 +1,14 @@
-use Rattle.std.proofs.Common.{◌≡◌, ◌∙◌, length, refl, ap, subst, sym, arith}
+use Rattle.std.proofs.Common.{◌∙◌, length, ap, subst, sym, arith}
 use Rattle.std.proofs.lemmas.List.{length-map}
 use Rattle.flusher.specs.Released.{effect_of, effects_of_all}
 use Rattle.world.specs.declared.step.Step.TheVariants as steps
 use Rattle.world.specs.Course.{after}
 use Rattle.world.specs.Answers.{AnswersCrash}
+use Rattle.world.specs.Cause.{IsCause, failures_at}
 use Rattle.world.specs.Follows.{FollowsPlace}
 use Rattle.world.specs.Sound.{HasDisk}
 use Rattle.world.proofs.Opening.{disk_survives, crashed_survives, both_ways, crash_left, crash_emitted, crash_once}
+use Rattle.world.proofs.Causes.{disk_of_place}
 use Rattle.world.proofs.lives.World.crash.Goals as goal
 
 pub returns-clause-course : goal.returns-clause-course
@@ -17,11 +19,10 @@ returns-clause-course g c start course f =
     let answer = c.reopen-place.result.1 in
     let came = subst (λ p. HasDisk p c.end-disk.result) c.replace.ensures.value c.end-disk.ensures in
     let survives = crashed_survives start course (state c.end-disk.result) (state c.crash.new.self)
-        (disk_survives state start course world.place c.end-disk.result f.place came) c.crash.ensures.permitted
-        (c.settled_disk_keeps_its_content.ensures (state c.crash.new.self) c.crash.ensures.settled.nothing_open) in
+    (disk_survives state start course world.place c.end-disk.result f.place came) c.crash.ensures.permitted
+    (c.settled_disk_keeps_its_content.ensures (state c.crash.new.self) c.crash.ensures.settled.nothing_open) in
     let opened = c.reopen-place.ensures.course start course c.crash.ensures.settled.nothing_open survives in
-    let next = after start course (steps.Crash image) answer in
-    (
+    let next = after start course (steps.Crash image) answer in (
       both_ways course.is_open (AnswersCrash start course answer) opened.0,
       record {
         place = subst (FollowsPlace state start next) (sym c.put.ensures.place) (opened.1 image);
@@ -36,3 +37,13 @@ returns-clause-course g c start course f =
         once = crash_once start course image answer opened.0 f.once;
       },
     )
+
+pub returns-clause-cause : goal.returns-clause-cause
+returns-clause-cause g c =
+    let failures = g.D.Disk.failures in
+    let world = c.args.self.now in
+    let answer = c.reopen-place.result.1 in
+    let came = subst (λ p. HasDisk p c.end-disk.result) c.replace.ensures.value c.end-disk.ensures in
+    let before = c.crash.ensures.failures ∙ disk_of_place failures world.place c.end-disk.result came in
+    subst (λ p. IsCause (failures_at failures world.place) answer (failures_at failures p)) (sym c.put.ensures.place)
+    (subst (λ n. IsCause n answer (failures_at failures c.reopen-place.result.0)) before c.reopen-place.ensures.cause)

@@ -18,10 +18,13 @@ returns-in-Ok-clause-course g c =
     let life = c.in-Ok.life in
     let settled = made.settled g.met.D.Sim.is_honest in
     record {
-      place = (refl, moved start beginning s (seen state life.store) (opened s.table s.seq) life.core commits.Idle life.commit
-          c.in-Ok.ensures.store c.in-Ok.ensures.core c.in-Ok.ensures.idle
-          (life_opened start beginning [] 0 s refl refl settled made.healthy.0 made.empty.0 made.empty.1
-          (c.a_settled_store_is_on_its_disk.ensures s settled)));
+      place = (
+        refl,
+        moved start beginning s (seen state life.store) (opened s.table s.seq) life.core commits.Idle life.commit
+            c.in-Ok.ensures.store c.in-Ok.ensures.core c.in-Ok.ensures.idle
+            (life_opened start beginning [] 0 s refl refl settled made.healthy.0 made.empty.0 made.empty.1
+            (c.a_settled_store_is_on_its_disk.ensures s settled)),
+      );
       left = ap effects_of_all c.new-in-Ok.ensures.items;
       emitted = refl;
       once = refl;

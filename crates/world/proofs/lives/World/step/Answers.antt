@@ -1,6 +1,6 @@
-use Rattle.std.proofs.Common.{◌≡◌, ◌∙◌, true, ap, subst, sym}
-use Rattle.world.specs.Course.{Course, after}
-use Rattle.world.specs.declared.place.Place.TheVariants.{Open}
+use Rattle.std.proofs.Common.{◌∙◌, subst, sym}
+use Rattle.store.specs.State.{disk_of}
+use Rattle.world.specs.Cause.{IsCause, failures_at}
 use Rattle.world.specs.Follows.{FollowsPlace}
 use Rattle.world.proofs.Going.{step_keeps, right_open, is_own}
 use Rattle.world.proofs.lives.World.step.Goals as goal
@@ -8,6 +8,7 @@ use Rattle.world.proofs.lives.World.step.Goals as goal
 pub returns-in-Open : goal.returns-in-Open
 returns-in-Open g c =
     let state = g.D.Disk.state in
+    let failures = g.D.Disk.failures in
     let step = c.args.step.now in
     let answer = c.step.result in
     let own = is_own step c.in_default.not-Emit c.in_default.not-Crash in
@@ -16,8 +17,7 @@ returns-in-Open g c =
       course = λ start course f.
           let place = subst (FollowsPlace state start course) c.in-Open.is f.place in
           let moved = c.step.ensures.course start course place.1 in
-          let kept = step_keeps start course step answer own in
-          (
+          let kept = step_keeps start course step answer own in (
             right_open start course step answer place.0 moved.0,
             record {
               place = (kept.is_open ∙ place.0, moved.1);
@@ -26,4 +26,5 @@ returns-in-Open g c =
               once = kept.once f.once;
             },
           );
+      cause = subst (λ p. IsCause (failures_at failures p) answer (failures (disk_of c.step.new.self.store))) (sym c.in-Open.is) c.step.ensures.cause;
     }

@@ -1,0 +1,24 @@
+-- A device failure is answered exactly where the disk counted one.
+use Rattle.std.specs.Prelude.{◌≡◌, ◌<◌, ℕ, List, [], ◌∷◌}
+use Rattle.lw_types.specs.declared.refusal.Refusal.TheVariants as refusals
+use Rattle.store.specs.State.{disk_of}
+use Rattle.world.specs.declared.place.Place.{Place}
+use Rattle.world.specs.declared.place.Place.TheVariants.{Open, Closed, Crashing}
+use Rattle.world.specs.declared.answer.Answer.{Answer}
+use Rattle.world.specs.declared.answer.Answer.TheVariants as answers
+
+-- so many failures were counted before the step that was answered so, and so many after it
+abbrev pub IsCause : ℕ → Answer → ℕ → Type 0
+IsCause before (answers.Refused refusals.DeviceFailed) now = before < now
+IsCause before answer now = now ≡ before
+
+-- the same of each step of a run
+abbrev pub AreCauses : ℕ → List Answer → ℕ → Type 0
+AreCauses before [] now = now ≡ before
+AreCauses before (answer ∷ rest) now = (mid : ℕ) × IsCause before answer mid × AreCauses mid rest now
+
+-- how many failures the disk of a world has counted
+abbrev pub failures_at : {D : Type 0} {g : _} → (D → ℕ) → Place D g → ℕ
+failures_at failures (Open life) = failures (disk_of life.store)
+failures_at failures (Closed disk) = failures disk
+failures_at failures Crashing = 0
