@@ -15,6 +15,13 @@ use std::alloc::Global;
 
 /// Takes the steps one after another, and gives the answer to each. Refused with `OutOfMemory` before
 /// the first step, and then nothing was done.
+///
+/// Each answer is the right one in the course that the steps and the answers make, and the world
+/// follows that course (`course`): what was released are the effects of the decided commands, in order
+/// and complete (`one_life`), and after a crash the store has the fold of a beginning of them, which
+/// holds every command of which an effect has left. A step refused as `DeviceFailed` is one in which
+/// the disk counted a failure (`cause`). A step costs by what it touches: only a list, a crash, and the
+/// take after one that was refused cost by the number of devices, and a crash by the journal's bytes.
 pub fn run<D: Sim + Drop>(
     world: &mut World<D>,
     alloc: Global,
