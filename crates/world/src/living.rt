@@ -1,6 +1,7 @@
 // The steps of one life.
-ghost use Rattle.std.specs.Prelude.{◌≡◌, ◌≢◌, ◌++◌, ◌+◌, ◌≤◌, ℕ, [], length, vec_capacity, IfOk, IfErr, MatchResult};
+ghost use Rattle.std.specs.Prelude.{◌≡◌, ◌≢◌, ◌<◌, ◌++◌, ◌+◌, ◌^◌, ◌≤◌, ℕ, [], length, vec_capacity, IfOk, IfErr, MatchResult};
 ghost use Rattle.lw_types.specs.declared.refusal.Refusal.TheVariants.{OutOfMemory};
+ghost use Rattle.disk.specs.Outlook.Outlook.{FailsAfter};
 ghost use Rattle.session_core.specs.State.{opened};
 ghost use Rattle.store.specs.State.{seen, disk_of, IsRoomy};
 ghost use Rattle.world.specs.declared.commit.Commit.TheVariants as commits;
@@ -201,12 +202,14 @@ impl<D: Sim> Life<D> {
         Answer::Called
     }
 
-    /// The next device call is to fail.
+    /// The next device call is to fail, as long as the disk can count failures.
     pub(crate) fn fail(&mut self) -> Answer
         requires { IsSoundLife D.state self.old }
         ensures sound { IsSoundLife D.state self.new }
         ensures commit { self.new.commit ≡ self.old.commit }
         ensures course { MovesLife D.state self.old steps.Fail result self.new }
+        ensures armed { D.failures (disk_of self.old.store) + 1 < 2 ^ 64
+            → D.outlook (disk_of self.new.store) ≡ FailsAfter 0 }
         ensures cause { IsCause (D.failures (disk_of self.old.store)) result (D.failures (disk_of self.new.store)) }
     {
         self.store.arm(1);
