@@ -1,7 +1,12 @@
--- A device failure is answered exactly where the disk counted one.
+-- What stands behind some answers: a device failure is answered exactly where the disk counted one, a full journal only
+-- where it is, and a crash leaves the image that it names.
 use Rattle.std.specs.Prelude.{◌≡◌, ◌<◌, ℕ, List, [], ◌∷◌}
 use Rattle.lw_types.specs.declared.refusal.Refusal.TheVariants as refusals
-use Rattle.store.specs.State.{disk_of}
+use Rattle.disk.specs.declared.sim.Image.{Image}
+use Rattle.disk.specs.Crash.{IsCrashed}
+use Rattle.disk.specs.State.{State}
+use Rattle.store.specs.State.{disk_of, seen, IsRoomy}
+use Rattle.world.specs.Sound.{HasDisk}
 use Rattle.world.specs.declared.place.Place.{Place}
 use Rattle.world.specs.declared.place.Place.TheVariants.{Open, Closed, Crashing}
 use Rattle.world.specs.declared.answer.Answer.{Answer}
@@ -22,3 +27,14 @@ abbrev pub failures_at : {D : Type 0} {g : _} → (D → ℕ) → Place D g → 
 failures_at failures (Open life) = failures (disk_of life.store)
 failures_at failures (Closed disk) = failures disk
 failures_at failures Crashing = 0
+
+-- the journal of an open store has no room for the largest batch
+abbrev pub IsFull : {D : Type 0} {g : _} → (D → State) → Place D g → Type 0
+IsFull state (Open life) = ¬ (IsRoomy (seen state life.store))
+IsFull state (Closed disk) = ⊥
+IsFull state Crashing = ⊥
+
+-- the disk of a world has crashed to this image
+abbrev pub CrashesTo : {D : Type 0} {g : _} → (D → State) → Image → Place D g → Place D g → Type 0
+CrashesTo {D} state image old new =
+    (before now : D) → HasDisk old before → HasDisk new now → IsCrashed image (state before) (state now).content

@@ -59,6 +59,7 @@ impl<D: Sim> Life<D> {
         ensures sound { IsSoundLife D.state self.new }
         ensures room { HasRoom self.new.commit (length released.new.items) (vec_capacity released.new) }
         ensures course { MovesLife D.state self.old step.now result self.new }
+        ensures full { result ≡ answers.Full → ¬ (IsRoomy (seen D.state self.old.store)) }
         ensures cause { IsCause (D.failures (disk_of self.old.store)) result (D.failures (disk_of self.new.store)) }
         ensures left { Lets D.state self.old step.now result released.old.items released.new.items }
     {
@@ -82,6 +83,7 @@ impl<D: Sim> Life<D> {
         ensures sound { IsSoundLife D.state self.new }
         ensures commit { self.new.commit ≡ self.old.commit }
         ensures course { MovesLife D.state self.old (steps.Provision moment provisioning) result self.new }
+        ensures full { result ≢ answers.Full }
         ensures cause { IsCause (D.failures (disk_of self.old.store)) result (D.failures (disk_of self.new.store)) }
     {
         Answer::Turn(self.core.provision(moment.get(), provisioning))
@@ -165,6 +167,7 @@ impl<D: Sim> Life<D> {
         ensures sound { IsSoundLife D.state self.new }
         ensures room { (there fit : ℕ) → HasRoom self.old.commit there fit → HasRoom self.new.commit there fit }
         ensures course { MovesLife D.state self.old steps.Call result self.new }
+        ensures full { result ≢ answers.Full }
         ensures cause { IsCause (D.failures (disk_of self.old.store)) result (D.failures (disk_of self.new.store)) }
     {
         match mem::replace(&mut self.commit, Commit::Failed) {
@@ -208,6 +211,7 @@ impl<D: Sim> Life<D> {
         ensures sound { IsSoundLife D.state self.new }
         ensures commit { self.new.commit ≡ self.old.commit }
         ensures course { MovesLife D.state self.old steps.Fail result self.new }
+        ensures full { result ≢ answers.Full }
         ensures armed { D.failures (disk_of self.old.store) + 1 < 2 ^ 64
             → D.outlook (disk_of self.new.store) ≡ FailsAfter 0 }
         ensures cause { IsCause (D.failures (disk_of self.old.store)) result (D.failures (disk_of self.new.store)) }
@@ -223,6 +227,7 @@ impl<D: Sim> Life<D> {
         ensures sound { IsSoundLife D.state self.new }
         ensures room { HasRoom self.new.commit (length released.new.items) (vec_capacity released.new) }
         ensures course { MovesLife D.state self.old steps.Release result self.new }
+        ensures full { result ≢ answers.Full }
         ensures cause { IsCause (D.failures (disk_of self.old.store)) result (D.failures (disk_of self.new.store)) }
         ensures left { Lets D.state self.old steps.Release result released.old.items released.new.items }
     {
@@ -243,6 +248,7 @@ impl<D: Sim> Life<D> {
     /// The table as it is now.
     pub(crate) fn list(&self) -> Answer
         ensures course { MovesLife D.state self.now steps.List result self.now }
+        ensures full { result ≢ answers.Full }
         ensures cause { IsCause (D.failures (disk_of self.now.store)) result (D.failures (disk_of self.now.store)) }
     {
         match self.core.now().copy() {

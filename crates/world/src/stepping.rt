@@ -2,11 +2,13 @@
 ghost use Rattle.std.specs.Prelude.{◌≡◌, ◌≢◌, ℕ, false, IfOk, IfErr, length};
 ghost use Rattle.lw_types.specs.declared.refusal.Refusal.TheVariants.{DeviceFailed};
 ghost use Rattle.disk.specs.Outlook.Outlook.{AllSucceed};
+ghost use Rattle.disk.specs.declared.sim.Image.{Image};
 ghost use Rattle.sessions.specs.Table.{empty_table};
 ghost use Rattle.store.specs.Faults.{IsFormatRefusal};
 ghost use Rattle.store.specs.State.{seen, disk_of, IsSettled};
+ghost use Rattle.world.specs.declared.answer.Answer.TheVariants as answers;
 ghost use Rattle.world.specs.declared.step.Step.TheVariants as steps;
-ghost use Rattle.world.specs.Cause.{IsCause, failures_at};
+ghost use Rattle.world.specs.Cause.{IsCause, IsFull, CrashesTo, failures_at};
 ghost use Rattle.world.specs.Course.{beginning};
 ghost use Rattle.world.specs.Follows.{Follows, Moves, Reopens, Begins};
 ghost use Rattle.world.specs.Sound.{IsSound, IsSoundPlace, HasDisk};
@@ -47,6 +49,9 @@ impl<D: Sim + Drop> World<D> {
         requires { IsSound D.state self.old }
         ensures sound { IsSound D.state self.new }
         ensures course { Moves D.state self.old step.now result self.new }
+        ensures full { result ≡ answers.Full → IsFull D.state self.old.place }
+        ensures crashed { (image : Image) → step.now ≡ steps.Crash image
+            → CrashesTo D.state image self.old.place self.new.place }
         ensures cause { IsCause (failures_at D.failures self.old.place) result (failures_at D.failures self.new.place) }
     {
         match step {
@@ -64,6 +69,7 @@ impl<D: Sim + Drop> World<D> {
         requires { IsSound D.state self.old }
         ensures sound { IsSound D.state self.new }
         ensures course { Moves D.state self.old steps.Emit result self.new }
+        ensures full { result ≢ answers.Full }
         ensures cause { IsCause (failures_at D.failures self.old.place) result (failures_at D.failures self.new.place) }
     {
         match self.released.get(self.emitted) {
@@ -84,6 +90,8 @@ impl<D: Sim + Drop> World<D> {
         requires { IsSound D.state self.old }
         ensures sound { IsSound D.state self.new }
         ensures course { Moves D.state self.old (steps.Crash image.now) result self.new }
+        ensures full { result ≢ answers.Full }
+        ensures crashed { CrashesTo D.state image.now self.old.place self.new.place }
         ensures cause { IsCause (failures_at D.failures self.old.place) result (failures_at D.failures self.new.place) }
     {
         self.emitted = self.released.len();
@@ -126,6 +134,8 @@ impl<D: Sim + Drop> World<D> {
 fn reopen<D: Sim>(alloc: Global, disk: D) -> (Place<D>, Answer)
     ensures sound { (there fit : ℕ) → IsSoundPlace D.state result.0 there fit }
     ensures course { Reopens D.state (D.state disk) result.1 result.0 }
+    ensures full { result.1 ≢ answers.Full }
+    ensures same { (now : D) → HasDisk result.0 now → (D.state now).content ≡ (D.state disk).content }
     ensures cause { IsCause (D.failures disk) result.1 (failures_at D.failures result.0) }
 {
     disk::laws::settled_disk_keeps_its_content();
@@ -140,6 +150,8 @@ fn begin<D: Sim>(alloc: Global, store: Store<D>) -> (Place<D>, Answer)
     ensures sound { (there fit : ℕ) → IsSoundPlace D.state result.0 there fit }
     ensures course { (seen D.state store).failed ≡ false → IsSettled (seen D.state store)
         → Begins D.state (seen D.state store) result.1 result.0 }
+    ensures full { result.1 ≢ answers.Full }
+    ensures same { (now : D) → HasDisk result.0 now → now ≡ disk_of store }
     ensures cause { IsCause (D.failures (disk_of store)) result.1 (failures_at D.failures result.0) }
 {
     store::laws::a_settled_store_is_on_its_disk();

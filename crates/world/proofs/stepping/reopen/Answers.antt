@@ -1,4 +1,4 @@
-use Rattle.std.proofs.Common.{◌∙◌, List, length, refl, subst, sym}
+use Rattle.std.proofs.Common.{ap, ◌∙◌, List, length, refl, subst, sym}
 use Rattle.devices.specs.declared.command.Command.{Command}
 use Rattle.sessions.specs.Table.{folded}
 use Rattle.store.specs.Image.{HoldsTable}
@@ -32,3 +32,7 @@ returns-in-Err-clause-course g c start course nothing_open survives =
         ),
       ),
     )
+
+pub returns-in-Ok-clause-same : goal.returns-in-Ok-clause-same
+returns-in-Ok-clause-same g c now there =
+    ap (λ d. (g.D.Disk.state d).content) (c.begin.ensures.same now there) ∙ (c.in-Ok.ensures.opened g.met.D.Sim.is_honest).same

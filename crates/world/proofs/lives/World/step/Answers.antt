@@ -1,6 +1,6 @@
 use Rattle.std.proofs.Common.{◌∙◌, subst, sym}
 use Rattle.store.specs.State.{disk_of}
-use Rattle.world.specs.Cause.{IsCause, failures_at}
+use Rattle.world.specs.Cause.{IsCause, IsFull, failures_at}
 use Rattle.world.specs.Follows.{FollowsPlace}
 use Rattle.world.proofs.Going.{step_keeps, right_open, is_own}
 use Rattle.world.proofs.lives.World.step.Goals as goal
@@ -26,5 +26,7 @@ returns-in-Open g c =
               once = kept.once f.once;
             },
           );
+      full = λ h. subst (IsFull state) (sym c.in-Open.is) (c.step.ensures.full h);
+      crashed = λ image is. absurd (c.in_default.not-Crash image is);
       cause = subst (λ p. IsCause (failures_at failures p) answer (failures (disk_of c.step.new.self.store))) (sym c.in-Open.is) c.step.ensures.cause;
     }
