@@ -1,19 +1,6 @@
 // What leaves the network by a decision.
-use crate::{Application, Copies, Frame, Payload, Port, RxDelay, Tag};
-use lw_types::{Eui, JoinNonce};
-
-/// How the best gateway heard an uplink.
-#[derive(Clone, Copy, Debug, PartialEq, Eq)]
-pub struct Reception {
-    pub gateway: Eui,
-    /// In Hz.
-    pub frequency: u32,
-    pub data_rate: u8,
-    /// In quarter dB.
-    pub snr: i16,
-    /// In dBm.
-    pub rssi: i16,
-}
+use crate::{Application, Copies, Payload, Port, RxDelay, Tag};
+use lw_types::{Eui, JoinNonce, PhyPayload, Reception};
 
 /// In which receive windows of the device a gateway may send (TS001-1.0.4 §3.3).
 #[derive(Clone, Copy, Debug, PartialEq, Eq)]
@@ -37,7 +24,7 @@ pub struct Downlink {
     /// Of RX1 after the uplink.
     pub delay: RxDelay,
     pub windows: Windows,
-    pub frame: Frame,
+    pub frame: PhyPayload,
 }
 
 /// What an application is told of its device.
@@ -86,6 +73,7 @@ pub enum Effect {
         port: Port,
         payload: Payload,
         copies: Copies,
+        /// How the gateway that heard it best did.
         best: Reception,
     },
     /// A granted join, for a gateway.

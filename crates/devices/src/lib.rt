@@ -18,7 +18,7 @@ mod tests;
 pub use activation::{Activation, CurrentSession, Session};
 pub use command::{Command, Provisioning};
 pub use device::Device;
-pub use effect::{Downlink, Effect, Reception, Report, Windows};
+pub use effect::{Downlink, Effect, Report, Windows};
 pub use effects::Effects;
 use lw_types::Bytes;
 pub use mac_queue::MacQueue;
@@ -46,9 +46,6 @@ pub type Copies = Ranged<1, 32>;
 
 /// The payload of a frame, or a run of MAC commands, of at most 242 bytes.
 pub type Payload = Bytes<242>;
-
-/// A PHYPayload, of at most 255 bytes.
-pub type Frame = Bytes<255>;
 
 /// The name by which an application knows an item that it queued.
 #[derive(Clone, Copy, Debug, PartialEq, Eq, PartialOrd, Ord, Hash)]

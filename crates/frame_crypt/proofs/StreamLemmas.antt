@@ -8,7 +8,7 @@ use borrow.Rule.Slice.PartMut.{put_mid, post_of}
 use Rattle.std.specs.Int.Bits.{bit_xor, xor_assoc, xor_self, xor_zero_r}
 use Rattle.aes128.specs.Field.{◌⊕◌, power}
 use Rattle.aes128.specs.Cipher.{xor, encrypted, rounds, round_key, next_round_key, shift_rows, sub_bytes}
-use Rattle.frame_crypt.specs.declared.direction.Dir.{Dir}
+use Rattle.lw_types.specs.declared.direction.Direction.{Direction}
 use Rattle.frame_crypt.specs.Frames.{frame_block, keystream, crypted}
 
 pub length-xor : (xs ys : List ℕ) → length xs ≤ length ys → length (xor xs ys) ≡ length xs
@@ -44,7 +44,7 @@ pub length-encrypted : (key block : List ℕ) → length (encrypted key block) �
 unfolding encrypted
 length-encrypted key block = length-last (sub_bytes (rounds key block 9)) (round_key key 10) (length-round_key key 9)
 
-pub length-keystream : (key : List ℕ) (dir : Dir) (addr counter n : ℕ) → length (keystream key dir addr counter n) ≡ 16 * n
+pub length-keystream : (key : List ℕ) (dir : Direction) (addr counter n : ℕ) → length (keystream key dir addr counter n) ≡ 16 * n
 unfolding keystream
 length-keystream key dir addr counter zero = refl
 length-keystream key dir addr counter (suc n) =
@@ -52,7 +52,7 @@ length-keystream key dir addr counter (suc n) =
     ∙ (let before = length-keystream key dir addr counter n in
     let block = length-encrypted key (frame_block 0x01 dir addr counter (suc n)) in omega arith)
 
-pub crypted-twice : (key : List ℕ) (dir : Dir) (addr counter : ℕ) (payload : List ℕ) → crypted key dir addr counter (crypted key dir addr counter payload) ≡ payload
+pub crypted-twice : (key : List ℕ) (dir : Direction) (addr counter : ℕ) (payload : List ℕ) → crypted key dir addr counter (crypted key dir addr counter payload) ≡ payload
 unfolding crypted
 crypted-twice key dir addr counter payload =
     let n : ℕ = (length payload + 15) / 16 in
@@ -102,7 +102,7 @@ left_step old xs ys a k inside small long left =
     drop-put_mid a k xs ys (a + 16) (omega arith) inside long
     ∙ sym (drop-drop 16 a xs) ∙ ap (λ (l : List ℕ). drop 16 l) left ∙ drop-drop 16 a old
 
-pub keystream-more : (key : List ℕ) (dir : Dir) (addr counter n : ℕ) (s block : List ℕ) → s ≡ encrypted key block → block ≡ frame_block 0x01 dir addr counter (n + 1)
+pub keystream-more : (key : List ℕ) (dir : Direction) (addr counter n : ℕ) (s block : List ℕ) → s ≡ encrypted key block → block ≡ frame_block 0x01 dir addr counter (n + 1)
     → keystream key dir addr counter n ++ s ≡ keystream key dir addr counter (n + 1)
 unfolding keystream
 keystream-more key dir addr counter n s block sealed is_block =
@@ -112,7 +112,7 @@ keystream-more key dir addr counter n s block sealed is_block =
     ∙ ap (keystream key dir addr counter) (sym plus)
 
 -- the whole payload
-pub crypted_end : (key : List ℕ) (dir : Dir) (addr counter : ℕ) (old xs : List ℕ) (n : ℕ) → length xs ≡ length old → n ≡ (length old + 15) / 16
+pub crypted_end : (key : List ℕ) (dir : Direction) (addr counter : ℕ) (old xs : List ℕ) (n : ℕ) → length xs ≡ length old → n ≡ (length old + 15) / 16
     → take (16 * n) xs ≡ xor (take (16 * n) old) (keystream key dir addr counter n) → xs ≡ crypted key dir addr counter old
 unfolding crypted
 crypted_end key dir addr counter old xs n same blocks done =

@@ -2,22 +2,21 @@
 ghost use Rattle.std.specs.Prelude.{◌≡◌, ◌≤◌, length};
 ghost use Rattle.frame_crypt.specs.Frames.{crypted, data_mic, direction_byte, frame_block};
 
-use crate::direction::Dir;
 use crate::mac::first_four;
 use aes_cmac::cmac;
 use aes128::{KeySchedule, xor};
-use lw_types::{DevAddr, Key};
+use lw_types::{DevAddr, Direction, Key};
 
-fn direction_byte(dir: Dir) -> u8
+fn direction_byte(dir: Direction) -> u8
     ensures { result ≡ direction_byte dir }
 {
     match dir {
-        Dir::Up => 0,
-        Dir::Down => 1,
+        Direction::Up => 0,
+        Direction::Down => 1,
     }
 }
 
-fn frame_block(first: u8, dir: Dir, addr: DevAddr, counter: u32, last: u8) -> [u8; 16]
+fn frame_block(first: u8, dir: Direction, addr: DevAddr, counter: u32, last: u8) -> [u8; 16]
     ensures { result ≡ frame_block first dir addr.0 counter last }
 {
     let direction = direction_byte(dir);
@@ -30,7 +29,7 @@ fn frame_block(first: u8, dir: Dir, addr: DevAddr, counter: u32, last: u8) -> [u
 
 /// Encrypts the payload of a data frame in place, or decrypts it, which is the same: `key` is the NwkSKey on
 /// port 0, else the AppSKey, and `counter` the whole frame counter.
-pub fn crypt_payload(key: &Key, dir: Dir, addr: DevAddr, counter: u32, payload: &mut [u8])
+pub fn crypt_payload(key: &Key, dir: Direction, addr: DevAddr, counter: u32, payload: &mut [u8])
     requires { length payload.old ≤ 242 }
     ensures { payload.new ≡ crypted key.now.0 dir addr.0 counter payload.old }
 {
@@ -46,7 +45,7 @@ pub fn crypt_payload(key: &Key, dir: Dir, addr: DevAddr, counter: u32, payload: 
 
 /// The MIC of a data frame under the NwkSKey: `message` is all of the frame before its MIC, and `counter` the
 /// whole frame counter.
-pub fn data_mic(key: &Key, dir: Dir, addr: DevAddr, counter: u32, message: &[u8]) -> [u8; 4]
+pub fn data_mic(key: &Key, dir: Direction, addr: DevAddr, counter: u32, message: &[u8]) -> [u8; 4]
     requires { length message.now ≤ 251 }
     ensures { result ≡ data_mic key.now.0 dir addr.0 counter message.now }
 {

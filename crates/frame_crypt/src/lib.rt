@@ -2,13 +2,11 @@
 #![tactic(auto)]
 
 mod data;
-mod direction;
 mod join;
 pub mod laws;
 mod mac;
 
 pub use data::{crypt_payload, data_mic};
-pub use direction::Dir;
 pub use join::{derive_keys, join_mic, seal_accept};
 
 #[cfg(test)]

@@ -4,7 +4,7 @@ ghost use Rattle.std.specs.Prelude.{◌≡◌, length};
 use super::*;
 use aes_cmac::cmac;
 use aes128::encrypt;
-use lw_types::{DevAddr, JoinNonce, Key, NetId};
+use lw_types::{DevAddr, Direction, JoinNonce, Key, NetId};
 use std::test::Fail;
 
 fn key_of(bytes: u128) -> Key {
@@ -19,11 +19,11 @@ fn a_frame_of_another_implementation(rt: HostRuntime) {
     let addr = DevAddr(0x49be7df1);
     let message = *b"\x40\xf1\x7d\xbe\x49\x00\x02\x00\x01\x95\x43\x78\x76";
     assert_eq!(rt;
-        data_mic(&nwk_skey, Dir::Up, addr, 2, &message),
+        data_mic(&nwk_skey, Direction::Up, addr, 2, &message),
         *b"\x2b\x11\xff\x0d"
     );
     let mut payload = *b"\x95\x43\x78\x76";
-    crypt_payload(&app_skey, Dir::Up, addr, 2, &mut payload);
+    crypt_payload(&app_skey, Direction::Up, addr, 2, &mut payload);
     assert_eq!(rt; payload, *b"test");
 }
 
@@ -33,7 +33,7 @@ fn the_mic_of_b_0_and_the_message(rt: HostRuntime) {
     let message = [7u8; 13];
     let up = *b"\x49\0\0\0\0\x00\xf1\x7d\xbe\x49\x02\0\0\0\0\x0d";
     let down = *b"\x49\0\0\0\0\x01\xf1\x7d\xbe\x49\x02\0\0\0\0\x0d";
-    for (dir, block) in [(Dir::Up, up), (Dir::Down, down)] {
+    for (dir, block) in [(Direction::Up, up), (Direction::Down, down)] {
         let mac = cmac(&key, &[&block, &message]);
         let mic = data_mic(&key, dir, DevAddr(0x49be7df1), 2, &message);
         assert_eq!(rt; mic, [mac[0], mac[1], mac[2], mac[3]]);
@@ -48,7 +48,7 @@ fn the_keystream_of_a_1_and_a_2(rt: HostRuntime) {
     encrypt(&key, &mut first);
     encrypt(&key, &mut second);
     let mut payload = [0u8; 20];
-    crypt_payload(&key, Dir::Up, DevAddr(0x49be7df1), 2, &mut payload);
+    crypt_payload(&key, Direction::Up, DevAddr(0x49be7df1), 2, &mut payload);
     assert_eq!(rt; &payload[..16], first.as_slice());
     assert_eq!(rt; &payload[16..], &second[..4]);
 }

@@ -4,7 +4,7 @@ use Rattle.std.specs.Fmt.{decimal, signed_decimal}
 use Rattle.lw_types.specs.Hex.{eui_text, field_text}
 use Rattle.lw_types.specs.Words.{line_of}
 use Rattle.lw_types.specs.declared.identifiers.Eui.{Eui}
-use Rattle.devices.specs.declared.effect.Reception.{Reception}
+use Rattle.lw_types.specs.declared.frame_copy.Reception.{Reception}
 use Rattle.devices.specs.declared.effect.Report.{Report}
 use Rattle.devices.specs.declared.effect.Report.TheVariants.{Provisioned, Queued, MacQueued, Acked, Lost, Mac, Spent}
 

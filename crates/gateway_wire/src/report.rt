@@ -4,8 +4,8 @@ ghost use Rattle.lw_types.specs.declared.refusal.Refusal.TheVariants.{OutOfMemor
 ghost use Rattle.gateway_wire.specs.AppLine.{report_line};
 
 use crate::Line;
-use devices::{Copies, Reception, Report};
-use lw_types::{ByteField, Eui, Refusal};
+use devices::{Copies, Report};
+use lw_types::{ByteField, Eui, Reception, Refusal};
 use std::alloc::Global;
 use std::fmt;
 

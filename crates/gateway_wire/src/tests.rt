@@ -3,13 +3,14 @@ use crate::{
     read_request,
 };
 use devices::{
-    Activation, Application, Command, Copies, CurrentSession, Device, Downlink, Effect, Frame,
-    Item, ItemQueue, NextDown, Payload, Port, Provisioning, Reception, Report, Rx1Offset, RxDelay,
-    Session, Tag, Windows,
+    Activation, Application, Command, Copies, CurrentSession, Device, Downlink, Effect, Item,
+    ItemQueue, NextDown, Payload, Port, Provisioning, Report, Rx1Offset, RxDelay, Session, Tag,
+    Windows,
 };
-use lw_types::{Eui, JoinNonce, Key, NetId, Refusal, Words, read_hex};
+use lw_types::{Eui, JoinNonce, Key, NetId, PhyPayload, Reception, Refusal, Words, read_hex};
 use sessions::{Slots, Table};
 use std::alloc::Global;
+use std::process::Abort;
 use std::test::Fail;
 
 const DEVICE: Eui = Eui(0x1112131415161718);
@@ -45,7 +46,7 @@ fn downlink(
             data_rate,
             delay: RxDelay::new(1).ok_or("delay")?,
             windows,
-            frame: Frame::new(frame).ok().ok_or("frame")?,
+            frame: PhyPayload::new(frame).ok().ok_or("frame")?,
         },
     })
 }
@@ -58,40 +59,41 @@ fn report(report: Report) -> Result<Effect, Fail> {
     })
 }
 
-#[test]
-fn downlinks_are_frames_of_the_wire(rt: HostRuntime) -> Result<(), Fail> {
-    let alloc = rt.alloc();
-    let short = read_hex(alloc, "6001000054300000AABBCCDD")?;
-    let mut long = read_hex(alloc, "600100005400010007")?;
-    long.extend_from_slice(&[0x5A; 104])?;
-    let mut long_bytes = read_hex(
-        alloc,
-        "00851100000000000000B10000C35033BE27A0050100600100005400010007",
-    )?;
-    long_bytes.extend_from_slice(&[0x5A; 104])?;
-    let cases = [
-        (
-            downlink(alloc, 0, Windows::Rx1OrRx2, short)?,
-            read_hex(
-                alloc,
-                "00201100000000000000B10000C35033BE27A00001026001000054300000AABBCCDD",
-            )?,
-        ),
-        (downlink(alloc, 5, Windows::Rx1, long)?, long_bytes),
-    ];
-    for (effect, bytes) in &cases {
-        let frame = gateway_bytes(alloc, effect)?.ok_or("for a gateway")?;
-        assert_eq!(rt; frame.as_slice(), bytes.as_slice());
-        assert!(rt; app_line(alloc, effect)?.is_none());
-        match Emission::of(alloc, effect)? {
-            Emission::Gateway { gateway, frame } => {
-                assert_eq!(rt; gateway, GATEWAY);
-                assert_eq!(rt; frame.as_slice(), bytes.as_slice());
-            }
-            Emission::Application { .. } => assert!(rt; false),
+// The effect leaves as these bytes for its gateway, and as nothing for an application.
+fn is_sent(rt: &impl Abort, alloc: Global, effect: &Effect, bytes: &[u8]) -> Result<(), Fail> {
+    let frame = gateway_bytes(alloc, effect)?.ok_or("for a gateway")?;
+    assert_eq!(rt; frame.as_slice(), bytes);
+    assert!(rt; app_line(alloc, effect)?.is_none());
+    match Emission::of(alloc, effect)? {
+        Emission::Gateway { gateway, frame } => {
+            assert_eq!(rt; gateway, GATEWAY);
+            assert_eq!(rt; frame.as_slice(), bytes);
         }
+        Emission::Application { .. } => assert!(rt; false),
     }
     Ok(())
+}
+
+#[test]
+fn a_downlink_is_a_frame_of_the_wire(rt: HostRuntime) -> Result<(), Fail> {
+    let alloc = rt.alloc();
+    let frame = read_hex(alloc, "6001000054300000AABBCCDD")?;
+    let text = "00201100000000000000B10000C35033BE27A00001026001000054300000AABBCCDD";
+    let bytes = read_hex(alloc, text)?;
+    let effect = downlink(alloc, 0, Windows::Rx1OrRx2, frame)?;
+    is_sent(&rt, alloc, &effect, bytes.as_slice())
+}
+
+#[test]
+fn a_long_downlink_is_one_too(rt: HostRuntime) -> Result<(), Fail> {
+    let alloc = rt.alloc();
+    let mut frame = read_hex(alloc, "600100005400010007")?;
+    frame.extend_from_slice(&[0x5A; 104])?;
+    let text = "00851100000000000000B10000C35033BE27A0050100600100005400010007";
+    let mut bytes = read_hex(alloc, text)?;
+    bytes.extend_from_slice(&[0x5A; 104])?;
+    let effect = downlink(alloc, 5, Windows::Rx1, frame)?;
+    is_sent(&rt, alloc, &effect, bytes.as_slice())
 }
 
 #[test]
@@ -107,7 +109,7 @@ fn an_accept_goes_to_its_gateway(rt: HostRuntime) -> Result<(), Fail> {
             data_rate: 2,
             delay: RxDelay::new(5).ok_or("delay")?,
             windows: Windows::Rx1OrRx2,
-            frame: Frame::empty(alloc),
+            frame: PhyPayload::empty(alloc),
         },
     };
     let frame = gateway_bytes(alloc, &accept)?.ok_or("for a gateway")?;
@@ -116,8 +118,26 @@ fn an_accept_goes_to_its_gateway(rt: HostRuntime) -> Result<(), Fail> {
     Ok(())
 }
 
+// The effect leaves as this line for its application, and as nothing for a gateway.
+fn is_told(rt: &impl Abort, alloc: Global, effect: &Effect, text: &str) -> Result<(), Fail> {
+    let line = app_line(alloc, effect)?.ok_or("for an application")?;
+    assert_eq!(rt; line.as_str(), text);
+    assert!(rt; gateway_bytes(alloc, effect)?.is_none());
+    match Emission::of(alloc, effect)? {
+        Emission::Application {
+            application: to,
+            line,
+        } => {
+            assert_eq!(rt; to, application()?);
+            assert_eq!(rt; line.as_str(), text);
+        }
+        Emission::Gateway { .. } => assert!(rt; false),
+    }
+    Ok(())
+}
+
 #[test]
-fn applications_are_told_in_lines(rt: HostRuntime) -> Result<(), Fail> {
+fn a_payload_is_told_with_its_reception(rt: HostRuntime) -> Result<(), Fail> {
     let alloc = rt.alloc();
     let forward = Effect::Forward {
         application: application()?,
@@ -135,70 +155,49 @@ fn applications_are_told_in_lines(rt: HostRuntime) -> Result<(), Fail> {
             rssi: -95,
         },
     };
-    let cases = [
+    let text =
+        "up 1112131415161718 16777215 4294967295 223 00FF 32 00000000000000B1 868100000 5 -20 -95";
+    is_told(&rt, alloc, &forward, text)
+}
+
+#[test]
+fn reports_are_told_in_lines(rt: HostRuntime) -> Result<(), Fail> {
+    let join_nonce = nonce(1)?;
+    for (told, text) in [
         (
-            forward,
-            "up 1112131415161718 16777215 4294967295 223 00FF 32 00000000000000B1 868100000 5 -20 -95",
-        ),
-        (
-            report(Report::Provisioned { slot: 0 })?,
+            Report::Provisioned { slot: 0 },
             "provisioned 1112131415161718 0",
         ),
+        (Report::Queued { tag: Tag(9) }, "queued 1112131415161718 9"),
         (
-            report(Report::Queued { tag: Tag(9) })?,
-            "queued 1112131415161718 9",
-        ),
-        (
-            report(Report::MacQueued {
-                commands: payload(alloc, "06")?,
-            })?,
-            "macqueued 1112131415161718 06",
-        ),
-        (
-            report(Report::Acked {
+            Report::Acked {
                 tag: Tag(4_294_967_295),
-            })?,
+            },
             "acked 1112131415161718 4294967295",
         ),
-        (
-            report(Report::Lost { tag: Tag(0) })?,
-            "lost 1112131415161718 0",
-        ),
-        (
-            report(Report::Mac {
-                join_nonce: nonce(1)?,
-                commands: payload(alloc, "0307")?,
-            })?,
-            "mac 1112131415161718 1 0307",
-        ),
-        (
-            report(Report::Mac {
-                join_nonce: nonce(1)?,
-                commands: payload(alloc, "")?,
-            })?,
-            "mac 1112131415161718 1 -",
-        ),
-        (
-            report(Report::Spent {
-                join_nonce: nonce(1)?,
-            })?,
-            "spent 1112131415161718 1",
-        ),
-    ];
-    for (effect, text) in &cases {
-        let line = app_line(alloc, effect)?.ok_or("for an application")?;
-        assert_eq!(rt; line.as_str(), *text);
-        assert!(rt; gateway_bytes(alloc, effect)?.is_none());
-        match Emission::of(alloc, effect)? {
-            Emission::Application {
-                application: to,
-                line,
-            } => {
-                assert_eq!(rt; to, application()?);
-                assert_eq!(rt; line.as_str(), *text);
-            }
-            Emission::Gateway { .. } => assert!(rt; false),
-        }
+        (Report::Lost { tag: Tag(0) }, "lost 1112131415161718 0"),
+        (Report::Spent { join_nonce }, "spent 1112131415161718 1"),
+    ] {
+        is_told(&rt, rt.alloc(), &report(told)?, text)?;
+    }
+    Ok(())
+}
+
+#[test]
+fn commands_are_told_as_byte_texts(rt: HostRuntime) -> Result<(), Fail> {
+    let alloc = rt.alloc();
+    let commands = payload(alloc, "06")?;
+    let queued = report(Report::MacQueued { commands })?;
+    is_told(&rt, alloc, &queued, "macqueued 1112131415161718 06")?;
+    for (hex, text) in [
+        ("0307", "mac 1112131415161718 1 0307"),
+        ("", "mac 1112131415161718 1 -"),
+    ] {
+        let sent = report(Report::Mac {
+            join_nonce: nonce(1)?,
+            commands: payload(alloc, hex)?,
+        })?;
+        is_told(&rt, alloc, &sent, text)?;
     }
     Ok(())
 }
@@ -306,20 +305,8 @@ fn brought(dev_eui: Eui) -> Result<Provisioning, Fail> {
     })
 }
 
-#[test]
-fn devices_are_listed_by_slot(rt: HostRuntime) -> Result<(), Fail> {
-    let alloc = rt.alloc();
-    let net_id = NetId::new(0x2A).ok_or("net id")?;
-    let mut table = Table::new(alloc, net_id, Slots::new(8).ok_or("slots")?)?;
-    let empty = list_text(alloc, &table, 0)?;
-    assert_eq!(rt; empty.as_str(), "devices 0 seq 0\n");
-    table.put(0, Device::provisioned(alloc, &brought(DEVICE)?))?;
-    let one = list_text(alloc, &table, 1)?;
-    assert_eq!(rt;
-        one.as_str(),
-        "0 1112131415161718 0 - - - 0\ndevices 1 seq 1\n"
-    );
-    let mut busy = Device::provisioned(alloc, &brought(Eui(0xAB))?);
+// A device with a session in use and one item.
+fn busy(alloc: Global) -> Result<Device, Fail> {
     let session = Session {
         join_nonce: nonce(3)?,
         nwk_skey: Key([1; 16]),
@@ -330,21 +317,48 @@ fn devices_are_listed_by_slot(rt: HostRuntime) -> Result<(), Fail> {
         last_up: 70,
         next_down: NextDown::new(1 << 32).ok_or("next down")?,
     };
-    busy.activation = Activation::new(Some(nonce(5)?), Some(current), None).ok_or("in order")?;
+    let mut device = Device::provisioned(alloc, &brought(Eui(0xAB))?);
+    device.activation = Activation::new(Some(nonce(5)?), Some(current), None).ok_or("in order")?;
+    device.items = one_item(alloc)?;
+    Ok(device)
+}
+
+fn one_item(alloc: Global) -> Result<ItemQueue, Fail> {
     let item = Item {
         tag: Tag(9),
         port: Port::new(7).ok_or("port")?,
         confirmed: false,
         payload: payload(alloc, "AA")?,
     };
-    busy.items = ItemQueue::new(vec![in alloc; item]?)
-        .ok()
-        .ok_or("one item")?;
-    table.put(1, busy)?;
-    let two = list_text(alloc, &table, u64::MAX)?;
-    assert_eq!(rt;
-        two.as_str(),
-        "0 1112131415161718 0 - - - 0\n1 00000000000000AB 5 3 70 4294967296 1\ndevices 2 seq 18446744073709551615\n"
-    );
+    Ok(
+        ItemQueue::new(vec![in alloc; item]?)
+            .ok()
+            .ok_or("one item")?,
+    )
+}
+
+fn is_listed(
+    rt: &impl Abort,
+    alloc: Global,
+    table: &Table,
+    seq: u64,
+    text: &str,
+) -> Result<(), Fail> {
+    assert_eq!(rt; list_text(alloc, table, seq)?.as_str(), text);
     Ok(())
+}
+
+#[test]
+fn devices_are_listed_by_slot(rt: HostRuntime) -> Result<(), Fail> {
+    let alloc = rt.alloc();
+    let net_id = NetId::new(0x2A).ok_or("net id")?;
+    let mut table = Table::new(alloc, net_id, Slots::new(8).ok_or("slots")?)?;
+    is_listed(&rt, alloc, &table, 0, "devices 0 seq 0\n")?;
+    table.put(0, Device::provisioned(alloc, &brought(DEVICE)?))?;
+    let one = "0 1112131415161718 0 - - - 0\ndevices 1 seq 1\n";
+    is_listed(&rt, alloc, &table, 1, one)?;
+    table.put(1, busy(alloc)?)?;
+    let two =
+        "0 1112131415161718 0 - - - 0\n1 00000000000000AB 5 3 70 4294967296 1\ndevices 2 seq 18446744073709551615\n";
+    is_listed(&rt, alloc, &table, u64::MAX, two)
 }

@@ -3,6 +3,7 @@
 
 mod bytes;
 mod decimal;
+mod direction;
 mod frame_copy;
 mod hex_text;
 mod identifiers;
@@ -13,6 +14,7 @@ mod text;
 mod words;
 
 pub use bytes::Bytes;
+pub use direction::Direction;
 pub use frame_copy::{FrameCopy, PhyPayload, Reception};
 pub use hex_text::{ByteField, read_field, read_hex, write_hex};
 pub use identifiers::{DevAddr, Eui, JoinNonce, NetId};

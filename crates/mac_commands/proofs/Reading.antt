@@ -7,8 +7,8 @@ use Rattle.std.proofs.Math.Seq.{take-append_seam, drop-append_seam, take-length,
 use Rattle.std.proofs.lemmas.List.{append-nil, flat_map_more, length-append, length-drop, length-take-le, take-append-drop, take-append-le}
 use Rattle.mac_commands.specs.declared.cid.Cid.{Cid}
 use Rattle.mac_commands.specs.declared.cid.Cid.TheVariants.{LinkCheck, LinkAdr, DutyCycle, RxParamSetup, DevStatus, NewChannel, RxTimingSetup, TxParamSetup, DlChannel, DeviceTime}
-use Rattle.mac_commands.specs.declared.cid.Direction.{Direction}
-use Rattle.mac_commands.specs.declared.cid.Direction.TheVariants.{Down}
+use Rattle.lw_types.specs.declared.direction.Direction.{Direction}
+use Rattle.lw_types.specs.declared.direction.Direction.TheVariants.{Down}
 use Rattle.mac_commands.specs.declared.command.MacCommand.{MacCommand}
 use Rattle.mac_commands.specs.Table.{number_of, payload_len}
 use Rattle.mac_commands.specs.Commands.{IsWhole, command_bytes, spelling, Spells, BeginsWhole, AreCommands, IsLongestFit}

@@ -1,8 +1,8 @@
 -- MAC commands as bytes: each is its identifier and its payload, one command after another.
 use Rattle.std.specs.Prelude.{◌≡◌, ◌≤◌, ℕ, List, ◌∷◌, ◌++◌, length, take, drop}
 use Rattle.std.specs.List.{flat_map, AllByRecursion}
-use Rattle.mac_commands.specs.declared.cid.Direction.{Direction}
-use Rattle.mac_commands.specs.declared.cid.Direction.TheVariants.{Down}
+use Rattle.lw_types.specs.declared.direction.Direction.{Direction}
+use Rattle.lw_types.specs.declared.direction.Direction.TheVariants.{Down}
 use Rattle.mac_commands.specs.declared.command.MacCommand.{MacCommand}
 use Rattle.mac_commands.specs.Table.{number_of, payload_len}
 

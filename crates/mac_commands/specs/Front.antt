@@ -1,6 +1,6 @@
 -- A command at the front of some bytes.
 use Rattle.std.specs.Prelude.{◌≡◌, ℕ, List, ◌++◌}
-use Rattle.mac_commands.specs.declared.cid.Direction.{Direction}
+use Rattle.lw_types.specs.declared.direction.Direction.{Direction}
 use Rattle.mac_commands.specs.declared.command.MacCommand.{MacCommand}
 use Rattle.mac_commands.specs.declared.front.Front.{Front}
 use Rattle.mac_commands.specs.Commands.{IsWhole, command_bytes}

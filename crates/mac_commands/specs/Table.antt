@@ -2,8 +2,8 @@
 use Rattle.std.specs.Prelude.{ℕ}
 use Rattle.mac_commands.specs.declared.cid.Cid.{Cid}
 use Rattle.mac_commands.specs.declared.cid.Cid.TheVariants.{LinkCheck, LinkAdr, DutyCycle, RxParamSetup, DevStatus, NewChannel, RxTimingSetup, TxParamSetup, DlChannel, DeviceTime}
-use Rattle.mac_commands.specs.declared.cid.Direction.{Direction}
-use Rattle.mac_commands.specs.declared.cid.Direction.TheVariants.{Up, Down}
+use Rattle.lw_types.specs.declared.direction.Direction.{Direction}
+use Rattle.lw_types.specs.declared.direction.Direction.TheVariants.{Up, Down}
 
 -- the identifier's byte, and the bytes of payload that follow it in an uplink and in a downlink
 pub record Row : Type 0 where

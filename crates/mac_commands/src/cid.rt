@@ -1,14 +1,7 @@
 // Which MAC commands there are.
 ghost use Rattle.std.specs.Prelude.{◌≡◌, ◌≢◌, ◌≤◌, IfNone, IfSome};
 
-/// Which way a frame goes.
-#[derive(Clone, Copy, Debug, PartialEq, Eq)]
-pub enum Direction {
-    /// From the device to the network.
-    Up,
-    /// From the network to the device.
-    Down,
-}
+use lw_types::Direction;
 
 /// A command identifier. A request and its answer have the same one, in opposite directions.
 #[derive(Clone, Copy, Debug, PartialEq, Eq)]

@@ -1,13 +1,12 @@
 // MAC commands read from a frame.
 ghost use Rattle.std.specs.Prelude.{◌≡◌, IfErr, IfOk};
 ghost use Rattle.lw_types.specs.declared.refusal.Refusal.TheVariants.{OutOfMemory};
-ghost use Rattle.mac_commands.specs.declared.cid.Direction.TheVariants.{Up, Down};
+ghost use Rattle.lw_types.specs.declared.direction.Direction.TheVariants.{Up, Down};
 ghost use Rattle.mac_commands.specs.Commands.{AreCommands};
 
-use crate::cid::Direction;
 use crate::command::Decoded;
 use crate::front::read_front;
-use lw_types::Refusal;
+use lw_types::{Direction, Refusal};
 use std::alloc::Global;
 
 /// The MAC commands of an uplink, in its FOpts or its FRMPayload of port 0. Reading stops at an

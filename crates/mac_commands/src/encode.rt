@@ -2,7 +2,7 @@
 ghost use Rattle.std.specs.Prelude.{◌≡◌, ◌++◌, IfErr, OnErr, OnOk, length};
 ghost use Rattle.std.specs.List.{AllByRecursion};
 ghost use Rattle.lw_types.specs.declared.refusal.Refusal.TheVariants.{OutOfMemory};
-ghost use Rattle.mac_commands.specs.declared.cid.Direction.TheVariants.{Down};
+ghost use Rattle.lw_types.specs.declared.direction.Direction.TheVariants.{Down};
 ghost use Rattle.mac_commands.specs.Commands.{AreCommands, IsWhole, command_bytes, spelling};
 
 use crate::command::MacCommand;

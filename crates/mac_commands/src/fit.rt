@@ -3,8 +3,8 @@ ghost use Rattle.std.specs.Prelude.{List};
 ghost use Rattle.mac_commands.specs.declared.command.MacCommand.{MacCommand};
 ghost use Rattle.mac_commands.specs.Commands.{AreCommands, IsLongestFit};
 
-use crate::cid::Direction;
 use crate::front::read_front;
+use lw_types::Direction;
 
 /// How many bytes of a queue of downlink commands, from its front and in whole commands, fit the room
 /// that is left of the 15 bytes of FOpts (TS001-1.0.4 §4.3.1.6): as many as possible. Takes no memory.

@@ -4,8 +4,9 @@ ghost use Rattle.mac_commands.specs.Commands.{BeginsWhole};
 ghost use Rattle.mac_commands.specs.Front.{IsFront};
 
 use crate::CommandPayload;
-use crate::cid::{Cid, Direction};
+use crate::cid::Cid;
 use crate::command::MacCommand;
+use lw_types::Direction;
 use std::alloc::{AllocError, Global};
 
 /// A command that stands at the front of some bytes, and the bytes behind it.

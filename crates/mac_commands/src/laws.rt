@@ -1,6 +1,6 @@
 //! Laws of MAC commands as bytes, for crates that queue and send them.
 ghost use Rattle.std.specs.Prelude.{◌≡◌, ◌++◌, List, length, ℕ};
-ghost use Rattle.mac_commands.specs.declared.cid.Direction.{Direction};
+ghost use Rattle.lw_types.specs.declared.direction.Direction.{Direction};
 ghost use Rattle.mac_commands.specs.declared.command.MacCommand.{MacCommand};
 ghost use Rattle.mac_commands.specs.Commands.{AreCommands, Spells};
 

@@ -10,7 +10,7 @@ mod fit;
 mod front;
 pub mod laws;
 
-pub use cid::{Cid, Direction};
+pub use cid::Cid;
 pub use command::{Decoded, MacCommand};
 pub use decode::{decode_down, decode_up};
 pub use encode::encode_down;

@@ -1,5 +1,5 @@
 use super::*;
-use lw_types::Refusal;
+use lw_types::{Direction, Refusal};
 use std::alloc::Global;
 use std::test::Fail;
 

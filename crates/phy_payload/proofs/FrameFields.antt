@@ -11,8 +11,8 @@ use Rattle.phy_payload.specs.declared.phy.Mic.{Mic}
 use Rattle.phy_payload.specs.declared.join.JoinRequest.{JoinRequest}
 use Rattle.phy_payload.specs.declared.control.Control.{Control}
 use Rattle.phy_payload.specs.declared.control.Control.TheVariants.{Uplink, Downlink}
-use Rattle.phy_payload.specs.declared.control.Direction.{Direction}
-use Rattle.phy_payload.specs.declared.control.Direction.TheVariants.{Up, Down}
+use Rattle.lw_types.specs.declared.direction.Direction.{Direction}
+use Rattle.lw_types.specs.declared.direction.Direction.TheVariants.{Up, Down}
 use Rattle.phy_payload.specs.declared.contents.Message.{Message}
 use Rattle.phy_payload.specs.Contents.{payload_len}
 use Rattle.phy_payload.specs.Frame.{bit, data_type, f_ctrl, port_and_payload, IsJoinRequest, IsMessage, IsMic}

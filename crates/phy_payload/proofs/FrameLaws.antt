@@ -12,8 +12,8 @@ use Rattle.phy_payload.specs.declared.join.JoinAccept.{JoinAccept}
 use Rattle.phy_payload.specs.declared.join.JoinAccept.TheVariants.{Short, WithCfList}
 use Rattle.phy_payload.specs.declared.control.Control.{Control}
 use Rattle.phy_payload.specs.declared.control.Control.TheVariants.{Uplink, Downlink}
-use Rattle.phy_payload.specs.declared.control.Direction.{Direction}
-use Rattle.phy_payload.specs.declared.control.Direction.TheVariants.{Up, Down}
+use Rattle.lw_types.specs.declared.direction.Direction.{Direction}
+use Rattle.lw_types.specs.declared.direction.Direction.TheVariants.{Up, Down}
 use Rattle.phy_payload.specs.declared.data_frame.DataFrame.{DataFrame}
 use Rattle.phy_payload.specs.Contents.{carried}
 use Rattle.phy_payload.specs.Frame.{data_type, f_ctrl, mhdr, port_and_payload, refusal_of, sealed_bytes, spelling, Fits, IsDataFrame, IsJoinAccept, IsJoinRequest, IsPhy, IsSomePhy}

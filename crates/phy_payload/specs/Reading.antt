@@ -13,8 +13,8 @@ use Rattle.phy_payload.specs.declared.join.JoinAccept.{JoinAccept}
 use Rattle.phy_payload.specs.declared.join.JoinAccept.TheVariants.{Short, WithCfList}
 use Rattle.phy_payload.specs.declared.control.Control.{Control}
 use Rattle.phy_payload.specs.declared.control.Control.TheVariants.{Uplink, Downlink}
-use Rattle.phy_payload.specs.declared.control.Direction.{Direction}
-use Rattle.phy_payload.specs.declared.control.Direction.TheVariants.{Up, Down}
+use Rattle.lw_types.specs.declared.direction.Direction.{Direction}
+use Rattle.lw_types.specs.declared.direction.Direction.TheVariants.{Up, Down}
 use Rattle.phy_payload.specs.declared.contents.Message.{Message}
 use Rattle.phy_payload.specs.declared.data_frame.DataFrame.{DataFrame}
 use Rattle.phy_payload.specs.Contents.{carried}

@@ -3,6 +3,8 @@ ghost use Rattle.std.specs.Prelude.{◌≡◌, ◌<◌, ◌≤◌};
 ghost use Rattle.phy_payload.specs.Frame.{bit, f_ctrl};
 ghost use Rattle.phy_payload.specs.Reading.{control_of, is_set};
 
+use lw_types::Direction;
+
 const ADR: u8 = 0x80;
 
 const ADR_ACK_REQ: u8 = 0x40;
@@ -36,13 +38,6 @@ pub enum Control {
         /// More waits for the device.
         f_pending: bool,
     },
-}
-
-/// The direction of a data frame, which its FType says.
-#[derive(Clone, Copy, Debug, PartialEq, Eq)]
-pub(crate) enum Direction {
-    Up,
-    Down,
 }
 
 fn is_set(byte: u8, value: u8) -> bool

@@ -7,13 +7,13 @@ ghost use Rattle.phy_payload.specs.Frame.{refusal_of, IsPhy, IsSomePhy};
 ghost use Rattle.phy_payload.specs.Reading.{accept_at, data_at, message_of, or_malformed, phy_at, request_at, whole, Answers, Gives};
 
 use crate::contents::{Contents, Message};
-use crate::control::{Control, Direction};
+use crate::control::Control;
 use crate::data_frame::DataFrame;
 use crate::input::Input;
 use crate::join::{JoinAccept, JoinRequest};
 use crate::mhdr;
 use crate::phy::{LONGEST, Mic, Phy};
-use lw_types::{Bytes, DevAddr, Refusal};
+use lw_types::{Bytes, DevAddr, Direction, Refusal};
 use std::alloc::Global;
 
 const UNCONFIRMED: bool = false;

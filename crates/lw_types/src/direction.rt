@@ -1,8 +1,8 @@
-// The direction that a data frame's cryptography takes in (TS001-1.0.4 §4.3.3, §4.4).
+// Which way a frame goes.
 
-/// The direction of a data frame.
+/// Which way a frame goes.
 #[derive(Clone, Copy, Debug, PartialEq, Eq)]
-pub enum Dir {
+pub enum Direction {
     /// From the device to the network.
     Up,
     /// From the network to the device.
