@@ -1,9 +1,16 @@
 -- Causes of answers.
 use Rattle.std.proofs.Common.{◌≡◌, ◌∙◌, ℕ, List, [], ◌∷◌, ◌++◌, sym, ap, subst, refl}
+use Rattle.lw_types.specs.declared.refusal.Refusal.TheVariants.{DeviceFailed}
+use Rattle.disk.specs.declared.sim.Image.{Image}
+use Rattle.disk.specs.Outlook.{Outlook}
+use Rattle.disk.specs.Outlook.Outlook.{AllSucceed}
 use Rattle.world.specs.declared.place.Place.{Place}
 use Rattle.world.specs.declared.place.Place.TheVariants.{Open, Closed, Crashing}
 use Rattle.world.specs.declared.answer.Answer.{Answer}
-use Rattle.world.specs.Cause.{IsCause, AreCauses, failures_at}
+use Rattle.world.specs.declared.answer.Answer.TheVariants as answers
+use Rattle.world.specs.declared.step.Step.{Step}
+use Rattle.world.specs.declared.step.Step.TheVariants as steps
+use Rattle.world.specs.Cause.{IsCause, AreCauses, IsForetold, AreForetold, failures_at, outlook_at}
 use Rattle.world.specs.Sound.{HasDisk}
 
 -- the disk that comes out of a world has counted as many
@@ -23,3 +30,33 @@ pub one_disk : {D : Type 0} {g : _} (place : Place D g) (a b : D) → HasDisk pl
 one_disk (Open life) a b first second = first ∙ sym second
 one_disk (Closed d) a b first second = first ∙ sym second
 one_disk Crashing a b first second = absurd first
+
+-- and its outlook
+pub outlook_of_place : {D : Type 0} {g : _} (outlook : D → Outlook) (place : Place D g) (disk : D) → HasDisk place disk → outlook disk ≡ outlook_at outlook place
+outlook_of_place outlook (Open life) disk is = ap outlook is
+outlook_of_place outlook (Closed d) disk is = ap outlook is
+outlook_of_place outlook Crashing disk is = absurd is
+
+pub foretold_on : (before mid now : Outlook) (ss : List Step) (told : List Answer) (step : Step) (answer : Answer) → AreForetold before ss told mid
+    → IsForetold mid step answer now → AreForetold before (ss ++ step ∷ []) (told ++ answer ∷ []) now
+foretold_on before mid now [] [] step answer told one = (now, subst (λ o. IsForetold o step answer now) told one, refl)
+foretold_on before mid now [] (a ∷ rest) step answer told one = absurd told
+foretold_on before mid now (s ∷ ss) [] step answer told one = absurd told
+foretold_on before mid now (s ∷ ss) (a ∷ rest) step answer told one = (told.0, told.1, foretold_on told.0 mid now ss rest step answer told.2 one)
+
+-- nothing is known otherwise after a step that was idle
+pub idle_foretold : (o : Outlook) (step : Step) → IsForetold o step answers.Idle o
+idle_foretold o (steps.Provision moment p) = λ h. h
+idle_foretold o (steps.Take most) = λ h. h
+idle_foretold o steps.Call = λ h. h
+idle_foretold o steps.Fail = λ h. h
+idle_foretold o steps.Release = λ h. h
+idle_foretold o steps.Emit = λ h. h
+idle_foretold o steps.List = λ h. h
+idle_foretold o (steps.Crash image) = λ h. h
+
+-- an opening, which makes several
+pub opening_foretold : (o mid now : Outlook) (image : Image) (answer : Answer) → (o ≡ AllSucceed → mid ≡ AllSucceed)
+    → IsForetold mid (steps.Crash image) answer now → IsForetold o (steps.Crash image) answer now
+opening_foretold o mid now image (answers.Refused DeviceFailed) kept told = λ is. told (kept is)
+opening_foretold o mid now image answer kept told = λ is. told (kept is)

@@ -1,9 +1,11 @@
--- What stands behind some answers: a device failure is answered exactly where the disk counted one, a full journal only
--- where it is, and a crash leaves the image that it names.
-use Rattle.std.specs.Prelude.{◌≡◌, ◌<◌, ℕ, List, [], ◌∷◌}
+-- What stands behind some answers: a device failure is answered exactly where the disk counted one, and only where one
+-- was armed; a full journal only where it is; and a crash leaves the image that it names.
+use Rattle.std.specs.Prelude.{◌≡◌, ◌≢◌, ◌<◌, ℕ, List, [], ◌∷◌}
 use Rattle.lw_types.specs.declared.refusal.Refusal.TheVariants as refusals
 use Rattle.disk.specs.declared.sim.Image.{Image}
 use Rattle.disk.specs.Crash.{IsCrashed}
+use Rattle.disk.specs.Outlook.{Outlook}
+use Rattle.disk.specs.Outlook.Outlook.{AllSucceed}
 use Rattle.disk.specs.State.{State}
 use Rattle.store.specs.State.{disk_of, seen, IsRoomy}
 use Rattle.world.specs.Sound.{HasDisk}
@@ -11,6 +13,8 @@ use Rattle.world.specs.declared.place.Place.{Place}
 use Rattle.world.specs.declared.place.Place.TheVariants.{Open, Closed, Crashing}
 use Rattle.world.specs.declared.answer.Answer.{Answer}
 use Rattle.world.specs.declared.answer.Answer.TheVariants as answers
+use Rattle.world.specs.declared.step.Step.{Step}
+use Rattle.world.specs.declared.step.Step.TheVariants as steps
 
 -- so many failures were counted before the step that was answered so, and so many after it
 abbrev pub IsCause : ℕ → Answer → ℕ → Type 0
@@ -27,6 +31,25 @@ abbrev pub failures_at : {D : Type 0} {g : _} → (D → ℕ) → Place D g → 
 failures_at failures (Open life) = failures (disk_of life.store)
 failures_at failures (Closed disk) = failures disk
 failures_at failures Crashing = 0
+
+-- No device call fails while all are to succeed, and they are until a fail. After a call that failed they are again.
+abbrev pub IsForetold : Outlook → Step → Answer → Outlook → Type 0
+IsForetold before steps.Fail answers.Armed now = Unit {0}
+IsForetold before steps.Call (answers.Refused e) now = (before ≢ AllSucceed) × (now ≡ AllSucceed)
+IsForetold before step (answers.Refused refusals.DeviceFailed) now = before ≢ AllSucceed
+IsForetold before step answer now = before ≡ AllSucceed → now ≡ AllSucceed
+
+-- the same of each step of a run
+abbrev pub AreForetold : Outlook → List Step → List Answer → Outlook → Type 0
+AreForetold before [] [] now = now ≡ before
+AreForetold before (step ∷ rest) (answer ∷ others) now = (mid : Outlook) × IsForetold before step answer mid × AreForetold mid rest others now
+AreForetold before rest others now = ⊥
+
+-- what is known of the coming device calls of a world
+abbrev pub outlook_at : {D : Type 0} {g : _} → (D → Outlook) → Place D g → Outlook
+outlook_at outlook (Open life) = outlook (disk_of life.store)
+outlook_at outlook (Closed disk) = outlook disk
+outlook_at outlook Crashing = AllSucceed
 
 -- the journal of an open store has no room for the largest batch
 abbrev pub IsFull : {D : Type 0} {g : _} → (D → State) → Place D g → Type 0

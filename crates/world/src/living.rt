@@ -7,7 +7,7 @@ ghost use Rattle.store.specs.State.{seen, disk_of, IsRoomy};
 ghost use Rattle.world.specs.declared.commit.Commit.TheVariants as commits;
 ghost use Rattle.world.specs.declared.step.Step.TheVariants as steps;
 ghost use Rattle.world.specs.declared.answer.Answer.TheVariants as answers;
-ghost use Rattle.world.specs.Cause.{IsCause};
+ghost use Rattle.world.specs.Cause.{IsCause, IsForetold};
 ghost use Rattle.world.specs.Follows.{IsOwn, MovesLife, Lets};
 ghost use Rattle.world.specs.Sound.{IsSoundLife, HasRoom};
 
@@ -61,6 +61,8 @@ impl<D: Sim> Life<D> {
         ensures course { MovesLife D.state self.old step.now result self.new }
         ensures full { result ≡ answers.Full → ¬ (IsRoomy (seen D.state self.old.store)) }
         ensures cause { IsCause (D.failures (disk_of self.old.store)) result (D.failures (disk_of self.new.store)) }
+        ensures foretold { IsForetold (D.outlook (disk_of self.old.store)) step.now result
+            (D.outlook (disk_of self.new.store)) }
         ensures left { Lets D.state self.old step.now result released.old.items released.new.items }
     {
         match step {
@@ -85,6 +87,8 @@ impl<D: Sim> Life<D> {
         ensures course { MovesLife D.state self.old (steps.Provision moment provisioning) result self.new }
         ensures full { result ≢ answers.Full }
         ensures cause { IsCause (D.failures (disk_of self.old.store)) result (D.failures (disk_of self.new.store)) }
+        ensures foretold { IsForetold (D.outlook (disk_of self.old.store)) (steps.Provision moment provisioning) result
+            (D.outlook (disk_of self.new.store)) }
     {
         Answer::Turn(self.core.provision(moment.get(), provisioning))
     }
@@ -100,6 +104,8 @@ impl<D: Sim> Life<D> {
         ensures full { result ≡ answers.Full → ¬ (IsRoomy (seen D.state self.old.store)) }
         ensures course { MovesLife D.state self.old (steps.Take most) result self.new }
         ensures cause { IsCause (D.failures (disk_of self.old.store)) result (D.failures (disk_of self.new.store)) }
+        ensures foretold { IsForetold (D.outlook (disk_of self.old.store)) (steps.Take most) result
+            (D.outlook (disk_of self.new.store)) }
     {
         match &self.commit {
             Commit::Failed => return Answer::Refused(Refusal::Failed),
@@ -137,6 +143,8 @@ impl<D: Sim> Life<D> {
             (λ answer. MovesLife D.state self.old (steps.Take most) answer self.new)
             (λ e. (e ≡ OutOfMemory) × (self.new ≡ self.old)) }
         ensures cause { IfOk result (λ answer. IsCause (D.failures (disk_of self.old.store)) answer (D.failures (disk_of self.new.store))) }
+        ensures foretold { IfOk result (λ answer. IsForetold (D.outlook (disk_of self.old.store)) (steps.Take most) answer
+            (D.outlook (disk_of self.new.store))) }
     {
         let room = Room::new(alloc)?;
         released.reserve(MOST_EFFECTS)?;
@@ -169,6 +177,8 @@ impl<D: Sim> Life<D> {
         ensures course { MovesLife D.state self.old steps.Call result self.new }
         ensures full { result ≢ answers.Full }
         ensures cause { IsCause (D.failures (disk_of self.old.store)) result (D.failures (disk_of self.new.store)) }
+        ensures foretold { IsForetold (D.outlook (disk_of self.old.store)) steps.Call result
+            (D.outlook (disk_of self.new.store)) }
     {
         match mem::replace(&mut self.commit, Commit::Failed) {
             Commit::Begun(phase, room) => match phase.write(&mut self.store) {
@@ -215,6 +225,8 @@ impl<D: Sim> Life<D> {
         ensures armed { D.failures (disk_of self.old.store) + 1 < 2 ^ 64
             → D.outlook (disk_of self.new.store) ≡ FailsAfter 0 }
         ensures cause { IsCause (D.failures (disk_of self.old.store)) result (D.failures (disk_of self.new.store)) }
+        ensures foretold { IsForetold (D.outlook (disk_of self.old.store)) steps.Fail result
+            (D.outlook (disk_of self.new.store)) }
     {
         self.store.arm(1);
         Answer::Armed
@@ -229,6 +241,8 @@ impl<D: Sim> Life<D> {
         ensures course { MovesLife D.state self.old steps.Release result self.new }
         ensures full { result ≢ answers.Full }
         ensures cause { IsCause (D.failures (disk_of self.old.store)) result (D.failures (disk_of self.new.store)) }
+        ensures foretold { IsForetold (D.outlook (disk_of self.old.store)) steps.Release result
+            (D.outlook (disk_of self.new.store)) }
         ensures left { Lets D.state self.old steps.Release result released.old.items released.new.items }
     {
         match mem::replace(&mut self.commit, Commit::Idle) {
@@ -250,6 +264,8 @@ impl<D: Sim> Life<D> {
         ensures course { MovesLife D.state self.now steps.List result self.now }
         ensures full { result ≢ answers.Full }
         ensures cause { IsCause (D.failures (disk_of self.now.store)) result (D.failures (disk_of self.now.store)) }
+        ensures foretold { IsForetold (D.outlook (disk_of self.now.store)) steps.List result
+            (D.outlook (disk_of self.now.store)) }
     {
         match self.core.now().copy() {
             Ok(table) => Answer::Listed {

@@ -1,5 +1,5 @@
 // The steps of a world.
-ghost use Rattle.std.specs.Prelude.{◌≡◌, ◌≢◌, ℕ, false, IfOk, IfErr, length};
+ghost use Rattle.std.specs.Prelude.{◌≡◌, ◌≢◌, ℕ, false, IfOk, IfErr, MatchResult, length};
 ghost use Rattle.lw_types.specs.declared.refusal.Refusal.TheVariants.{DeviceFailed};
 ghost use Rattle.disk.specs.Outlook.Outlook.{AllSucceed};
 ghost use Rattle.disk.specs.declared.sim.Image.{Image};
@@ -8,7 +8,7 @@ ghost use Rattle.store.specs.Faults.{IsFormatRefusal};
 ghost use Rattle.store.specs.State.{seen, disk_of, IsSettled};
 ghost use Rattle.world.specs.declared.answer.Answer.TheVariants as answers;
 ghost use Rattle.world.specs.declared.step.Step.TheVariants as steps;
-ghost use Rattle.world.specs.Cause.{IsCause, IsFull, CrashesTo, failures_at};
+ghost use Rattle.world.specs.Cause.{IsCause, IsForetold, IsFull, CrashesTo, failures_at, outlook_at};
 ghost use Rattle.world.specs.Course.{beginning};
 ghost use Rattle.world.specs.Follows.{Follows, Moves, Reopens, Begins};
 ghost use Rattle.world.specs.Sound.{IsSound, IsSoundPlace, HasDisk};
@@ -30,7 +30,9 @@ impl<D: Sim + Drop> World<D> {
         ensures course { IfOk result (Follows D.state (empty_table net_id slots) beginning) }
         ensures failures { IfOk result (λ world. failures_at D.failures world.place ≡ D.failures disk) }
         ensures refused { IfErr result (IsFormatRefusal slots (length (D.state disk).content)) }
-        ensures unarmed { D.outlook disk ≡ AllSucceed → IfErr result (λ e. e ≢ DeviceFailed) }
+        ensures unarmed { D.outlook disk ≡ AllSucceed → MatchResult result
+            (λ world. outlook_at D.outlook world.place ≡ AllSucceed)
+            (λ e. e ≢ DeviceFailed) }
     {
         let store = store::format(alloc, disk, net_id, slots)?;
         store::laws::a_settled_store_is_on_its_disk();
@@ -53,6 +55,8 @@ impl<D: Sim + Drop> World<D> {
         ensures crashed { (image : Image) → step.now ≡ steps.Crash image
             → CrashesTo D.state image self.old.place self.new.place }
         ensures cause { IsCause (failures_at D.failures self.old.place) result (failures_at D.failures self.new.place) }
+        ensures foretold { IsForetold (outlook_at D.outlook self.old.place) step.now result
+            (outlook_at D.outlook self.new.place) }
     {
         match step {
             Step::Crash(image) => self.crash(alloc, image),
@@ -71,6 +75,8 @@ impl<D: Sim + Drop> World<D> {
         ensures course { Moves D.state self.old steps.Emit result self.new }
         ensures full { result ≢ answers.Full }
         ensures cause { IsCause (failures_at D.failures self.old.place) result (failures_at D.failures self.new.place) }
+        ensures foretold { IsForetold (outlook_at D.outlook self.old.place) steps.Emit result
+            (outlook_at D.outlook self.new.place) }
     {
         match self.released.get(self.emitted) {
             None => Answer::Idle,
@@ -93,6 +99,8 @@ impl<D: Sim + Drop> World<D> {
         ensures full { result ≢ answers.Full }
         ensures crashed { CrashesTo D.state image.now self.old.place self.new.place }
         ensures cause { IsCause (failures_at D.failures self.old.place) result (failures_at D.failures self.new.place) }
+        ensures foretold { IsForetold (outlook_at D.outlook self.old.place) (steps.Crash image.now) result
+            (outlook_at D.outlook self.new.place) }
     {
         self.emitted = self.released.len();
         let mut disk = mem::replace(&mut self.place, Place::Crashing).end();
@@ -137,6 +145,8 @@ fn reopen<D: Sim>(alloc: Global, disk: D) -> (Place<D>, Answer)
     ensures full { result.1 ≢ answers.Full }
     ensures same { (now : D) → HasDisk result.0 now → (D.state now).content ≡ (D.state disk).content }
     ensures cause { IsCause (D.failures disk) result.1 (failures_at D.failures result.0) }
+    ensures foretold { (image : Image) → IsForetold (D.outlook disk) (steps.Crash image) result.1
+        (outlook_at D.outlook result.0) }
 {
     disk::laws::settled_disk_keeps_its_content();
     match store::open_back(alloc, disk) {
@@ -153,6 +163,8 @@ fn begin<D: Sim>(alloc: Global, store: Store<D>) -> (Place<D>, Answer)
     ensures full { result.1 ≢ answers.Full }
     ensures same { (now : D) → HasDisk result.0 now → now ≡ disk_of store }
     ensures cause { IsCause (D.failures (disk_of store)) result.1 (failures_at D.failures result.0) }
+    ensures foretold { (image : Image) → IsForetold (D.outlook (disk_of store)) (steps.Crash image) result.1
+        (outlook_at D.outlook result.0) }
 {
     store::laws::a_settled_store_is_on_its_disk();
     let devices = store.table().devices().len();

@@ -3,6 +3,9 @@ use Rattle.devices.specs.declared.command.Command.{Command}
 use Rattle.sessions.specs.Table.{folded}
 use Rattle.store.specs.Image.{HoldsTable}
 use Rattle.world.specs.Answers.{Leaves}
+use Rattle.store.specs.State.{disk_of}
+use Rattle.world.specs.Cause.{outlook_at}
+use Rattle.world.proofs.Causes.{opening_foretold}
 use Rattle.world.proofs.Opening.{content_permitted, two_reasons}
 use Rattle.world.proofs.stepping.reopen.Goals as goal
 
@@ -36,3 +39,9 @@ returns-in-Err-clause-course g c start course nothing_open survives =
 pub returns-in-Ok-clause-same : goal.returns-in-Ok-clause-same
 returns-in-Ok-clause-same g c now there =
     ap (λ d. (g.D.Disk.state d).content) (c.begin.ensures.same now there) ∙ (c.in-Ok.ensures.opened g.met.D.Sim.is_honest).same
+
+pub returns-in-Ok-clause-foretold : goal.returns-in-Ok-clause-foretold
+returns-in-Ok-clause-foretold g c image =
+    let outlook = g.D.Disk.outlook in
+    opening_foretold (outlook c.args.disk) (outlook (disk_of c.in-Ok.store)) (outlook_at outlook c.begin.result.0) image c.begin.result.1
+    c.in-Ok.ensures.unarmed (c.begin.ensures.foretold image)

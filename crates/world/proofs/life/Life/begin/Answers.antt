@@ -73,6 +73,7 @@ returns g c =
       released = search rules;
       full = search rules;
       cause = ap g.D.Disk.failures c.begin.ensures.disk;
+      foretold = λ is. ap g.D.Disk.outlook c.begin.ensures.disk ∙ is;
       course = λ start course f.
           let f1 = subst (λ k. IsLife start course s life.core k) c.requires.idle f in
           let f0 = to_rest (λ k. IsLife start k s life.core commits.Idle) course f1.under_way.0 f1.under_way.1.0 f1 in

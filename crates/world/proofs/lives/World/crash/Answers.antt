@@ -4,11 +4,11 @@ use Rattle.flusher.specs.Released.{effect_of, effects_of_all}
 use Rattle.world.specs.declared.step.Step.TheVariants as steps
 use Rattle.world.specs.Course.{after}
 use Rattle.world.specs.Answers.{AnswersCrash}
-use Rattle.world.specs.Cause.{IsCause, failures_at}
+use Rattle.world.specs.Cause.{IsCause, IsForetold, failures_at, outlook_at}
 use Rattle.world.specs.Follows.{FollowsPlace}
 use Rattle.world.specs.Sound.{HasDisk}
 use Rattle.world.proofs.Opening.{disk_survives, crashed_survives, both_ways, crash_left, crash_emitted, crash_once}
-use Rattle.world.proofs.Causes.{disk_of_place}
+use Rattle.world.proofs.Causes.{disk_of_place, outlook_of_place}
 use Rattle.world.proofs.lives.World.crash.Goals as goal
 
 pub returns-clause-course : goal.returns-clause-course
@@ -47,3 +47,14 @@ returns-clause-cause g c =
     let before = c.crash.ensures.failures ∙ disk_of_place failures world.place c.end-disk.result came in
     subst (λ p. IsCause (failures_at failures world.place) answer (failures_at failures p)) (sym c.put.ensures.place)
     (subst (λ n. IsCause n answer (failures_at failures c.reopen-place.result.0)) before c.reopen-place.ensures.cause)
+
+pub returns-clause-foretold : goal.returns-clause-foretold
+returns-clause-foretold g c =
+    let outlook = g.D.Disk.outlook in
+    let world = c.args.self.now in
+    let crashed = steps.Crash c.args.image.now in
+    let answer = c.reopen-place.result.1 in
+    let came = subst (λ p. HasDisk p c.end-disk.result) c.replace.ensures.value c.end-disk.ensures in
+    let before = c.crash.ensures.outlook ∙ outlook_of_place outlook world.place c.end-disk.result came in
+    subst (λ p. IsForetold (outlook_at outlook world.place) crashed answer (outlook_at outlook p)) (sym c.put.ensures.place)
+    (subst (λ o. IsForetold o crashed answer (outlook_at outlook c.reopen-place.result.0)) before (c.reopen-place.ensures.foretold c.args.image.now))

@@ -1,6 +1,6 @@
 use Rattle.std.proofs.Common.{◌∙◌, subst, sym}
 use Rattle.store.specs.State.{disk_of}
-use Rattle.world.specs.Cause.{IsCause, IsFull, failures_at}
+use Rattle.world.specs.Cause.{IsCause, IsForetold, IsFull, failures_at, outlook_at}
 use Rattle.world.specs.Follows.{FollowsPlace}
 use Rattle.world.proofs.Going.{step_keeps, right_open, is_own}
 use Rattle.world.proofs.lives.World.step.Goals as goal
@@ -9,6 +9,7 @@ pub returns-in-Open : goal.returns-in-Open
 returns-in-Open g c =
     let state = g.D.Disk.state in
     let failures = g.D.Disk.failures in
+    let outlook = g.D.Disk.outlook in
     let step = c.args.step.now in
     let answer = c.step.result in
     let own = is_own step c.in_default.not-Emit c.in_default.not-Crash in
@@ -29,4 +30,5 @@ returns-in-Open g c =
       full = λ h. subst (IsFull state) (sym c.in-Open.is) (c.step.ensures.full h);
       crashed = λ image is. absurd (c.in_default.not-Crash image is);
       cause = subst (λ p. IsCause (failures_at failures p) answer (failures (disk_of c.step.new.self.store))) (sym c.in-Open.is) c.step.ensures.cause;
+      foretold = subst (λ p. IsForetold (outlook_at outlook p) step answer (outlook (disk_of c.step.new.self.store))) (sym c.in-Open.is) c.step.ensures.foretold;
     }

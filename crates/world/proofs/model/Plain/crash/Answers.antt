@@ -1,25 +1,14 @@
-use Rattle.std.proofs.Common.{◌≡◌, ◌++◌, ◌∙◌, ℕ, Bool, true, false, List, [], length, take, sym, ap, subst, rules, MatchBool}
-use Rattle.std.proofs.lemmas.List.{append_assoc}
-use Rattle.std.proofs.Math.Seq.{take-append_seam}
+use Rattle.std.proofs.Common.{◌≡◌, ◌∙◌, ℕ, Bool, true, List, [], length, take, sym, ap, subst, rules}
 use Rattle.devices.specs.declared.command.Command.{Command}
 use Rattle.disk.specs.declared.sim.Image.{Image}
 use Rattle.sessions.specs.Table.{TableState, empty_table, folded}
 use Rattle.world.specs.declared.step.Step.TheVariants.{Crash}
 use Rattle.world.specs.declared.answer.Answer.TheVariants.{Opened}
 use Rattle.world.specs.Answers.{Leaves}
-use Rattle.world.specs.Course.{Course, Stage, decided}
+use Rattle.world.specs.Course.{Stage, decided}
 use Rattle.world.specs.Plain.{PlainState, Goes, kept_with}
+use Rattle.world.proofs.Opening.{both_ways, kept_front}
 use Rattle.world.proofs.model.Plain.crash.Goals as goal
-
--- what a crash leaves is a beginning of what was decided
-beginning-kept : (flew : Bool) (c : Course) → take (length (kept_with flew c)) (decided c) ≡ kept_with flew c
-beginning-kept true c = ap (take (length (c.settled ++ c.flying))) (sym (append_assoc c.settled c.flying _)) ∙ take-append_seam (c.settled ++ c.flying) _
-beginning-kept false c = take-append_seam c.settled _
-
--- whether the store was open or not
-either : {P : Type 0} (b : Bool) → P → MatchBool b P P
-either true p = p
-either false p = p
 
 -- the model after an opening that found these commands
 abbrev landed : PlainState → List Command → List Command → List Command → ℕ → PlainState
@@ -46,10 +35,10 @@ crashed : (v old : PlainState) → v ≡ old → (image : Image) (flew : Bool) (
     → Goes old (Crash image) (Opened devices seq) (landed v kept flying untaken emitted)
 crashed v old is image flew kept flying untaken devices seq emitted leaves found number count none empty lost =
     let settled : kept ≡ take seq (decided v.course) =
-    found ∙ (sym (beginning-kept flew v.course) ∙ ap (λ n. take n (decided v.course)) (ap length (sym found) ∙ sym number)) in
+    found ∙ (sym (kept_front v.course (kept_with flew v.course) leaves) ∙ ap (λ n. take n (decided v.course)) (ap length (sym found) ∙ sym number)) in
     let new = landed v in
     subst (λ (o : PlainState). Goes o (Crash image) (Opened devices seq) (landed v kept flying untaken emitted)) is (
-      either v.course.is_open (kept, subst (Leaves v.course) (sym found) leaves, number, count),
+      both_ways v.course.is_open _ (kept, subst (Leaves v.course) (sym found) leaves, number, count),
       ap (λ s. new s flying untaken emitted) settled
           ∙ (ap (λ f. new (take seq (decided v.course)) f untaken emitted) none
           ∙ (ap (λ u. new (take seq (decided v.course)) [] u emitted) empty
