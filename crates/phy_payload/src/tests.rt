@@ -332,21 +332,42 @@ fn data_frames_have_12_to_255_bytes(rt: HostRuntime) -> Result<(), Fail> {
     Ok(())
 }
 
+// Two bytes of payload on port 9, behind one byte of FOpts.
+fn a_payload(alloc: Global) -> Result<Contents, Fail> {
+    Ok(contents(alloc, &[2], Some(9), &[5, 6]).ok_or("the parts are short")?)
+}
+
 #[test]
-fn contents_have_their_parts(rt: HostRuntime) -> Result<(), Fail> {
-    let alloc = rt.alloc();
-    let whole = contents(alloc, &[2], Some(9), &[5, 6]).ok_or("the parts are short")?;
-    let copy = whole.clone()?;
-    assert_eq!(rt; copy, whole);
+fn contents_have_their_f_opts(rt: HostRuntime) -> Result<(), Fail> {
+    let whole = a_payload(rt.alloc())?;
     assert_eq!(rt; whole.f_opts(), [2].as_slice());
-    let (f_opts, message) = whole.into_parts();
+    let (f_opts, _) = whole.into_parts();
     assert_eq!(rt; f_opts.as_slice(), [2].as_slice());
+    Ok(())
+}
+
+#[test]
+fn contents_have_their_message(rt: HostRuntime) -> Result<(), Fail> {
+    let (_, message) = a_payload(rt.alloc())?.into_parts();
     let message = message.ok_or("there is a port")?;
     assert_eq!(rt; message.f_port, 9);
     assert_eq!(rt; message.frm_payload.as_slice(), [5, 6].as_slice());
-    let long = vec![in alloc; 0u8; 243]?;
-    assert!(rt; FrmPayload::new(long).is_err());
-    let long = vec![in alloc; 0u8; 16]?;
-    assert!(rt; FOpts::new(long).is_err());
+    Ok(())
+}
+
+#[test]
+fn contents_have_copies(rt: HostRuntime) -> Result<(), Fail> {
+    let whole = a_payload(rt.alloc())?;
+    assert_eq!(rt; whole.clone()?, whole);
+    Ok(())
+}
+
+#[test]
+fn parts_have_their_lengths(rt: HostRuntime) -> Result<(), Fail> {
+    let alloc = rt.alloc();
+    assert!(rt; FrmPayload::new(vec![in alloc; 0u8; 242]?).is_ok());
+    assert!(rt; FrmPayload::new(vec![in alloc; 0u8; 243]?).is_err());
+    assert!(rt; FOpts::new(vec![in alloc; 0u8; 15]?).is_ok());
+    assert!(rt; FOpts::new(vec![in alloc; 0u8; 16]?).is_err());
     Ok(())
 }

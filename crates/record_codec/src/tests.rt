@@ -5,6 +5,7 @@ use devices::{
 };
 use lw_types::{Eui, JoinNonce, Key, Refusal};
 use std::alloc::Global;
+use std::process::Abort;
 use std::test::Fail;
 
 // The record of a device that was just brought.
@@ -71,14 +72,30 @@ fn busy(alloc: Global) -> Option<Device> {
     Some(device)
 }
 
+// The record of the device, which has so many bytes, and is read as the device.
+fn record_of(rt: &impl Abort, alloc: Global, device: &Device, len: usize) -> Result<Vec<u8>, Fail> {
+    let mut out = Vec::new(alloc);
+    write_device(alloc, device, &mut out)?;
+    assert_eq!(rt; out.len(), len);
+    assert!(rt; read_device(alloc, out.as_slice())? == *device);
+    Ok(out)
+}
+
 #[test]
 fn a_new_device_has_50_bytes(rt: HostRuntime) -> Result<(), Fail> {
+    let device = brought(rt.alloc()).ok_or("the values are in range")?;
+    let record = record_of(&rt, rt.alloc(), &device, 50)?;
+    assert_eq!(rt; record.as_slice(), BROUGHT.as_slice());
+    Ok(())
+}
+
+#[test]
+fn a_record_is_written_behind_what_is_there(rt: HostRuntime) -> Result<(), Fail> {
     let device = brought(rt.alloc()).ok_or("the values are in range")?;
     let mut out = Vec::from_slice(rt.alloc(), &[9])?;
     write_device(rt.alloc(), &device, &mut out)?;
     assert_eq!(rt; out.len(), 51);
-    assert_eq!(rt; &out[1..], BROUGHT.as_slice());
-    assert_eq!(rt; read_device(rt.alloc(), &BROUGHT)?, device);
+    assert_eq!(rt; (out[0], &out[1..]), (9, BROUGHT.as_slice()));
     Ok(())
 }
 
@@ -88,25 +105,24 @@ fn a_pending_session_takes_35_bytes_more(rt: HostRuntime) -> Result<(), Fail> {
     device.activation = Activation::new(JoinNonce::new(1), None, session(1)).ok_or(
         "the grants are in order",
     )?;
-    let mut out = Vec::new(rt.alloc());
-    write_device(rt.alloc(), &device, &mut out)?;
-    assert_eq!(rt; out.len(), 85);
-    assert_eq!(rt; read_device(rt.alloc(), out.as_slice())?, device);
+    let _ = record_of(&rt, rt.alloc(), &device, 85)?;
     Ok(())
 }
 
 #[test]
 fn a_busy_device_is_read_back(rt: HostRuntime) -> Result<(), Fail> {
     let device = busy(rt.alloc()).ok_or("the values are in range")?;
-    let mut out = Vec::new(rt.alloc());
-    write_device(rt.alloc(), &device, &mut out)?;
-    assert_eq!(rt; out.len(), 50 + 47 + 35 + 3 + 9);
-    assert_eq!(rt; read_device(rt.alloc(), out.as_slice())?, device);
+    let _ = record_of(&rt, rt.alloc(), &device, 50 + 47 + 35 + 3 + 9)?;
     Ok(())
 }
 
+fn is_damaged(rt: &impl Abort, alloc: Global, bytes: &[u8], fault: &str) {
+    let found = read_device(alloc, bytes);
+    assert!(rt; matches!(found, Err(Refusal::Damaged)), "{fault}");
+}
+
 #[test]
-fn what_is_no_record_is_damaged(rt: HostRuntime) -> Result<(), Fail> {
+fn a_field_out_of_range_is_damaged(rt: HostRuntime) -> Result<(), Fail> {
     let table = [
         (32, 16, "application"),
         (33, 6, "RX1DROffset"),
@@ -121,27 +137,19 @@ fn what_is_no_record_is_damaged(rt: HostRuntime) -> Result<(), Fail> {
         (49, 1, "an item that is cut short"),
     ];
     for (place, value, fault) in table {
-        let mut bytes = Vec::from_slice(rt.alloc(), &BROUGHT)?;
-        if let Some(byte) = bytes.get_mut(place) {
-            *byte = value;
-        }
-        let found = read_device(rt.alloc(), bytes.as_slice());
-        assert!(rt; matches!(found, Err(Refusal::Damaged)), "{fault}");
+        let mut bytes = BROUGHT;
+        bytes[place] = value;
+        is_damaged(&rt, rt.alloc(), &bytes, fault);
     }
+    Ok(())
+}
+
+#[test]
+fn a_record_of_another_length_is_damaged(rt: HostRuntime) -> Result<(), Fail> {
     let mut long = Vec::from_slice(rt.alloc(), &BROUGHT)?;
     long.push(0)?;
-    assert!(rt;
-        matches!(
-            read_device(rt.alloc(), long.as_slice()),
-            Err(Refusal::Damaged)
-        )
-    );
-    assert!(rt;
-        matches!(
-            read_device(rt.alloc(), &BROUGHT[..49]),
-            Err(Refusal::Damaged)
-        )
-    );
-    assert!(rt; matches!(read_device(rt.alloc(), &[]), Err(Refusal::Damaged)));
+    is_damaged(&rt, rt.alloc(), long.as_slice(), "51 bytes");
+    is_damaged(&rt, rt.alloc(), &BROUGHT[..49], "49 bytes");
+    is_damaged(&rt, rt.alloc(), &[], "no bytes");
     Ok(())
 }

@@ -3,6 +3,7 @@ use devices::{Application, Provisioning, Rx1Offset, RxDelay};
 use lw_types::{Eui, Key, NetId, Refusal};
 use sessions::{Slots, Table};
 use std::alloc::Global;
+use std::process::Abort;
 use std::test::Fail;
 
 fn core(alloc: Global, seq: u64) -> Result<Core, Fail> {
@@ -26,50 +27,39 @@ fn turn(from: u64, to: u64, refused: Option<Refusal>) -> Turn {
     Turn { from, to, refused }
 }
 
-#[test]
-fn decisions_are_made_and_taken_in_order(rt: HostRuntime) -> Result<(), Fail> {
-    let alloc = rt.alloc();
-    let mut core = core(alloc, 6)?;
-    assert_eq!(rt; core.provision(0, device(50)?), turn(0, 1, None));
-    assert_eq!(rt;
-        core.provision(0, device(50)?),
-        turn(1, 1, Some(Refusal::DevEuiTaken))
-    );
-    assert_eq!(rt; core.provision(0, device(40)?), turn(1, 2, None));
-    assert_eq!(rt; core.provision(0, device(30)?), turn(2, 3, None));
-    assert_eq!(rt; core.made(), 3);
-    assert_eq!(rt; core.seq(), 9);
-    assert_eq!(rt; core.now().devices().len(), 3);
-    for (most, numbers) in [
-        (2, [7, 8].as_slice()),
-        (64, [9].as_slice()),
-        (1, [].as_slice()),
-    ] {
-        let batch = core.take(Most::new(most).ok_or("most")?)?;
-        let taken = batch
-            .as_slice()
-            .iter()
-            .map(|decision| decision.seq)
-            .collect(alloc)?;
-        let taken: Vec<u64> = taken;
-        assert_eq!(rt; taken.as_slice(), numbers);
+fn answers(rt: &impl Abort, core: &mut Core, dev_eui: u64, wanted: Turn) -> Result<(), Fail> {
+    assert_eq!(rt; core.provision(0, device(dev_eui)?), wanted);
+    Ok(())
+}
+
+fn takes(rt: &impl Abort, core: &mut Core, most: u64, numbers: &[u64]) -> Result<(), Fail> {
+    let batch = core.take(Most::new(most).ok_or("most")?)?;
+    assert_eq!(rt; batch.len(), numbers.len());
+    for (decision, number) in batch.as_slice().iter().zip(numbers) {
+        assert_eq!(rt; decision.seq, *number);
     }
     Ok(())
 }
 
 #[test]
+fn decisions_are_made_and_taken_in_order(rt: HostRuntime) -> Result<(), Fail> {
+    let mut core = core(rt.alloc(), 6)?;
+    answers(&rt, &mut core, 50, turn(0, 1, None))?;
+    answers(&rt, &mut core, 50, turn(1, 1, Some(Refusal::DevEuiTaken)))?;
+    answers(&rt, &mut core, 40, turn(1, 2, None))?;
+    answers(&rt, &mut core, 30, turn(2, 3, None))?;
+    assert_eq!(rt; (core.made(), core.seq()), (3, 9));
+    assert_eq!(rt; core.now().devices().len(), 3);
+    takes(&rt, &mut core, 2, &[7, 8])?;
+    takes(&rt, &mut core, 64, &[9])?;
+    takes(&rt, &mut core, 1, &[])
+}
+
+#[test]
 fn no_number_is_left(rt: HostRuntime) -> Result<(), Fail> {
-    let alloc = rt.alloc();
-    let mut last = core(alloc, (1 << 63) - 2)?;
-    assert_eq!(rt; last.provision(0, device(50)?), turn(0, 1, None));
-    assert_eq!(rt;
-        last.provision(0, device(40)?),
-        turn(1, 1, Some(Refusal::Backlog))
-    );
-    let mut beyond = core(alloc, u64::MAX)?;
-    assert_eq!(rt;
-        beyond.provision(0, device(50)?),
-        turn(0, 0, Some(Refusal::Backlog))
-    );
-    Ok(())
+    let mut last = core(rt.alloc(), (1 << 63) - 2)?;
+    answers(&rt, &mut last, 50, turn(0, 1, None))?;
+    answers(&rt, &mut last, 40, turn(1, 1, Some(Refusal::Backlog)))?;
+    let mut beyond = core(rt.alloc(), u64::MAX)?;
+    answers(&rt, &mut beyond, 50, turn(0, 0, Some(Refusal::Backlog)))
 }
