@@ -44,17 +44,6 @@ foretold_on before mid now [] (a ∷ rest) step answer told one = absurd told
 foretold_on before mid now (s ∷ ss) [] step answer told one = absurd told
 foretold_on before mid now (s ∷ ss) (a ∷ rest) step answer told one = (told.0, told.1, foretold_on told.0 mid now ss rest step answer told.2 one)
 
--- nothing is known otherwise after a step that was idle
-pub idle_foretold : (o : Outlook) (step : Step) → IsForetold o step answers.Idle o
-idle_foretold o (steps.Provision moment p) = λ h. h
-idle_foretold o (steps.Take most) = λ h. h
-idle_foretold o steps.Call = λ h. h
-idle_foretold o steps.Fail = λ h. h
-idle_foretold o steps.Release = λ h. h
-idle_foretold o steps.Emit = λ h. h
-idle_foretold o steps.List = λ h. h
-idle_foretold o (steps.Crash image) = λ h. h
-
 -- an opening, which makes several
 pub opening_foretold : (o mid now : Outlook) (image : Image) (answer : Answer) → (o ≡ AllSucceed → mid ≡ AllSucceed)
     → IsForetold mid (steps.Crash image) answer now → IsForetold o (steps.Crash image) answer now

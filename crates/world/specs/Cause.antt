@@ -32,7 +32,8 @@ failures_at failures (Open life) = failures (disk_of life.store)
 failures_at failures (Closed disk) = failures disk
 failures_at failures Crashing = 0
 
--- No device call fails while all are to succeed, and they are until a fail. After a call that failed they are again.
+-- No device call fails while all are to succeed, and they are until a step Fail. After a step Call that failed they are
+-- again; after an opening that failed nothing is said.
 abbrev pub IsForetold : Outlook → Step → Answer → Outlook → Type 0
 IsForetold before steps.Fail answers.Armed now = Unit {0}
 IsForetold before steps.Call (answers.Refused e) now = (before ≢ AllSucceed) × (now ≡ AllSucceed)
