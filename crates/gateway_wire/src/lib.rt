@@ -8,8 +8,6 @@ mod line;
 mod list;
 mod report;
 mod request;
-#[cfg(test)]
-mod tests;
 
 pub use downlink::WireFrame;
 pub use emission::{Emission, app_line, gateway_bytes};

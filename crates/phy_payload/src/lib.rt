@@ -5,7 +5,6 @@
 mod contents;
 mod control;
 mod data_frame;
-mod input;
 mod join;
 pub mod laws;
 mod mhdr;
@@ -20,6 +19,3 @@ pub use join::{JoinAccept, JoinRequest};
 pub use phy::{Mic, Phy};
 pub use read::decode;
 pub use write::encode;
-
-#[cfg(test)]
-mod tests;

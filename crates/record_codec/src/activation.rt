@@ -1,22 +1,23 @@
 // Sessions, and what a device was granted.
 ghost use Rattle.std.specs.Prelude.{◌≡◌, ◌++◌, IfSome, OnOk};
 ghost use Rattle.record_codec.specs.DeviceRecord.{activation, current_session, granted, session, AreGrants, IsCurrentSession, IsJoinNonce, IsSession};
-ghost use Rattle.record_codec.specs.Reading.{Gives, activation_at, current_at, granted_nonce, nonce_at, optional_at, seen_as, session_at};
+ghost use Rattle.byte_fields.specs.Reading.{Gives, optional_at, seen_as, three_bytes_at};
+ghost use Rattle.record_codec.specs.Reading.{activation_at, current_at, granted_nonce, session_at};
 
 use crate::fields::put_key;
-use crate::input::Input;
+use byte_fields::FieldReader;
 use devices::{Activation, CurrentSession, NextDown, Session};
-use lw_types::{JoinNonce, Refusal};
+use lw_types::JoinNonce;
 use std::alloc::AllocError;
 
 #[tactic(auto, unfolding(crate::specs::Reading::session_at))]
-fn read_session(input: &mut Input<'_>) -> Result<Session, Refusal>
-    ensures { Gives (λ x. x) result input.new.rest.now (session_at input.old.rest.now) }
+fn read_session(fields: &mut FieldReader<'_>) -> Option<Session>
+    ensures { Gives result fields.new.rest.now (session_at fields.old.rest.now) }
 {
-    let join_nonce = JoinNonce::new(input.u24()?).ok_or(Refusal::Damaged)?;
-    let nwk_skey = input.key()?;
-    let app_skey = input.key()?;
-    Ok(Session {
+    let join_nonce = JoinNonce::new(fields.u24_be()?)?;
+    let nwk_skey = fields.key()?;
+    let app_skey = fields.key()?;
+    Some(Session {
         join_nonce,
         nwk_skey,
         app_skey,
@@ -24,13 +25,13 @@ fn read_session(input: &mut Input<'_>) -> Result<Session, Refusal>
 }
 
 #[tactic(auto, unfolding(crate::specs::Reading::current_at))]
-fn read_current(input: &mut Input<'_>) -> Result<CurrentSession, Refusal>
-    ensures { Gives (λ x. x) result input.new.rest.now (current_at input.old.rest.now) }
+fn read_current(fields: &mut FieldReader<'_>) -> Option<CurrentSession>
+    ensures { Gives result fields.new.rest.now (current_at fields.old.rest.now) }
 {
-    let session = read_session(input)?;
-    let last_up = input.u32()?;
-    let next_down = NextDown::new(input.u64()?).ok_or(Refusal::Damaged)?;
-    Ok(CurrentSession {
+    let session = read_session(fields)?;
+    let last_up = fields.u32_be()?;
+    let next_down = NextDown::new(fields.u64_be()?)?;
+    Some(CurrentSession {
         session,
         last_up,
         next_down,
@@ -38,41 +39,41 @@ fn read_current(input: &mut Input<'_>) -> Result<CurrentSession, Refusal>
 }
 
 // The last JoinNonce granted, 0 for none.
-fn read_granted(input: &mut Input<'_>) -> Result<Option<JoinNonce>, Refusal>
-    ensures { Gives (λ x. x) result input.new.rest.now (seen_as granted_nonce nonce_at input.old.rest.now) }
+fn read_granted(fields: &mut FieldReader<'_>) -> Option<Option<JoinNonce>>
+    ensures { Gives result fields.new.rest.now (seen_as granted_nonce three_bytes_at fields.old.rest.now) }
 {
-    Ok(JoinNonce::new(input.u24()?))
+    Some(JoinNonce::new(fields.u24_be()?))
 }
 
-fn read_optional_current(input: &mut Input<'_>) -> Result<Option<CurrentSession>, Refusal>
-    ensures { Gives (λ x. x) result input.new.rest.now (optional_at current_at input.old.rest.now) }
+fn read_optional_current(fields: &mut FieldReader<'_>) -> Option<Option<CurrentSession>>
+    ensures { Gives result fields.new.rest.now (optional_at current_at fields.old.rest.now) }
 {
-    if input.flag()? {
-        Ok(Some(read_current(input)?))
+    if fields.flag()? {
+        Some(Some(read_current(fields)?))
     } else {
-        Ok(None)
+        Some(None)
     }
 }
 
-fn read_optional_session(input: &mut Input<'_>) -> Result<Option<Session>, Refusal>
-    ensures { Gives (λ x. x) result input.new.rest.now (optional_at session_at input.old.rest.now) }
+fn read_optional_session(fields: &mut FieldReader<'_>) -> Option<Option<Session>>
+    ensures { Gives result fields.new.rest.now (optional_at session_at fields.old.rest.now) }
 {
-    if input.flag()? {
-        Ok(Some(read_session(input)?))
+    if fields.flag()? {
+        Some(Some(read_session(fields)?))
     } else {
-        Ok(None)
+        Some(None)
     }
 }
 
 /// What was granted and the sessions, where they are in order.
 #[tactic(auto, unfolding(crate::specs::Reading::activation_at))]
-pub(crate) fn read_activation(input: &mut Input<'_>) -> Result<Activation, Refusal>
-    ensures { Gives (λ x. x) result input.new.rest.now (activation_at input.old.rest.now) }
+pub(crate) fn read_activation(fields: &mut FieldReader<'_>) -> Option<Activation>
+    ensures { Gives result fields.new.rest.now (activation_at fields.old.rest.now) }
 {
-    let granted = read_granted(input)?;
-    let current = read_optional_current(input)?;
-    let pending = read_optional_session(input)?;
-    Activation::new(granted, current, pending).ok_or(Refusal::Damaged)
+    let granted = read_granted(fields)?;
+    let current = read_optional_current(fields)?;
+    let pending = read_optional_session(fields)?;
+    Activation::new(granted, current, pending)
 }
 
 fn put_session(out: &mut Vec<u8>, s: &Session) -> Result<(), AllocError>

@@ -1,7 +1,8 @@
 // The fields that records are made of, appended to the bytes so far.
 ghost use Rattle.std.specs.Prelude.{◌≡◌, ◌++◌, ◌≤◌, OnOk, length};
 ghost use Rattle.lw_types.specs.Hex.{IsBytes};
-ghost use Rattle.record_codec.specs.DeviceRecord.{counted, flag, IsKey};
+ghost use Rattle.byte_fields.specs.Spelling.{counted, flag};
+ghost use Rattle.record_codec.specs.DeviceRecord.{IsKey};
 
 use lw_types::Key;
 use std::alloc::AllocError;

@@ -4,11 +4,7 @@
 mod activation;
 mod device_record;
 mod fields;
-mod input;
 pub mod laws;
 mod queues;
 
 pub use device_record::{read_device, write_device};
-
-#[cfg(test)]
-mod tests;

@@ -1,46 +1,10 @@
-use crate::{
-    Activation, Application, CurrentSession, Device, Effect, Effects, Item, ItemQueue, MacQueue,
-    NextDown, Payload, Port, Provisioning, Report, Rx1Offset, RxDelay, Session, Tag,
+use crate::fixtures::{DEVICE, brought, current, item, provisioning, session};
+use devices::{
+    Activation, Application, Effect, Effects, ItemQueue, MacQueue, NextDown, Port, Report, RxDelay,
+    Tag,
 };
-use lw_types::{Eui, JoinNonce, Key};
-use std::alloc::Global;
+use lw_types::JoinNonce;
 use std::test::Fail;
-
-fn provisioning() -> Result<Provisioning, Fail> {
-    Ok(Provisioning {
-        application: Application::new(3).ok_or("application")?,
-        dev_eui: Eui(0x1112131415161718),
-        join_eui: Eui(0x0102030405060708),
-        app_key: Key([7; 16]),
-        rx1_offset: Rx1Offset::new(0).ok_or("offset")?,
-        rx_delay: RxDelay::new(1).ok_or("delay")?,
-    })
-}
-
-fn session(join_nonce: u32) -> Result<Session, Fail> {
-    Ok(Session {
-        join_nonce: JoinNonce::new(join_nonce).ok_or("join nonce")?,
-        nwk_skey: Key([1; 16]),
-        app_skey: Key([2; 16]),
-    })
-}
-
-fn current(join_nonce: u32) -> Result<CurrentSession, Fail> {
-    Ok(CurrentSession {
-        session: session(join_nonce)?,
-        last_up: 5,
-        next_down: NextDown::new(3).ok_or("next down")?,
-    })
-}
-
-fn item(alloc: Global) -> Result<Item, Fail> {
-    Ok(Item {
-        tag: Tag(9),
-        port: Port::new(7).ok_or("port")?,
-        confirmed: false,
-        payload: Payload::new([0xAA].to_vec(alloc)?).ok().ok_or("payload")?,
-    })
-}
 
 #[test]
 fn ranges_have_their_ends(rt: HostRuntime) {
@@ -81,7 +45,10 @@ fn a_mac_queue_is_whole_commands_that_may_be_queued(rt: HostRuntime) -> Result<(
         let queue = MacQueue::new(bytes.to_vec(alloc)?);
         assert_eq!(rt; queue.is_ok(), whole, "{bytes:?}");
     }
-    assert!(rt; MacQueue::new(vec![in alloc; 0x06; 64]?).is_ok());
+    let full = MacQueue::new(vec![in alloc; 0x06; 64]?);
+    assert!(rt; full.is_ok_and(|queue| queue.as_slice().len() == 64));
+    let copy = MacQueue::from_slice(alloc, &[0x06, 0x04, 0x0F])?;
+    assert_eq!(rt; copy.as_slice(), [0x06, 0x04, 0x0F].as_slice());
     assert!(rt; MacQueue::new(vec![in alloc; 0x06; 65]?).is_err());
     Ok(())
 }
@@ -90,13 +57,31 @@ fn a_mac_queue_is_whole_commands_that_may_be_queued(rt: HostRuntime) -> Result<(
 fn sixteen_items_wait(rt: HostRuntime) -> Result<(), Fail> {
     let alloc = rt.alloc();
     let mut items = Vec::new(alloc);
-    for _ in 0..16 {
-        items.push(item(alloc)?).ok().ok_or("memory")?;
+    for tag in 0..16 {
+        items.push(item(alloc, tag, 242)?).ok().ok_or("memory")?;
     }
     let queue = ItemQueue::new(items.clone()?).ok().ok_or("sixteen")?;
     assert_eq!(rt; queue.as_slice().len(), 16);
-    items.push(item(alloc)?).ok().ok_or("memory")?;
+    items.push(item(alloc, 16, 0)?).ok().ok_or("memory")?;
     assert!(rt; ItemQueue::new(items).is_err());
+    Ok(())
+}
+
+#[test]
+fn items_wait_in_order(rt: HostRuntime) -> Result<(), Fail> {
+    let alloc = rt.alloc();
+    let mut queue = ItemQueue::empty(alloc);
+    for tag in 0..16 {
+        assert!(rt; queue.as_slice().len() < ItemQueue::MOST);
+        queue.push(item(alloc, tag, 1)?)?;
+    }
+    assert!(rt;
+        queue
+            .as_slice()
+            .iter()
+            .zip(0..16)
+            .all(|(item, tag)| item.tag == Tag(tag))
+    );
     Ok(())
 }
 
@@ -105,13 +90,13 @@ fn sessions_are_in_order(rt: HostRuntime) -> Result<(), Fail> {
     let granted = JoinNonce::new(2);
     let cases = [
         (None, None, None, true),
-        (granted, Some(current(1)?), Some(session(2)?), true),
-        (granted, Some(current(2)?), None, true),
-        (granted, Some(current(2)?), Some(session(2)?), false),
-        (granted, Some(current(3)?), None, false),
+        (granted, Some(current(1, 5)?), Some(session(2)?), true),
+        (granted, Some(current(2, 5)?), None, true),
+        (granted, Some(current(2, 5)?), Some(session(2)?), false),
+        (granted, Some(current(3, 5)?), None, false),
         (granted, None, Some(session(3)?), false),
         (None, None, Some(session(1)?), false),
-        (None, Some(current(1)?), None, false),
+        (None, Some(current(1, 5)?), None, false),
     ];
     for (granted, current, pending, in_order) in cases {
         let activation = Activation::new(granted, current, pending);
@@ -121,11 +106,11 @@ fn sessions_are_in_order(rt: HostRuntime) -> Result<(), Fail> {
             "{granted:?} {current:?} {pending:?}"
         );
     }
-    let activation = Activation::new(granted, Some(current(1)?), Some(session(2)?)).ok_or(
+    let activation = Activation::new(granted, Some(current(1, 5)?), Some(session(2)?)).ok_or(
         "in order",
     )?;
     assert_eq!(rt; activation.granted(), granted);
-    assert_eq!(rt; activation.current(), Some(current(1)?));
+    assert_eq!(rt; activation.current(), Some(current(1, 5)?));
     assert_eq!(rt; activation.pending(), Some(session(2)?));
     Ok(())
 }
@@ -133,8 +118,8 @@ fn sessions_are_in_order(rt: HostRuntime) -> Result<(), Fail> {
 #[test]
 fn a_device_is_copied_whole(rt: HostRuntime) -> Result<(), Fail> {
     let alloc = rt.alloc();
-    let mut device = Device::provisioned(alloc, &provisioning()?);
-    assert_eq!(rt; device.dev_eui, Eui(0x1112131415161718));
+    let mut device = brought(alloc, DEVICE)?;
+    assert_eq!(rt; device.dev_eui, DEVICE);
     assert!(rt; device.items.as_slice().is_empty());
     assert!(rt; device.mac_queue.as_slice().is_empty());
     let copy = device.copy()?;
@@ -148,15 +133,15 @@ fn a_device_is_copied_whole(rt: HostRuntime) -> Result<(), Fail> {
 fn effects_leave_in_order(rt: HostRuntime) -> Result<(), Fail> {
     let alloc = rt.alloc();
     let mut effects = Effects::empty(alloc);
-    for slot in [4, 5] {
-        assert!(rt; effects.as_slice().len() < 4);
+    for slot in [4, 5, 6, 7] {
+        assert!(rt; effects.as_slice().len() < Effects::MOST);
         effects.push(Effect::Report {
-            application: provisioning()?.application,
-            dev_eui: provisioning()?.dev_eui,
+            application: provisioning(DEVICE)?.application,
+            dev_eui: DEVICE,
             report: Report::Provisioned { slot },
         })?;
     }
-    assert_eq!(rt; effects.as_slice().len(), 2);
+    assert_eq!(rt; effects.as_slice().len(), 4);
     let effects = effects.into_vec();
     assert!(rt;
         matches!(

@@ -1,5 +1,8 @@
-use super::*;
 use lw_types::{Direction, Refusal};
+use mac_commands::{
+    Cid, CommandPayload, Decoded, MacCommand, are_queueable, decode_down, decode_up, encode_down,
+    fit15,
+};
 use std::alloc::Global;
 use std::test::Fail;
 
@@ -146,4 +149,52 @@ fn whole_commands_fit_the_room(rt: HostRuntime) {
     // DevStatusReq, DutyCycleReq, and a LinkADRReq that is cut; an identifier that is not known.
     assert_eq!(rt; fit15(&[0x06, 0x04, 0x0F, 0x03, 0x11], 15), 3);
     assert_eq!(rt; fit15(&[0x06, 0x0B, 0x06], 15), 1);
+}
+
+// So many bytes of LinkADRReq, of which the last one is cut where the length isn't a multiple of 5.
+fn requests(alloc: Global, len: usize) -> Result<Vec<u8>, Fail> {
+    let mut bytes = vec![in alloc; 0xA5; len]?;
+    for first in bytes.iter_mut().step_by(5) {
+        *first = 0x03;
+    }
+    Ok(bytes)
+}
+
+#[test]
+fn many_commands_are_read(rt: HostRuntime) -> Result<(), Fail> {
+    let alloc = rt.alloc();
+    let found = decode_down(alloc, requests(alloc, 242)?.as_slice())?;
+    assert_eq!(rt; found.stop, 240);
+    assert_eq!(rt; found.commands.len(), 48);
+    let found = decode_up(alloc, &[0x02; 242])?;
+    assert_eq!(rt; found.stop, 242);
+    assert_eq!(rt; found.commands.len(), 242);
+    Ok(())
+}
+
+#[test]
+fn many_commands_are_written(rt: HostRuntime) -> Result<(), Fail> {
+    let alloc = rt.alloc();
+    let bytes = requests(alloc, 240)?;
+    let found = decode_down(alloc, bytes.as_slice())?;
+    let mut out = Vec::new(alloc);
+    encode_down(alloc, found.commands.as_slice(), &mut out)?;
+    assert_eq!(rt; out, bytes);
+    assert_eq!(rt; fit15(out.as_slice(), 242), 240);
+    Ok(())
+}
+
+#[test]
+fn queues_are_whole_commands_of_three_kinds(rt: HostRuntime) -> Result<(), Fail> {
+    let alloc = rt.alloc();
+    for (_, cid, _, down) in TABLE {
+        let may = matches!(cid, Cid::LinkAdr | Cid::DutyCycle | Cid::DevStatus);
+        assert_eq!(rt; cid.may_be_queued(), may, "{cid:?}");
+        let bytes = spelled(alloc, cid.number(), down)?;
+        assert_eq!(rt; are_queueable(bytes.as_slice()), may, "{cid:?}");
+    }
+    assert!(rt; are_queueable(requests(alloc, 60)?.as_slice()));
+    assert!(rt; !are_queueable(requests(alloc, 61)?.as_slice()));
+    assert!(rt; are_queueable(&[]));
+    Ok(())
 }

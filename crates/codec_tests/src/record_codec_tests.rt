@@ -1,9 +1,7 @@
-use crate::{read_device, write_device};
-use devices::{
-    Activation, Application, CurrentSession, Device, Item, ItemQueue, MacQueue, NextDown, Payload,
-    Port, Provisioning, Rx1Offset, RxDelay, Session, Tag,
-};
-use lw_types::{Eui, JoinNonce, Key, Refusal};
+use crate::fixtures::{DEVICE, brought, current, item, session};
+use devices::{Activation, Device, Item, ItemQueue, MacQueue, Tag};
+use lw_types::{JoinNonce, Refusal};
+use record_codec::{read_device, write_device};
 use std::alloc::Global;
 use std::process::Abort;
 use std::test::Fail;
@@ -21,55 +19,20 @@ const BROUGHT: [u8; 50] = [
     0, 0, // empty queues
 ];
 
-fn brought(alloc: Global) -> Option<Device> {
-    let provisioning = Provisioning {
-        application: Application::new(3)?,
-        dev_eui: Eui(0x1112_1314_1516_1718),
-        join_eui: Eui(0x0102_0304_0506_0708),
-        app_key: Key([
-            0x2B, 0x7E, 0x15, 0x16, 0x28, 0xAE, 0xD2, 0xA6, 0xAB, 0xF7, 0x15, 0x88, 0x09, 0xCF,
-            0x4F, 0x3C,
-        ]),
-        rx1_offset: Rx1Offset::new(0)?,
-        rx_delay: RxDelay::new(1)?,
-    };
-    Some(Device::provisioned(alloc, &provisioning))
-}
-
-fn session(number: u32) -> Option<Session> {
-    Some(Session {
-        join_nonce: JoinNonce::new(number)?,
-        nwk_skey: Key([0xAA; 16]),
-        app_skey: Key([0xBB; 16]),
-    })
-}
-
-// A device with both sessions, a tag awaited and both queues used.
-fn busy(alloc: Global) -> Option<Device> {
-    let mut device = brought(alloc)?;
-    let current = CurrentSession {
-        session: session(0x01_0203)?,
-        last_up: u32::MAX,
-        next_down: NextDown::new(1 << 32)?,
-    };
+// A device with both sessions, a tag awaited, a DevNonce of 0, and these queues.
+fn busy(alloc: Global, mac_queue: Vec<u8>, items: Vec<Item>) -> Result<Device, Fail> {
+    let mut device = brought(alloc, DEVICE)?;
     device.last_dev_nonce = Some(0);
     device.activation = Activation::new(
         JoinNonce::new(0x01_0204),
-        Some(current),
-        session(0x01_0204),
-    )?;
+        Some(current(0x01_0203, u32::MAX)?),
+        Some(session(0x01_0204)?),
+    )
+    .ok_or("in order")?;
     device.awaited = Some(Tag(0));
-    device.mac_queue = MacQueue::new(Vec::from_slice(alloc, &[6, 4, 0]).ok()?).ok()?;
-    let item = Item {
-        tag: Tag(7),
-        port: Port::new(223)?,
-        confirmed: true,
-        payload: Payload::new(Vec::from_slice(alloc, b"hi").ok()?).ok()?,
-    };
-    let mut items = Vec::new(alloc);
-    items.push(item).ok()?;
-    device.items = ItemQueue::new(items).ok()?;
-    Some(device)
+    device.mac_queue = MacQueue::new(mac_queue).ok().ok_or("whole commands")?;
+    device.items = ItemQueue::new(items).ok().ok_or("at most 16 items")?;
+    Ok(device)
 }
 
 // The record of the device, which has so many bytes, and is read as the device.
@@ -83,7 +46,7 @@ fn record_of(rt: &impl Abort, alloc: Global, device: &Device, len: usize) -> Res
 
 #[test]
 fn a_new_device_has_50_bytes(rt: HostRuntime) -> Result<(), Fail> {
-    let device = brought(rt.alloc()).ok_or("the values are in range")?;
+    let device = brought(rt.alloc(), DEVICE)?;
     let record = record_of(&rt, rt.alloc(), &device, 50)?;
     assert_eq!(rt; record.as_slice(), BROUGHT.as_slice());
     Ok(())
@@ -91,7 +54,7 @@ fn a_new_device_has_50_bytes(rt: HostRuntime) -> Result<(), Fail> {
 
 #[test]
 fn a_record_is_written_behind_what_is_there(rt: HostRuntime) -> Result<(), Fail> {
-    let device = brought(rt.alloc()).ok_or("the values are in range")?;
+    let device = brought(rt.alloc(), DEVICE)?;
     let mut out = Vec::from_slice(rt.alloc(), &[9])?;
     write_device(rt.alloc(), &device, &mut out)?;
     assert_eq!(rt; out.len(), 51);
@@ -101,8 +64,8 @@ fn a_record_is_written_behind_what_is_there(rt: HostRuntime) -> Result<(), Fail>
 
 #[test]
 fn a_pending_session_takes_35_bytes_more(rt: HostRuntime) -> Result<(), Fail> {
-    let mut device = brought(rt.alloc()).ok_or("the values are in range")?;
-    device.activation = Activation::new(JoinNonce::new(1), None, session(1)).ok_or(
+    let mut device = brought(rt.alloc(), DEVICE)?;
+    device.activation = Activation::new(JoinNonce::new(1), None, Some(session(1)?)).ok_or(
         "the grants are in order",
     )?;
     let _ = record_of(&rt, rt.alloc(), &device, 85)?;
@@ -111,8 +74,22 @@ fn a_pending_session_takes_35_bytes_more(rt: HostRuntime) -> Result<(), Fail> {
 
 #[test]
 fn a_busy_device_is_read_back(rt: HostRuntime) -> Result<(), Fail> {
-    let device = busy(rt.alloc()).ok_or("the values are in range")?;
-    let _ = record_of(&rt, rt.alloc(), &device, 50 + 47 + 35 + 3 + 9)?;
+    let alloc = rt.alloc();
+    let items = vec![in alloc; item(alloc, 7, 2)?]?;
+    let device = busy(alloc, Vec::from_slice(alloc, &[6, 4, 0])?, items)?;
+    let _ = record_of(&rt, alloc, &device, 50 + 47 + 35 + 3 + 9)?;
+    Ok(())
+}
+
+#[test]
+fn the_largest_record_has_4180_bytes(rt: HostRuntime) -> Result<(), Fail> {
+    let alloc = rt.alloc();
+    let mut items = Vec::new(alloc);
+    for tag in 0..16 {
+        items.push(item(alloc, tag, 242)?).ok().ok_or("memory")?;
+    }
+    let device = busy(alloc, vec![in alloc; 6; 64]?, items)?;
+    let _ = record_of(&rt, alloc, &device, 4180)?;
     Ok(())
 }
 

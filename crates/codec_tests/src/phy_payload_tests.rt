@@ -1,9 +1,9 @@
 // Frames of others, the edges of each length, and each bit that has to be 0.
-use crate::{
+use lw_types::{DevAddr, Eui, Refusal, read_hex};
+use phy_payload::{
     Contents, Control, DataFrame, FOpts, FrmPayload, JoinAccept, JoinRequest, Message, Mic, Phy,
     decode, encode,
 };
-use lw_types::{DevAddr, Eui, Refusal, read_hex};
 use std::alloc::Global;
 use std::process::Abort;
 use std::test::Fail;
@@ -369,5 +369,41 @@ fn parts_have_their_lengths(rt: HostRuntime) -> Result<(), Fail> {
     assert!(rt; FrmPayload::new(vec![in alloc; 0u8; 243]?).is_err());
     assert!(rt; FOpts::new(vec![in alloc; 0u8; 15]?).is_ok());
     assert!(rt; FOpts::new(vec![in alloc; 0u8; 16]?).is_err());
+    Ok(())
+}
+
+// A data frame of these lengths is written, and read again.
+fn is_read_again(
+    rt: &impl Abort,
+    alloc: Global,
+    f_opts: usize,
+    port: Option<u8>,
+    payload: usize,
+) -> Result<(), Fail> {
+    let bytes = [0xA5; 242];
+    let f_opts = bytes.get(..f_opts).ok_or("at most 15")?;
+    let payload = bytes.get(..payload).ok_or("at most 242")?;
+    let frame = Phy::DataFrame(DataFrame {
+        confirmed: true,
+        dev_addr: DevAddr(0x5400_0001),
+        control: UPLINK,
+        f_cnt: 0xA5A5,
+        contents: contents(alloc, f_opts, port, payload).ok_or("at most 242 together")?,
+        mic: Mic([0xAA, 0xBB, 0xCC, 0xDD]),
+    });
+    let mut out = Vec::new(alloc);
+    encode(alloc, &frame, &mut out)?;
+    assert_eq!(rt; decode(alloc, out.as_slice())?, frame);
+    let port_len = usize::from(port.is_some());
+    assert_eq!(rt; out.len() - port_len, 12 + f_opts.len() + payload.len());
+    Ok(())
+}
+
+#[test]
+fn each_length_of_f_opts_is_read_again(rt: HostRuntime) -> Result<(), Fail> {
+    for len in 0usize..16 {
+        is_read_again(&rt, rt.alloc(), len, None, 0)?;
+        is_read_again(&rt, rt.alloc(), len, Some(9), 242 - len)?;
+    }
     Ok(())
 }

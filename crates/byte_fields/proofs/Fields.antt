@@ -1,16 +1,12 @@
--- A field that is read is the field that was written, and what was written is read again.
-use Rattle.std.proofs.Common.{◌≡◌, ℕ, zero, suc, ◌<◌, ◌≤◌, Bool, true, false, cond, ltb, List, [], ◌∷◌, ◌++◌, length, take, drop, Option, Some, None, refl, sym, ap, subst, ◌∙◌, append_assoc, arith, inl, inr}
+-- A field that is read is the field that was written, and what was written is read again: lemmas for codecs.
+use Rattle.std.proofs.Common.{◌≡◌, ℕ, zero, suc, ◌<◌, ◌≤◌, ◌==◌, Bool, true, false, cond, ltb, List, [], ◌∷◌, ◌++◌, length, take, drop, Option, Some, None, refl, sym, ap, subst, ◌∙◌, append_assoc, arith, inl, inr, ◌⊎◌}
 use Rattle.std.specs.Prelude.{IfSome}
-use Rattle.std.proofs.lemmas.Bool.{cases_lt, ltb-false, le-ltb}
-use Rattle.std.proofs.lemmas.List.{take_at, drop_at, take-append-drop, length-append, length-take, get_or-take, get_or_past}
+use Rattle.std.proofs.lemmas.Bool.{cases_lt, eqb-true, ltb-false, le-ltb}
+use Rattle.std.proofs.lemmas.List.{append-nil, nil_from_length, take_at, drop_at, take-append-drop, length-append, length-take, get_or-take, get_or_past}
 use Rattle.lw_types.specs.Hex.{IsBytes}
-use Rattle.record_codec.specs.DeviceRecord.{flag, counted, optional}
-use Rattle.record_codec.specs.Reading.{Reader, ◌>>=◌, both, seen_as, that, front_at, byte_at, flag_at, counted_at, optional_at}
-
--- the values in range that are spelled so are what is read
-pub record IsField {X : Type 0} (In : X → Type 0) (spelled : X → List ℕ) (read : Reader X) : Type 0 where
-  pub takes : (bytes : List ℕ) (x : X) (rest : List ℕ) → IsBytes bytes → read bytes ≡ Some (x, rest) → In x × (bytes ≡ spelled x ++ rest)
-  pub again : (x : X) (rest : List ℕ) → In x → read (spelled x ++ rest) ≡ Some (x, rest)
+use Rattle.byte_fields.specs.Field.{IsField, AreBytes}
+use Rattle.byte_fields.specs.Spelling.{flag, counted, optional}
+use Rattle.byte_fields.specs.Reading.{Reader, ◌>>=◌, both, seen_as, that, whole, front_at, byte_at, flag_at, counted_at, optional_at}
 
 -- ---- tools
 
@@ -24,9 +20,19 @@ found x = Some x
 pub some_is : {A : Type 0} (x y : A) → found x ≡ found y → x ≡ y
 some_is x y e = cc
 
+-- which way a test went
+pub chosen : {A : Type 0} (b : Bool) (x y z : A) → cond b x y ≡ z → ((b ≡ true) × (x ≡ z)) ⊎ ((b ≡ false) × (y ≡ z))
+chosen true x y z e = inl (refl, e)
+chosen false x y z e = inr (refl, e)
+
+-- a test that has to pass, and one that has to fail
 pub guard_some : {A : Type 0} (b : Bool) (x y : A) → cond b (Some x) None ≡ Some y → (b ≡ true) × (x ≡ y)
 guard_some true x y e = (refl, some_is x y e)
 guard_some false x y e = absurd cc
+
+pub other_some : {A : Type 0} (b : Bool) (x y : A) → cond b None (Some x) ≡ Some y → (b ≡ false) × (x ≡ y)
+other_some true x y e = absurd cc
+other_some false x y e = (refl, some_is x y e)
 
 pub IsBytes-after : (front rest : List ℕ) → IsBytes (front ++ rest) → IsBytes rest
 IsBytes-after [] rest fits = fits
@@ -99,15 +105,24 @@ that_field {X} In spelled read field test = record {
   again = λ x rest h. rw (field.again x rest h.0, h.1) refl;
 }
 
+-- a field that is all of the bytes
+pub whole_takes : {X : Type 0} (In : X → Type 0) (spelled : X → List ℕ) (read : Reader X) → IsField In spelled read
+    → (bytes : List ℕ) (x : X) → IsBytes bytes → whole read bytes ≡ Some x → In x × (bytes ≡ spelled x)
+whole_takes {X} In spelled read field bytes x fits e =
+    let s = bind_some (read bytes) (λ y. cond (length y.1 == 0) (Some y.0) None) x e in
+    let g = guard_some (length s.0.1 == 0) s.0.0 x s.2 in
+    let t = field.takes bytes s.0.0 s.0.1 fits s.1 in
+    let nothing : s.0.1 ≡ [] = nil_from_length s.0.1 (eqb-true (length s.0.1) 0 g.0) in
+    let all : bytes ≡ spelled s.0.0 = t.1 ∙ ap (λ (r : List ℕ). spelled s.0.0 ++ r) nothing ∙ append-nil (spelled s.0.0) in
+    subst (λ (y : X). In y × (bytes ≡ spelled y)) g.1 (t.0, all)
+
+pub whole_again : {X : Type 0} (In : X → Type 0) (spelled : X → List ℕ) (read : Reader X) → IsField In spelled read
+    → (x : X) → In x → whole read (spelled x) ≡ Some x
+whole_again {X} In spelled read field x h =
+    let again : read (spelled x) ≡ Some (x, []) = ap read (sym (append-nil (spelled x))) ∙ field.again x [] h in
+    rw again refl
+
 -- ---- the first fields
-
--- so many bytes
-abbrev pub AreBytes : ℕ → List ℕ → Type 0
-AreBytes n bytes = IsBytes bytes × (length bytes ≡ n)
-
-other_some : {A : Type 0} (b : Bool) (x y : A) → cond b None (Some x) ≡ Some y → (b ≡ false) × (x ≡ y)
-other_some true x y e = absurd cc
-other_some false x y e = (refl, some_is x y e)
 
 pub front_field : (n : ℕ) → IsField (AreBytes n) (λ bytes. bytes) (front_at n)
 front_field n = record {

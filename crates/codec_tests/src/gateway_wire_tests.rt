@@ -1,29 +1,21 @@
-use crate::{
+use crate::fixtures::{
+    DEVICE, JOIN_EUI, KEY, application, brought, current, item, nonce, provisioning,
+};
+use devices::{
+    Activation, Application, Command, Copies, Device, Downlink, Effect, ItemQueue, Payload, Port,
+    Provisioning, Report, Rx1Offset, RxDelay, Tag, Windows,
+};
+use gateway_wire::{
     Emission, Request, app_line, gateway_bytes, list_text, next_ranged, next_value, read_line,
     read_request,
 };
-use devices::{
-    Activation, Application, Command, Copies, CurrentSession, Device, Downlink, Effect, Item,
-    ItemQueue, NextDown, Payload, Port, Provisioning, Report, Rx1Offset, RxDelay, Session, Tag,
-    Windows,
-};
-use lw_types::{Eui, JoinNonce, Key, NetId, PhyPayload, Reception, Refusal, Words, read_hex};
+use lw_types::{Eui, NetId, PhyPayload, Reception, Refusal, Words, read_hex};
 use sessions::{Slots, Table};
 use std::alloc::Global;
 use std::process::Abort;
 use std::test::Fail;
 
-const DEVICE: Eui = Eui(0x1112131415161718);
-
 const GATEWAY: Eui = Eui(0xB1);
-
-fn application() -> Result<Application, Fail> {
-    Ok(Application::new(3).ok_or("application")?)
-}
-
-fn nonce(number: u32) -> Result<JoinNonce, Fail> {
-    Ok(JoinNonce::new(number).ok_or("join nonce")?)
-}
 
 fn payload(alloc: Global, hex: &str) -> Result<Payload, Fail> {
     Ok(Payload::new(read_hex(alloc, hex)?).ok().ok_or("payload")?)
@@ -212,14 +204,10 @@ fn an_emission_is_copied_whole(rt: HostRuntime) -> Result<(), Fail> {
     Ok(())
 }
 
-const KEY: Key = Key([
-    0x2B, 0x7E, 0x15, 0x16, 0x28, 0xAE, 0xD2, 0xA6, 0xAB, 0xF7, 0x15, 0x88, 0x09, 0xCF, 0x4F, 0x3C,
-]);
-
 fn provision() -> Result<Request, Fail> {
     Ok(Request::Provision {
         dev_eui: DEVICE,
-        join_eui: Eui(0x0102030405060708),
+        join_eui: JOIN_EUI,
         app_key: KEY,
         rx1_offset: Rx1Offset::new(5).ok_or("offset")?,
         rx_delay: RxDelay::new(15).ok_or("delay")?,
@@ -236,17 +224,12 @@ fn a_provisioning_is_asked_for(rt: HostRuntime) -> Result<(), Fail> {
     let request = read_request(alloc, "provision", Words::of(fields))?;
     assert!(rt; request.clone()? == provision()?);
     let command = request.into_command(application()?);
-    assert!(rt;
-        command
-            == Command::Provision(Provisioning {
-                application: application()?,
-                dev_eui: DEVICE,
-                join_eui: Eui(0x0102030405060708),
-                app_key: KEY,
-                rx1_offset: Rx1Offset::new(5).ok_or("offset")?,
-                rx_delay: RxDelay::new(15).ok_or("delay")?,
-            })
-    );
+    let asked = Provisioning {
+        rx1_offset: Rx1Offset::new(5).ok_or("offset")?,
+        rx_delay: RxDelay::new(15).ok_or("delay")?,
+        ..provisioning(DEVICE)?
+    };
+    assert!(rt; command == Command::Provision(asked));
     Ok(())
 }
 
@@ -294,47 +277,16 @@ fn words_are_values(rt: HostRuntime) {
     assert!(rt; nothing.is_none());
 }
 
-fn brought(dev_eui: Eui) -> Result<Provisioning, Fail> {
-    Ok(Provisioning {
-        application: application()?,
-        dev_eui,
-        join_eui: Eui(1),
-        app_key: Key([7; 16]),
-        rx1_offset: Rx1Offset::new(0).ok_or("offset")?,
-        rx_delay: RxDelay::new(1).ok_or("delay")?,
-    })
-}
-
 // A device with a session in use and one item.
 fn busy(alloc: Global) -> Result<Device, Fail> {
-    let session = Session {
-        join_nonce: nonce(3)?,
-        nwk_skey: Key([1; 16]),
-        app_skey: Key([2; 16]),
-    };
-    let current = CurrentSession {
-        session,
-        last_up: 70,
-        next_down: NextDown::new(1 << 32).ok_or("next down")?,
-    };
-    let mut device = Device::provisioned(alloc, &brought(Eui(0xAB))?);
-    device.activation = Activation::new(Some(nonce(5)?), Some(current), None).ok_or("in order")?;
-    device.items = one_item(alloc)?;
+    let mut device = brought(alloc, Eui(0xAB))?;
+    device.activation = Activation::new(Some(nonce(5)?), Some(current(3, 70)?), None).ok_or(
+        "in order",
+    )?;
+    device.items = ItemQueue::new(vec![in alloc; item(alloc, 9, 1)?]?)
+        .ok()
+        .ok_or("one item")?;
     Ok(device)
-}
-
-fn one_item(alloc: Global) -> Result<ItemQueue, Fail> {
-    let item = Item {
-        tag: Tag(9),
-        port: Port::new(7).ok_or("port")?,
-        confirmed: false,
-        payload: payload(alloc, "AA")?,
-    };
-    Ok(
-        ItemQueue::new(vec![in alloc; item]?)
-            .ok()
-            .ok_or("one item")?,
-    )
 }
 
 fn is_listed(
@@ -354,11 +306,41 @@ fn devices_are_listed_by_slot(rt: HostRuntime) -> Result<(), Fail> {
     let net_id = NetId::new(0x2A).ok_or("net id")?;
     let mut table = Table::new(alloc, net_id, Slots::new(8).ok_or("slots")?)?;
     is_listed(&rt, alloc, &table, 0, "devices 0 seq 0\n")?;
-    table.put(0, Device::provisioned(alloc, &brought(DEVICE)?))?;
+    table.put(0, brought(alloc, DEVICE)?)?;
     let one = "0 1112131415161718 0 - - - 0\ndevices 1 seq 1\n";
     is_listed(&rt, alloc, &table, 1, one)?;
     table.put(1, busy(alloc)?)?;
     let two =
         "0 1112131415161718 0 - - - 0\n1 00000000000000AB 5 3 70 4294967296 1\ndevices 2 seq 18446744073709551615\n";
     is_listed(&rt, alloc, &table, u64::MAX, two)
+}
+
+// A text of 242 bytes of A5, behind these words.
+fn with_a5(alloc: Global, words: &str) -> Result<String, Fail> {
+    let mut text = String::from_str(alloc, words)?;
+    for _ in 0..242 {
+        text.push_str("A5")?;
+    }
+    Ok(text)
+}
+
+#[test]
+fn the_longest_texts_are_told(rt: HostRuntime) -> Result<(), Fail> {
+    let alloc = rt.alloc();
+    let commands = Payload::from_slice(alloc, &[0xA5; 242])?;
+    let sent = report(Report::Mac {
+        join_nonce: nonce(1)?,
+        commands,
+    })?;
+    let text = with_a5(alloc, "mac 1112131415161718 1 ")?;
+    is_told(&rt, alloc, &sent, text.as_str())
+}
+
+#[test]
+fn the_longest_frame_is_sent(rt: HostRuntime) -> Result<(), Fail> {
+    let alloc = rt.alloc();
+    let effect = downlink(alloc, 0, Windows::Rx1OrRx2, vec![in alloc; 0xA5; 255]?)?;
+    let mut bytes = read_hex(alloc, "01131100000000000000B10000C35033BE27A0000102")?;
+    bytes.extend_from_slice(&[0xA5; 255])?;
+    is_sent(&rt, alloc, &effect, bytes.as_slice())
 }
