@@ -18,4 +18,4 @@ pub use data_frame::DataFrame;
 pub use join::{JoinAccept, JoinRequest};
 pub use phy::{Mic, Phy};
 pub use read::decode;
-pub use write::encode;
+pub use write::{encode, encode_message};

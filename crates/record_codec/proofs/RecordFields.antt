@@ -2,7 +2,7 @@
 use Rattle.std.proofs.Common.{◌≡◌, ℕ, zero, suc, ◌/◌, ◌%◌, ◌^◌, ◌<◌, ◌≤◌, ◌&&◌, Bool, true, false, List, [], ◌∷◌, ◌++◌, Option, Some, None, refl, sym, ap, ◌∙◌, arith, inl, inr, nat_le, ltb}
 use Rattle.std.specs.Prelude.{IfSome, option_map, unwrap_or}
 use Rattle.std.specs.Option.{option_map_or}
-use Rattle.std.specs.Int.{w16, w32, w64, to_be_bytes}
+use Rattle.std.specs.Int.{Width, w16, w32, w64, to_be_bytes}
 use Rattle.std.proofs.lemmas.Bool.{and_from, and_parts, both_ways, cases_Bool, cond-true, cond-false, eqb-true, le-leb, leb-true, lt-ltb, ltb-true}
 use Rattle.lw_types.specs.declared.key.Key.{Key}
 use Rattle.byte_fields.specs.Field.{IsField}
@@ -14,71 +14,48 @@ use Rattle.devices.specs.declared.Tag.{Tag}
 use Rattle.devices.specs.declared.activation.Session.{Session}
 use Rattle.devices.specs.declared.activation.CurrentSession.{CurrentSession}
 use Rattle.devices.specs.Activation.{Grants, AreInOrder, current_nonce}
-use Rattle.record_codec.specs.DeviceRecord.{nonce, dev_nonce, awaited, granted, session, current_session, activation, IsKey, IsJoinNonce, IsSession, IsCurrentSession, AreGrants}
+use Rattle.record_codec.specs.DeviceRecord.{nonce, flagged_number, dev_nonce, awaited, granted, session, current_session, activation, IsKey, IsJoinNonce, IsSession, IsCurrentSession, AreGrants}
 use Rattle.record_codec.specs.Reading.{flagged, is_plain, flagged_at, awaited_at, is_join_nonce, granted_nonce, session_of, session_at, current_of, current_at, grants_of, are_in_order, activation_at}
 
 -- ---- a number behind a flag
 
-flagged_back : (limit : ℕ) (x : Bool × ℕ) → (Unit {0} × Below limit x.1) × (is_plain x ≡ true) → IfSome (flagged x) (Below limit)
-flagged_back limit (true, n) h = h.0.1
-flagged_back limit (false, n) h = tt
+-- the flag and the number that were read
+abbrev IsFlagged : ℕ → Bool × ℕ → Type 0
+IsFlagged limit x = (Unit {0} × Below limit x.1) × (is_plain x ≡ true)
 
--- a flag and a number of two bytes
-dev_nonce_back : (x : Bool × ℕ) → is_plain x ≡ true → dev_nonce (flagged x) ≡ flag x.0 ++ to_be_bytes w16 x.1
-dev_nonce_back (true, n) h = refl
-dev_nonce_back (false, n) h = let none : 0 ≡ n = sym (eqb-true n 0 h) in ap (λ (k : ℕ). 0 ∷ to_be_bytes w16 k) none
+flagged_back : (w : Width) (limit : ℕ) (x : Bool × ℕ) → IsFlagged limit x → IfSome (flagged x) (Below limit) × (flagged_number w (flagged x) ≡ flag x.0 ++ to_be_bytes w x.1)
+flagged_back w limit (true, n) h = (h.0.1, refl)
+flagged_back w limit (false, n) h = let none : 0 ≡ n = sym (eqb-true n 0 h.1) in (tt, ap (λ (k : ℕ). 0 ∷ to_be_bytes w k) none)
 
-dev_nonce_forth : (o : Option ℕ) → IfSome o (Below (2 ^ 16)) → (x : Bool × ℕ) × ((Unit {0} × Below (2 ^ 16) x.1) × (is_plain x ≡ true)) × (flagged x ≡ o) × (dev_nonce o ≡ flag x.0 ++ to_be_bytes w16 x.1)
-dev_nonce_forth None h = ((false, 0), ((tt, omega arith), refl), refl, refl)
-dev_nonce_forth (Some n) h = ((true, n), ((tt, h), refl), refl, refl)
+flagged_forth : (w : Width) (limit : ℕ) → 0 < limit → (o : Option ℕ) → IfSome o (Below limit) → (x : Bool × ℕ) × IsFlagged limit x × (flagged x ≡ o) × (flagged_number w o ≡ flag x.0 ++ to_be_bytes w x.1)
+flagged_forth w limit some None h = ((false, 0), ((tt, some), refl), refl, refl)
+flagged_forth w limit some (Some n) h = ((true, n), ((tt, h), refl), refl, refl)
+
+flagged_field : (w : Width) (limit : ℕ) → 0 < limit → IsField (Below limit) (to_be_bytes w) (be_at w) → IsField (λ o. IfSome o (Below limit)) (flagged_number w) (flagged_at w)
+unfolding flagged_at
+flagged_field w limit some field =
+    seen_field (IsFlagged limit) (λ x. flag x.0 ++ to_be_bytes w x.1) (that is_plain (both flag_at (be_at w)))
+    (that_field (λ (x : Bool × ℕ). Unit {0} × Below limit x.1) (λ x. flag x.0 ++ to_be_bytes w x.1) (both flag_at (be_at w))
+    (both_field (λ (f : Bool). Unit {0}) flag flag_at (Below limit) (to_be_bytes w) (be_at w) flag_field field) is_plain)
+    flagged (λ o. IfSome o (Below limit)) (flagged_number w) (flagged_back w limit) (flagged_forth w limit some)
 
 pub dev_nonce_field : IsField (λ o. IfSome o (Below (2 ^ 16))) dev_nonce (flagged_at w16)
-unfolding flagged_at
-dev_nonce_field =
-    seen_field (λ (x : Bool × ℕ). (Unit {0} × Below (2 ^ 16) x.1) × (is_plain x ≡ true)) (λ x. flag x.0 ++ to_be_bytes w16 x.1) (that is_plain (both flag_at (be_at w16)))
-    (that_field (λ (x : Bool × ℕ). Unit {0} × Below (2 ^ 16) x.1) (λ x. flag x.0 ++ to_be_bytes w16 x.1) (both flag_at (be_at w16))
-    (both_field (λ (f : Bool). Unit {0}) flag flag_at (Below (2 ^ 16)) (to_be_bytes w16) (be_at w16) flag_field u16_be_field) is_plain)
-    flagged (λ o. IfSome o (Below (2 ^ 16))) dev_nonce
-    (λ x h. (flagged_back (2 ^ 16) x h, dev_nonce_back x h.1))
-    dev_nonce_forth
+dev_nonce_field = flagged_field w16 (2 ^ 16) (omega arith) u16_be_field
 
--- the same of four bytes, and then as a tag
 abbrev IsTag : Option Tag → Type 0
 IsTag o = IfSome o (λ tag. tag.0 < 2 ^ 32)
 
-abbrev number_text : Option ℕ → List ℕ
-number_text None = 0 ∷ to_be_bytes w32 0
-number_text (Some n) = 1 ∷ to_be_bytes w32 n
-
-number_back : (x : Bool × ℕ) → is_plain x ≡ true → number_text (flagged x) ≡ flag x.0 ++ to_be_bytes w32 x.1
-number_back (true, n) h = refl
-number_back (false, n) h = let none : 0 ≡ n = sym (eqb-true n 0 h) in ap (λ (k : ℕ). 0 ∷ to_be_bytes w32 k) none
-
-number_forth : (o : Option ℕ) → IfSome o (Below (2 ^ 32)) → (x : Bool × ℕ) × ((Unit {0} × Below (2 ^ 32) x.1) × (is_plain x ≡ true)) × (flagged x ≡ o) × (number_text o ≡ flag x.0 ++ to_be_bytes w32 x.1)
-number_forth None h = ((false, 0), ((tt, omega arith), refl), refl, refl)
-number_forth (Some n) h = ((true, n), ((tt, h), refl), refl, refl)
-
-number_field : IsField (λ o. IfSome o (Below (2 ^ 32))) number_text (flagged_at w32)
-unfolding flagged_at
-number_field =
-    seen_field (λ (x : Bool × ℕ). (Unit {0} × Below (2 ^ 32) x.1) × (is_plain x ≡ true)) (λ x. flag x.0 ++ to_be_bytes w32 x.1) (that is_plain (both flag_at (be_at w32)))
-    (that_field (λ (x : Bool × ℕ). Unit {0} × Below (2 ^ 32) x.1) (λ x. flag x.0 ++ to_be_bytes w32 x.1) (both flag_at (be_at w32))
-    (both_field (λ (f : Bool). Unit {0}) flag flag_at (Below (2 ^ 32)) (to_be_bytes w32) (be_at w32) flag_field u32_be_field) is_plain)
-    flagged (λ o. IfSome o (Below (2 ^ 32))) number_text
-    (λ x h. (flagged_back (2 ^ 32) x h, number_back x h.1))
-    number_forth
-
-tag_back : (o : Option ℕ) → IfSome o (Below (2 ^ 32)) → IsTag (option_map (λ n. record { 0 = n }) o) × (awaited (option_map (λ n. record { 0 = n }) o) ≡ number_text o)
+tag_back : (o : Option ℕ) → IfSome o (Below (2 ^ 32)) → IsTag (option_map (λ n. record { 0 = n }) o) × (awaited (option_map (λ n. record { 0 = n }) o) ≡ flagged_number w32 o)
 tag_back None h = (tt, refl)
 tag_back (Some n) h = (h, refl)
 
-tag_forth : (o : Option Tag) → IsTag o → (n : Option ℕ) × IfSome n (Below (2 ^ 32)) × (option_map (λ k. record { 0 = k }) n ≡ o) × (awaited o ≡ number_text n)
+tag_forth : (o : Option Tag) → IsTag o → (n : Option ℕ) × IfSome n (Below (2 ^ 32)) × (option_map (λ k. record { 0 = k }) n ≡ o) × (awaited o ≡ flagged_number w32 n)
 tag_forth None h = (None, tt, refl, refl)
 tag_forth (Some tag) h = (Some tag.0, h, refl, refl)
 
 pub awaited_field : IsField (λ o. IfSome o (λ tag. tag.0 < 2 ^ 32)) awaited awaited_at
 awaited_field =
-    seen_field (λ o. IfSome o (Below (2 ^ 32))) number_text (flagged_at w32) number_field (option_map (λ n. record { 0 = n })) IsTag awaited tag_back tag_forth
+    seen_field (λ o. IfSome o (Below (2 ^ 32))) (flagged_number w32) (flagged_at w32) (flagged_field w32 (2 ^ 32) (omega arith) u32_be_field) (option_map (λ n. record { 0 = n })) IsTag awaited tag_back tag_forth
 
 -- ---- sessions
 

@@ -1,7 +1,7 @@
 -- The layout of a device record: numbers with the highest byte first, one field after another.
-use Rattle.std.specs.Prelude.{◌≡◌, ℕ, ◌^◌, ◌<◌, ◌≤◌, Bool, false, true, List, [], ◌∷◌, ◌++◌, length, Option, Some, None, IfSome}
+use Rattle.std.specs.Prelude.{◌≡◌, ℕ, ◌^◌, ◌<◌, ◌≤◌, Bool, false, true, List, [], ◌∷◌, ◌++◌, length, Option, Some, None, option_map, IfSome}
 use Rattle.std.specs.List.{flat_map, AllByRecursion}
-use Rattle.std.specs.Int.{w16, w32, w64, to_be_bytes}
+use Rattle.std.specs.Int.{Width, w16, w32, w64, to_be_bytes}
 use Rattle.lw_types.specs.Hex.{IsBytes}
 use Rattle.lw_types.specs.declared.payload.TheConstants.{LONGEST_PAYLOAD}
 use Rattle.byte_fields.specs.Spelling.{flag, three_bytes, counted, optional}
@@ -22,15 +22,16 @@ use Rattle.mac_commands.specs.Queueable.{AreQueueable}
 abbrev pub nonce : ℕ → List ℕ
 nonce n = three_bytes n
 
--- a flag and two bytes, which are 0 where no number is there
-abbrev pub dev_nonce : Option ℕ → List ℕ
-dev_nonce None = 0 ∷ to_be_bytes w16 0
-dev_nonce (Some n) = 1 ∷ to_be_bytes w16 n
+-- a flag and a number, which is 0 where none is there
+abbrev pub flagged_number : Width → Option ℕ → List ℕ
+flagged_number w None = 0 ∷ to_be_bytes w 0
+flagged_number w (Some n) = 1 ∷ to_be_bytes w n
 
--- a flag and four bytes, which are 0 where no tag is there
+abbrev pub dev_nonce : Option ℕ → List ℕ
+dev_nonce o = flagged_number w16 o
+
 abbrev pub awaited : Option Tag → List ℕ
-awaited None = 0 ∷ to_be_bytes w32 0
-awaited (Some tag) = 1 ∷ to_be_bytes w32 tag.0
+awaited o = flagged_number w32 (option_map (λ tag. tag.0) o)
 
 -- three bytes, which are 0 where nothing was granted
 abbrev pub granted : Option ℕ → List ℕ

@@ -9,9 +9,9 @@ ghost use Rattle.record_codec.specs.DeviceRecord.{awaited, dev_nonce, head, spel
 ghost use Rattle.record_codec.specs.Parts.{device_of_parts};
 ghost use Rattle.record_codec.specs.Reading.{awaited_at, device_at, flagged_at, items_at, record_at, IsNoRecord};
 
-use crate::activation::{put_activation, read_activation};
-use crate::fields::{put_counted, put_flag, put_key};
+use crate::activation_fields::{put_activation, read_activation};
 use crate::queues::{ItemParts, put_item_queue, read_items, read_mac_queue};
+use crate::written_fields::{put_counted, put_flag, put_key};
 use byte_fields::FieldReader;
 use devices::{Activation, Application, Device, ItemQueue, MacQueue, Rx1Offset, RxDelay, Tag};
 use lw_types::{Eui, Key, Refusal};

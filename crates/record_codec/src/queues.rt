@@ -8,7 +8,7 @@ ghost use Rattle.record_codec.specs.DeviceRecord.{item, item_queue, IsItem};
 ghost use Rattle.record_codec.specs.Parts.{item_of_part, items_of_parts};
 ghost use Rattle.record_codec.specs.Reading.{item_at, item_queue_at, items_at, items_in, mac_queue_at, payload_at};
 
-use crate::fields::{put_counted, put_flag};
+use crate::written_fields::{put_counted, put_flag};
 use byte_fields::FieldReader;
 use devices::{Item, ItemQueue, MacQueue, Payload, Port, Ranged, Tag};
 use lw_types::LONGEST_PAYLOAD;

@@ -4,7 +4,7 @@ ghost use Rattle.record_codec.specs.DeviceRecord.{activation, current_session, g
 ghost use Rattle.byte_fields.specs.Reading.{Gives, optional_at, seen_as, three_bytes_at};
 ghost use Rattle.record_codec.specs.Reading.{activation_at, current_at, granted_nonce, session_at};
 
-use crate::fields::put_key;
+use crate::written_fields::put_key;
 use byte_fields::FieldReader;
 use devices::{Activation, CurrentSession, NextDown, Session};
 use lw_types::JoinNonce;

@@ -2,7 +2,7 @@ use Rattle.std.proofs.Common.{◌++◌, ap, ◌∙◌}
 use Rattle.std.specs.Int.{w32, w64, to_be_bytes}
 use Rattle.record_codec.specs.DeviceRecord.{session}
 use Rattle.record_codec.proofs.Loop.{three_written}
-use Rattle.record_codec.proofs.activation.put_current.Goals as goal
+use Rattle.record_codec.proofs.activation_fields.put_current.Goals as goal
 
 pub returns-clause-written : goal.returns-clause-written
 returns-clause-written c =
