@@ -11,7 +11,6 @@ mod effect;
 mod effects;
 mod mac_queue;
 mod queue;
-mod ranged;
 #[cfg(test)]
 mod tests;
 
@@ -20,10 +19,9 @@ pub use command::{Command, Provisioning};
 pub use device::Device;
 pub use effect::{Downlink, Effect, Report, Windows};
 pub use effects::Effects;
-use lw_types::Bytes;
+pub use lw_types::{Payload, Ranged};
 pub use mac_queue::MacQueue;
 pub use queue::{Item, ItemQueue};
-pub use ranged::Ranged;
 
 /// The number of an application, from 0 to 15.
 pub type Application = Ranged<0, 15>;
@@ -43,9 +41,6 @@ pub type NextDown = Ranged<0, 4_294_967_296>;
 
 /// How many gateways heard an uplink, from 1 to 32.
 pub type Copies = Ranged<1, 32>;
-
-/// The payload of a frame, or a run of MAC commands, of at most 242 bytes.
-pub type Payload = Bytes<242>;
 
 /// The name by which an application knows an item that it queued.
 #[derive(Clone, Copy, Debug, PartialEq, Eq, PartialOrd, Ord, Hash)]

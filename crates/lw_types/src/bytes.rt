@@ -1,5 +1,6 @@
 // Byte strings of a bounded length.
-ghost use Rattle.std.specs.Prelude.{◌≡◌, ◌≤◌, ◌<◌, ◌↔◌, IsTrue, List, [], ℕ, length, MatchResult, nat_eq};
+ghost use Rattle.std.specs.Prelude.{◌≡◌, ◌≤◌, ◌<◌, ◌↔◌, IsTrue, List, [], ℕ, length, MatchResult, nat_eq, IfOk, Some};
+ghost use Rattle.std.specs.Fmt.{debug_list, decimal};
 ghost use Rattle.std.specs.Cmp.{partial_equiv_from_equiv};
 ghost use Rattle.std.specs.Cmp.Lexicographic.{pointwise, nat_list_eq_equiv};
 
@@ -42,6 +43,16 @@ impl<const MOST: usize> Bytes<MOST> {
         } else {
             Err(items)
         }
+    }
+
+    /// A copy of these bytes, in memory of its own.
+    pub fn from_slice(alloc: Global, bytes: &[u8]) -> Result<Self, AllocError>
+        requires { length bytes.now ≤ MOST }
+        ensures { IfOk result (λ copy. copy ≡ bytes.now) }
+    {
+        Ok(Bytes {
+            items: Vec::from_slice(alloc, bytes)?,
+        })
     }
 
     /// The bytes.
@@ -100,7 +111,10 @@ impl<const MOST: usize> Eq for Bytes<MOST> {
     ghost laws = { nat_list_eq_equiv };
 }
 
+/// Shows the bytes as decimals, as in `[64, 1]`.
 impl<const MOST: usize> fmt::Debug for Bytes<MOST> {
+    ghost debug_output = { debug_list (λ byte. Some (decimal byte)) };
+
     fn fmt<W: fmt::Write>(&self, f: &mut fmt::Formatter<W>) -> fmt::Result {
         self.items.fmt(f)
     }

@@ -5,6 +5,7 @@ ghost use Rattle.lw_types.specs.declared.refusal.Refusal.TheVariants.{FrameTooLo
 
 use crate::bytes::Bytes;
 use crate::identifiers::Eui;
+use crate::payload::{LONGEST_FRAME, PhyPayload};
 use crate::refusal::Refusal;
 use std::alloc::Global;
 
@@ -20,9 +21,6 @@ pub struct Reception {
     /// In dBm.
     pub rssi: i16,
 }
-
-/// A PHYPayload, of at most 255 bytes (TS001-1.0.4 §4.1).
-pub type PhyPayload = Bytes<255>;
 
 /// A frame as one gateway heard it: of one frame each gateway in reach has a copy.
 #[derive(Clone, Debug, PartialEq, Eq, Drop)]
@@ -42,21 +40,18 @@ impl FrameCopy {
         stamp: u32,
         phy_payload: &[u8],
     ) -> Result<Self, Refusal>
-        ensures { MatchBool (nat_le (length phy_payload.now) 255)
+        ensures { MatchBool (nat_le (length phy_payload.now) LONGEST_FRAME)
             (MatchResult result (λ copy. copy ≡ frame_copy reception stamp phy_payload.now) (λ e. e ≡ OutOfMemory))
             (result ≡ Err FrameTooLong) }
     {
-        if phy_payload.len() > 255 {
+        if phy_payload.len() > LONGEST_FRAME {
             return Err(Refusal::FrameTooLong);
         }
-        match Bytes::new(Vec::from_slice(alloc, phy_payload)?) {
-            Ok(phy_payload) => Ok(FrameCopy {
-                reception,
-                stamp,
-                phy_payload,
-            }),
-            Err(_) => Err(Refusal::FrameTooLong),
-        }
+        Ok(FrameCopy {
+            reception,
+            stamp,
+            phy_payload: Bytes::from_slice(alloc, phy_payload)?,
+        })
     }
 
     /// The same copy, in memory of its own.

@@ -13,6 +13,10 @@ pub struct Key(pub [u8; 16]);
 
 /// Shows no byte of the key, so that no key gets into a log.
 impl fmt::Debug for Key {
+    ghost use Rattle.std.specs.Prelude.{codes, Some};
+
+    ghost debug_output = { λ _. Some (codes "Key(..)") };
+
     fn fmt<W: fmt::Write>(&self, f: &mut fmt::Formatter<W>) -> fmt::Result {
         write!(f, "Key(..)")
     }

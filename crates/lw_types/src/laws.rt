@@ -1,5 +1,5 @@
-//! Laws of texts, for crates that write and read lines of them.
-ghost use Rattle.std.specs.Prelude.{◌≡◌, ◌<◌, ◌^◌, FitsSigned, List, ℕ, ℤ, length};
+//! Laws of texts, for crates that write and read lines of them, and the bounds of the types.
+ghost use Rattle.std.specs.Prelude.{◌≡◌, ◌<◌, ◌≤◌, ◌^◌, FitsSigned, List, MatchResult, ℕ, ℤ, length};
 ghost use Rattle.std.specs.Fmt.{decimal, signed_decimal};
 ghost use Rattle.std.specs.Int.{w16};
 ghost use Rattle.hex.specs.Hex.{IsBytes};
@@ -8,6 +8,8 @@ ghost use Rattle.lw_types.specs.declared.identifiers.Eui.{Eui};
 ghost use Rattle.lw_types.specs.declared.key.Key.{Key};
 ghost use Rattle.lw_types.specs.Hex.{dev_addr_text, eui_text, field_text, hex_text, key_text, net_id_text};
 ghost use Rattle.lw_types.specs.Words.{line_of, words_of, AreWords, IsWord};
+
+use crate::payload::{Payload, PhyPayload};
 
 /// No two values share a text.
 pub fn each_text_is_of_one_value()
@@ -38,3 +40,17 @@ pub fn a_line_is_its_words()
     ensures line { (line : List ℕ) → line_of (words_of line) ≡ line }
     ensures words { (words : List (List ℕ)) → AreWords words → words_of (line_of words) ≡ words }
 {}
+
+/// The bytes of a frame are those that number at most 255.
+pub fn frames_have_at_most_255_bytes(bytes: Vec<u8>) -> Result<PhyPayload, Vec<u8>>
+    ensures { MatchResult result (λ _. length bytes.items ≤ 255) (λ _. 255 < length bytes.items) }
+{
+    PhyPayload::new(bytes)
+}
+
+/// A payload's bytes are those that number at most 242.
+pub fn payloads_have_at_most_242_bytes(bytes: Vec<u8>) -> Result<Payload, Vec<u8>>
+    ensures { MatchResult result (λ _. length bytes.items ≤ 242) (λ _. 242 < length bytes.items) }
+{
+    Payload::new(bytes)
+}

@@ -9,19 +9,20 @@ mod hex_text;
 mod identifiers;
 mod key;
 pub mod laws;
+mod payload;
+mod ranged;
 mod refusal;
 mod text;
 mod words;
 
 pub use bytes::Bytes;
 pub use direction::Direction;
-pub use frame_copy::{FrameCopy, PhyPayload, Reception};
+pub use frame_copy::{FrameCopy, Reception};
 pub use hex_text::{ByteField, read_field, read_hex, write_hex};
 pub use identifiers::{DevAddr, Eui, JoinNonce, NetId};
 pub use key::Key;
+pub use payload::{LONGEST_FRAME, LONGEST_PAYLOAD, Payload, PhyPayload};
+pub use ranged::Ranged;
 pub use refusal::Refusal;
 pub use text::FromText;
 pub use words::Words;
-
-#[cfg(test)]
-mod tests;
