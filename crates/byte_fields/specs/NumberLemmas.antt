@@ -9,7 +9,7 @@ use Rattle.lw_types.specs.declared.key.Key.{Key}
 use Rattle.byte_fields.specs.Spelling.{three_bytes}
 use Rattle.byte_fields.specs.Reading.{that, front_at, le_at, be_at, three_bytes_at, byte_at, ranged_at, le_eui_at, be_eui_at, key_at}
 use Rattle.byte_fields.specs.Field.{IsField, AreBytes}
-use Rattle.byte_fields.proofs.Fields.{same_field, seen_field, that_field, front_field, byte_field}
+use Rattle.byte_fields.specs.FieldLemmas.{same_field, seen_field, that_field, front_field, byte_field}
 
 byte_small : (place n : ℕ) → int_byte_at place n < 256
 byte_small zero n = omega arith
