@@ -1,7 +1,7 @@
 -- the entries of the decisions so far
 use Rattle.std.proofs.Common.{◌≡◌, take}
 use Rattle.store_layout.specs.Entries.{AreEntries, entries, entries_of}
-use Rattle.store_layout.proofs.entry.batch_entries.Given as goal
+use Rattle.store_layout.proofs.entries.batch_entries.Given as goal
 
 abbrev pub invariant-loop-decision : goal.invariant-loop-decision
 invariant-loop-decision l =

@@ -2,7 +2,7 @@ use Rattle.std.proofs.Common.{◌≡◌, ◌∙◌, ◌∷◌, ◌++◌, ℕ, Li
 use Rattle.std.specs.Int.{to_be_bytes, w16}
 use Rattle.record_codec.specs.DeviceRecord.{spelling}
 use Rattle.store_layout.specs.Entries.{entry}
-use Rattle.store_layout.proofs.entry.put_entry.Goals as goal
+use Rattle.store_layout.proofs.entries.put_entry.Goals as goal
 
 pub returns : goal.returns
 returns c =

@@ -2,7 +2,7 @@ use Rattle.std.proofs.Common.{◌≡◌, ◌∙◌, List, ℕ, length, nat_eq, r
 use Rattle.std.proofs.lemmas.Result.{err_from_is_err_and}
 use Rattle.std.proofs.lemmas.Bool.{false≢true}
 use Rattle.store_layout.proofs.EntryLaws.{RecordLaws, read_more, no_entry, no_place, no_rest}
-use Rattle.store_layout.proofs.restore.replay.Goals as goal
+use Rattle.store_layout.proofs.entries.replay.Goals as goal
 
 pub returns-in_err-slot : goal.returns-in_err-slot
 returns-in_err-slot c =

@@ -3,7 +3,7 @@ use Rattle.std.proofs.lemmas.Result.{err_from_is_err_and}
 use Rattle.lw_types.specs.declared.refusal.Refusal.{Refusal}
 use Rattle.lw_types.specs.declared.refusal.Refusal.TheVariants.{OutOfMemory, Damaged}
 use Rattle.store_layout.proofs.EntryLaws.{record_cut}
-use Rattle.store_layout.proofs.entry.read_entry.Goals as goal
+use Rattle.store_layout.proofs.entries.read_entry.Goals as goal
 
 -- what isn't want of memory is damage
 damaged : (e : Refusal) → (e ≡ OutOfMemory) ⊎ (e ≡ Damaged) → e ≢ OutOfMemory → e ≡ Damaged

@@ -1,13 +1,13 @@
-// One entry: a record under its slot.
+// Entries: records under their slots, written and replayed.
 ghost use Rattle.std.specs.Prelude.{◌≡◌, ◌≢◌, ◌++◌, ◌⊎◌, ℕ, List, IfOk, IfErr, OnOk, OnErr, MatchResult, length, ◌<◌, ◌^◌, ◌∷◌};
 ghost use Rattle.std.specs.Int.{to_be_bytes, w16};
 ghost use Rattle.lw_types.specs.declared.refusal.Refusal.TheVariants.{OutOfMemory, Damaged};
-ghost use Rattle.store_layout.specs.Entries.{Entry, AreEntries, IsEntry, Lacks, entries, entries_of, entry};
+ghost use Rattle.store_layout.specs.Entries.{Entry, AreEntries, IsEntry, Lacks, Replay, entries, entries_of, entry, put_all};
 
 use devices::Device;
 use lw_types::Refusal;
 use record_codec::{laws, read_device, write_device};
-use sessions::{Batch, Decision};
+use sessions::{Batch, Decision, Table};
 use std::alloc::{AllocError, Global};
 
 /// The kind of an entry that is a whole record.
@@ -59,8 +59,8 @@ pub fn batch_entries(alloc: Global, batch: &Batch) -> Result<Vec<u8>, Refusal>
     Ok(bytes)
 }
 
-/// The slot and the record of the entry at the front of some bytes, and the bytes behind it.
-pub(crate) fn read_entry(alloc: Global, bytes: &[u8]) -> Result<(u16, Device, &[u8]), Refusal>
+// The slot and the record of the entry at the front of some bytes, and the bytes behind it.
+fn read_entry(alloc: Global, bytes: &[u8]) -> Result<(u16, Device, &[u8]), Refusal>
     ensures { MatchResult result
         (λ read. (bytes.now ≡ entry (read.0, read.1) ++ read.2.now) × IsEntry (read.0, read.1))
         (λ e. (e ≢ OutOfMemory → (e ≡ Damaged) × Lacks bytes.now)) }
@@ -77,4 +77,26 @@ pub(crate) fn read_entry(alloc: Global, bytes: &[u8]) -> Result<(u16, Device, &[
     let (record, behind) = rest.split_at(len);
     let device = read_device(alloc, record)?;
     Ok((slot, device, behind))
+}
+
+/// Puts so many entries on a table, which are all of the bytes. Refused with `Damaged` exactly where
+/// the bytes aren't so many entries, or one of them may not be put; with `OutOfMemory` for want of
+/// memory. After an `Err` the table has a beginning of the entries, and is of no use.
+pub fn replay(alloc: Global, table: &mut Table, bytes: &[u8], count: u32) -> Result<(), Refusal>
+    ensures { MatchResult result
+        (λ _. (es : List Entry) × Replay table.old bytes.now count es × (table.new ≡ put_all table.old es))
+        (λ e. e ≢ OutOfMemory → (e ≡ Damaged) × ((es : List Entry) → Replay table.old bytes.now count es → ⊥)) }
+{
+    laws::each_record_is_of_one_device();
+    laws::records_are_short();
+    let mut rest = bytes;
+    for _i in 0..count {
+        let (slot, device, behind) = read_entry(alloc, rest)?;
+        table.put(slot, device)?;
+        rest = behind;
+    }
+    if !rest.is_empty() {
+        return Err(Refusal::Damaged);
+    }
+    Ok(())
 }

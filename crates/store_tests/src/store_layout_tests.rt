@@ -1,24 +1,14 @@
-use crate::{Superblock, batch_entries, put_entry, replay};
-use devices::{Application, Command, Device, Provisioning, Rx1Offset, RxDelay};
-use lw_types::{Eui, Key, NetId, Refusal};
-use sessions::{Batch, Slots, Table};
+use crate::devices_under_test::{net_id, provisioning, provisionings, slots};
+use devices::Device;
+use lw_types::{Eui, Refusal};
+use sessions::Table;
 use std::alloc::Global;
+use std::process::Abort;
 use std::test::Fail;
+use store_layout::{Superblock, batch_entries, put_entry, replay};
 
-fn provisioning(dev_eui: u64) -> Result<Provisioning, Fail> {
-    Ok(Provisioning {
-        application: Application::new(3).ok_or("application")?,
-        dev_eui: Eui(dev_eui),
-        join_eui: Eui(0x0102030405060708),
-        app_key: Key([0x2B; 16]),
-        rx1_offset: Rx1Offset::new(0).ok_or("offset")?,
-        rx_delay: RxDelay::new(1).ok_or("delay")?,
-    })
-}
-
-fn table(alloc: Global, slots: u64) -> Result<Table, Fail> {
-    let net_id = NetId::new(0x2A).ok_or("net id")?;
-    Ok(Table::new(alloc, net_id, Slots::new(slots).ok_or("slots")?)?)
+fn table(alloc: Global, most: u64) -> Result<Table, Fail> {
+    Ok(Table::new(alloc, net_id()?, slots(most)?)?)
 }
 
 // The superblock of network 00002A with 8 slots, as the format spells it.
@@ -30,12 +20,17 @@ const SUPERBLOCK: [u8; 32] = [
 #[test]
 fn the_superblock_has_its_layout(rt: HostRuntime) -> Result<(), Fail> {
     let superblock = Superblock {
-        net_id: NetId::new(0x2A).ok_or("net id")?,
-        slots: Slots::new(8).ok_or("slots")?,
+        net_id: net_id()?,
+        slots: slots(8)?,
     };
     assert_eq!(rt; superblock.to_bytes().as_slice(), SUPERBLOCK.as_slice());
     assert_eq!(rt; superblock.disk_len(), 2_166_124);
     assert_eq!(rt; Superblock::from_bytes(&SUPERBLOCK), Ok(superblock));
+    Ok(())
+}
+
+#[test]
+fn another_superblock_is_refused(rt: HostRuntime) {
     let cases = [
         (0, 0x00, Refusal::NotFormatted),
         (3, 0x54, Refusal::NotFormatted),
@@ -56,7 +51,6 @@ fn the_superblock_has_its_layout(rt: HostRuntime) -> Result<(), Fail> {
             "byte {at} is {byte}"
         );
     }
-    Ok(())
 }
 
 #[test]
@@ -76,35 +70,47 @@ fn an_entry_has_its_layout(rt: HostRuntime) -> Result<(), Fail> {
     Ok(())
 }
 
+// The entries of a batch of so many provisionings.
+fn entries(alloc: Global, count: u64) -> Result<Vec<u8>, Fail> {
+    let batch = provisionings(alloc, &table(alloc, 64)?, 0, count)?;
+    Ok(batch_entries(alloc, &batch)?)
+}
+
 #[test]
 fn what_a_batch_writes_replays(rt: HostRuntime) -> Result<(), Fail> {
     let alloc = rt.alloc();
-    let mut now = table(alloc, 8)?;
-    let mut batch = Batch::new(alloc)?;
-    for seq in 0..5 {
-        let decision = now.decide(alloc, seq + 1, Command::Provision(provisioning(90 - seq)?))?;
-        assert!(rt; now.admits(seq, &decision));
-        now.apply(&decision)?;
-        assert!(rt; batch.len() < 64);
-        batch.push(decision);
+    for count in [1, 5, 64] {
+        let bytes = entries(alloc, count)?;
+        assert_eq!(rt; bytes.len() as u64, 55 * count);
+        let mut opened = table(alloc, 64)?;
+        replay(alloc, &mut opened, &bytes, count as u32)?;
+        assert_eq!(rt; opened.devices().len() as u64, count);
+        assert_eq!(rt; opened.slot_of(Eui(count)), Some(count as u16 - 1));
     }
-    let bytes = batch_entries(alloc, &batch)?;
-    assert_eq!(rt; bytes.len(), 5 * 55);
-    let mut opened = table(alloc, 8)?;
-    replay(alloc, &mut opened, &bytes, 5)?;
-    assert_eq!(rt; opened.devices().len(), 5);
-    assert_eq!(rt; opened.slot_of(Eui(87)), Some(3));
-    for (cut, count) in [(274, 5), (275, 4), (275, 6), (0, 1)] {
-        assert!(rt; cut <= bytes.len());
-        let mut other = table(alloc, 8)?;
-        let answer = replay(alloc, &mut other, &bytes[..cut], count);
-        assert_eq!(rt;
-            answer,
-            Err(Refusal::Damaged),
-            "{cut} bytes, {count} entries"
-        );
-    }
-    let mut small = table(alloc, 4)?;
-    assert_eq!(rt; replay(alloc, &mut small, &bytes, 5), Err(Refusal::Damaged));
     Ok(())
+}
+
+// These bytes aren't so many entries on a table with so many slots.
+fn is_damaged(
+    rt: &impl Abort,
+    alloc: Global,
+    most: u64,
+    bytes: &[u8],
+    count: u32,
+) -> Result<(), Fail> {
+    let mut other = table(alloc, most)?;
+    let answer = replay(alloc, &mut other, bytes, count);
+    assert_eq!(rt; answer, Err(Refusal::Damaged), "{count} entries, {most} slots");
+    Ok(())
+}
+
+#[test]
+fn other_bytes_do_not_replay(rt: HostRuntime) -> Result<(), Fail> {
+    let alloc = rt.alloc();
+    let bytes = entries(alloc, 5)?;
+    assert_eq!(rt; bytes.len(), 275);
+    for (cut, count) in [(274, 5), (275, 4), (275, 6), (0, 1)] {
+        is_damaged(&rt, alloc, 8, &bytes[..cut], count)?;
+    }
+    is_damaged(&rt, alloc, 4, &bytes, 5)
 }
