@@ -1,4 +1,4 @@
--- What it means that a field is read as it is spelled. The lemmas of proofs/ are about this; codecs build the
+-- What it means that a field is read as it is spelled. The lemmas beside it are about this; codecs build the
 -- theorems on their decoders from them.
 use Rattle.std.specs.Prelude.{◌≡◌, ℕ, List, ◌++◌, length, Some}
 use Rattle.lw_types.specs.Hex.{IsBytes}

@@ -16,6 +16,12 @@ const DEVICE: DevAddr = DevAddr(0x2601_1BDA);
 /// How many bytes a frame has, a usual length at DR0.
 const FRAME_LEN: usize = 51;
 
+/// For how long each kind of work is measured, in milliseconds.
+const MEASURED_MILLIS: u128 = 1000;
+
+/// More rounds than fit into that time on any machine of today.
+const MOST_ROUNDS: u32 = 100_000;
+
 /// What is measured.
 #[derive(Clone, Copy)]
 enum Work {
@@ -36,11 +42,11 @@ impl Work {
         }
     }
 
-    /// How often it is done.
+    /// How often it is done before the clock is read again.
     fn times(self) -> u32 {
         match self {
-            Work::Blocks => 4_000_000,
-            Work::Payloads | Work::Mics => 400_000,
+            Work::Blocks => 40_000,
+            Work::Payloads | Work::Mics => 4_000,
         }
     }
 
@@ -54,14 +60,20 @@ impl Work {
         }
     }
 
-    /// Tells how many a second were done.
+    /// Does it for a second or a little more, and tells how many a second were done.
     fn measure(self, rt: &(impl Clock + Eprint)) -> io::Result<()> {
-        let start = Instant::now(rt)?;
-        let last = self.run();
-        let spent = start.elapsed(rt)?.as_millis().max(1);
-        let a_second = u128::from(self.times()) * 1000 / spent;
         let name = self.name();
-        eprintln!(rt; "{name}: {a_second} a second (the last byte is {last:02X})")
+        let start = Instant::now(rt)?;
+        for round in 1..=MOST_ROUNDS {
+            let last = self.run();
+            let spent = start.elapsed(rt)?.as_millis();
+            if spent >= MEASURED_MILLIS {
+                let done = u128::from(round) * u128::from(self.times());
+                let a_second = done * 1000 / spent;
+                return eprintln!(rt; "{name}: {a_second} a second (the last byte is {last:02X})");
+            }
+        }
+        eprintln!(rt; "{name}: not measured, as the clock stands still")
     }
 }
 

@@ -8,8 +8,8 @@ use Rattle.lw_types.specs.declared.key.Key.{Key}
 use Rattle.byte_fields.specs.Field.{IsField}
 use Rattle.byte_fields.specs.Reading.{both, seen_as, that, be_at, flag_at, key_at, optional_at, three_bytes_at}
 use Rattle.byte_fields.specs.Spelling.{flag, optional}
-use Rattle.byte_fields.proofs.Fields.{same_field, both_field, seen_field, that_field, flag_field, optional_field}
-use Rattle.byte_fields.proofs.Numbers.{Below, key_field, three_bytes_field, u16_be_field, u32_be_field, u64_be_field}
+use Rattle.byte_fields.specs.FieldLemmas.{same_field, both_field, seen_field, that_field, flag_field, optional_field}
+use Rattle.byte_fields.specs.NumberLemmas.{Below, key_field, three_bytes_field, u16_be_field, u32_be_field, u64_be_field}
 use Rattle.devices.specs.declared.Tag.{Tag}
 use Rattle.devices.specs.declared.activation.Session.{Session}
 use Rattle.devices.specs.declared.activation.CurrentSession.{CurrentSession}

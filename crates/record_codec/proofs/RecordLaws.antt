@@ -12,8 +12,8 @@ use Rattle.lw_types.specs.declared.refusal.Refusal.TheVariants.{OutOfMemory, Dam
 use Rattle.byte_fields.specs.Field.{IsField}
 use Rattle.byte_fields.specs.Reading.{◌>>=◌, both, that, be_at, be_eui_at, byte_at, counted_at, flag_at, key_at, ranged_at}
 use Rattle.byte_fields.specs.Spelling.{flag, counted}
-use Rattle.byte_fields.proofs.Fields.{IsBytes-after, bind_some, both_field, counted_field, flag_field, same_field, seen_field, some_is, that_field, whole_again, whole_takes}
-use Rattle.byte_fields.proofs.Numbers.{Below, Between, IsEui, be_eui_field, key_field, ranged_field, u32_be_field}
+use Rattle.byte_fields.specs.FieldLemmas.{IsBytes-after, bind_some, both_field, counted_field, flag_field, same_field, seen_field, some_is, that_field, whole_again, whole_takes}
+use Rattle.byte_fields.specs.NumberLemmas.{Below, Between, IsEui, be_eui_field, key_field, ranged_field, u32_be_field}
 use Rattle.mac_commands.specs.Queueable.{AreQueueable}
 use Rattle.devices.specs.declared.Tag.{Tag}
 use Rattle.devices.specs.declared.device.Device.{Device}
