@@ -4,7 +4,7 @@ use Rattle.disk.specs.State.{State}
 use Rattle.sessions.specs.Table.{TableState}
 use Rattle.world.specs.declared.answer.Answer.{Answer}
 use Rattle.world.specs.declared.step.Step.{Step}
-use Rattle.world.specs.declared.lives.World.{World}
+use Rattle.world.specs.declared.world.World.{World}
 use Rattle.world.specs.Course.{Course, after, course_of}
 use Rattle.world.specs.Answers.{AreRight, IsRight}
 use Rattle.world.specs.Follows.{Follows, Moves, Runs}

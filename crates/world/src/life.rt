@@ -1,32 +1,37 @@
-// The steps of one life.
-ghost use Rattle.std.specs.Prelude.{◌≡◌, ◌≢◌, ◌<◌, ◌++◌, ◌+◌, ◌^◌, ◌≤◌, ℕ, [], length, vec_capacity, IfOk, IfErr, MatchResult};
-ghost use Rattle.lw_types.specs.declared.refusal.Refusal.TheVariants.{OutOfMemory};
-ghost use Rattle.disk.specs.Outlook.Outlook.{FailsAfter};
-ghost use Rattle.session_core.specs.State.{opened};
-ghost use Rattle.store.specs.State.{seen, disk_of, IsRoomy};
-ghost use Rattle.world.specs.declared.commit.Commit.TheVariants as commits;
-ghost use Rattle.world.specs.declared.step.Step.TheVariants as steps;
-ghost use Rattle.world.specs.declared.answer.Answer.TheVariants as answers;
-ghost use Rattle.world.specs.Cause.{IsCause, IsForetold};
-ghost use Rattle.world.specs.Follows.{IsOwn, MovesLife, Lets};
-ghost use Rattle.world.specs.Sound.{IsSoundLife, HasRoom};
+// One life of a network server: from an opening of its store to the next crash.
+ghost use Rattle.std.specs.Prelude.{◌≡◌, ◌++◌, ◌+◌, ◌≤◌, length, vec_capacity};
 
 use crate::commit::Commit;
-use crate::life::Life;
-use crate::{Answer, Moment, Step};
-use devices::Provisioning;
+use crate::{Answer, Step, laws};
+use devices::Command;
 use disk::Sim;
-use flusher::{Durable, Released, Room};
+use flusher::{Durable, MOST_EFFECTS, Released, Room};
 use lw_types::Refusal;
-use session_core::{Core, Most};
+use session_core::{Core, Moment, Most};
 use std::alloc::Global;
 use std::mem;
 use store::Store;
 
-/// How many effects the largest batch has.
-const MOST_EFFECTS: usize = 256;
+/// A store that is open, the core that decides on its table, and the commit under way.
+pub(crate) struct Life<D: Sim> {
+    pub(crate) store: Store<D>,
+    pub(crate) core: Core,
+    pub(crate) commit: Commit,
+}
 
 impl<D: Sim> Life<D> {
+    ghost use Rattle.std.specs.Prelude.{◌≢◌, ◌<◌, ◌^◌, ℕ, [], IfOk, IfErr, MatchResult};
+    ghost use Rattle.lw_types.specs.declared.refusal.Refusal.TheVariants.{OutOfMemory};
+    ghost use Rattle.disk.specs.Outlook.Outlook.{FailsAfter};
+    ghost use Rattle.session_core.specs.State.{opened};
+    ghost use Rattle.store.specs.State.{seen, disk_of, IsRoomy};
+    ghost use Rattle.world.specs.declared.commit.Commit.TheVariants as commits;
+    ghost use Rattle.world.specs.declared.step.Step.TheVariants as steps;
+    ghost use Rattle.world.specs.declared.answer.Answer.TheVariants as answers;
+    ghost use Rattle.world.specs.Cause.{IsCause, IsForetold};
+    ghost use Rattle.world.specs.Follows.{IsOwn, MovesLife, Lets};
+    ghost use Rattle.world.specs.Sound.{IsSoundLife, HasRoom};
+
     /// A life that begins with this store.
     pub(crate) fn new(alloc: Global, store: Store<D>) -> Result<Self, (D, Refusal)>
         ensures store { IfOk result (λ life. seen D.state life.store ≡ seen D.state store) }
@@ -66,10 +71,7 @@ impl<D: Sim> Life<D> {
         ensures left { Lets D.state self.old step.now result released.old.items released.new.items }
     {
         match step {
-            Step::Provision {
-                moment,
-                provisioning,
-            } => self.provision(*moment, *provisioning),
+            Step::Request { moment, command } => self.request(*moment, command),
             Step::Take(most) => self.take(alloc, *most, released),
             Step::Call => self.call(),
             Step::Fail => self.fail(),
@@ -79,18 +81,19 @@ impl<D: Sim> Life<D> {
         }
     }
 
-    /// An application brings a device.
-    pub(crate) fn provision(&mut self, moment: Moment, provisioning: Provisioning) -> Answer
+    /// An application asks for a command.
+    pub(crate) fn request(&mut self, moment: Moment, command: &Command) -> Answer
         requires { IsSoundLife D.state self.old }
         ensures sound { IsSoundLife D.state self.new }
         ensures commit { self.new.commit ≡ self.old.commit }
-        ensures course { MovesLife D.state self.old (steps.Provision moment provisioning) result self.new }
+        ensures course { MovesLife D.state self.old (steps.Request moment command.now) result self.new }
         ensures full { result ≢ answers.Full }
         ensures cause { IsCause (D.failures (disk_of self.old.store)) result (D.failures (disk_of self.new.store)) }
-        ensures foretold { IsForetold (D.outlook (disk_of self.old.store)) (steps.Provision moment provisioning) result
+        ensures foretold { IsForetold (D.outlook (disk_of self.old.store)) (steps.Request moment command.now) result
             (D.outlook (disk_of self.new.store)) }
     {
-        Answer::Turn(self.core.provision(moment.get(), provisioning))
+        laws::of_runs();
+        Answer::Turn(self.core.decide(moment, copy_of(command)))
     }
 
     /// The flusher takes a batch and begins its commit. `Full` comes only where the journal has no room
@@ -146,6 +149,7 @@ impl<D: Sim> Life<D> {
         ensures foretold { IfOk result (λ answer. IsForetold (D.outlook (disk_of self.old.store)) (steps.Take most) answer
             (D.outlook (disk_of self.new.store))) }
     {
+        laws::of_runs();
         let room = Room::new(alloc)?;
         released.reserve(MOST_EFFECTS)?;
         let batch = self.core.take(most)?;
@@ -180,6 +184,7 @@ impl<D: Sim> Life<D> {
         ensures foretold { IsForetold (D.outlook (disk_of self.old.store)) steps.Call result
             (D.outlook (disk_of self.new.store)) }
     {
+        laws::of_runs();
         match mem::replace(&mut self.commit, Commit::Failed) {
             Commit::Begun(phase, room) => match phase.write(&mut self.store) {
                 Ok(next) => self.called(Commit::Written(next, room)),
@@ -267,6 +272,7 @@ impl<D: Sim> Life<D> {
         ensures foretold { IsForetold (D.outlook (disk_of self.now.store)) steps.List result
             (D.outlook (disk_of self.now.store)) }
     {
+        laws::of_runs();
         match self.core.now().copy() {
             Ok(table) => Answer::Listed {
                 table,
@@ -287,6 +293,15 @@ impl<D: Sim> Life<D> {
         } = self;
         commit.lose();
         store.close()
+    }
+}
+
+// The same command. It takes no memory, so that a refusal is exact without any.
+fn copy_of(command: &Command) -> Command
+    ensures { result ≡ command.now }
+{
+    match command {
+        Command::Provision(provisioning) => Command::Provision(*provisioning),
     }
 }
 

@@ -1,29 +1,40 @@
-// The steps of a world.
-ghost use Rattle.std.specs.Prelude.{◌≡◌, ◌≢◌, ℕ, false, IfOk, IfErr, MatchResult, length};
-ghost use Rattle.lw_types.specs.declared.refusal.Refusal.TheVariants.{DeviceFailed};
-ghost use Rattle.disk.specs.Outlook.Outlook.{AllSucceed};
-ghost use Rattle.disk.specs.declared.sim.Image.{Image};
-ghost use Rattle.sessions.specs.Table.{empty_table};
-ghost use Rattle.store.specs.Faults.{IsFormatRefusal};
-ghost use Rattle.store.specs.State.{seen, disk_of, IsSettled};
-ghost use Rattle.world.specs.declared.answer.Answer.TheVariants as answers;
-ghost use Rattle.world.specs.declared.step.Step.TheVariants as steps;
-ghost use Rattle.world.specs.Cause.{IsCause, IsForetold, IsFull, CrashesTo, failures_at, outlook_at};
-ghost use Rattle.world.specs.Course.{beginning};
-ghost use Rattle.world.specs.Follows.{Follows, Moves, Reopens, Begins};
-ghost use Rattle.world.specs.Sound.{IsSound, IsSoundPlace, HasDisk};
+// The world.
+ghost use Rattle.std.specs.Prelude.{◌≡◌};
 
 use crate::life::Life;
 use crate::place::Place;
-use crate::{Answer, Step, World};
+use crate::{Answer, Step, laws};
 use disk::{Image, Sim};
+use flusher::Released;
 use gateway_wire::Emission;
 use lw_types::{NetId, Refusal};
 use std::alloc::Global;
 use std::mem;
-use store::Store;
+
+/// A simulated network server over all its lives: a store on a disk, the core that decides on its
+/// table, the commit under way, and the effects that were released.
+pub struct World<D: Sim> {
+    pub(crate) place: Place<D>,
+    /// The effects released over all lives, in order.
+    pub(crate) released: Vec<Released>,
+    /// How many of them were emitted, or lost at a crash.
+    pub(crate) emitted: usize,
+}
 
 impl<D: Sim + Drop> World<D> {
+    ghost use Rattle.std.specs.Prelude.{◌≢◌, IfOk, IfErr, MatchResult, length};
+    ghost use Rattle.lw_types.specs.declared.refusal.Refusal.TheVariants.{DeviceFailed};
+    ghost use Rattle.disk.specs.Outlook.Outlook.{AllSucceed};
+    ghost use Rattle.disk.specs.declared.sim.Image.{Image};
+    ghost use Rattle.sessions.specs.Table.{empty_table};
+    ghost use Rattle.store.specs.Faults.{IsFormatRefusal};
+    ghost use Rattle.world.specs.declared.answer.Answer.TheVariants as answers;
+    ghost use Rattle.world.specs.declared.step.Step.TheVariants as steps;
+    ghost use Rattle.world.specs.Cause.{IsCause, IsForetold, IsFull, CrashesTo, failures_at, outlook_at};
+    ghost use Rattle.world.specs.Course.{beginning};
+    ghost use Rattle.world.specs.Follows.{Follows, Moves};
+    ghost use Rattle.world.specs.Sound.{IsSound, HasDisk};
+
     /// A world with a new store on this disk. Refused as [`store::format`] is, and with `OutOfMemory`.
     pub fn format(alloc: Global, disk: D, net_id: NetId, slots: u64) -> Result<Self, Refusal>
         ensures sound { IfOk result (IsSound D.state) }
@@ -58,6 +69,7 @@ impl<D: Sim + Drop> World<D> {
         ensures foretold { IsForetold (outlook_at D.outlook self.old.place) step.now result
             (outlook_at D.outlook self.new.place) }
     {
+        laws::of_runs();
         match step {
             Step::Crash(image) => self.crash(alloc, image),
             Step::Emit => self.emit(alloc),
@@ -102,11 +114,12 @@ impl<D: Sim + Drop> World<D> {
         ensures foretold { IsForetold (outlook_at D.outlook self.old.place) (steps.Crash image.now) result
             (outlook_at D.outlook self.new.place) }
     {
+        laws::of_runs();
         self.emitted = self.released.len();
         let mut disk = mem::replace(&mut self.place, Place::Crashing).end();
         disk.crash(image);
         disk::laws::settled_disk_keeps_its_content();
-        let (place, answer) = reopen(alloc, disk);
+        let (place, answer) = Place::reopen(alloc, disk);
         self.put(place);
         answer
     }
@@ -135,42 +148,5 @@ impl<D: Sim + Drop> World<D> {
             emitted: _,
         } = self;
         place.end()
-    }
-}
-
-// The store on a disk that crashed is opened, and a life begins with it.
-fn reopen<D: Sim>(alloc: Global, disk: D) -> (Place<D>, Answer)
-    ensures sound { (there fit : ℕ) → IsSoundPlace D.state result.0 there fit }
-    ensures course { Reopens D.state (D.state disk) result.1 result.0 }
-    ensures full { result.1 ≢ answers.Full }
-    ensures same { (now : D) → HasDisk result.0 now → (D.state now).content ≡ (D.state disk).content }
-    ensures cause { IsCause (D.failures disk) result.1 (failures_at D.failures result.0) }
-    ensures foretold { (image : Image) → IsForetold (D.outlook disk) (steps.Crash image) result.1
-        (outlook_at D.outlook result.0) }
-{
-    disk::laws::settled_disk_keeps_its_content();
-    match store::open_back(alloc, disk) {
-        Ok(store) => begin(alloc, store),
-        Err((disk, refusal)) => (Place::Closed(disk), Answer::Refused(refusal)),
-    }
-}
-
-// A life begins with a store that was opened.
-fn begin<D: Sim>(alloc: Global, store: Store<D>) -> (Place<D>, Answer)
-    ensures sound { (there fit : ℕ) → IsSoundPlace D.state result.0 there fit }
-    ensures course { (seen D.state store).failed ≡ false → IsSettled (seen D.state store)
-        → Begins D.state (seen D.state store) result.1 result.0 }
-    ensures full { result.1 ≢ answers.Full }
-    ensures same { (now : D) → HasDisk result.0 now → now ≡ disk_of store }
-    ensures cause { IsCause (D.failures (disk_of store)) result.1 (failures_at D.failures result.0) }
-    ensures foretold { (image : Image) → IsForetold (D.outlook (disk_of store)) (steps.Crash image) result.1
-        (outlook_at D.outlook result.0) }
-{
-    store::laws::a_settled_store_is_on_its_disk();
-    let devices = store.table().devices().len();
-    let seq = store.seq();
-    match Life::new(alloc, store) {
-        Ok(life) => (Place::Open(life), Answer::Opened { devices, seq }),
-        Err((disk, refusal)) => (Place::Closed(disk), Answer::Refused(refusal)),
     }
 }

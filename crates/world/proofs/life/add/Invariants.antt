@@ -1,6 +1,6 @@
 -- the effects that were added and those that are left are all of them, and there is room for the others
 use Rattle.std.proofs.Common.{◌≡◌, ◌++◌, ◌+◌, ◌≤◌, length, vec_capacity}
-use Rattle.world.proofs.living.add.Given as goal
+use Rattle.world.proofs.life.add.Given as goal
 
 abbrev pub invariant-loop-effect : goal.invariant-loop-effect
 invariant-loop-effect l =

@@ -3,10 +3,10 @@ use Rattle.std.proofs.lemmas.List.{take_more, take_all, length_push}
 use Rattle.world.specs.Cause.{AreCauses, AreForetold, failures_at, outlook_at}
 use Rattle.world.specs.Follows.{Runs}
 use Rattle.world.proofs.Causes.{causes_on, foretold_on}
-use Rattle.world.proofs.Runs.{runs_on}
+use Rattle.world.proofs.Stepping.{runs_on}
 use Rattle.world.specs.Course.{beginning}
 use Rattle.world.proofs.OneLife.{one_life}
-use Rattle.world.proofs.running.run.Goals as goal
+use Rattle.world.proofs.runs.run.Goals as goal
 
 pub loop-step-preserved : goal.loop-step-preserved
 loop-step-preserved g c =
@@ -53,4 +53,4 @@ returns-clause-one_life g c start f still =
     let at = c.loop-step.step-index in
     let past : length steps ≤ at = omega (arith, c.loop-step-test.false) in
     let runs = subst (λ ss. Runs state c.args.world.now ss told c.loop-step.world) (take_all at steps past) c.loop-step.invariant.1.0 in
-    one_life start steps told (runs start beginning f).0 still
+    one_life c.of_runs.ensures start steps told (runs start beginning f).0 still

@@ -4,7 +4,7 @@ use Rattle.std.proofs.Common.{◌≡◌, ◌≤◌, length, take, vec_capacity}
 use Rattle.world.specs.Cause.{AreCauses, AreForetold, failures_at, outlook_at}
 use Rattle.world.specs.Follows.{Runs}
 use Rattle.world.specs.Sound.{IsSound}
-use Rattle.world.proofs.running.run.Given as goal
+use Rattle.world.proofs.runs.run.Given as goal
 
 abbrev pub invariant-loop-step : goal.invariant-loop-step
 invariant-loop-step g l =

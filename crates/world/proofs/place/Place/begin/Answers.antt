@@ -9,7 +9,7 @@ use Rattle.world.specs.Course.{reopened, closed}
 use Rattle.world.specs.Follows.{Survives}
 use Rattle.world.proofs.Taking.{moved}
 use Rattle.world.proofs.Opening.{life_opened}
-use Rattle.world.proofs.stepping.begin.Goals as goal
+use Rattle.world.proofs.place.Place.begin.Goals as goal
 
 pub returns-in-Ok-clause-course : goal.returns-in-Ok-clause-course
 returns-in-Ok-clause-course g c healthy settled start course left =

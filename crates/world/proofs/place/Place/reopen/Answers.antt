@@ -7,7 +7,7 @@ use Rattle.store.specs.State.{disk_of}
 use Rattle.world.specs.Cause.{outlook_at}
 use Rattle.world.proofs.Causes.{opening_foretold}
 use Rattle.world.proofs.Opening.{content_permitted, two_reasons}
-use Rattle.world.proofs.stepping.reopen.Goals as goal
+use Rattle.world.proofs.place.Place.reopen.Goals as goal
 
 pub returns-in-Ok-clause-course : goal.returns-in-Ok-clause-course
 returns-in-Ok-clause-course g c start course nothing_open survives =

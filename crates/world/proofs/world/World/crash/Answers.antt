@@ -9,7 +9,7 @@ use Rattle.world.specs.Follows.{FollowsPlace}
 use Rattle.world.specs.Sound.{HasDisk}
 use Rattle.world.proofs.Opening.{disk_survives, crashed_survives, both_ways, crash_left, crash_emitted, crash_once}
 use Rattle.world.proofs.Causes.{disk_of_place, outlook_of_place}
-use Rattle.world.proofs.lives.World.crash.Goals as goal
+use Rattle.world.proofs.world.World.crash.Goals as goal
 
 pub returns-clause-course : goal.returns-clause-course
 returns-clause-course g c start course f =
@@ -34,7 +34,7 @@ returns-clause-course g c start course f =
             let left = ap length f.left in
             let wanted = crash_emitted start course image answer opened.0 in
             omega (arith, put, there, effects, left, wanted, world.released.ok.0);
-        once = crash_once start course image answer opened.0 f.once;
+        once = crash_once c.of_runs.ensures start course image answer opened.0 f.once;
       },
     )
 

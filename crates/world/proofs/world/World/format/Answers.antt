@@ -7,7 +7,7 @@ use Rattle.world.specs.declared.commit.Commit.TheVariants as commits
 use Rattle.world.specs.Course.{beginning}
 use Rattle.world.proofs.Taking.{moved}
 use Rattle.world.proofs.Opening.{life_opened}
-use Rattle.world.proofs.lives.World.format.Goals as goal
+use Rattle.world.proofs.world.World.format.Goals as goal
 
 pub returns-in-Ok-clause-course : goal.returns-in-Ok-clause-course
 returns-in-Ok-clause-course g c =

@@ -3,7 +3,7 @@ use Rattle.store.specs.State.{disk_of}
 use Rattle.world.specs.Cause.{IsCause, IsForetold, IsFull, failures_at, outlook_at}
 use Rattle.world.specs.Follows.{FollowsPlace}
 use Rattle.world.proofs.Going.{step_keeps, right_open, is_own}
-use Rattle.world.proofs.lives.World.step.Goals as goal
+use Rattle.world.proofs.world.World.step.Goals as goal
 
 pub returns-in-Open : goal.returns-in-Open
 returns-in-Open g c =
@@ -18,7 +18,7 @@ returns-in-Open g c =
       course = λ start course f.
           let place = subst (FollowsPlace state start course) c.in-Open.is f.place in
           let moved = c.step.ensures.course start course place.1 in
-          let kept = step_keeps start course step answer own in (
+          let kept = step_keeps c.of_runs.ensures start course step answer own in (
             right_open start course step answer place.0 moved.0,
             record {
               place = (kept.is_open ∙ place.0, moved.1);
