@@ -5,24 +5,18 @@ ghost use Rattle.sessions.specs.Table.{empty_table, folded, effects_of, step, st
 ghost use Rattle.world.specs.declared.step.Step.TheVariants as steps;
 ghost use Rattle.world.specs.Answers.{Leaves, wanted};
 ghost use Rattle.world.specs.Course.{beginning, decided};
-ghost use Rattle.world.specs.Plain.{Goes, IsRefusal, kept_with};
+ghost use Rattle.world_tests.specs.Plain.{Goes, IsRefusal, kept_with};
 
-use crate::{Answer, Step};
-use devices::{Command, Effect, Provisioning};
+use devices::{Command, Effect};
 use disk::Image;
 use gateway_wire::Emission;
 use lw_types::{NetId, Refusal};
-use session_core::{Most, Turn};
+use session_core::{LAST_NUMBER, MOST_UNTAKEN, Most, Turn};
 use sessions::{Slots, Table};
 use std::alloc::Global;
 use std::marker::Model;
 use std::mem;
-
-/// How many commands may wait.
-const MOST_WAITING: usize = 4096;
-
-/// No command is decided beyond this number.
-const LAST_NUMBER: usize = (1 << 63) - 1;
+use world::{Answer, Step};
 
 /// How far the commit of the batch that was taken last is.
 #[derive(Clone, Copy, Debug, PartialEq, Eq)]
@@ -61,9 +55,9 @@ pub(crate) struct Plain {
 impl Model for Plain {
     ghost use Rattle.std.specs.Prelude.{[]};
     ghost use Rattle.sessions.specs.Table.{empty_table};
-    ghost use Rattle.world.specs.declared.model.Stage.TheVariants as variants;
+    ghost use Rattle.world_tests.specs.declared.model.Stage.TheVariants as variants;
     ghost use Rattle.world.specs.Course.Stage.{Rest, Begun, Written, Synced, Opened, Durable, Stopped, Unsure};
-    ghost use Rattle.world.specs.Plain.{PlainState};
+    ghost use Rattle.world_tests.specs.Plain.{PlainState};
 
     ghost Value = { PlainState };
 
@@ -123,7 +117,7 @@ impl Plain {
             Step::Crash(image) => self.crash(alloc, image),
             Step::Emit => self.emit(alloc),
             _ if !self.is_open => Ok(Answer::Idle),
-            Step::Provision { provisioning, .. } => self.provision(alloc, *provisioning),
+            Step::Request { command, .. } => self.request(alloc, command),
             Step::Take(most) => self.take(*most),
             Step::Call => Ok(self.call()),
             Step::Fail => {
@@ -135,15 +129,14 @@ impl Plain {
         }
     }
 
-    fn provision(&mut self, alloc: Global, provisioning: Provisioning) -> Result<Answer, Refusal>
+    fn request(&mut self, alloc: Global, command: &Command) -> Result<Answer, Refusal>
         requires { self.old.course.is_open ≡ true }
-        ensures { (moment : ℕ) → IfOk result (λ answer. Goes self.old (steps.Provision moment provisioning) answer self.new) }
+        ensures { (moment : ℕ) → IfOk result (λ answer. Goes self.old (steps.Request moment command.now) answer self.new) }
     {
         let from = self.made;
-        let command = Command::Provision(provisioning);
-        let refused = self.why_not(alloc, &command)?;
+        let refused = self.why_not(alloc, command)?;
         if refused.is_none() {
-            self.untaken.push(command)?;
+            self.untaken.push(command.clone()?)?;
             self.made = from.checked_add(1).ok_or(Refusal::OutOfMemory)?;
         }
         Ok(Answer::Turn(Turn {
@@ -158,7 +151,7 @@ impl Plain {
         ensures { IfOk result (λ refused. IsRefusal (wanted self.now.start self.now.course command.now) refused) }
     {
         let all = self.decided(alloc)?;
-        if self.untaken.len() >= MOST_WAITING || all.len() >= LAST_NUMBER {
+        if self.untaken.len() as u64 >= MOST_UNTAKEN || all.len() as u64 >= LAST_NUMBER {
             return Ok(Some(Refusal::Backlog));
         }
         let table = self.table(alloc, &all)?;
@@ -256,6 +249,7 @@ impl Plain {
     fn crash(&mut self, alloc: Global, image: &Image) -> Result<Answer, Refusal>
         ensures { IfOk result (λ answer. Goes self.old (steps.Crash image.now) answer self.new) }
     {
+        world::laws::what_a_crash_leaves();
         self.emitted = self.left.len();
         let flew = self.flew(image);
         self.gate_written = flew;

@@ -3,33 +3,32 @@ ghost use Rattle.disk.specs.MemDisk.{state_of};
 ghost use Rattle.world.specs.Sound.{IsSound};
 
 use crate::model::Plain;
-use crate::{Answer, Moment, Step, World, run};
-use devices::{Application, Provisioning, Rx1Offset, RxDelay};
 use disk::{Image, MemDisk};
-use lw_types::{Eui, Key, NetId};
-use session_core::Most;
+use lw_types::NetId;
+use session_core::{Moment, Most};
+use session_tests::fixture;
 use sessions::Slots;
 use std::alloc::Global;
 use std::process::Abort;
 use std::test::Fail;
+use world::{Answer, Step, World, run};
 
 /// The slots of the worlds here, which the devices of eleven scripts can fill.
 const SLOTS: u64 = 20;
 
-/// The bytes of a disk for so many slots.
-const DISK_LEN: usize = 2_269_444;
-
-fn new_world(alloc: Global) -> Result<World<MemDisk>, Fail>
+// A world with so many slots, on a disk that isn't empty.
+fn new_world(alloc: Global, slots: u64) -> Result<World<MemDisk>, Fail>
     ensures { IfOk result (IsSound state_of) }
 {
-    let disk = MemDisk::new(alloc, vec![in alloc; 0; DISK_LEN]?)?;
-    Ok(World::format(alloc, disk, NetId::new(0x2A).ok_or("net id")?, SLOTS)?)
+    let len = store::disk_len(Slots::new(slots).ok_or("slots")?);
+    let disk = MemDisk::new(alloc, vec![in alloc; 0xA5; len as usize]?)?;
+    Ok(World::format(alloc, disk, NetId::new(0x2A).ok_or("net id")?, slots)?)
 }
 
 #[test]
 fn a_new_world_is_idle(rt: HostRuntime) -> Result<(), Fail> {
     let alloc = rt.alloc();
-    let mut world = new_world(alloc)?;
+    let mut world = new_world(alloc, SLOTS)?;
     let answers = run(&mut world, alloc, &[Step::Call, Step::Release, Step::Emit]);
     let _ = world.close();
     let answers = answers?;
@@ -38,18 +37,11 @@ fn a_new_world_is_idle(rt: HostRuntime) -> Result<(), Fail> {
     Ok(())
 }
 
-// A device of its own DevEUI.
+// An application brings a device of its own DevEUI.
 fn provision(dev_eui: u64) -> Result<Step, Fail> {
-    Ok(Step::Provision {
+    Ok(Step::Request {
         moment: Moment::new(dev_eui).ok_or("moment")?,
-        provisioning: Provisioning {
-            application: Application::new(3).ok_or("application")?,
-            dev_eui: Eui(dev_eui),
-            join_eui: Eui(1),
-            app_key: Key([7; 16]),
-            rx1_offset: Rx1Offset::new(0).ok_or("offset")?,
-            rx_delay: RxDelay::new(1).ok_or("delay")?,
-        },
+        command: fixture::provision(dev_eui).ok_or("command")?,
     })
 }
 
@@ -127,13 +119,19 @@ fn scripts(alloc: Global, opening: &str, first: char) -> Result<Vec<Step>, Fail>
 }
 
 // Takes steps on a new world and on a new model, and compares their answers.
-fn compare(rt: &impl Abort, alloc: Global, steps: &[Step], name: &str) -> Result<(), Fail> {
-    let mut world = new_world(alloc)?;
+fn compare(
+    rt: &impl Abort,
+    alloc: Global,
+    slots: u64,
+    steps: &[Step],
+    name: &str,
+) -> Result<(), Fail> {
+    let mut world = new_world(alloc, slots)?;
     let answers = run(&mut world, alloc, steps);
     let _ = world.close();
     let answers = answers?;
     let net_id = NetId::new(0x2A).ok_or("net id")?;
-    let mut model = Plain::new(alloc, net_id, Slots::new(SLOTS).ok_or("slots")?);
+    let mut model = Plain::new(alloc, net_id, Slots::new(slots).ok_or("slots")?);
     assert_eq!(rt; answers.len(), steps.len());
     for (number, step) in steps.iter().enumerate() {
         let wanted = model.step(alloc, step)?;
@@ -149,8 +147,63 @@ fn worlds_answer_as_their_model(rt: HostRuntime) -> Result<(), Fail> {
     for opening in OPENINGS {
         for first in LETTERS.chars() {
             let steps = scripts(alloc, opening, first)?;
-            compare(&rt, alloc, &steps, opening)?;
+            compare(&rt, alloc, SLOTS, &steps, opening)?;
         }
     }
+    Ok(())
+}
+
+// So many devices are brought, and all their decisions taken, committed and released, at most so many
+// at a time. Then there is a look at the table, and a crash.
+fn many(alloc: Global, devices: u64, most: Most) -> Result<Vec<Step>, Fail> {
+    let mut steps = Vec::new(alloc);
+    for dev_eui in 0..devices {
+        steps.push(provision(dev_eui)?)?;
+    }
+    for _ in 0..devices.div_ceil(most.get()) {
+        steps.push(Step::Take(most))?;
+        for _ in 0..4 {
+            steps.push(Step::Call)?;
+        }
+        steps.push(Step::Release)?;
+    }
+    for _ in 0..devices {
+        steps.push(Step::Emit)?;
+    }
+    steps.push(Step::List)?;
+    steps.push(Step::Crash(Image::Old))?;
+    steps.push(Step::List)?;
+    Ok(steps)
+}
+
+// More than one decision waits, and more than one batch is taken.
+#[test]
+fn many_decisions_wait(rt: HostRuntime) -> Result<(), Fail> {
+    let alloc = rt.alloc();
+    for (devices, most) in [(5, 2), (100, 64)] {
+        let steps = many(alloc, devices, Most::new(most).ok_or("most")?)?;
+        compare(&rt, alloc, devices, &steps, "many")?;
+    }
+    Ok(())
+}
+
+#[test]
+fn a_store_of_4096_devices_is_opened(rt: HostRuntime) -> Result<(), Fail> {
+    let alloc = rt.alloc();
+    let steps = many(alloc, 4096, Most::new(64).ok_or("most")?)?;
+    let mut world = new_world(alloc, 4096)?;
+    let answers = run(&mut world, alloc, &steps);
+    let _ = world.close();
+    let answers = answers?;
+    let opened = answers.iter().filter(|answer| {
+        matches!(
+            answer,
+            Answer::Opened {
+                devices: 4096,
+                seq: 4096
+            }
+        )
+    });
+    assert_eq!(rt; opened.count(), 1);
     Ok(())
 }
