@@ -30,14 +30,18 @@ impl Effect {
     {
         match self {
             Effect::Forward {
-                session, counter, ..
+                session,
+                counter,
+                ..
             } => Some(Mark::Forwarded {
                 session: *session,
                 counter: *counter,
             }),
             Effect::Accept { session, .. } => Some(Mark::Granted { session: *session }),
             Effect::Down {
-                session, counter, ..
+                session,
+                counter,
+                ..
             } => Some(Mark::Sent {
                 session: *session,
                 counter: *counter,
