@@ -1,9 +1,9 @@
 use crate::fixtures::{DEVICE, application, brought, current, item, name, provisioning, session};
 use devices::{
-    Activation, Application, Downlink, Effect, Effects, ItemQueue, MacQueue, Mark, NextDown, Port,
-    Report, RxDelay, Tag, Windows,
+    Activation, Application, Downlink, Effect, Effects, Heard, Hearing, ItemQueue, MacQueue, Mark,
+    NextDown, Port, Report, RxDelay, Tag, Windows,
 };
-use lw_types::{Eui, JoinNonce, PhyPayload};
+use lw_types::{Eui, JoinNonce, PhyPayload, Reception};
 use mac_commands::are_queueable;
 use std::alloc::Global;
 use std::test::Fail;
@@ -198,5 +198,62 @@ fn effects_have_their_marks(rt: HostRuntime) -> Result<(), Fail> {
         report: Report::Provisioned { slot: 0 },
     };
     assert_eq!(rt; report.mark(), None);
+    Ok(())
+}
+
+// So many copies, each of a gateway of its own.
+fn hearings(alloc: Global, count: u64) -> Result<Vec<Hearing>, Fail> {
+    let mut hearings = Vec::new(alloc);
+    for gateway in 0..count {
+        let reception = Reception {
+            gateway: Eui(gateway),
+            frequency: 868_500_000,
+            data_rate: 5,
+            snr: -20,
+            rssi: -95,
+        };
+        let hearing = Hearing {
+            reception,
+            stamp: 7,
+        };
+        hearings.push(hearing).ok().ok_or("memory")?;
+    }
+    Ok(hearings)
+}
+
+#[test]
+fn from_1_to_32_gateways_hear_a_frame(rt: HostRuntime) -> Result<(), Fail> {
+    let alloc = rt.alloc();
+    for (count, may) in [(0, false), (1, true), (32, true), (33, false)] {
+        let frame = PhyPayload::from_slice(alloc, &[0x40; 12])?;
+        let heard = Heard::new(frame, hearings(alloc, count)?);
+        assert_eq!(rt; heard.is_some(), may, "{count}");
+        let Some(heard) = heard else {
+            continue;
+        };
+        assert_eq!(rt; heard.phy_payload(), [0x40; 12].as_slice());
+        assert!(rt; heard.hearings() == hearings(alloc, count)?.as_slice());
+    }
+    Ok(())
+}
+
+#[test]
+fn copies_are_of_different_gateways_on_channels(rt: HostRuntime) -> Result<(), Fail> {
+    let alloc = rt.alloc();
+    for (frequency, data_rate, gateway, may) in [
+        (868_100_000, 0, 9, true),
+        (868_300_000, 5, 9, true),
+        (868_200_000, 0, 9, false),
+        (868_100_000, 6, 9, false),
+        (868_100_000, 0, 1, false),
+    ] {
+        let mut hearings = hearings(alloc, 3)?;
+        let last = hearings.last_mut().ok_or("three")?;
+        last.reception.frequency = frequency;
+        last.reception.data_rate = data_rate;
+        last.reception.gateway = Eui(gateway);
+        let heard = Heard::new(PhyPayload::empty(alloc), hearings);
+        assert_eq!(rt; heard.is_some(), may, "{frequency} {data_rate} {gateway}");
+    }
     Ok(())
 }

@@ -1,3 +1,4 @@
 pub mod Activation
 pub mod Device
 pub mod Mark
+pub mod Heard

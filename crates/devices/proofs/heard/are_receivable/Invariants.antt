@@ -1,0 +1,5 @@
+use Rattle.devices.proofs.Hearings.{ReceivableBelow}
+use Rattle.devices.proofs.heard.are_receivable.Given as goal
+
+abbrev pub invariant-loop-hearing : goal.invariant-loop-hearing
+invariant-loop-hearing l = ReceivableBelow l.hearings l.hearing-index
