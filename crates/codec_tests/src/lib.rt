@@ -3,4 +3,16 @@
 #![tactic(auto)]
 
 #[cfg(test)]
+mod devices_tests;
+#[cfg(test)]
+mod fixtures;
+#[cfg(test)]
+mod gateway_wire_tests;
+#[cfg(test)]
 mod lw_types_tests;
+#[cfg(test)]
+mod mac_commands_tests;
+#[cfg(test)]
+mod phy_payload_tests;
+#[cfg(test)]
+mod record_codec_tests;

@@ -21,7 +21,3 @@ pub record IsLeast (last : Option ℕ) (low n : ℕ) : Type 0 where
 abbrev pub distance : Option ℕ → ℕ → ℕ
 distance None n = n + 1
 distance (Some last) n = n - last
-
--- how far ahead a counter may be
-abbrev pub MAX_DISTANCE : ℕ
-MAX_DISTANCE = 16384

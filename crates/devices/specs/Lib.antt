@@ -1,3 +1,2 @@
 pub mod Activation
-pub mod MacQueue
 pub mod Device

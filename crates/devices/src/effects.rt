@@ -13,6 +13,7 @@ pub struct Effects {
 }
 
 impl Model for Effects {
+    ghost use Rattle.devices.specs.declared.effects.TheConstants.Effects.{MOST};
     ghost use Rattle.std.specs.Prelude.{◌≤◌, List, length};
     ghost use Rattle.devices.specs.declared.effect.Effect.{Effect};
 
@@ -20,7 +21,7 @@ impl Model for Effects {
 
     ghost view = { λ e. e.items.items };
 
-    ghost invariant = { λ e. length e.items.items ≤ 4 };
+    ghost invariant = { λ e. length e.items.items ≤ MOST };
 }
 
 impl Effects {
@@ -38,7 +39,7 @@ impl Effects {
 
     /// Adds an effect at the end. After an `Err` the list is as before.
     pub fn push(&mut self, effect: Effect) -> Result<(), AllocError>
-        requires { length self.old < 4 }
+        requires { length self.old < Self.MOST }
         ensures ok { OnOk result (self.new ≡ self.old ++ effect ∷ []) }
         ensures err { OnErr result (self.new ≡ self.old) }
     {
@@ -49,7 +50,7 @@ impl Effects {
     /// The effects in order.
     pub fn as_slice(&self) -> &[Effect]
         ensures effects { result.now ≡ self.now }
-        ensures few { length self.now ≤ 4 }
+        ensures few { length self.now ≤ Self.MOST }
     {
         self.items.as_slice()
     }
@@ -57,7 +58,7 @@ impl Effects {
     /// The vector of the effects, at most four of them.
     pub fn into_vec(self) -> Vec<Effect>
         ensures effects { result.items ≡ self }
-        ensures few { length self ≤ 4 }
+        ensures few { length self ≤ Self.MOST }
     {
         let Effects { items } = self;
         items

@@ -9,10 +9,9 @@ mod command;
 mod device;
 mod effect;
 mod effects;
+pub mod laws;
 mod mac_queue;
 mod queue;
-#[cfg(test)]
-mod tests;
 
 pub use activation::{Activation, CurrentSession, Session};
 pub use command::{Command, Provisioning};

@@ -1,9 +1,11 @@
 // The MAC commands that wait for a device's next downlink.
-ghost use Rattle.std.specs.Prelude.{◌≡◌, ◌≤◌, ◌<◌, ◌↔◌, List, [], ℕ, IsTrue, length, MatchResult, nat_eq};
+ghost use Rattle.std.specs.Prelude.{◌≡◌, ◌≤◌, ◌<◌, ◌↔◌, List, [], ℕ, IsTrue, length, IfOk, MatchResult, Some, nat_eq};
 ghost use Rattle.std.specs.Cmp.{partial_equiv_from_equiv};
 ghost use Rattle.std.specs.Cmp.Lexicographic.{pointwise, nat_list_eq_equiv};
-ghost use Rattle.devices.specs.MacQueue.{AreQueueable, queueable_payload};
+ghost use Rattle.std.specs.Fmt.{debug_list, decimal};
+ghost use Rattle.mac_commands.specs.Queueable.{AreQueueable};
 
+use mac_commands::are_queueable;
 use std::alloc::{AllocError, Global};
 use std::fmt;
 use std::marker::Model;
@@ -16,11 +18,15 @@ pub struct MacQueue {
 }
 
 impl Model for MacQueue {
+    ghost use Rattle.std.specs.Prelude.{◌≤◌, List, length, ℕ};
+    ghost use Rattle.mac_commands.specs.Queueable.{AreQueueable};
+    ghost use Rattle.devices.specs.declared.mac_queue.TheConstants.MacQueue.{MOST};
+
     ghost Value = { List ℕ };
 
     ghost view = { λ q. q.bytes.items };
 
-    ghost invariant = { λ q. (length q.bytes.items ≤ 64) × AreQueueable q.bytes.items };
+    ghost invariant = { λ q. (length q.bytes.items ≤ MOST) × AreQueueable q.bytes.items };
 }
 
 impl MacQueue {
@@ -40,8 +46,8 @@ impl MacQueue {
     /// vector back.
     pub fn new(bytes: Vec<u8>) -> Result<Self, Vec<u8>>
         ensures { MatchResult result
-            (λ q. (q ≡ bytes.items) × (length bytes.items ≤ 64) × AreQueueable bytes.items)
-            (λ v. (v.items ≡ bytes.items) × ¬ ((length bytes.items ≤ 64) × AreQueueable bytes.items)) }
+            (λ q. (q ≡ bytes.items) × (length bytes.items ≤ Self.MOST) × AreQueueable bytes.items)
+            (λ v. (v.items ≡ bytes.items) × ¬ ((length bytes.items ≤ Self.MOST) × AreQueueable bytes.items)) }
     {
         if bytes.len() <= Self::MOST && are_queueable(bytes.as_slice()) {
             Ok(MacQueue { bytes })
@@ -50,43 +56,24 @@ impl MacQueue {
         }
     }
 
+    /// A copy of these bytes, in memory of its own.
+    pub fn from_slice(alloc: Global, bytes: &[u8]) -> Result<Self, AllocError>
+        requires few { length bytes.now ≤ Self.MOST }
+        requires whole { AreQueueable bytes.now }
+        ensures { IfOk result (λ q. q ≡ bytes.now) }
+    {
+        Ok(MacQueue {
+            bytes: Vec::from_slice(alloc, bytes)?,
+        })
+    }
+
     /// The bytes of the commands, at most 64.
     pub fn as_slice(&self) -> &[u8]
         ensures bytes { result.now ≡ self.now }
-        ensures few { length self.now ≤ 64 }
+        ensures few { length self.now ≤ Self.MOST }
         ensures whole { AreQueueable self.now }
     {
         self.bytes.as_slice()
-    }
-}
-
-/// Whether the bytes are whole commands that an application may queue.
-pub fn are_queueable(bytes: &[u8]) -> bool
-    ensures { IsTrue result ↔ AreQueueable bytes.now }
-{
-    let mut owed = 0u8;
-    for byte in bytes {
-        if owed > 0 {
-            owed -= 1;
-        } else {
-            match payload_len(*byte) {
-                Some(len) => owed = len,
-                None => return false,
-            }
-        }
-    }
-    owed == 0
-}
-
-/// The bytes of payload behind this command identifier, where an application may queue the command.
-fn payload_len(cid: u8) -> Option<u8>
-    ensures { result ≡ queueable_payload cid }
-{
-    match cid {
-        0x03 => Some(4),
-        0x04 => Some(1),
-        0x06 => Some(0),
-        _ => None,
     }
 }
 
@@ -114,7 +101,10 @@ impl Eq for MacQueue {
     ghost laws = { nat_list_eq_equiv };
 }
 
+/// Shows the bytes as decimals, as in `[6, 4, 15]`.
 impl fmt::Debug for MacQueue {
+    ghost debug_output = { debug_list (λ byte. Some (decimal byte)) };
+
     fn fmt<W: fmt::Write>(&self, f: &mut fmt::Formatter<W>) -> fmt::Result {
         self.bytes.fmt(f)
     }

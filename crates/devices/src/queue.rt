@@ -1,5 +1,5 @@
 // The items that applications queued for a device.
-ghost use Rattle.std.specs.Prelude.{◌≡◌, ◌≤◌, ◌<◌, [], length, MatchResult};
+ghost use Rattle.std.specs.Prelude.{◌≡◌, ◌≤◌, ◌<◌, ◌∷◌, ◌++◌, [], length, MatchResult, OnErr, OnOk};
 
 use crate::{Payload, Port, Tag};
 use std::alloc::{AllocError, Global};
@@ -22,6 +22,7 @@ pub struct ItemQueue {
 }
 
 impl Model for ItemQueue {
+    ghost use Rattle.devices.specs.declared.queue.TheConstants.ItemQueue.{MOST};
     ghost use Rattle.std.specs.Prelude.{◌≤◌, List, length};
     ghost use Rattle.devices.specs.declared.queue.Item.{Item};
 
@@ -29,7 +30,7 @@ impl Model for ItemQueue {
 
     ghost view = { λ q. q.items.items };
 
-    ghost invariant = { λ q. length q.items.items ≤ 16 };
+    ghost invariant = { λ q. length q.items.items ≤ MOST };
 }
 
 impl ItemQueue {
@@ -48,8 +49,8 @@ impl ItemQueue {
     /// These items, where they are at most 16; else the vector back.
     pub fn new(items: Vec<Item>) -> Result<Self, Vec<Item>>
         ensures { MatchResult result
-            (λ q. (length items.items ≤ 16) × (q ≡ items.items))
-            (λ v. (16 < length items.items) × (v.items ≡ items.items)) }
+            (λ q. (length items.items ≤ Self.MOST) × (q ≡ items.items))
+            (λ v. (Self.MOST < length items.items) × (v.items ≡ items.items)) }
     {
         if items.len() <= Self::MOST {
             Ok(ItemQueue { items })
@@ -58,10 +59,20 @@ impl ItemQueue {
         }
     }
 
+    /// Adds an item at the end. After an `Err` the queue is as before.
+    pub fn push(&mut self, item: Item) -> Result<(), AllocError>
+        requires { length self.old < Self.MOST }
+        ensures ok { OnOk result (self.new ≡ self.old ++ item ∷ []) }
+        ensures err { OnErr result (self.new ≡ self.old) }
+    {
+        self.items.push(item)?;
+        Ok(())
+    }
+
     /// The items, the oldest first.
     pub fn as_slice(&self) -> &[Item]
         ensures items { result.now ≡ self.now }
-        ensures few { length self.now ≤ 16 }
+        ensures few { length self.now ≤ Self.MOST }
     {
         self.items.as_slice()
     }

@@ -8,8 +8,6 @@ pub mod laws;
 mod mem_disk;
 mod sim;
 mod span;
-#[cfg(test)]
-mod tests;
 
 pub use disk::{DeviceFailed, Disk};
 pub use mem_disk::MemDisk;

@@ -4,7 +4,8 @@ ghost use Rattle.sessions.specs.Decision.{effects_in};
 ghost use Rattle.store.specs.Phases.{durable_decisions};
 ghost use Rattle.flusher.specs.Released.{decisions_of, effects_of_all};
 
-use crate::{Released, Room};
+use crate::{MOST_EFFECTS, Released, Room};
+use devices::Effects;
 use sessions::{Batch, Decision};
 
 /// A batch that every crash leaves, and room for its effects. It must be spent: its effects leave by
@@ -25,10 +26,11 @@ impl Durable {
         }
     }
 
-    /// The effects of the batch's decisions, in order and complete, 256 at most. Takes no memory.
+    /// The effects of the batch's decisions, in order and complete, at most
+    /// [`MOST_EFFECTS`]. Takes no memory.
     pub fn release(self) -> Vec<Released>
         ensures effects { effects_of_all result.items ≡ effects_in (decisions_of self) }
-        ensures few { length result.items ≤ 256 }
+        ensures few { length result.items ≤ MOST_EFFECTS }
     {
         let Durable { batch, room } = self;
         let Room { mut effects } = room;
@@ -46,9 +48,9 @@ impl Durable {
 
 // Adds the effects of one decision.
 fn release_one(decision: Decision, out: &mut Vec<Released>)
-    requires { length out.old.items + 4 ≤ vec_capacity out.old }
+    requires { length out.old.items + Effects.MOST ≤ vec_capacity out.old }
     ensures effects { effects_of_all out.new.items ≡ effects_of_all out.old.items ++ decision.effects }
-    ensures few { length out.new.items ≤ length out.old.items + 4 }
+    ensures few { length out.new.items ≤ length out.old.items + Effects.MOST }
     ensures room { vec_capacity out.old ≤ vec_capacity out.new }
 {
     let Decision { effects, .. } = decision;

@@ -5,9 +5,7 @@
 mod durable;
 mod released;
 mod room;
-#[cfg(test)]
-mod tests;
 
 pub use durable::Durable;
 pub use released::Released;
-pub use room::Room;
+pub use room::{MOST_EFFECTS, Room};

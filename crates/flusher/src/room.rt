@@ -1,6 +1,7 @@
 // Room for the effects of a batch.
 ghost use Rattle.std.specs.Prelude.{◌≡◌, ◌≤◌, [], IfErr, vec_capacity};
 ghost use Rattle.lw_types.specs.declared.refusal.Refusal.TheVariants.{OutOfMemory};
+ghost use Rattle.flusher.specs.declared.room.TheConstants.{MOST_EFFECTS};
 
 use crate::Released;
 use devices::Effects;
@@ -8,22 +9,25 @@ use lw_types::Refusal;
 use sessions::Batch;
 use std::alloc::Global;
 
+/// How many effects the largest batch has.
+pub const MOST_EFFECTS: usize = Batch::MOST * Effects::MOST;
+
 /// Room for the effects of the largest batch. It is got before the batch is taken, so that releasing
 /// takes no memory.
 #[derive(Drop)]
 pub struct Room {
     pub(crate) effects: Vec<Released>,
     ghost empty: { effects.items ≡ [] },
-    ghost enough: { 256 ≤ vec_capacity effects },
+    ghost enough: { MOST_EFFECTS ≤ vec_capacity effects },
 }
 
 impl Room {
-    /// Room for 64 decisions with four effects each. Refused with `OutOfMemory` for want of memory.
+    /// Room for them. Refused with `OutOfMemory` for want of memory.
     pub fn new(alloc: Global) -> Result<Self, Refusal>
         ensures { IfErr result (λ e. e ≡ OutOfMemory) }
     {
         Ok(Room {
-            effects: Vec::with_capacity(alloc, Batch::MOST * Effects::MOST)?,
+            effects: Vec::with_capacity(alloc, MOST_EFFECTS)?,
         })
     }
 }

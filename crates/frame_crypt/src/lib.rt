@@ -8,6 +8,3 @@ mod mac;
 
 pub use data::{crypt_payload, data_mic};
 pub use join::{derive_keys, join_mic, seal_accept};
-
-#[cfg(test)]
-mod tests;

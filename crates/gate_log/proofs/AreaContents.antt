@@ -50,10 +50,6 @@ module _ (area : Area) (disk : List ℕ) (within : area.end ≤ length disk) whe
     len_is : (c : Contents) → Holds area c disk → length c.records ≡ header.records_len
     len_is c h = h.fits.records ∙ sym (ap (λ (k : Header). k.records_len) (behind c h).header_is)
 
-    -- records that pass the area's end
-    pub long_records : area.end < area.start + 31 + header.records_len → (c : Contents) → Holds area c disk → ⊥
-    long_records long c h = omega (arith, long, starts_within c h, len_is c h)
-
     -- the batches of what is held are those behind the records
     pub held_batches : (c : Contents) → Holds area c disk → AreBatchesAt disk area.end (area.start + 30 + header.records_len) c.batches
     held_batches c h = record {
@@ -138,7 +134,7 @@ long_enough : (area : Area) (disk : List ℕ) (c : Contents) → Holds area c di
 long_enough area disk c h = omega (arith, ap length h.bytes, length-append (spelling c) (h.gate ∷ (h.free ++ c.behind)), length-append h.free c.behind, h.fits.back)
 
 -- what a disk holds begins with its header
-header_of : (area : Area) (disk : List ℕ) (c : Contents) → Holds area c disk → IsHeaderAt disk area.start c.header
+pub header_of : (area : Area) (disk : List ℕ) (c : Contents) → Holds area c disk → IsHeaderAt disk area.start c.header
 header_of area disk c h =
     let within = long_enough area disk c h in
     let tail = c.records ++ (open_batches c.batches ++ (h.gate ∷ (h.free ++ c.behind))) in
@@ -148,6 +144,15 @@ header_of area disk c h =
     ∙ ap (λ (l : List ℕ). drop 30 l) start
     ∙ drop_at (OPEN ∷ header_bytes c.header) tail 30 (omega (arith, length-header_bytes c.header)) in
     record { bytes = start ∙ ap (λ (l : List ℕ). OPEN ∷ (header_bytes c.header ++ l)) (sym rest); header = h.fits.header }
+
+pub room_of : (area : Area) (disk : List ℕ) (c : Contents) → Holds area c disk → area.start + 31 + c.header.records_len ≤ area.end
+room_of area disk c h = omega (arith, starts_within area disk (long_enough area disk c h) c h, h.fits.records)
+
+pub one_header : (disk : List ℕ) (at : ℕ) (h k : Header) → IsHeaderAt disk at h → IsHeaderAt disk at k → h ≡ k
+one_header disk at h k first second =
+    let whole : header_bytes h ++ drop (at + 30) disk ≡ header_bytes k ++ drop (at + 30) disk = ap (λ (l : List ℕ). drop 1 l) (sym first.bytes ∙ second.bytes) in
+    let parts = same_front (header_bytes h) (header_bytes k) (drop (at + 30) disk) (drop (at + 30) disk) (length-header_bytes h ∙ sym (length-header_bytes k)) whole in
+    same_header h k first.header second.header parts.0
 
 pub unique : (area : Area) (disk : List ℕ) (c d : Contents) → Holds area c disk → Holds area d disk → c ≡ d
 unique area disk c d h k = same c h ∙ sym (same d k)

@@ -1,5 +1,5 @@
 -- What the bytes of an area say: a checkpoint, and batches behind it, each behind its gate.
-use Rattle.std.specs.Prelude.{◌≡◌, ◌≢◌, ◌<◌, ◌^◌, ℕ, ◌+◌, List, [], ◌∷◌, ◌++◌, length, slice_index}
+use Rattle.std.specs.Prelude.{◌≡◌, ◌≢◌, ◌<◌, ◌≤◌, ◌^◌, ℕ, ◌+◌, List, [], ◌∷◌, ◌++◌, length, slice_index}
 use Rattle.std.specs.Int.{to_be_bytes, w16, w32, w64}
 use Rattle.gate_log.specs.declared.layout.Area.{Area}
 use Rattle.gate_log.specs.declared.layout.Header.{Header}
@@ -56,6 +56,10 @@ pub record IsHeader (h : Header) : Type 0 where
   pub sequence : h.sequence < 2 ^ 64
   pub record_count : h.record_count < 2 ^ 32
   pub records_len : h.records_len < 2 ^ 64
+
+-- the records that a header speaks of fit the area, with the gate behind them
+abbrev pub HasRoomFor : Area → Header → Type 0
+HasRoomFor area h = area.start + 31 + h.records_len ≤ area.end
 
 pub record IsHead (h : BatchHead) : Type 0 where
   pub entries_len : h.entries_len < 2 ^ 32

@@ -1,5 +1,5 @@
 // The layout of an area: what its bytes say.
-ghost use Rattle.std.specs.Prelude.{◌≡◌, ◌≤◌, ◌+◌, length, take, drop};
+ghost use Rattle.std.specs.Prelude.{◌≡◌, ◌≤◌, ◌+◌, ◌↔◌, IsTrue, length, take, drop};
 ghost use Rattle.std.specs.Int.{to_be_bytes, w16, w32, w64};
 
 /// A gate that is open; any other byte is a closed one.
@@ -37,7 +37,15 @@ pub struct BatchHead {
 }
 
 impl Header {
-    ghost use Rattle.gate_log.specs.Layout.{IsHeader, header_bytes};
+    ghost use Rattle.gate_log.specs.Layout.{HasRoomFor, IsHeader, header_bytes};
+
+    /// Whether the area has room for the records, and for the gate behind them.
+    pub fn fits(&self, area: Area) -> bool
+        requires { area.start + 31 ≤ area.end }
+        ensures { IsTrue result ↔ HasRoomFor area self.now }
+    {
+        self.records_len <= area.end - area.start - 31
+    }
 
     /// The bytes of this header.
     #[tactic(auto, unfolding(crate::specs::Layout::header_bytes))]

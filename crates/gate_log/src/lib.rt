@@ -13,13 +13,11 @@ mod opening;
 mod phases;
 mod reading;
 mod recover;
-#[cfg(test)]
-mod tests;
 
 pub use batch::Batch;
 pub use error::RecoverError;
 pub use format::{close_area, format_area};
-pub use layout::{Area, Header};
+pub use layout::{Area, CLOSED, Header, OPEN};
 pub use log::Log;
 pub use opening::Opening;
 pub use phases::{Begun, BodySynced, Durable, GateWritten, Written};

@@ -2,7 +2,7 @@
 ghost use Rattle.std.specs.Prelude.{◌≡◌, ◌<◌, ◌≤◌, ◌+◌, Err, length, take, drop, IfOk, IfErr, OnOk, MatchOption, is_ok, is_err};
 ghost use Rattle.disk.specs.State.{NothingOpen};
 ghost use Rattle.disk.specs.Outlook.{IsForeseen, HasCause};
-ghost use Rattle.gate_log.specs.Layout.{Contents, Holds, IsClosedArea};
+ghost use Rattle.gate_log.specs.Layout.{Contents, HasRoomFor, Holds, IsClosedArea};
 ghost use Rattle.gate_log.specs.Recover.{OnlyReads, has_device_error, IsHeaderAt};
 
 use crate::error::RecoverError;
@@ -76,19 +76,27 @@ impl<D: Disk> Opening<D> {
         read_header(&mut self.disk, area.start)
     }
 
-    /// What an area holds: its checkpoint, and the longest list of open batches behind it.
-    pub fn recover(&mut self, alloc: Global, area: Area) -> Result<Recovered, RecoverError>
-        requires room { area.start + 31 ≤ area.end }
+    /// What an area with this header holds: its checkpoint, and the longest list of open batches behind it.
+    /// `Damaged` comes exactly where it holds nothing.
+    pub fn recover(
+        &mut self,
+        alloc: Global,
+        area: Area,
+        header: Header,
+    ) -> Result<Recovered, RecoverError>
+        requires room { HasRoomFor area header }
         requires within { area.end ≤ length (D.state (opened self.old)).content }
-        ensures recovered { D.honest
+        ensures recovered { D.honest → IsHeaderAt (D.state (opened self.old)).content area.start header
             → IfOk result (IsRecovered area (D.state (opened self.old)).content) }
+        ensures header { IfOk result (λ recovered. recovered.header ≡ header) }
         ensures next { IfOk result (λ recovered. recovered.next < area.end) }
-        ensures damaged { D.honest → result ≡ Err RecoverError.Damaged → (contents : Contents)
+        ensures damaged { D.honest → IsHeaderAt (D.state (opened self.old)).content area.start header
+            → result ≡ Err RecoverError.Damaged → (contents : Contents)
             → ¬ Holds area contents (D.state (opened self.old)).content }
         ensures reads { OnlyReads D.honest D.state D.failures D.outlook
             (opened self.old) (opened self.new) (has_device_error result) }
     {
-        recover_area(&mut self.disk, alloc, area)
+        recover_area(&mut self.disk, alloc, area, header)
     }
 
     /// The log of an area, whose next batch's gate stands at this place.

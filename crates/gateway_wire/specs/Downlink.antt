@@ -4,6 +4,7 @@ use Rattle.std.specs.Int.{w16, w32, w64, to_be_bytes}
 use Rattle.devices.specs.declared.effect.Downlink.{Downlink}
 use Rattle.devices.specs.declared.effect.Windows.{Windows}
 use Rattle.devices.specs.declared.effect.Windows.TheVariants.{Rx1, Rx1OrRx2}
+use Rattle.gateway_wire.specs.declared.downlink.TheConstants.{DOWNLINK}
 
 -- RX2 is one second after RX1; 0 where it isn't to be used
 abbrev pub rx2_delay : Windows → ℕ → ℕ
@@ -14,7 +15,7 @@ rx2_delay Rx1OrRx2 rx1_delay = rx1_delay + 1
 -- delays of RX1 and RX2, and the PHYPayload
 abbrev pub downlink_content : Downlink → List ℕ
 downlink_content d =
-    17 ∷ (to_be_bytes w64 d.gateway.0
+    DOWNLINK ∷ (to_be_bytes w64 d.gateway.0
     ++ (to_be_bytes w32 d.stamp
     ++ (to_be_bytes w32 d.frequency
     ++ (d.data_rate ∷ d.delay ∷ rx2_delay d.windows d.delay ∷ d.frame))))

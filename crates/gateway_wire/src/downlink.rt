@@ -4,17 +4,20 @@ ghost use Rattle.lw_types.specs.declared.refusal.Refusal.TheVariants.{OutOfMemor
 ghost use Rattle.gateway_wire.specs.Downlink.{downlink_frame, rx2_delay};
 
 use devices::{Downlink, Windows};
-use lw_types::{Bytes, Refusal};
+use lw_types::{Bytes, LONGEST_FRAME, Refusal};
 use std::alloc::Global;
-
-/// A frame of the wire for a gateway, the two bytes of its length in front.
-pub type WireFrame = Bytes<277>;
 
 /// The kind of content that a downlink is.
 const DOWNLINK: u8 = 0x11;
 
 /// How many bytes of content stand before the PHYPayload.
 const HEAD: usize = 20;
+
+/// The most bytes of a frame of the wire for a gateway.
+pub const LONGEST_WIRE_FRAME: usize = 2 + HEAD + LONGEST_FRAME;
+
+/// A frame of the wire for a gateway, the two bytes of its length in front.
+pub type WireFrame = Bytes<LONGEST_WIRE_FRAME>;
 
 /// The whole frame that asks a gateway to send a downlink.
 pub(crate) fn downlink_frame(alloc: Global, downlink: &Downlink) -> Result<WireFrame, Refusal>

@@ -3,17 +3,15 @@
 
 mod downlink;
 mod emission;
-mod fields;
 mod line;
 mod list;
 mod report;
 mod request;
-#[cfg(test)]
-mod tests;
+mod word_values;
 
-pub use downlink::WireFrame;
+pub use downlink::{LONGEST_WIRE_FRAME, WireFrame};
 pub use emission::{Emission, app_line, gateway_bytes};
-pub use fields::{next_ranged, next_value};
 pub use line::Line;
 pub use list::list_text;
 pub use request::{Request, read_line, read_request};
+pub use word_values::{next_ranged, next_value};

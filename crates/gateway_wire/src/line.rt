@@ -63,7 +63,12 @@ impl Eq for Line {
     ghost laws = { nat_list_eq_equiv };
 }
 
+/// Shows the text as `Debug` of a `str` does.
 impl fmt::Debug for Line {
+    ghost use Rattle.std.specs.Fmt.{debug_str};
+
+    ghost debug_output = { debug_str };
+
     fn fmt<W: fmt::Write>(&self, f: &mut fmt::Formatter<W>) -> fmt::Result {
         self.text.fmt(f)
     }

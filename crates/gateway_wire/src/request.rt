@@ -5,7 +5,7 @@ ghost use Rattle.lw_types.specs.WordsLeft.{words_left};
 ghost use Rattle.gateway_wire.specs.declared.request.Request.{Request};
 ghost use Rattle.gateway_wire.specs.Request.{command_of, request_words, request_line, IsRequest, IsRequestLine, AreRequestWords};
 
-use crate::fields::{next_ranged, next_value};
+use crate::word_values::{next_ranged, next_value};
 use devices::{Application, Command, Provisioning, Rx1Offset, RxDelay};
 use lw_types::{Eui, Key, Refusal, Words, laws};
 use std::alloc::Global;

@@ -1,5 +1,4 @@
 // Lines that are steps.
-use devices::Command;
 use disk::Image;
 use gateway_wire::{next_ranged, next_value, read_request};
 use lw_types::{NetId, Refusal, Words};
@@ -78,10 +77,6 @@ fn take(mut words: Words<'_>) -> Option<Step> {
 fn request(alloc: Global, name: &str, mut words: Words<'_>) -> Result<Step, Refusal> {
     let moment = next_ranged(&mut words).ok_or(Refusal::BadMessage)?;
     let application = next_ranged(&mut words).ok_or(Refusal::BadMessage)?;
-    match read_request(alloc, name, words)?.into_command(application) {
-        Command::Provision(provisioning) => Ok(Step::Provision {
-            moment,
-            provisioning,
-        }),
-    }
+    let command = read_request(alloc, name, words)?.into_command(application);
+    Ok(Step::Request { moment, command })
 }

@@ -1,30 +1,30 @@
 use crate::outcome::{Outcome, write_outcome};
 use crate::{read_step, script, write_answer};
-use devices::{Application, Provisioning, Rx1Offset, RxDelay};
+use devices::{Application, Command, Provisioning, Rx1Offset, RxDelay};
 use disk::Image;
 use gateway_wire::{Emission, WireFrame};
 use lw_types::{Eui, Key, Refusal};
-use session_core::Most;
+use session_core::{Moment, Most};
 use std::io;
 use std::io::{ErrorKind, Read, Write};
 use std::test::Fail;
-use world::{Answer, Moment, Step};
+use world::{Answer, Step};
 
 const KEY: Key = Key([
     0x2B, 0x7E, 0x15, 0x16, 0x28, 0xAE, 0xD2, 0xA6, 0xAB, 0xF7, 0x15, 0x88, 0x09, 0xCF, 0x4F, 0x3C,
 ]);
 
 fn provision(moment: u64, application: u64, offset: u64, delay: u64) -> Result<Step, Fail> {
-    Ok(Step::Provision {
+    Ok(Step::Request {
         moment: Moment::new(moment).ok_or("moment")?,
-        provisioning: Provisioning {
+        command: Command::Provision(Provisioning {
             application: Application::new(application).ok_or("application")?,
             dev_eui: Eui(0x1112131415161718),
             join_eui: Eui(0x0102030405060708),
             app_key: KEY,
             rx1_offset: Rx1Offset::new(offset).ok_or("offset")?,
             rx_delay: RxDelay::new(delay).ok_or("delay")?,
-        },
+        }),
     })
 }
 

@@ -117,7 +117,7 @@ goes_on direction (c ∷ a) (d ∷ b) x y all_a all_b none e =
 goes_on_read : (direction : Direction) (bytes x y : List ℕ) (a b : List MacCommand) → HasRead direction bytes a x → HasRead direction bytes b y → ¬ BeginsWhole direction y → GoesOn a b x y direction
 goes_on_read direction bytes x y a b p q none = goes_on direction a b x y p.whole q.whole none (sym p.spelled ∙ q.spelled)
 
-no_more : (direction : Direction) (tail : List MacCommand) (x y : List ℕ) → x ≡ spelling tail ++ y → AllByRecursion (IsWhole direction) tail → ¬ BeginsWhole direction x → tail ≡ []
+pub no_more : (direction : Direction) (tail : List MacCommand) (x y : List ℕ) → x ≡ spelling tail ++ y → AllByRecursion (IsWhole direction) tail → ¬ BeginsWhole direction x → tail ≡ []
 no_more direction [] x y e all none = refl
 no_more direction (c ∷ tail) x y e all none = absurd (none (c, spelling tail ++ y, all.0, e ∙ append_assoc (command_bytes c) (spelling tail) y))
 
@@ -134,7 +134,7 @@ pub same_stop : (direction : Direction) (bytes : List ℕ) (a b : List MacComman
 same_stop direction bytes a b m n p q =
     stop_is direction bytes a m p ∙ (ap (λ l. length (spelling l)) (same_commands direction bytes a b m n p q) ∙ sym (stop_is direction bytes b n q))
 
-none_begins : (direction : Direction) → ¬ BeginsWhole direction []
+pub none_begins : (direction : Direction) → ¬ BeginsWhole direction []
 none_begins direction b = let e = b.3 in cc
 
 pub read_to_the_end : (direction : Direction) (bytes : List ℕ) (commands : List MacCommand) → Spells direction bytes commands → AreCommands direction bytes commands (length bytes)

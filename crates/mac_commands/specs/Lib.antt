@@ -1,3 +1,4 @@
 pub mod Table
 pub mod Commands
 pub mod Front
+pub mod Queueable

@@ -1,6 +1,7 @@
 // Which MAC commands there are.
 ghost use Rattle.std.specs.Prelude.{◌≡◌, ◌≢◌, ◌≤◌, IfNone, IfSome};
 
+use crate::command::LONGEST_COMMAND_PAYLOAD;
 use lw_types::Direction;
 
 /// A command identifier. A request and its answer have the same one, in opposite directions.
@@ -20,6 +21,7 @@ pub enum Cid {
 
 impl Cid {
     ghost use Rattle.mac_commands.specs.declared.cid.Cid.{Cid};
+    ghost use Rattle.mac_commands.specs.Queueable.{may_be_queued};
     ghost use Rattle.mac_commands.specs.Table.{number_of, payload_len};
 
     /// The byte that stands for the identifier.
@@ -49,10 +51,17 @@ impl Cid {
         }
     }
 
+    /// Whether an application may queue the downlink command: LinkADRReq, DutyCycleReq and DevStatusReq.
+    pub fn may_be_queued(self) -> bool
+        ensures { result ≡ may_be_queued self }
+    {
+        matches!(self, Cid::LinkAdr | Cid::DutyCycle | Cid::DevStatus)
+    }
+
     /// How many bytes of payload follow the identifier in a frame of this direction, at most 5.
     pub fn payload_len(self, direction: Direction) -> usize
         ensures length { result ≡ payload_len direction self }
-        ensures few { result ≤ 5 }
+        ensures few { result ≤ LONGEST_COMMAND_PAYLOAD }
     {
         let (up, down) = match self {
             Cid::LinkCheck => (0, 2),

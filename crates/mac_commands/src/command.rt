@@ -1,6 +1,12 @@
 // MAC commands as values.
-use crate::CommandPayload;
 use crate::cid::Cid;
+use lw_types::Bytes;
+
+/// The most bytes of a MAC command behind its identifier.
+pub const LONGEST_COMMAND_PAYLOAD: usize = 5;
+
+/// The payload of a MAC command, of at most 5 bytes.
+pub type CommandPayload = Bytes<LONGEST_COMMAND_PAYLOAD>;
 
 /// A MAC command: its identifier and its payload, the bits of which aren't looked at.
 #[derive(Clone, Debug, PartialEq, Eq, Drop)]

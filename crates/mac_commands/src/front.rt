@@ -3,9 +3,8 @@ ghost use Rattle.std.specs.Prelude.{◌≡◌, ◌≤◌, IfNone, IfOk, IfSome, 
 ghost use Rattle.mac_commands.specs.Commands.{BeginsWhole};
 ghost use Rattle.mac_commands.specs.Front.{IsFront};
 
-use crate::CommandPayload;
 use crate::cid::Cid;
-use crate::command::MacCommand;
+use crate::command::{CommandPayload, LONGEST_COMMAND_PAYLOAD, MacCommand};
 use lw_types::Direction;
 use std::alloc::{AllocError, Global};
 
@@ -20,7 +19,7 @@ pub(crate) struct Front<'a> {
 /// The whole command of this direction at the front of the bytes, where there is one.
 pub(crate) fn read_front(direction: Direction, bytes: &[u8]) -> Option<Front<'_>>
     ensures found { IfSome result (λ f. IsFront direction bytes.now f) }
-    ensures few { IfSome result (λ f. length f.payload.now ≤ 5) }
+    ensures few { IfSome result (λ f. length f.payload.now ≤ LONGEST_COMMAND_PAYLOAD) }
     ensures none { IfNone result (¬ BeginsWhole direction bytes.now) }
 {
     let (number, behind) = bytes.split_first()?;
@@ -34,15 +33,12 @@ impl Front<'_> {
 
     /// The command with a payload of its own.
     pub fn command(self, alloc: Global) -> Result<MacCommand, AllocError>
-        requires { length self.payload.now ≤ 5 }
+        requires { length self.payload.now ≤ LONGEST_COMMAND_PAYLOAD }
         ensures { IfOk result (λ command. command ≡ command_of self.entry) }
     {
-        match CommandPayload::new(Vec::from_slice(alloc, self.payload)?) {
-            Ok(payload) => Ok(MacCommand {
-                cid: self.cid,
-                payload,
-            }),
-            Err(_) => unreachable!(),
-        }
+        Ok(MacCommand {
+            cid: self.cid,
+            payload: CommandPayload::from_slice(alloc, self.payload)?,
+        })
     }
 }

@@ -1,8 +1,9 @@
 //! Laws of MAC commands as bytes, for crates that queue and send them.
-ghost use Rattle.std.specs.Prelude.{◌≡◌, ◌++◌, List, length, ℕ};
+ghost use Rattle.std.specs.Prelude.{◌≡◌, ◌++◌, List, drop, length, take, ℕ};
 ghost use Rattle.lw_types.specs.declared.direction.Direction.{Direction};
 ghost use Rattle.mac_commands.specs.declared.command.MacCommand.{MacCommand};
-ghost use Rattle.mac_commands.specs.Commands.{AreCommands, Spells};
+ghost use Rattle.mac_commands.specs.Commands.{AreCommands, IsLongestFit, Spells};
+ghost use Rattle.mac_commands.specs.Queueable.{AreQueueable};
 
 /// Bytes are read in one way: as one list of commands, up to one place.
 pub fn bytes_are_read_in_one_way()
@@ -26,4 +27,10 @@ pub fn whole_commands_join_and_part()
     ensures part { (direction : Direction) (a : List ℕ) (b : List ℕ) (all : List MacCommand) (first : List MacCommand)
         → Spells direction (a ++ b) all → Spells direction a first
         → (second : List MacCommand) × (all ≡ first ++ second) × Spells direction b second }
+{}
+
+/// What `fit15` takes from the front of a queue is a queue, and so is what it leaves.
+pub fn what_fits_leaves_a_queue()
+    ensures { (queue : List ℕ) (room n : ℕ) → AreQueueable queue → IsLongestFit queue room n
+        → AreQueueable (take n queue) × AreQueueable (drop n queue) }
 {}

@@ -9,16 +9,11 @@ mod encode;
 mod fit;
 mod front;
 pub mod laws;
+mod queueable;
 
 pub use cid::Cid;
-pub use command::{Decoded, MacCommand};
+pub use command::{CommandPayload, Decoded, LONGEST_COMMAND_PAYLOAD, MacCommand};
 pub use decode::{decode_down, decode_up};
 pub use encode::encode_down;
 pub use fit::fit15;
-use lw_types::Bytes;
-
-/// The payload of a MAC command, of at most 5 bytes.
-pub type CommandPayload = Bytes<5>;
-
-#[cfg(test)]
-mod tests;
+pub use queueable::are_queueable;

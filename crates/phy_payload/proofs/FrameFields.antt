@@ -1,10 +1,9 @@
 -- Each part of a frame is read as it is written.
 use Rattle.std.proofs.Common.{◌≡◌, ℕ, zero, suc, ◌+◌, ◌-◌, ◌*◌, ◌/◌, ◌%◌, ◌^◌, ◌<◌, ◌≤◌, ◌==◌, Bool, true, false, ltb, List, [], ◌∷◌, ◌++◌, length, take, drop, Option, Some, None, refl, sym, ap, subst, ◌∙◌, arith}
 use Rattle.std.specs.Prelude.{IfSome}
-use Rattle.std.specs.Int.{w16, w32, w64, byte_at as int_byte_at, bytes_low_first, from_le_bytes, to_le_bytes}
+use Rattle.std.specs.Int.{w16, w32, w64, to_le_bytes}
 use Rattle.std.proofs.lemmas.Bool.{le-ltb, ltb-false}
 use Rattle.std.proofs.lemmas.List.{drop_at, length-append, length-take, length-drop, take-append-drop, take_at}
-use Rattle.std.proofs.lemmas.Nat.{le_bytes_2, le_bytes_4, le_bytes_8, from_le_bytes-to_le_bytes_2, from_le_bytes-to_le_bytes_4, from_le_bytes-to_le_bytes_8}
 use Rattle.lw_types.specs.Hex.{IsBytes}
 use Rattle.lw_types.specs.declared.identifiers.Eui.{Eui}
 use Rattle.phy_payload.specs.declared.phy.Mic.{Mic}
@@ -16,48 +15,13 @@ use Rattle.lw_types.specs.declared.direction.Direction.TheVariants.{Up, Down}
 use Rattle.phy_payload.specs.declared.contents.Message.{Message}
 use Rattle.phy_payload.specs.Contents.{payload_len}
 use Rattle.phy_payload.specs.Frame.{bit, data_type, f_ctrl, port_and_payload, IsJoinRequest, IsMessage, IsMic}
-use Rattle.phy_payload.specs.Reading.{both, byte_at, control_of, eui_at, front_at, head_at, is_set, message_of, mic_at, mic_off, number_at, request_at, request_of}
-use Rattle.phy_payload.proofs.Codec.{IsField, AreBytes, IsBytes-after, IsBytes-take, both_field, byte_field, front_field, other_some, seen_field}
-
--- ---- numbers
-
-byte_small : (place n : ℕ) → int_byte_at place n < 256
-byte_small zero n = omega arith
-byte_small (suc place) n = omega arith
-
--- the bytes of a number, the lowest first
-IsBytes-low_first : (place k n : ℕ) → IsBytes (bytes_low_first place k n)
-IsBytes-low_first place zero n i = omega arith
-IsBytes-low_first place (suc k) n zero = byte_small place n
-IsBytes-low_first place (suc k) n (suc i) = IsBytes-low_first (suc place) k n i
-
-abbrev pub Below : ℕ → ℕ → Type 0
-Below limit n = n < limit
-
-u16_field : IsField (Below (2 ^ 16)) (to_le_bytes w16) (number_at w16)
-u16_field = seen_field (AreBytes 2) (λ bytes. bytes) (front_at 2) (front_field 2) (from_le_bytes w16) (Below (2 ^ 16)) (to_le_bytes w16)
-    (λ bytes h. let fits = h.0 in (omega (arith, fits 0, fits 1), le_bytes_2 bytes _ h.1 h.0 refl))
-    (λ n lt. (to_le_bytes w16 n, (IsBytes-low_first 0 2 n, refl), from_le_bytes-to_le_bytes_2 n lt, refl))
-
-u32_field : IsField (Below (2 ^ 32)) (to_le_bytes w32) (number_at w32)
-u32_field = seen_field (AreBytes 4) (λ bytes. bytes) (front_at 4) (front_field 4) (from_le_bytes w32) (Below (2 ^ 32)) (to_le_bytes w32)
-    (λ bytes h. let fits = h.0 in (omega (arith, fits 0, fits 1, fits 2, fits 3), le_bytes_4 bytes _ h.1 h.0 refl))
-    (λ n lt. (to_le_bytes w32 n, (IsBytes-low_first 0 4 n, refl), from_le_bytes-to_le_bytes_4 n lt, refl))
-
-u64_field : IsField (Below (2 ^ 64)) (to_le_bytes w64) (number_at w64)
-u64_field = seen_field (AreBytes 8) (λ bytes. bytes) (front_at 8) (front_field 8) (from_le_bytes w64) (Below (2 ^ 64)) (to_le_bytes w64)
-    (λ bytes h. let fits = h.0 in (omega (arith, fits 0, fits 1, fits 2, fits 3, fits 4, fits 5, fits 6, fits 7), le_bytes_8 bytes _ h.1 h.0 refl))
-    (λ n lt. (to_le_bytes w64 n, (IsBytes-low_first 0 8 n, refl), from_le_bytes-to_le_bytes_8 n lt, refl))
+use Rattle.byte_fields.specs.Field.{IsField, AreBytes}
+use Rattle.byte_fields.specs.Reading.{both, byte_at, front_at, le_at, le_eui_at}
+use Rattle.byte_fields.specs.FieldLemmas.{IsBytes-after, IsBytes-take, both_field, byte_field, front_field, other_some, seen_field}
+use Rattle.byte_fields.specs.NumberLemmas.{Below, IsEui, le_eui_field, u16_le_field, u32_le_field}
+use Rattle.phy_payload.specs.Reading.{control_of, head_at, is_set, message_of, mic_at, mic_off, request_at, request_of}
 
 -- ---- Join-Requests
-
-abbrev IsEui : Eui → Type 0
-IsEui eui = eui.0 < 2 ^ 64
-
-eui_field : IsField IsEui (λ eui. to_le_bytes w64 eui.0) eui_at
-eui_field = seen_field (Below (2 ^ 64)) (to_le_bytes w64) (number_at w64) u64_field (λ n. record { 0 = n }) IsEui (λ eui. to_le_bytes w64 eui.0)
-    (λ n h. (h, refl))
-    (λ eui h. (eui.0, h, refl, refl))
 
 mic_field : IsField IsMic (λ mic. mic.0) mic_at
 mic_field = seen_field (AreBytes 4) (λ bytes. bytes) (front_at 4) (front_field 4) (λ bytes. record { 0 = bytes }) IsMic (λ mic. mic.0)
@@ -73,10 +37,10 @@ unfolding request_at
 request_field =
     seen_field (λ (x : Eui × (Eui × (ℕ × Mic))). IsEui x.0 × (IsEui x.1.0 × (Below (2 ^ 16) x.1.1.0 × IsMic x.1.1.1)))
     (λ x. to_le_bytes w64 x.0.0 ++ (to_le_bytes w64 x.1.0.0 ++ (to_le_bytes w16 x.1.1.0 ++ x.1.1.1.0)))
-    (both eui_at (both eui_at (both (number_at w16) mic_at)))
-    (both_field IsEui (λ eui. to_le_bytes w64 eui.0) eui_at _ _ _ eui_field
-    (both_field IsEui (λ eui. to_le_bytes w64 eui.0) eui_at _ _ _ eui_field
-    (both_field (Below (2 ^ 16)) (to_le_bytes w16) (number_at w16) IsMic (λ mic. mic.0) mic_at u16_field mic_field)))
+    (both le_eui_at (both le_eui_at (both (le_at w16) mic_at)))
+    (both_field IsEui (λ eui. to_le_bytes w64 eui.0) le_eui_at _ _ _ le_eui_field
+    (both_field IsEui (λ eui. to_le_bytes w64 eui.0) le_eui_at _ _ _ le_eui_field
+    (both_field (Below (2 ^ 16)) (to_le_bytes w16) (le_at w16) IsMic (λ mic. mic.0) mic_at u16_le_field mic_field)))
     request_of IsJoinRequest request_text
     (λ x h. (record { join_eui = h.0; dev_eui = h.1.0; dev_nonce = h.1.1.0; mic = h.1.1.1 }, refl))
     (λ r h. ((r.join_eui, (r.dev_eui, (r.dev_nonce, r.mic))), (h.join_eui, (h.dev_eui, (h.dev_nonce, h.mic))), refl, refl))
@@ -190,8 +154,8 @@ head_text x = to_le_bytes w32 x.0 ++ (x.1.0 ∷ [] ++ to_le_bytes w16 x.1.1)
 
 pub head_field : IsField IsHead head_text head_at
 head_field =
-    both_field (Below (2 ^ 32)) (to_le_bytes w32) (number_at w32) (λ (x : ℕ × ℕ). (x.0 < 256) × (x.1 < 2 ^ 16)) (λ x. x.0 ∷ [] ++ to_le_bytes w16 x.1) (both byte_at (number_at w16)) u32_field
-    (both_field (λ byte. byte < 256) (λ byte. byte ∷ []) byte_at (Below (2 ^ 16)) (to_le_bytes w16) (number_at w16) byte_field u16_field)
+    both_field (Below (2 ^ 32)) (to_le_bytes w32) (le_at w32) (λ (x : ℕ × ℕ). (x.0 < 256) × (x.1 < 2 ^ 16)) (λ x. x.0 ∷ [] ++ to_le_bytes w16 x.1) (both byte_at (le_at w16)) u32_le_field
+    (both_field (λ byte. byte < 256) (λ byte. byte ∷ []) byte_at (Below (2 ^ 16)) (to_le_bytes w16) (le_at w16) byte_field u16_le_field)
 
 -- what was read as a message is all of the bytes
 pub message_takes : (bytes : List ℕ) (opts : ℕ) → IsBytes bytes → opts ≤ 15 → opts + length bytes ≤ 243

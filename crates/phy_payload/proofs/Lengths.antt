@@ -1,12 +1,14 @@
--- How long a frame is.
-use Rattle.std.proofs.Common.{◌+◌, ◌≤◌, length, Option, Some, None, arith}
-use Rattle.std.proofs.lemmas.List.{length-append}
+-- How long a frame is, and where its MIC stands.
+use Rattle.std.proofs.Common.{◌≡◌, ℕ, ◌+◌, ◌-◌, ◌≤◌, List, ◌++◌, length, take, drop, Option, Some, None, ap, ◌∙◌, arith}
+use Rattle.std.proofs.lemmas.List.{drop_at, length-append, take_at}
 use Rattle.phy_payload.specs.declared.phy.Phy.{Phy}
 use Rattle.phy_payload.specs.declared.phy.Phy.TheVariants as phy
+use Rattle.phy_payload.specs.declared.join.JoinRequest.{JoinRequest}
+use Rattle.phy_payload.specs.declared.data_frame.DataFrame.{DataFrame}
 use Rattle.phy_payload.specs.declared.join.JoinAccept.TheVariants.{Short, WithCfList}
 use Rattle.phy_payload.specs.declared.contents.Message.{Message}
 use Rattle.phy_payload.specs.Contents.{payload_len}
-use Rattle.phy_payload.specs.Frame.{data_message, port_and_payload, request_message, spelling, Fits}
+use Rattle.phy_payload.specs.Frame.{data_message, port_and_payload, request_message, spelling, Fits, IsPhy}
 
 port_len : (sent : Option Message) → length (port_and_payload sent) ≤ payload_len sent + 1
 port_len None = omega arith
@@ -27,3 +29,18 @@ has_spelling (phy.DataFrame d) h =
     let fits = h.contents.fits in
     let mic = h.mic.1 in
     (omega arith, omega arith)
+
+-- the last four bytes, and those before them
+split_at_four : (message mic bytes : List ℕ) → length mic ≡ 4 → bytes ≡ message ++ mic → (take (length bytes - 4) bytes ≡ message) × (drop (length bytes - 4) bytes ≡ mic)
+split_at_four message mic bytes four is =
+    let whole : length bytes ≡ length message + length mic = ap length is ∙ length-append message mic in
+    let len : length message ≡ length bytes - 4 = omega arith in
+    (ap (take (length bytes - 4)) is ∙ take_at message mic _ len, ap (drop (length bytes - 4)) is ∙ drop_at message mic _ len)
+
+pub request_split : (bytes : List ℕ) (r : JoinRequest) → IsPhy bytes (phy.JoinRequest r) → (take (length bytes - 4) bytes ≡ request_message r) × (drop (length bytes - 4) bytes ≡ r.mic.0)
+unfolding spelling
+request_split bytes r h = split_at_four (request_message r) r.mic.0 bytes h.0.mic.1 h.1
+
+pub data_split : (bytes : List ℕ) (d : DataFrame) → IsPhy bytes (phy.DataFrame d) → (take (length bytes - 4) bytes ≡ data_message d) × (drop (length bytes - 4) bytes ≡ d.mic.0)
+unfolding spelling
+data_split bytes d h = split_at_four (data_message d) d.mic.0 bytes h.0.mic.1 h.1

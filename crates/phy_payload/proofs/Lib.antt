@@ -1,4 +1,3 @@
-pub mod Codec
 pub mod FrameFields
 pub mod FrameLaws
 pub mod Lengths

@@ -114,9 +114,15 @@ Fits (phy.DataFrame d) = IsDataFrame d
 abbrev pub IsPhy : List ℕ → Phy → Type 0
 IsPhy bytes frame = Fits frame × (bytes ≡ spelling frame)
 
--- these bytes are some frame
-abbrev pub IsSomePhy : List ℕ → Type 0
-IsSomePhy bytes = (frame : Phy) × IsPhy bytes frame
+-- memory is taken for a data frame alone, for what it carries
+abbrev pub TakesMemory : Phy → Type 0
+TakesMemory (phy.JoinRequest r) = ⊥
+TakesMemory (phy.JoinAccept a) = ⊥
+TakesMemory (phy.DataFrame d) = Unit {0}
+
+-- these bytes are a frame for which memory is taken
+abbrev pub IsSomePhyInMemory : List ℕ → Type 0
+IsSomePhyInMemory bytes = (frame : Phy) × IsPhy bytes frame × TakesMemory frame
 
 -- whether these are 1 to 255 bytes of FType 6, which is RFU, or 7, which is Proprietary
 abbrev pub is_not_served : List ℕ → Bool

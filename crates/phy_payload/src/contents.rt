@@ -2,15 +2,18 @@
 ghost use Rattle.std.specs.Prelude.{◌≡◌, ◌+◌, ◌≤◌, length};
 ghost use Rattle.phy_payload.specs.Contents.{carried, payload_len};
 
-use lw_types::Bytes;
+use lw_types::{Bytes, LONGEST_PAYLOAD, Payload};
 use std::alloc::AllocError;
 use std::marker::Model;
 
+/// The most bytes of FOpts: its length has four bits of FCtrl (TS001-1.0.4 §4.3.1.6).
+pub const LONGEST_F_OPTS: usize = 15;
+
 /// MAC commands in the frame's header, of at most 15 bytes.
-pub type FOpts = Bytes<15>;
+pub type FOpts = Bytes<LONGEST_F_OPTS>;
 
 /// The payload of a frame with a port, encrypted as on air, of at most 242 bytes.
-pub type FrmPayload = Bytes<242>;
+pub type FrmPayload = Payload;
 
 /// A port and the payload for it. On port 0 these are MAC commands.
 #[derive(Clone, Debug, PartialEq, Eq, Drop)]
@@ -29,13 +32,14 @@ pub struct Contents {
 
 impl Model for Contents {
     ghost use Rattle.std.specs.Prelude.{◌+◌, ◌≤◌, length};
+    ghost use Rattle.lw_types.specs.declared.payload.TheConstants.{LONGEST_PAYLOAD};
     ghost use Rattle.phy_payload.specs.Contents.{Carried, payload_len};
 
     ghost Value = { Carried };
 
     ghost view = { λ c. record { f_opts = c.f_opts; message = c.message } };
 
-    ghost invariant = { λ c. length c.f_opts + payload_len c.message ≤ 242 };
+    ghost invariant = { λ c. length c.f_opts + payload_len c.message ≤ LONGEST_PAYLOAD };
 
     ghost inverse = { λ v. record { f_opts = v.f_opts; message = v.message } };
 }
@@ -45,7 +49,7 @@ impl Contents {
 
     /// These parts. FOpts and FRMPayload may have at most 242 bytes together.
     pub fn new(f_opts: FOpts, message: Option<Message>) -> Self
-        requires { length f_opts + payload_len message ≤ 242 }
+        requires { length f_opts + payload_len message ≤ LONGEST_PAYLOAD }
         ensures { result ≡ carried f_opts message }
     {
         Contents { f_opts, message }
@@ -54,7 +58,7 @@ impl Contents {
     /// FOpts, at most 15 bytes.
     pub fn f_opts(&self) -> &[u8]
         ensures bytes { result.now ≡ self.now.f_opts }
-        ensures few { length self.now.f_opts ≤ 15 }
+        ensures few { length self.now.f_opts ≤ LONGEST_F_OPTS }
     {
         self.f_opts.as_slice()
     }
@@ -62,7 +66,7 @@ impl Contents {
     /// FPort and FRMPayload, where there is a port.
     pub fn message(&self) -> Option<&Message>
         ensures message { option_copied result ≡ self.now.message }
-        ensures fits { length self.now.f_opts + payload_len self.now.message ≤ 242 }
+        ensures fits { length self.now.f_opts + payload_len self.now.message ≤ LONGEST_PAYLOAD }
     {
         self.message.as_ref()
     }
@@ -71,7 +75,7 @@ impl Contents {
     pub fn into_parts(self) -> (FOpts, Option<Message>)
         ensures f_opts { result.0 ≡ self.f_opts }
         ensures message { result.1 ≡ self.message }
-        ensures fits { length self.f_opts + payload_len self.message ≤ 242 }
+        ensures fits { length self.f_opts + payload_len self.message ≤ LONGEST_PAYLOAD }
     {
         let Contents { f_opts, message } = self;
         (f_opts, message)

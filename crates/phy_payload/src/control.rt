@@ -1,4 +1,4 @@
-// The bits of FCtrl that are not the length of FOpts (TS001-1.0.4 §4.3.1.2 to §4.3.1.5).
+// The bits of FCtrl that are not the length of FOpts (TS001-1.0.4 §4.3.1.1 to §4.3.1.4).
 ghost use Rattle.std.specs.Prelude.{◌≡◌, ◌<◌, ◌≤◌};
 ghost use Rattle.phy_payload.specs.Frame.{bit, f_ctrl};
 ghost use Rattle.phy_payload.specs.Reading.{control_of, is_set};

@@ -5,7 +5,6 @@
 mod contents;
 mod control;
 mod data_frame;
-mod input;
 mod join;
 pub mod laws;
 mod mhdr;
@@ -19,7 +18,4 @@ pub use data_frame::DataFrame;
 pub use join::{JoinAccept, JoinRequest};
 pub use phy::{Mic, Phy};
 pub use read::decode;
-pub use write::encode;
-
-#[cfg(test)]
-mod tests;
+pub use write::{encode, encode_message};

@@ -6,9 +6,6 @@ use crate::join::{JoinAccept, JoinRequest};
 #[derive(Clone, Copy, Debug, PartialEq, Eq)]
 pub struct Mic(pub [u8; 4]);
 
-/// The most bytes of a frame.
-pub(crate) const LONGEST: usize = 255;
-
 /// A frame (TS001-1.0.4 §4.2.1).
 #[derive(Clone, Debug, PartialEq, Eq, Drop)]
 pub enum Phy {

@@ -1,19 +1,20 @@
 // From bytes to frames.
-ghost use Rattle.std.specs.Prelude.{◌≡◌, ◌+◌, ◌≤◌, ◌⊎◌, IfErr, IfOk, MatchResult, length};
+ghost use Rattle.std.specs.Prelude.{◌≡◌, ◌+◌, ◌≤◌, ◌⊎◌, IfErr, IfOk, MatchResult, OnSome, length};
 ghost use Rattle.lw_types.specs.declared.refusal.Refusal.TheVariants.{OutOfMemory};
 ghost use Rattle.phy_payload.specs.declared.phy.Phy.{Phy};
 ghost use Rattle.phy_payload.specs.Contents.{carried};
-ghost use Rattle.phy_payload.specs.Frame.{refusal_of, IsPhy, IsSomePhy};
-ghost use Rattle.phy_payload.specs.Reading.{accept_at, data_at, message_of, or_malformed, phy_at, request_at, whole, Answers, Gives};
+ghost use Rattle.byte_fields.specs.Reading.{whole, Gives, GivesSeen};
+ghost use Rattle.phy_payload.specs.Frame.{refusal_of, IsPhy, IsSomePhyInMemory, TakesMemory};
+ghost use Rattle.phy_payload.specs.Reading.{accept_at, data_at, head_at, message_of, or_malformed, phy_at, request_at, Reads};
 
-use crate::contents::{Contents, Message};
+use crate::contents::{Contents, FOpts, FrmPayload, Message};
 use crate::control::Control;
 use crate::data_frame::DataFrame;
-use crate::input::Input;
 use crate::join::{JoinAccept, JoinRequest};
 use crate::mhdr;
-use crate::phy::{LONGEST, Mic, Phy};
-use lw_types::{Bytes, DevAddr, Direction, Refusal};
+use crate::phy::{Mic, Phy};
+use byte_fields::FieldReader;
+use lw_types::{DevAddr, Direction, LONGEST_FRAME, Refusal};
 use std::alloc::Global;
 
 const UNCONFIRMED: bool = false;
@@ -21,49 +22,38 @@ const UNCONFIRMED: bool = false;
 const CONFIRMED: bool = true;
 
 #[tactic(auto, unfolding(crate::specs::Reading::request_at))]
-fn read_request_fields(input: &mut Input<'_>) -> Result<JoinRequest, Refusal>
-    ensures { Gives result input.new.rest.now (request_at input.old.rest.now) }
+fn read_request_fields(fields: &mut FieldReader<'_>) -> Option<JoinRequest>
+    ensures { Gives result fields.new.rest.now (request_at fields.old.rest.now) }
 {
-    Ok(JoinRequest {
-        join_eui: input.eui()?,
-        dev_eui: input.eui()?,
-        dev_nonce: input.u16()?,
-        mic: input.mic()?,
+    Some(JoinRequest {
+        join_eui: fields.eui_le()?,
+        dev_eui: fields.eui_le()?,
+        dev_nonce: fields.u16_le()?,
+        mic: Mic(fields.array()?),
     })
 }
 
-fn read_join_request(body: &[u8]) -> Result<Phy, Refusal>
-    ensures { Answers result (or_malformed Phy.JoinRequest (whole request_at body.now)) }
+fn read_join_request(body: &[u8]) -> Option<JoinRequest>
+    ensures { result ≡ whole request_at body.now }
 {
-    let mut input = Input { rest: body };
-    let request = read_request_fields(&mut input)?;
-    if input.rest.is_empty() {
-        Ok(Phy::JoinRequest(request))
+    let mut fields = FieldReader { rest: body };
+    let request = read_request_fields(&mut fields)?;
+    if fields.rest.is_empty() {
+        Some(request)
     } else {
-        Err(Refusal::Malformed)
+        None
     }
 }
 
-fn read_join_accept(body: &[u8]) -> Result<Phy, Refusal>
-    ensures { Answers result (or_malformed Phy.JoinAccept (accept_at body.now)) }
+fn read_join_accept(body: &[u8]) -> Option<JoinAccept>
+    ensures { result ≡ accept_at body.now }
 {
     if let Ok(sealed) = <[u8; 16]>::try_from(body) {
-        Ok(Phy::JoinAccept(JoinAccept::Short { sealed }))
+        Some(JoinAccept::Short { sealed })
     } else if let Ok(sealed) = <[u8; 32]>::try_from(body) {
-        Ok(Phy::JoinAccept(JoinAccept::WithCfList { sealed }))
+        Some(JoinAccept::WithCfList { sealed })
     } else {
-        Err(Refusal::Malformed)
-    }
-}
-
-// The same bytes, in memory of their own.
-fn owned<const MOST: usize>(alloc: Global, bytes: &[u8]) -> Result<Bytes<MOST>, Refusal>
-    requires { length bytes.now ≤ MOST }
-    ensures { MatchResult result (λ b. b ≡ bytes.now) (λ e. e ≡ OutOfMemory) }
-{
-    match Bytes::new(Vec::from_slice(alloc, bytes)?) {
-        Ok(bytes) => Ok(bytes),
-        Err(_) => Err(Refusal::Malformed),
+        None
     }
 }
 
@@ -77,10 +67,29 @@ fn contents_of(alloc: Global, f_opts: &[u8], rest: &[u8]) -> Result<Contents, Re
         None => None,
         Some((f_port, payload)) => Some(Message {
             f_port: *f_port,
-            frm_payload: owned(alloc, payload)?,
+            frm_payload: FrmPayload::from_slice(alloc, payload)?,
         }),
     };
-    Ok(Contents::new(owned(alloc, f_opts)?, message))
+    Ok(Contents::new(FOpts::from_slice(alloc, f_opts)?, message))
+}
+
+// What stands before FOpts.
+#[derive(Clone, Copy)]
+struct Head {
+    dev_addr: DevAddr,
+    f_ctrl: u8,
+    f_cnt: u16,
+}
+
+fn read_head(fields: &mut FieldReader<'_>) -> Option<Head>
+    ensures field { GivesSeen (λ head. (head.dev_addr.0, (head.f_ctrl, head.f_cnt))) result fields.new.rest.now (head_at fields.old.rest.now) }
+    ensures left { OnSome result (length fields.new.rest.now + 7 ≡ length fields.old.rest.now) }
+{
+    Some(Head {
+        dev_addr: DevAddr(fields.u32_le()?),
+        f_ctrl: fields.byte()?,
+        f_cnt: fields.u16_le()?,
+    })
 }
 
 #[tactic(auto, unfolding(crate::specs::Reading::data_at))]
@@ -91,24 +100,21 @@ fn read_data_frame(
     body: &[u8],
 ) -> Result<Phy, Refusal>
     requires { length body.now ≤ 254 }
-    ensures { Answers result (or_malformed Phy.DataFrame (data_at direction confirmed body.now)) }
+    ensures { Reads result (or_malformed Phy.DataFrame (data_at direction confirmed body.now)) }
 {
     let (front, mic) = body.split_last_chunk::<4>().ok_or(Refusal::Malformed)?;
-    let mut input = Input { rest: front };
-    let dev_addr = DevAddr(input.u32()?);
-    let f_ctrl = input.byte()?;
-    let f_cnt = input.u16()?;
-    let control = Control::of(direction, f_ctrl).ok_or(Refusal::Malformed)?;
-    let f_opts_len = usize::from(f_ctrl % 16);
-    let (f_opts, rest) = input
+    let mut fields = FieldReader { rest: front };
+    let head = read_head(&mut fields).ok_or(Refusal::Malformed)?;
+    let control = Control::of(direction, head.f_ctrl).ok_or(Refusal::Malformed)?;
+    let (f_opts, rest) = fields
         .rest
-        .split_at_checked(f_opts_len)
+        .split_at_checked(usize::from(head.f_ctrl % 16))
         .ok_or(Refusal::Malformed)?;
     Ok(Phy::DataFrame(DataFrame {
         confirmed,
-        dev_addr,
+        dev_addr: head.dev_addr,
         control,
-        f_cnt,
+        f_cnt: head.f_cnt,
         contents: contents_of(alloc, f_opts, rest)?,
         mic: Mic(*mic),
     }))
@@ -116,15 +122,21 @@ fn read_data_frame(
 
 #[tactic(auto, unfolding(crate::specs::Reading::phy_at))]
 fn read_phy(alloc: Global, bytes: &[u8]) -> Result<Phy, Refusal>
-    ensures { Answers result (phy_at bytes.now) }
+    ensures { Reads result (phy_at bytes.now) }
 {
     let (first, body) = bytes.split_first().ok_or(Refusal::Malformed)?;
-    if bytes.len() > LONGEST {
+    if bytes.len() > LONGEST_FRAME {
         return Err(Refusal::Malformed);
     }
     match *first {
-        mhdr::JOIN_REQUEST => read_join_request(body),
-        mhdr::JOIN_ACCEPT => read_join_accept(body),
+        mhdr::JOIN_REQUEST => {
+            let request = read_join_request(body).ok_or(Refusal::Malformed)?;
+            Ok(Phy::JoinRequest(request))
+        }
+        mhdr::JOIN_ACCEPT => {
+            let accept = read_join_accept(body).ok_or(Refusal::Malformed)?;
+            Ok(Phy::JoinAccept(accept))
+        }
         mhdr::UNCONFIRMED_DATA_UP => read_data_frame(alloc, Direction::Up, UNCONFIRMED, body),
         mhdr::UNCONFIRMED_DATA_DOWN => read_data_frame(alloc, Direction::Down, UNCONFIRMED, body),
         mhdr::CONFIRMED_DATA_UP => read_data_frame(alloc, Direction::Up, CONFIRMED, body),
@@ -137,15 +149,16 @@ fn read_phy(alloc: Global, bytes: &[u8]) -> Result<Phy, Refusal>
 /// Reads a frame from its bytes, which are all of the PHYPayload (TS001-1.0.4 §4).
 ///
 /// What is no frame is refused, whether or not there is memory: as `NotServed` where it has 1 to 255 bytes and
-/// an MHDR of FType 6 or 7 whose RFU bits and Major are 0, else as `Malformed`. For want of memory a frame is
-/// refused as `OutOfMemory`.
+/// an MHDR of FType 6 or 7 whose RFU bits and Major are 0, else as `Malformed`. For want of memory a data frame
+/// is refused as `OutOfMemory`; joins take none.
 pub fn decode(alloc: Global, bytes: &[u8]) -> Result<Phy, Refusal>
     // These bytes are the frame that is read.
     ensures found { IfOk result (λ frame. IsPhy bytes.now frame) }
-    // The frame that these bytes are is read, unless memory runs out.
-    ensures only { (frame : Phy) → IsPhy bytes.now frame → MatchResult result (λ found. found ≡ frame) (λ e. e ≡ OutOfMemory) }
-    // Memory runs out only for a frame, and else the bytes decide.
-    ensures refused { IfErr result (λ e. ((e ≡ OutOfMemory) × IsSomePhy bytes.now) ⊎ (e ≡ refusal_of bytes.now)) }
+    // The frame that these bytes are is read, unless memory runs out for it.
+    ensures only { (frame : Phy) → IsPhy bytes.now frame
+        → MatchResult result (λ found. found ≡ frame) (λ e. (e ≡ OutOfMemory) × TakesMemory frame) }
+    // Memory runs out only for a frame that takes some, and else the bytes decide.
+    ensures refused { IfErr result (λ e. ((e ≡ OutOfMemory) × IsSomePhyInMemory bytes.now) ⊎ (e ≡ refusal_of bytes.now)) }
 {
     read_phy(alloc, bytes)
 }

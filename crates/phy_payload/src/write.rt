@@ -90,16 +90,26 @@ fn put_contents(out: &mut Vec<u8>, contents: &Contents) -> Result<(), AllocError
     Ok(())
 }
 
-fn put_data_frame(out: &mut Vec<u8>, frame: &DataFrame) -> Result<(), AllocError>
-    ensures written { OnOk result (out.new.items ≡ out.old.items ++ (data_message frame.now ++ frame.now.mic.0)) }
-    ensures in_range { OnOk result (IsDataFrame frame.now) }
+// All of a data frame but its MIC.
+fn put_data_message(out: &mut Vec<u8>, frame: &DataFrame) -> Result<(), AllocError>
+    ensures written { OnOk result (out.new.items ≡ out.old.items ++ data_message frame.now) }
+    ensures dev_addr { OnOk result (frame.now.dev_addr.0 < 2 ^ 32) }
+    ensures f_cnt { OnOk result (frame.now.f_cnt < 2 ^ 16) }
+    ensures contents { OnOk result (IsCarried frame.now.contents) }
 {
     out.push(data_header(frame.control, frame.confirmed))?;
     out.extend_from_slice(&frame.dev_addr.0.to_le_bytes())?;
     let f_opts_len = frame.contents.f_opts().len() as u8;
     out.push(frame.control.f_ctrl(f_opts_len))?;
     out.extend_from_slice(&frame.f_cnt.to_le_bytes())?;
-    put_contents(out, &frame.contents)?;
+    put_contents(out, &frame.contents)
+}
+
+fn put_data_frame(out: &mut Vec<u8>, frame: &DataFrame) -> Result<(), AllocError>
+    ensures written { OnOk result (out.new.items ≡ out.old.items ++ (data_message frame.now ++ frame.now.mic.0)) }
+    ensures in_range { OnOk result (IsDataFrame frame.now) }
+{
+    put_data_message(out, frame)?;
     put_mic(out, frame.mic)?;
     Ok(())
 }
@@ -114,6 +124,20 @@ fn put_frame(out: &mut Vec<u8>, frame: &Phy) -> Result<(), AllocError>
         Phy::JoinAccept(accept) => put_join_accept(out, accept),
         Phy::DataFrame(data) => put_data_frame(out, data),
     }
+}
+
+/// Appends the message of a data frame, which is what its MIC is made of: all of its bytes but the last four.
+/// The MIC that the frame has isn't looked at. For want of memory it is refused as `OutOfMemory`, and then
+/// nothing is appended.
+pub fn encode_message(alloc: Global, frame: &DataFrame, out: &mut Vec<u8>) -> Result<(), Refusal>
+    ensures { MatchResult result
+        (λ _. out.new.items ≡ out.old.items ++ data_message frame.now)
+        (λ e. (e ≡ OutOfMemory) × (out.new.items ≡ out.old.items)) }
+{
+    let mut bytes = Vec::new(alloc);
+    put_data_message(&mut bytes, frame)?;
+    out.extend_from_slice(bytes.as_slice())?;
+    Ok(())
 }
 
 /// Appends the bytes of a frame, its one spelling of 12 to 255 bytes. For want of memory it is refused as

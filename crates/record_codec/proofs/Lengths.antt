@@ -11,7 +11,8 @@ use Rattle.devices.specs.declared.activation.CurrentSession.{CurrentSession}
 use Rattle.devices.specs.declared.device.Device.{Device}
 use Rattle.devices.specs.declared.queue.Item.{Item}
 use Rattle.devices.specs.Activation.{Grants}
-use Rattle.record_codec.specs.DeviceRecord.{activation, awaited, counted, current_session, dev_nonce, flag, granted, head, item, item_queue, optional, session, spelling, AreGrants, IsCurrentSession, IsDevice, IsItem, IsSession}
+use Rattle.byte_fields.specs.Spelling.{counted, flag, optional}
+use Rattle.record_codec.specs.DeviceRecord.{activation, awaited, current_session, dev_nonce, granted, head, item, item_queue, session, spelling, AreGrants, IsCurrentSession, IsDevice, IsItem, IsSession}
 
 abbrev Has : ℕ → ℕ → List ℕ → Type 0
 Has least most bytes = (least ≤ length bytes) × (length bytes ≤ most)

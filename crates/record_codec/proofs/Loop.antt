@@ -1,9 +1,11 @@
 -- Reading items one after the other, as a loop does.
-use Rattle.std.proofs.Common.{◌≡◌, ℕ, suc, ◌-◌, ◌+◌, ◌≤◌, ◌<◌, List, [], ◌∷◌, ◌++◌, Option, Some, None, refl, sym, ap, ◌∙◌, append_assoc, arith, inl, inr}
+use Rattle.std.proofs.Common.{◌≡◌, ℕ, suc, ◌-◌, ◌+◌, ◌≤◌, ◌<◌, List, [], ◌∷◌, ◌++◌, length, Option, Some, None, refl, sym, ap, ◌∙◌, append_assoc, arith, rules}
 use Rattle.std.proofs.lemmas.List.{append-nil}
-use Rattle.lw_types.specs.declared.refusal.Refusal.{Refusal}
 use Rattle.devices.specs.declared.queue.Item.{Item}
-use Rattle.record_codec.specs.Reading.{◌>>=◌, Fails, item_at, items_at}
+use Rattle.std.specs.Prelude.{IsSome}
+use Rattle.std.specs.Option.{option_map_or}
+use Rattle.byte_fields.specs.Reading.{◌>>=◌}
+use Rattle.record_codec.specs.Reading.{item_at, items_at, items_in}
 
 -- what was read before, and what is still read
 abbrev pub with_front : List Item → Option (List Item × List ℕ) → Option (List Item × List ℕ)
@@ -21,14 +23,13 @@ goes_on front count i bytes item after total lt h so_far =
     let one : with_front front (items_at (count - i) bytes) ≡ with_front (front ++ item ∷ []) (items_at (count - (i + 1)) after) = rw (k, h) (regroup front item (items_at (count - (i + 1)) after)) in
     sym one ∙ so_far
 
-pub ends : (e : Refusal) (front : List Item) (count i : ℕ) (bytes : List ℕ) (total : Option (List Item × List ℕ)) → i < count → Fails e (item_at bytes)
-    → with_front front (items_at (count - i) bytes) ≡ total → Fails e total
+pub ends : (front : List Item) (count i : ℕ) (bytes : List ℕ) (total : Option (List Item × List ℕ)) → i < count → item_at bytes ≡ None
+    → with_front front (items_at (count - i) bytes) ≡ total → total ≡ None
 unfolding items_at
-ends e front count i bytes total lt (inl memory) so_far = inl memory
-ends e front count i bytes total lt (inr h) so_far =
+ends front count i bytes total lt none so_far =
     let k : count - i ≡ suc (count - (i + 1)) = omega arith in
-    let one : with_front front (items_at (count - i) bytes) ≡ None = rw (k, h.1) refl in
-    inr (h.0, sym so_far ∙ one)
+    let one : with_front front (items_at (count - i) bytes) ≡ None = rw (k, none) refl in
+    sym so_far ∙ one
 
 pub is_done : (front : List Item) (count i : ℕ) (bytes : List ℕ) (total : Option (List Item × List ℕ)) → count ≤ i → with_front front (items_at (count - i) bytes) ≡ total → total ≡ Some (front, bytes)
 unfolding items_at
@@ -36,6 +37,27 @@ is_done front count i bytes total le so_far =
     let k : count - i ≡ 0 = omega arith in
     let one : with_front front (items_at (count - i) bytes) ≡ Some (front, bytes) = rw k (ap (λ (is : List Item). Some (is, bytes)) (append-nil front)) in
     sym so_far ∙ one
+
+-- the items in the bytes are those that were read
+pub in_bytes : (count : ℕ) (bytes : List ℕ) (items : List Item) (rest : List ℕ) → items_at count bytes ≡ Some (items, rest) → items_at count bytes ≡ Some (items_in count bytes, rest)
+in_bytes count bytes items rest e = e ∙ ap (λ (is : List Item). Some (is, rest)) (sym (ap (λ (o : Option (List Item × List ℕ)). option_map_or (λ x. x.0) o []) e))
+
+pub not_there : {X : Type 0} (o : Option X) → o ≡ None → IsSome o → ⊥
+not_there None e h = search rules
+not_there (Some x) e h = absurd cc
+
+pub is_in_bytes : (count : ℕ) (bytes : List ℕ) (items : List Item) (rest : List ℕ) → items_at count bytes ≡ Some (items, rest) → items ≡ items_in count bytes
+is_in_bytes count bytes items rest e = sym (ap (λ (o : Option (List Item × List ℕ)). option_map_or (λ x. x.0) o []) e)
+
+-- some items were read of so many at the front of the bytes, and the rest is left
+pub record HasRead (count : ℕ) (bytes : List ℕ) (i : ℕ) (rest : List ℕ) : Type 0 where
+  pub items : List Item
+  pub so_far : with_front items (items_at (count - i) rest) ≡ items_at count bytes
+
+-- these are the items that were read
+pub record HasBuilt (count : ℕ) (bytes : List ℕ) (i : ℕ) (rest : List ℕ) (items : List Item) : Type 0 where
+  pub so_far : with_front items (items_at (count - i) rest) ≡ items_at count bytes
+  pub few : length items ≤ i
 
 -- three pieces, written one after another
 pub three_written : (out first second third after_first after_second written : List ℕ) → after_first ≡ out ++ first → after_second ≡ after_first ++ second → written ≡ after_second ++ third → written ≡ out ++ (first ++ (second ++ third))

@@ -2,151 +2,60 @@
 use Rattle.std.proofs.Common.{◌≡◌, ℕ, zero, suc, ◌/◌, ◌%◌, ◌^◌, ◌<◌, ◌≤◌, ◌&&◌, Bool, true, false, List, [], ◌∷◌, ◌++◌, Option, Some, None, refl, sym, ap, ◌∙◌, arith, inl, inr, nat_le, ltb}
 use Rattle.std.specs.Prelude.{IfSome, option_map, unwrap_or}
 use Rattle.std.specs.Option.{option_map_or}
-use Rattle.std.specs.Int.{w16, w32, w64, from_be_bytes, to_be_bytes}
+use Rattle.std.specs.Int.{Width, w16, w32, w64, to_be_bytes}
 use Rattle.std.proofs.lemmas.Bool.{and_from, and_parts, both_ways, cases_Bool, cond-true, cond-false, eqb-true, le-leb, leb-true, lt-ltb, ltb-true}
-use Rattle.std.proofs.lemmas.Nat.{be_bytes_2, be_bytes_4, be_bytes_8, from_be_bytes-to_be_bytes_2, from_be_bytes-to_be_bytes_4, from_be_bytes-to_be_bytes_8}
-use Rattle.lw_types.specs.Hex.{IsBytes}
-use Rattle.lw_types.specs.declared.identifiers.Eui.{Eui}
 use Rattle.lw_types.specs.declared.key.Key.{Key}
-use Rattle.lw_types.proofs.ValueTexts.{IsBytes-high_first}
+use Rattle.byte_fields.specs.Field.{IsField}
+use Rattle.byte_fields.specs.Reading.{both, seen_as, that, be_at, flag_at, key_at, optional_at, three_bytes_at}
+use Rattle.byte_fields.specs.Spelling.{flag, optional}
+use Rattle.byte_fields.specs.FieldLemmas.{same_field, both_field, seen_field, that_field, flag_field, optional_field}
+use Rattle.byte_fields.specs.NumberLemmas.{Below, key_field, three_bytes_field, u16_be_field, u32_be_field, u64_be_field}
 use Rattle.devices.specs.declared.Tag.{Tag}
 use Rattle.devices.specs.declared.activation.Session.{Session}
 use Rattle.devices.specs.declared.activation.CurrentSession.{CurrentSession}
 use Rattle.devices.specs.Activation.{Grants, AreInOrder, current_nonce}
-use Rattle.record_codec.specs.DeviceRecord.{flag, nonce, dev_nonce, awaited, granted, session, current_session, activation, optional, IsKey, IsJoinNonce, IsSession, IsCurrentSession, AreGrants}
-use Rattle.record_codec.specs.Reading.{both, seen_as, that, front_at, number_at, nonce_at, byte_at, ranged_at, flag_at, key_at, eui_at, flagged, is_plain, flagged_at, awaited_at, is_join_nonce, granted_nonce, session_of, session_at, current_of, current_at, optional_at, grants_of, are_in_order, activation_at}
-use Rattle.record_codec.proofs.Codec.{IsField, AreBytes, same_field, both_field, seen_field, that_field, front_field, byte_field, flag_field, optional_field}
-
--- ---- numbers
-
-abbrev pub Below : ℕ → ℕ → Type 0
-Below limit n = n < limit
-
-pub u16_field : IsField (Below (2 ^ 16)) (to_be_bytes w16) (number_at w16)
-u16_field = seen_field (AreBytes 2) (λ bytes. bytes) (front_at 2) (front_field 2) (from_be_bytes w16) (Below (2 ^ 16)) (to_be_bytes w16)
-    (λ bytes h. let fits = h.0 in (omega (arith, fits 0, fits 1), be_bytes_2 bytes _ h.1 h.0 refl))
-    (λ n lt. (to_be_bytes w16 n, (IsBytes-high_first 2 n, refl), from_be_bytes-to_be_bytes_2 n lt, refl))
-
-pub u32_field : IsField (Below (2 ^ 32)) (to_be_bytes w32) (number_at w32)
-u32_field = seen_field (AreBytes 4) (λ bytes. bytes) (front_at 4) (front_field 4) (from_be_bytes w32) (Below (2 ^ 32)) (to_be_bytes w32)
-    (λ bytes h. let fits = h.0 in (omega (arith, fits 0, fits 1, fits 2, fits 3), be_bytes_4 bytes _ h.1 h.0 refl))
-    (λ n lt. (to_be_bytes w32 n, (IsBytes-high_first 4 n, refl), from_be_bytes-to_be_bytes_4 n lt, refl))
-
-pub u64_field : IsField (Below (2 ^ 64)) (to_be_bytes w64) (number_at w64)
-u64_field = seen_field (AreBytes 8) (λ bytes. bytes) (front_at 8) (front_field 8) (from_be_bytes w64) (Below (2 ^ 64)) (to_be_bytes w64)
-    (λ bytes h. let fits = h.0 in (omega (arith, fits 0, fits 1, fits 2, fits 3, fits 4, fits 5, fits 6, fits 7), be_bytes_8 bytes _ h.1 h.0 refl))
-    (λ n lt. (to_be_bytes w64 n, (IsBytes-high_first 8 n, refl), from_be_bytes-to_be_bytes_8 n lt, refl))
-
--- three bytes, as the low ones of four
-with_zero : (bytes : List ℕ) → IsBytes bytes → IsBytes (0 ∷ bytes)
-with_zero bytes fits zero = omega arith
-with_zero bytes fits (suc i) = fits i
-
-tail : List ℕ → List ℕ
-tail [] = []
-tail (first ∷ others) = others
-
-nonce_back : (bytes : List ℕ) → AreBytes 3 bytes → nonce (from_be_bytes w32 (0 ∷ bytes)) ≡ bytes
-unfolding tail
-nonce_back bytes h = ap tail (be_bytes_4 (0 ∷ bytes) _ (ap suc h.1) (with_zero bytes h.0) refl)
-
-nonce_forth : (n : ℕ) → n < 2 ^ 24 → from_be_bytes w32 (0 ∷ nonce n) ≡ n
-nonce_forth n lt =
-    let top : n / 16777216 % 256 ≡ 0 = omega arith in
-    ap (λ (high : ℕ). from_be_bytes w32 (high ∷ nonce n)) (sym top) ∙ from_be_bytes-to_be_bytes_4 n (omega arith)
-
-pub nonce_field : IsField (Below (2 ^ 24)) nonce nonce_at
-nonce_field = seen_field (AreBytes 3) (λ bytes. bytes) (front_at 3) (front_field 3) (λ bytes. from_be_bytes w32 (0 ∷ bytes)) (Below (2 ^ 24)) nonce
-    (λ bytes h. let fits = h.0 in (omega (arith, fits 0, fits 1, fits 2), nonce_back bytes h))
-    (λ n lt. (nonce n, (IsBytes-high_first 3 n, refl), nonce_forth n lt, refl))
-
-abbrev pub Between : ℕ → ℕ → ℕ → Type 0
-Between least most n = (least ≤ n) × (n ≤ most)
-
-pub ranged_field : (least most : ℕ) → most < 256 → IsField (Between least most) (λ n. n ∷ []) (ranged_at least most)
-ranged_field least most small =
-    same_field (λ n. (n < 256) × ((nat_le least n && nat_le n most) ≡ true)) (Between least most) (λ n. n ∷ []) (ranged_at least most)
-    (that_field (λ n. n < 256) (λ n. n ∷ []) byte_at byte_field (λ n. nat_le least n && nat_le n most))
-    (λ n h. let p = and_parts (nat_le least n) (nat_le n most) h.1 in (leb-true least n p.0, leb-true n most p.1))
-    (λ n h. let le = h.1 in (omega arith, and_from (nat_le least n) (nat_le n most) (le-leb least n h.0) (le-leb n most h.1)))
-
--- ---- keys and names
-
-pub key_field : IsField IsKey (λ key. key.0) key_at
-key_field = seen_field (AreBytes 16) (λ bytes. bytes) (front_at 16) (front_field 16) (λ bytes. record { 0 = bytes }) IsKey (λ key. key.0)
-    (λ bytes h. (h, refl))
-    (λ key h. (key.0, h, refl, refl))
-
-abbrev pub IsEui : Eui → Type 0
-IsEui eui = eui.0 < 2 ^ 64
-
-pub eui_field : IsField IsEui (λ eui. to_be_bytes w64 eui.0) eui_at
-eui_field = seen_field (Below (2 ^ 64)) (to_be_bytes w64) (number_at w64) u64_field (λ n. record { 0 = n }) IsEui (λ eui. to_be_bytes w64 eui.0)
-    (λ n h. (h, refl))
-    (λ eui h. (eui.0, h, refl, refl))
+use Rattle.record_codec.specs.DeviceRecord.{nonce, flagged_number, dev_nonce, awaited, granted, session, current_session, activation, IsKey, IsJoinNonce, IsSession, IsCurrentSession, AreGrants}
+use Rattle.record_codec.specs.Reading.{flagged, is_plain, flagged_at, awaited_at, is_join_nonce, granted_nonce, session_of, session_at, current_of, current_at, grants_of, are_in_order, activation_at}
 
 -- ---- a number behind a flag
 
-flagged_back : (limit : ℕ) (x : Bool × ℕ) → (Unit {0} × Below limit x.1) × (is_plain x ≡ true) → IfSome (flagged x) (Below limit)
-flagged_back limit (true, n) h = h.0.1
-flagged_back limit (false, n) h = tt
+-- the flag and the number that were read
+abbrev IsFlagged : ℕ → Bool × ℕ → Type 0
+IsFlagged limit x = (Unit {0} × Below limit x.1) × (is_plain x ≡ true)
 
--- a flag and a number of two bytes
-dev_nonce_back : (x : Bool × ℕ) → is_plain x ≡ true → dev_nonce (flagged x) ≡ flag x.0 ++ to_be_bytes w16 x.1
-dev_nonce_back (true, n) h = refl
-dev_nonce_back (false, n) h = let none : 0 ≡ n = sym (eqb-true n 0 h) in ap (λ (k : ℕ). 0 ∷ to_be_bytes w16 k) none
+flagged_back : (w : Width) (limit : ℕ) (x : Bool × ℕ) → IsFlagged limit x → IfSome (flagged x) (Below limit) × (flagged_number w (flagged x) ≡ flag x.0 ++ to_be_bytes w x.1)
+flagged_back w limit (true, n) h = (h.0.1, refl)
+flagged_back w limit (false, n) h = let none : 0 ≡ n = sym (eqb-true n 0 h.1) in (tt, ap (λ (k : ℕ). 0 ∷ to_be_bytes w k) none)
 
-dev_nonce_forth : (o : Option ℕ) → IfSome o (Below (2 ^ 16)) → (x : Bool × ℕ) × ((Unit {0} × Below (2 ^ 16) x.1) × (is_plain x ≡ true)) × (flagged x ≡ o) × (dev_nonce o ≡ flag x.0 ++ to_be_bytes w16 x.1)
-dev_nonce_forth None h = ((false, 0), ((tt, omega arith), refl), refl, refl)
-dev_nonce_forth (Some n) h = ((true, n), ((tt, h), refl), refl, refl)
+flagged_forth : (w : Width) (limit : ℕ) → 0 < limit → (o : Option ℕ) → IfSome o (Below limit) → (x : Bool × ℕ) × IsFlagged limit x × (flagged x ≡ o) × (flagged_number w o ≡ flag x.0 ++ to_be_bytes w x.1)
+flagged_forth w limit some None h = ((false, 0), ((tt, some), refl), refl, refl)
+flagged_forth w limit some (Some n) h = ((true, n), ((tt, h), refl), refl, refl)
+
+flagged_field : (w : Width) (limit : ℕ) → 0 < limit → IsField (Below limit) (to_be_bytes w) (be_at w) → IsField (λ o. IfSome o (Below limit)) (flagged_number w) (flagged_at w)
+unfolding flagged_at
+flagged_field w limit some field =
+    seen_field (IsFlagged limit) (λ x. flag x.0 ++ to_be_bytes w x.1) (that is_plain (both flag_at (be_at w)))
+    (that_field (λ (x : Bool × ℕ). Unit {0} × Below limit x.1) (λ x. flag x.0 ++ to_be_bytes w x.1) (both flag_at (be_at w))
+    (both_field (λ (f : Bool). Unit {0}) flag flag_at (Below limit) (to_be_bytes w) (be_at w) flag_field field) is_plain)
+    flagged (λ o. IfSome o (Below limit)) (flagged_number w) (flagged_back w limit) (flagged_forth w limit some)
 
 pub dev_nonce_field : IsField (λ o. IfSome o (Below (2 ^ 16))) dev_nonce (flagged_at w16)
-unfolding flagged_at
-dev_nonce_field =
-    seen_field (λ (x : Bool × ℕ). (Unit {0} × Below (2 ^ 16) x.1) × (is_plain x ≡ true)) (λ x. flag x.0 ++ to_be_bytes w16 x.1) (that is_plain (both flag_at (number_at w16)))
-    (that_field (λ (x : Bool × ℕ). Unit {0} × Below (2 ^ 16) x.1) (λ x. flag x.0 ++ to_be_bytes w16 x.1) (both flag_at (number_at w16))
-    (both_field (λ (f : Bool). Unit {0}) flag flag_at (Below (2 ^ 16)) (to_be_bytes w16) (number_at w16) flag_field u16_field) is_plain)
-    flagged (λ o. IfSome o (Below (2 ^ 16))) dev_nonce
-    (λ x h. (flagged_back (2 ^ 16) x h, dev_nonce_back x h.1))
-    dev_nonce_forth
+dev_nonce_field = flagged_field w16 (2 ^ 16) (omega arith) u16_be_field
 
--- the same of four bytes, and then as a tag
 abbrev IsTag : Option Tag → Type 0
 IsTag o = IfSome o (λ tag. tag.0 < 2 ^ 32)
 
-abbrev number_text : Option ℕ → List ℕ
-number_text None = 0 ∷ to_be_bytes w32 0
-number_text (Some n) = 1 ∷ to_be_bytes w32 n
-
-number_back : (x : Bool × ℕ) → is_plain x ≡ true → number_text (flagged x) ≡ flag x.0 ++ to_be_bytes w32 x.1
-number_back (true, n) h = refl
-number_back (false, n) h = let none : 0 ≡ n = sym (eqb-true n 0 h) in ap (λ (k : ℕ). 0 ∷ to_be_bytes w32 k) none
-
-number_forth : (o : Option ℕ) → IfSome o (Below (2 ^ 32)) → (x : Bool × ℕ) × ((Unit {0} × Below (2 ^ 32) x.1) × (is_plain x ≡ true)) × (flagged x ≡ o) × (number_text o ≡ flag x.0 ++ to_be_bytes w32 x.1)
-number_forth None h = ((false, 0), ((tt, omega arith), refl), refl, refl)
-number_forth (Some n) h = ((true, n), ((tt, h), refl), refl, refl)
-
-number_field : IsField (λ o. IfSome o (Below (2 ^ 32))) number_text (flagged_at w32)
-unfolding flagged_at
-number_field =
-    seen_field (λ (x : Bool × ℕ). (Unit {0} × Below (2 ^ 32) x.1) × (is_plain x ≡ true)) (λ x. flag x.0 ++ to_be_bytes w32 x.1) (that is_plain (both flag_at (number_at w32)))
-    (that_field (λ (x : Bool × ℕ). Unit {0} × Below (2 ^ 32) x.1) (λ x. flag x.0 ++ to_be_bytes w32 x.1) (both flag_at (number_at w32))
-    (both_field (λ (f : Bool). Unit {0}) flag flag_at (Below (2 ^ 32)) (to_be_bytes w32) (number_at w32) flag_field u32_field) is_plain)
-    flagged (λ o. IfSome o (Below (2 ^ 32))) number_text
-    (λ x h. (flagged_back (2 ^ 32) x h, number_back x h.1))
-    number_forth
-
-tag_back : (o : Option ℕ) → IfSome o (Below (2 ^ 32)) → IsTag (option_map (λ n. record { 0 = n }) o) × (awaited (option_map (λ n. record { 0 = n }) o) ≡ number_text o)
+tag_back : (o : Option ℕ) → IfSome o (Below (2 ^ 32)) → IsTag (option_map (λ n. record { 0 = n }) o) × (awaited (option_map (λ n. record { 0 = n }) o) ≡ flagged_number w32 o)
 tag_back None h = (tt, refl)
 tag_back (Some n) h = (h, refl)
 
-tag_forth : (o : Option Tag) → IsTag o → (n : Option ℕ) × IfSome n (Below (2 ^ 32)) × (option_map (λ k. record { 0 = k }) n ≡ o) × (awaited o ≡ number_text n)
+tag_forth : (o : Option Tag) → IsTag o → (n : Option ℕ) × IfSome n (Below (2 ^ 32)) × (option_map (λ k. record { 0 = k }) n ≡ o) × (awaited o ≡ flagged_number w32 n)
 tag_forth None h = (None, tt, refl, refl)
 tag_forth (Some tag) h = (Some tag.0, h, refl, refl)
 
 pub awaited_field : IsField (λ o. IfSome o (λ tag. tag.0 < 2 ^ 32)) awaited awaited_at
 awaited_field =
-    seen_field (λ o. IfSome o (Below (2 ^ 32))) number_text (flagged_at w32) number_field (option_map (λ n. record { 0 = n })) IsTag awaited tag_back tag_forth
+    seen_field (λ o. IfSome o (Below (2 ^ 32))) (flagged_number w32) (flagged_at w32) (flagged_field w32 (2 ^ 32) (omega arith) u32_be_field) (option_map (λ n. record { 0 = n })) IsTag awaited tag_back tag_forth
 
 -- ---- sessions
 
@@ -156,10 +65,10 @@ nonce_test n h = and_from (ltb 0 n) (ltb n (2 ^ 24)) (lt-ltb 0 n h.0) (lt-ltb n 
 nonce_fact : (n : ℕ) → is_join_nonce n ≡ true → IsJoinNonce n
 nonce_fact n h = let p = and_parts (ltb 0 n) (ltb n (2 ^ 24)) h in (ltb-true 0 n p.0, ltb-true n (2 ^ 24) p.1)
 
-join_nonce_field : IsField IsJoinNonce nonce (that is_join_nonce nonce_at)
+join_nonce_field : IsField IsJoinNonce nonce (that is_join_nonce three_bytes_at)
 join_nonce_field =
-    same_field (λ n. Below (2 ^ 24) n × (is_join_nonce n ≡ true)) IsJoinNonce nonce (that is_join_nonce nonce_at)
-    (that_field (Below (2 ^ 24)) nonce nonce_at nonce_field is_join_nonce)
+    same_field (λ n. Below (2 ^ 24) n × (is_join_nonce n ≡ true)) IsJoinNonce nonce (that is_join_nonce three_bytes_at)
+    (that_field (Below (2 ^ 24)) nonce three_bytes_at three_bytes_field is_join_nonce)
     (λ n h. nonce_fact n h.1)
     (λ n h. (h.1, nonce_test n h))
 
@@ -181,14 +90,14 @@ granted_forth : (o : Option ℕ) → IfSome o IsJoinNonce → (n : ℕ) × Below
 granted_forth None h = (0, omega arith, refl, refl)
 granted_forth (Some n) h = (n, h.1, cond-true (is_join_nonce n) (Some n) None (nonce_test n h), refl)
 
-granted_field : IsField (λ o. IfSome o IsJoinNonce) granted (seen_as granted_nonce nonce_at)
-granted_field = seen_field (Below (2 ^ 24)) nonce nonce_at nonce_field granted_nonce (λ o. IfSome o IsJoinNonce) granted granted_back granted_forth
+granted_field : IsField (λ o. IfSome o IsJoinNonce) granted (seen_as granted_nonce three_bytes_at)
+granted_field = seen_field (Below (2 ^ 24)) nonce three_bytes_at three_bytes_field granted_nonce (λ o. IfSome o IsJoinNonce) granted granted_back granted_forth
 
 pub session_field : IsField IsSession session session_at
 unfolding session_at
 session_field =
-    seen_field (λ (x : ℕ × (Key × Key)). IsJoinNonce x.0 × (IsKey x.1.0 × IsKey x.1.1)) (λ x. nonce x.0 ++ (x.1.0.0 ++ x.1.1.0)) (both (that is_join_nonce nonce_at) (both key_at key_at))
-    (both_field IsJoinNonce nonce (that is_join_nonce nonce_at) (λ (k : Key × Key). IsKey k.0 × IsKey k.1) (λ k. k.0.0 ++ k.1.0) (both key_at key_at) join_nonce_field
+    seen_field (λ (x : ℕ × (Key × Key)). IsJoinNonce x.0 × (IsKey x.1.0 × IsKey x.1.1)) (λ x. nonce x.0 ++ (x.1.0.0 ++ x.1.1.0)) (both (that is_join_nonce three_bytes_at) (both key_at key_at))
+    (both_field IsJoinNonce nonce (that is_join_nonce three_bytes_at) (λ (k : Key × Key). IsKey k.0 × IsKey k.1) (λ k. k.0.0 ++ k.1.0) (both key_at key_at) join_nonce_field
     (both_field IsKey (λ k. k.0) key_at IsKey (λ k. k.0) key_at key_field key_field))
     session_of IsSession session
     (λ x h. (record { join_nonce = h.0; nwk_skey = h.1.0; app_skey = h.1.1 }, refl))
@@ -197,10 +106,10 @@ session_field =
 abbrev IsNextDown : ℕ → Type 0
 IsNextDown n = n ≤ 2 ^ 32
 
-next_down_field : IsField IsNextDown (to_be_bytes w64) (that (λ n. nat_le n (2 ^ 32)) (number_at w64))
+next_down_field : IsField IsNextDown (to_be_bytes w64) (that (λ n. nat_le n (2 ^ 32)) (be_at w64))
 next_down_field =
-    same_field (λ n. Below (2 ^ 64) n × (nat_le n (2 ^ 32) ≡ true)) IsNextDown (to_be_bytes w64) (that (λ n. nat_le n (2 ^ 32)) (number_at w64))
-    (that_field (Below (2 ^ 64)) (to_be_bytes w64) (number_at w64) u64_field (λ n. nat_le n (2 ^ 32)))
+    same_field (λ n. Below (2 ^ 64) n × (nat_le n (2 ^ 32) ≡ true)) IsNextDown (to_be_bytes w64) (that (λ n. nat_le n (2 ^ 32)) (be_at w64))
+    (that_field (Below (2 ^ 64)) (to_be_bytes w64) (be_at w64) u64_be_field (λ n. nat_le n (2 ^ 32)))
     (λ n h. leb-true n (2 ^ 32) h.1)
     (λ n h. (omega arith, le-leb n (2 ^ 32) h))
 
@@ -208,9 +117,9 @@ pub current_field : IsField IsCurrentSession current_session current_at
 unfolding current_at
 current_field =
     seen_field (λ (x : Session × (ℕ × ℕ)). IsSession x.0 × (Below (2 ^ 32) x.1.0 × IsNextDown x.1.1)) (λ x. session x.0 ++ (to_be_bytes w32 x.1.0 ++ to_be_bytes w64 x.1.1))
-    (both session_at (both (number_at w32) (that (λ n. nat_le n (2 ^ 32)) (number_at w64))))
-    (both_field IsSession session session_at (λ (x : ℕ × ℕ). Below (2 ^ 32) x.0 × IsNextDown x.1) (λ x. to_be_bytes w32 x.0 ++ to_be_bytes w64 x.1) (both (number_at w32) (that (λ n. nat_le n (2 ^ 32)) (number_at w64))) session_field
-    (both_field (Below (2 ^ 32)) (to_be_bytes w32) (number_at w32) IsNextDown (to_be_bytes w64) (that (λ n. nat_le n (2 ^ 32)) (number_at w64)) u32_field next_down_field))
+    (both session_at (both (be_at w32) (that (λ n. nat_le n (2 ^ 32)) (be_at w64))))
+    (both_field IsSession session session_at (λ (x : ℕ × ℕ). Below (2 ^ 32) x.0 × IsNextDown x.1) (λ x. to_be_bytes w32 x.0 ++ to_be_bytes w64 x.1) (both (be_at w32) (that (λ n. nat_le n (2 ^ 32)) (be_at w64))) session_field
+    (both_field (Below (2 ^ 32)) (to_be_bytes w32) (be_at w32) IsNextDown (to_be_bytes w64) (that (λ n. nat_le n (2 ^ 32)) (be_at w64)) u32_be_field next_down_field))
     current_of IsCurrentSession current_session
     (λ x h. (record { session = h.0; last_up = h.1.0; next_down = h.1.1 }, refl))
     (λ c h. ((c.session, (c.last_up, c.next_down)), (h.session, (h.last_up, h.next_down)), refl, refl))
@@ -253,10 +162,10 @@ ArePartsOf g = AreParts (g.granted, (g.current, g.pending))
 pub activation_field : IsField AreGrants activation activation_at
 unfolding activation_at
 activation_field =
-    same_field (λ g. ArePartsOf g × (are_in_order g ≡ true)) AreGrants activation (that are_in_order (seen_as grants_of (both (seen_as granted_nonce nonce_at) (both (optional_at current_at) (optional_at session_at)))))
-    (that_field ArePartsOf activation (seen_as grants_of (both (seen_as granted_nonce nonce_at) (both (optional_at current_at) (optional_at session_at))))
-    (seen_field AreParts part_text (both (seen_as granted_nonce nonce_at) (both (optional_at current_at) (optional_at session_at)))
-    (both_field (λ o. IfSome o IsJoinNonce) granted (seen_as granted_nonce nonce_at) (λ (x : Option CurrentSession × Option Session). IfSome x.0 IsCurrentSession × IfSome x.1 IsSession) (λ x. optional current_session x.0 ++ optional session x.1) (both (optional_at current_at) (optional_at session_at)) granted_field
+    same_field (λ g. ArePartsOf g × (are_in_order g ≡ true)) AreGrants activation (that are_in_order (seen_as grants_of (both (seen_as granted_nonce three_bytes_at) (both (optional_at current_at) (optional_at session_at)))))
+    (that_field ArePartsOf activation (seen_as grants_of (both (seen_as granted_nonce three_bytes_at) (both (optional_at current_at) (optional_at session_at))))
+    (seen_field AreParts part_text (both (seen_as granted_nonce three_bytes_at) (both (optional_at current_at) (optional_at session_at)))
+    (both_field (λ o. IfSome o IsJoinNonce) granted (seen_as granted_nonce three_bytes_at) (λ (x : Option CurrentSession × Option Session). IfSome x.0 IsCurrentSession × IfSome x.1 IsSession) (λ x. optional current_session x.0 ++ optional session x.1) (both (optional_at current_at) (optional_at session_at)) granted_field
     (both_field (λ o. IfSome o IsCurrentSession) (optional current_session) (optional_at current_at) (λ o. IfSome o IsSession) (optional session) (optional_at session_at)
     (optional_field IsCurrentSession current_session current_at current_field) (optional_field IsSession session session_at session_field)))
     grants_of ArePartsOf activation

@@ -1,8 +1,10 @@
 -- The layout of a device record: numbers with the highest byte first, one field after another.
-use Rattle.std.specs.Prelude.{◌≡◌, ℕ, ◌^◌, ◌<◌, ◌≤◌, Bool, false, true, List, [], ◌∷◌, ◌++◌, length, Option, Some, None, IfSome}
+use Rattle.std.specs.Prelude.{◌≡◌, ℕ, ◌^◌, ◌<◌, ◌≤◌, Bool, false, true, List, [], ◌∷◌, ◌++◌, length, Option, Some, None, option_map, IfSome}
 use Rattle.std.specs.List.{flat_map, AllByRecursion}
-use Rattle.std.specs.Int.{w16, w32, w64, bytes_high_first, to_be_bytes}
+use Rattle.std.specs.Int.{Width, w16, w32, w64, to_be_bytes}
 use Rattle.lw_types.specs.Hex.{IsBytes}
+use Rattle.lw_types.specs.declared.payload.TheConstants.{LONGEST_PAYLOAD}
+use Rattle.byte_fields.specs.Spelling.{flag, three_bytes, counted, optional}
 use Rattle.lw_types.specs.declared.key.Key.{Key}
 use Rattle.devices.specs.declared.Tag.{Tag}
 use Rattle.devices.specs.declared.activation.Session.{Session}
@@ -10,27 +12,26 @@ use Rattle.devices.specs.declared.activation.CurrentSession.{CurrentSession}
 use Rattle.devices.specs.declared.queue.Item.{Item}
 use Rattle.devices.specs.declared.device.Device.{Device}
 use Rattle.devices.specs.Activation.{Grants, AreInOrder}
-use Rattle.devices.specs.MacQueue.{AreQueueable}
+use Rattle.devices.specs.declared.mac_queue.TheConstants.MacQueue.{MOST as LONGEST_MAC_QUEUE}
+use Rattle.devices.specs.declared.queue.TheConstants.ItemQueue.{MOST as MOST_ITEMS}
+use Rattle.mac_commands.specs.Queueable.{AreQueueable}
 
 -- ---- the fields
 
-abbrev pub flag : Bool → List ℕ
-flag false = 0 ∷ []
-flag true = 1 ∷ []
-
 -- three bytes
 abbrev pub nonce : ℕ → List ℕ
-nonce n = bytes_high_first 3 n
+nonce n = three_bytes n
 
--- a flag and two bytes, which are 0 where no number is there
+-- a flag and a number, which is 0 where none is there
+abbrev pub flagged_number : Width → Option ℕ → List ℕ
+flagged_number w None = 0 ∷ to_be_bytes w 0
+flagged_number w (Some n) = 1 ∷ to_be_bytes w n
+
 abbrev pub dev_nonce : Option ℕ → List ℕ
-dev_nonce None = 0 ∷ to_be_bytes w16 0
-dev_nonce (Some n) = 1 ∷ to_be_bytes w16 n
+dev_nonce o = flagged_number w16 o
 
--- a flag and four bytes, which are 0 where no tag is there
 abbrev pub awaited : Option Tag → List ℕ
-awaited None = 0 ∷ to_be_bytes w32 0
-awaited (Some tag) = 1 ∷ to_be_bytes w32 tag.0
+awaited o = flagged_number w32 (option_map (λ tag. tag.0) o)
 
 -- three bytes, which are 0 where nothing was granted
 abbrev pub granted : Option ℕ → List ℕ
@@ -43,17 +44,8 @@ session s = nonce s.join_nonce ++ (s.nwk_skey.0 ++ s.app_skey.0)
 abbrev pub current_session : CurrentSession → List ℕ
 current_session c = session c.session ++ (to_be_bytes w32 c.last_up ++ to_be_bytes w64 c.next_down)
 
--- a flag, and behind a 1 the session
-abbrev pub optional : {X : Type 0} → (X → List ℕ) → Option X → List ℕ
-optional spelled None = 0 ∷ []
-optional spelled (Some x) = 1 ∷ spelled x
-
 abbrev pub activation : Grants → List ℕ
 activation g = granted g.granted ++ (optional current_session g.current ++ optional session g.pending)
-
--- a byte of length, and that many bytes
-abbrev pub counted : List ℕ → List ℕ
-counted bytes = length bytes ∷ bytes
 
 abbrev pub item : Item → List ℕ
 item i = to_be_bytes w32 i.tag.0 ++ (i.port ∷ [] ++ (flag i.confirmed ++ counted i.payload))
@@ -109,7 +101,7 @@ pub record AreGrants (g : Grants) : Type 0 where
 pub record IsItem (i : Item) : Type 0 where
   pub tag : i.tag.0 < 2 ^ 32
   pub port : (1 ≤ i.port) × (i.port ≤ 223)
-  pub payload : IsBytes i.payload × (length i.payload ≤ 242)
+  pub payload : IsBytes i.payload × (length i.payload ≤ LONGEST_PAYLOAD)
 
 -- what a device was brought with is in its ranges
 pub record HeadIsInRange (d : Device) : Type 0 where
@@ -126,5 +118,9 @@ pub record IsDevice (d : Device) : Type 0 where
   pub last_dev_nonce : IfSome d.last_dev_nonce (λ n. n < 2 ^ 16)
   pub activation : AreGrants d.activation
   pub awaited : IfSome d.awaited (λ tag. tag.0 < 2 ^ 32)
-  pub mac_queue : IsBytes d.mac_queue × (length d.mac_queue ≤ 64) × AreQueueable d.mac_queue
-  pub items : (length d.items ≤ 16) × AllByRecursion IsItem d.items
+  pub mac_queue : IsBytes d.mac_queue × (length d.mac_queue ≤ LONGEST_MAC_QUEUE) × AreQueueable d.mac_queue
+  pub items : (length d.items ≤ MOST_ITEMS) × AllByRecursion IsItem d.items
+
+-- the bytes are some device's record
+abbrev pub IsSomeRecord : List ℕ → Type 0
+IsSomeRecord bytes = (device : Device) × IsDevice device × (bytes ≡ spelling device)

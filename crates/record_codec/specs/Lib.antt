@@ -1,2 +1,3 @@
 pub mod DeviceRecord
 pub mod Reading
+pub mod Parts

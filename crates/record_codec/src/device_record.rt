@@ -1,83 +1,134 @@
 // A device record as a whole.
-ghost use Rattle.std.specs.Prelude.{◌≡◌, ◌<◌, ◌^◌, ◌++◌, ◌⊎◌, IfErr, IfOk, IfSome, MatchResult, OnErr, OnOk, Some};
+ghost use Rattle.std.specs.Prelude.{◌≡◌, ◌≤◌, ◌<◌, ◌^◌, ◌++◌, ◌⊎◌, Err, IfErr, IfOk, IfSome, IsSome, MatchOption, MatchResult, OnErr, OnOk, Some, length};
 ghost use Rattle.std.specs.Int.{w16};
 ghost use Rattle.lw_types.specs.declared.refusal.Refusal.TheVariants.{OutOfMemory, Damaged};
+ghost use Rattle.byte_fields.specs.Reading.{Gives, GivesSeen};
+ghost use Rattle.mac_commands.specs.Queueable.{AreQueueable};
 ghost use Rattle.devices.specs.declared.device.Device.{Device};
-ghost use Rattle.record_codec.specs.DeviceRecord.{awaited, dev_nonce, head, spelling, HeadIsInRange, IsDevice};
-ghost use Rattle.record_codec.specs.Reading.{Fails, Gives, awaited_at, device_at, eui_at, flagged_at, record_at};
+ghost use Rattle.record_codec.specs.DeviceRecord.{awaited, dev_nonce, head, spelling, HeadIsInRange, IsDevice, IsSomeRecord};
+ghost use Rattle.record_codec.specs.Parts.{device_of_parts};
+ghost use Rattle.record_codec.specs.Reading.{awaited_at, device_at, flagged_at, items_at, record_at, IsNoRecord};
 
-use crate::activation::{put_activation, read_activation};
-use crate::fields::{put_counted, put_flag, put_key};
-use crate::input::Input;
-use crate::queues::{put_item_queue, read_item_queue, read_mac_queue};
-use devices::{Device, Tag};
-use lw_types::{Eui, Refusal};
+use crate::activation_fields::{put_activation, read_activation};
+use crate::queues::{ItemParts, put_item_queue, read_items, read_mac_queue};
+use crate::written_fields::{put_counted, put_flag, put_key};
+use byte_fields::FieldReader;
+use devices::{Activation, Application, Device, ItemQueue, MacQueue, Rx1Offset, RxDelay, Tag};
+use lw_types::{Eui, Key, Refusal};
+use mac_commands::are_queueable;
 use std::alloc::{AllocError, Global};
-
-fn read_eui(input: &mut Input<'_>) -> Result<Eui, Refusal>
-    ensures { Gives (λ x. x) result input.new.rest.now (eui_at input.old.rest.now) }
-{
-    Ok(Eui(input.u64()?))
-}
 
 // A flag and a number, which is 0 where the flag is.
 #[tactic(auto, unfolding(crate::specs::Reading::flagged_at))]
-fn read_dev_nonce(input: &mut Input<'_>) -> Result<Option<u16>, Refusal>
-    ensures { Gives (λ x. x) result input.new.rest.now (flagged_at w16 input.old.rest.now) }
+fn read_dev_nonce(fields: &mut FieldReader<'_>) -> Option<Option<u16>>
+    ensures { Gives result fields.new.rest.now (flagged_at w16 fields.old.rest.now) }
 {
-    let is_there = input.flag()?;
-    match (is_there, input.u16()?) {
-        (true, number) => Ok(Some(number)),
-        (false, 0) => Ok(None),
-        (false, _) => Err(Refusal::Damaged),
+    let is_there = fields.flag()?;
+    match (is_there, fields.u16_be()?) {
+        (true, number) => Some(Some(number)),
+        (false, 0) => Some(None),
+        (false, _) => None,
     }
 }
 
 #[tactic(auto, unfolding(crate::specs::Reading::flagged_at))]
-fn read_awaited(input: &mut Input<'_>) -> Result<Option<Tag>, Refusal>
-    ensures { Gives (λ x. x) result input.new.rest.now (awaited_at input.old.rest.now) }
+fn read_awaited(fields: &mut FieldReader<'_>) -> Option<Option<Tag>>
+    ensures { Gives result fields.new.rest.now (awaited_at fields.old.rest.now) }
 {
-    let is_there = input.flag()?;
-    match (is_there, input.u32()?) {
-        (true, number) => Ok(Some(Tag(number))),
-        (false, 0) => Ok(None),
-        (false, _) => Err(Refusal::Damaged),
+    let is_there = fields.flag()?;
+    match (is_there, fields.u32_be()?) {
+        (true, number) => Some(Some(Tag(number))),
+        (false, 0) => Some(None),
+        (false, _) => None,
     }
+}
+
+/// A record whose fields are there and in their ranges. What takes memory is still in the bytes.
+#[derive(Clone, Copy)]
+struct RecordParts<'a> {
+    dev_eui: Eui,
+    join_eui: Eui,
+    app_key: Key,
+    application: Application,
+    rx1_offset: Rx1Offset,
+    rx_delay: RxDelay,
+    last_dev_nonce: Option<u16>,
+    activation: Activation,
+    awaited: Option<Tag>,
+    mac_queue: &'a [u8],
+    items: ItemParts<'a>,
 }
 
 #[tactic(auto, unfolding(crate::specs::Reading::device_at, crate::specs::Reading::head_at))]
-fn read_fields(alloc: Global, input: &mut Input<'_>) -> Result<Device, Refusal>
-    ensures { Gives (λ x. x) result input.new.rest.now (device_at input.old.rest.now) }
+fn read_parts<'a>(fields: &mut FieldReader<'a>) -> Option<RecordParts<'a>>
+    ensures field { GivesSeen device_of_parts result fields.new.rest.now (device_at fields.old.rest.now) }
+    ensures mac_queue { IfSome result (λ r. length r.mac_queue.now ≤ MacQueue.MOST) }
+    ensures items { IfSome result (λ r. r.items.count ≤ ItemQueue.MOST) }
+    ensures there { IfSome result (λ r. IsSome (items_at r.items.count r.items.bytes.now)) }
 {
-    Ok(Device {
-        dev_eui: read_eui(input)?,
-        join_eui: read_eui(input)?,
-        app_key: input.key()?,
-        application: input.ranged()?,
-        rx1_offset: input.ranged()?,
-        rx_delay: input.ranged()?,
-        last_dev_nonce: read_dev_nonce(input)?,
-        activation: read_activation(input)?,
-        awaited: read_awaited(input)?,
-        mac_queue: read_mac_queue(alloc, input)?,
-        items: read_item_queue(alloc, input)?,
+    Some(RecordParts {
+        dev_eui: fields.eui_be()?,
+        join_eui: fields.eui_be()?,
+        app_key: fields.key()?,
+        application: fields.ranged()?,
+        rx1_offset: fields.ranged()?,
+        rx_delay: fields.ranged()?,
+        last_dev_nonce: read_dev_nonce(fields)?,
+        activation: read_activation(fields)?,
+        awaited: read_awaited(fields)?,
+        mac_queue: read_mac_queue(fields)?,
+        items: read_items(fields)?,
     })
 }
 
+// The parts of a record that is all of the bytes. Takes no memory.
 #[tactic(auto, unfolding(crate::specs::Reading::record_at))]
-fn read_record(alloc: Global, bytes: &[u8]) -> Result<Device, Refusal>
-    ensures { MatchResult result (λ device. record_at bytes.now ≡ Some device) (λ e. Fails e (record_at bytes.now)) }
+fn read_record(bytes: &[u8]) -> Option<RecordParts<'_>>
+    ensures field { MatchOption result (IsNoRecord bytes.now) (λ r. record_at bytes.now ≡ Some (device_of_parts r)) }
+    ensures whole { IfSome result (λ r. AreQueueable r.mac_queue.now) }
+    ensures mac_queue { IfSome result (λ r. length r.mac_queue.now ≤ MacQueue.MOST) }
+    ensures items { IfSome result (λ r. r.items.count ≤ ItemQueue.MOST) }
+    ensures there { IfSome result (λ r. IsSome (items_at r.items.count r.items.bytes.now)) }
 {
-    let mut input = Input { rest: bytes };
-    let device = read_fields(alloc, &mut input)?;
-    if !input.rest.is_empty() {
-        return Err(Refusal::Damaged);
+    let mut fields = FieldReader { rest: bytes };
+    let Some(parts) = read_parts(&mut fields) else {
+        return None;
+    };
+    if fields.rest.is_empty() && are_queueable(parts.mac_queue) {
+        Some(parts)
+    } else {
+        None
     }
-    Ok(device)
+}
+
+impl RecordParts<'_> {
+    /// The device, with queues of its own.
+    fn device(self, alloc: Global) -> Result<Device, Refusal>
+        requires mac_queue { length self.mac_queue.now ≤ MacQueue.MOST }
+        requires whole { AreQueueable self.mac_queue.now }
+        requires items { self.items.count ≤ ItemQueue.MOST }
+        requires there { IsSome (items_at self.items.count self.items.bytes.now) }
+        ensures { MatchResult result (λ device. device ≡ device_of_parts self.entry) (λ e. e ≡ OutOfMemory) }
+    {
+        Ok(Device {
+            dev_eui: self.dev_eui,
+            join_eui: self.join_eui,
+            app_key: self.app_key,
+            application: self.application,
+            rx1_offset: self.rx1_offset,
+            rx_delay: self.rx_delay,
+            last_dev_nonce: self.last_dev_nonce,
+            activation: self.activation,
+            awaited: self.awaited,
+            mac_queue: MacQueue::from_slice(alloc, self.mac_queue)?,
+            items: self.items.queue(alloc)?,
+        })
+    }
 }
 
 /// Reads a device from its record, which is all of the bytes. Bytes that are no device's record are
-/// refused as `Damaged`, unless memory runs out first.
+/// refused as `Damaged`, whether or not there is memory. For want of memory a record is refused as
+/// `OutOfMemory`.
 pub fn read_device(alloc: Global, bytes: &[u8]) -> Result<Device, Refusal>
     // What is read is spelled so.
     ensures found { IfOk result (λ device. IsDevice device × (bytes.now ≡ spelling device)) }
@@ -85,8 +136,13 @@ pub fn read_device(alloc: Global, bytes: &[u8]) -> Result<Device, Refusal>
     ensures only { (device : Device) → IsDevice device → bytes.now ≡ spelling device
         → MatchResult result (λ found. found ≡ device) (λ e. e ≡ OutOfMemory) }
     ensures refused { IfErr result (λ e. (e ≡ OutOfMemory) ⊎ (e ≡ Damaged)) }
+    // Memory runs out for records alone.
+    ensures memory { (result ≡ Err OutOfMemory) → IsSomeRecord bytes.now }
 {
-    read_record(alloc, bytes)
+    match read_record(bytes) {
+        Some(parts) => parts.device(alloc),
+        None => Err(Refusal::Damaged),
+    }
 }
 
 fn put_head(out: &mut Vec<u8>, device: &Device) -> Result<(), AllocError>

@@ -1,14 +1,10 @@
 //! Device records as the store lays them out: each record has one spelling, and no two share one.
 #![tactic(auto)]
 
-mod activation;
+mod activation_fields;
 mod device_record;
-mod fields;
-mod input;
 pub mod laws;
 mod queues;
+mod written_fields;
 
 pub use device_record::{read_device, write_device};
-
-#[cfg(test)]
-mod tests;

@@ -1,44 +1,78 @@
 // The queues of a device.
-ghost use Rattle.std.specs.Prelude.{◌≡◌, ◌∷◌, ◌++◌, OnOk, length, ◌≤◌};
+ghost use Rattle.std.specs.Prelude.{◌≡◌, ◌∷◌, ◌++◌, ◌≤◌, IfOk, IfSome, IsSome, OnOk, length};
 ghost use Rattle.std.specs.List.{AllByRecursion};
 ghost use Rattle.lw_types.specs.Hex.{IsBytes};
-ghost use Rattle.record_codec.specs.DeviceRecord.{counted, flag, item, item_queue, IsItem};
-ghost use Rattle.record_codec.specs.Reading.{Gives, item_at, item_queue_at, items_at, mac_queue_at, payload_at};
+ghost use Rattle.byte_fields.specs.Reading.{GivesSeen};
+ghost use Rattle.byte_fields.specs.Spelling.{counted, flag};
+ghost use Rattle.record_codec.specs.DeviceRecord.{item, item_queue, IsItem};
+ghost use Rattle.record_codec.specs.Parts.{item_of_part, items_of_parts};
+ghost use Rattle.record_codec.specs.Reading.{item_at, item_queue_at, items_at, items_in, mac_queue_at, payload_at};
 
-use crate::fields::{put_counted, put_flag};
-use crate::input::Input;
-use devices::{Item, ItemQueue, MacQueue, Payload, Tag};
-use lw_types::Refusal;
+use crate::written_fields::{put_counted, put_flag};
+use byte_fields::FieldReader;
+use devices::{Item, ItemQueue, MacQueue, Payload, Port, Ranged, Tag};
+use lw_types::LONGEST_PAYLOAD;
 use std::alloc::{AllocError, Global};
 
-/// The MAC commands, where they are whole and at most 64 bytes.
-pub(crate) fn read_mac_queue(alloc: Global, input: &mut Input<'_>) -> Result<MacQueue, Refusal>
-    ensures { Gives (λ x. x) result input.new.rest.now (mac_queue_at input.old.rest.now) }
+/// The bytes of the MAC queue, at most 64. Whether they are whole commands isn't looked at.
+pub(crate) fn read_mac_queue<'a>(fields: &mut FieldReader<'a>) -> Option<&'a [u8]>
+    ensures field { GivesSeen (λ bytes. bytes.now) result fields.new.rest.now (mac_queue_at fields.old.rest.now) }
+    ensures few { IfSome result (λ bytes. length bytes.now ≤ MacQueue.MOST) }
 {
-    match MacQueue::new(input.counted(alloc)?) {
-        Ok(queue) => Ok(queue),
-        Err(_) => Err(Refusal::Damaged),
+    let bytes = fields.counted()?;
+    if bytes.len() <= MacQueue::MOST {
+        Some(bytes)
+    } else {
+        None
     }
 }
 
-fn read_payload(alloc: Global, input: &mut Input<'_>) -> Result<Payload, Refusal>
-    ensures { Gives (λ x. x) result input.new.rest.now (payload_at input.old.rest.now) }
+/// An item, its payload still in the record.
+#[derive(Clone, Copy)]
+struct ItemPart<'a> {
+    tag: Tag,
+    port: Port,
+    confirmed: bool,
+    payload: &'a [u8],
+}
+
+impl ItemPart<'_> {
+    /// The item, with a payload of its own.
+    fn item(self, alloc: Global) -> Result<Item, AllocError>
+        requires { length self.payload.now ≤ LONGEST_PAYLOAD }
+        ensures { IfOk result (λ item. item ≡ item_of_part self.entry) }
+    {
+        Ok(Item {
+            tag: self.tag,
+            port: self.port,
+            confirmed: self.confirmed,
+            payload: Payload::from_slice(alloc, self.payload)?,
+        })
+    }
+}
+
+fn read_payload<'a>(fields: &mut FieldReader<'a>) -> Option<&'a [u8]>
+    ensures field { GivesSeen (λ bytes. bytes.now) result fields.new.rest.now (payload_at fields.old.rest.now) }
+    ensures few { IfSome result (λ bytes. length bytes.now ≤ LONGEST_PAYLOAD) }
 {
-    match Payload::new(input.counted(alloc)?) {
-        Ok(payload) => Ok(payload),
-        Err(_) => Err(Refusal::Damaged),
+    let bytes = fields.counted()?;
+    if bytes.len() <= LONGEST_PAYLOAD {
+        Some(bytes)
+    } else {
+        None
     }
 }
 
 #[tactic(auto, unfolding(crate::specs::Reading::item_at))]
-fn read_item(alloc: Global, input: &mut Input<'_>) -> Result<Item, Refusal>
-    ensures { Gives (λ x. x) result input.new.rest.now (item_at input.old.rest.now) }
+fn read_item<'a>(fields: &mut FieldReader<'a>) -> Option<ItemPart<'a>>
+    ensures field { GivesSeen item_of_part result fields.new.rest.now (item_at fields.old.rest.now) }
+    ensures few { IfSome result (λ i. length i.payload.now ≤ LONGEST_PAYLOAD) }
 {
-    let tag = Tag(input.u32()?);
-    let port = input.ranged()?;
-    let confirmed = input.flag()?;
-    let payload = read_payload(alloc, input)?;
-    Ok(Item {
+    let tag = Tag(fields.u32_be()?);
+    let port = fields.ranged()?;
+    let confirmed = fields.flag()?;
+    let payload = read_payload(fields)?;
+    Some(ItemPart {
         tag,
         port,
         confirmed,
@@ -46,25 +80,56 @@ fn read_item(alloc: Global, input: &mut Input<'_>) -> Result<Item, Refusal>
     })
 }
 
-fn read_items(alloc: Global, count: u8, input: &mut Input<'_>) -> Result<Vec<Item>, Refusal>
-    ensures { Gives (λ x. x.items) result input.new.rest.now (items_at count input.old.rest.now) }
+/// At most 16 items, still in the record: they stand at the front of the bytes.
+#[derive(Clone, Copy)]
+pub(crate) struct ItemParts<'a> {
+    count: u8,
+    bytes: &'a [u8],
+}
+
+// Reads so many items, and passes them.
+fn pass_items(count: u8, fields: &mut FieldReader<'_>) -> Option<()>
+    ensures { GivesSeen (λ _. items_in count fields.old.rest.now) result fields.new.rest.now (items_at count fields.old.rest.now) }
 {
-    let mut items = Vec::new(alloc);
     for _ in 0..count {
-        items.push(read_item(alloc, input)?)?;
+        match read_item(fields) {
+            Some(_) => (),
+            None => return None,
+        }
     }
-    Ok(items)
+    Some(())
 }
 
 /// The items, at most 16.
 #[tactic(auto, unfolding(crate::specs::Reading::item_queue_at))]
-pub(crate) fn read_item_queue(alloc: Global, input: &mut Input<'_>) -> Result<ItemQueue, Refusal>
-    ensures { Gives (λ x. x) result input.new.rest.now (item_queue_at input.old.rest.now) }
+pub(crate) fn read_items<'a>(fields: &mut FieldReader<'a>) -> Option<ItemParts<'a>>
+    ensures field { GivesSeen items_of_parts result fields.new.rest.now (item_queue_at fields.old.rest.now) }
+    ensures few { IfSome result (λ i. i.count ≤ ItemQueue.MOST) }
+    ensures there { IfSome result (λ i. IsSome (items_at i.count i.bytes.now)) }
 {
-    let count = input.byte()?;
-    match ItemQueue::new(read_items(alloc, count, input)?) {
-        Ok(queue) => Ok(queue),
-        Err(_) => Err(Refusal::Damaged),
+    let count: Ranged<0, 16> = fields.ranged()?;
+    let count = count.get() as u8;
+    let bytes = fields.rest;
+    pass_items(count, fields)?;
+    Some(ItemParts { count, bytes })
+}
+
+impl ItemParts<'_> {
+    /// The items, with payloads of their own.
+    pub fn queue(self, alloc: Global) -> Result<ItemQueue, AllocError>
+        requires few { self.count ≤ ItemQueue.MOST }
+        requires there { IsSome (items_at self.count self.bytes.now) }
+        ensures { IfOk result (λ queue. queue ≡ items_of_parts self.entry) }
+    {
+        let mut fields = FieldReader { rest: self.bytes };
+        let mut queue = ItemQueue::empty(alloc);
+        for _ in 0..self.count {
+            match read_item(&mut fields) {
+                Some(part) => queue.push(part.item(alloc)?)?,
+                None => unreachable!(),
+            }
+        }
+        Ok(queue)
     }
 }
 

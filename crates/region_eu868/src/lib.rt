@@ -5,8 +5,10 @@
 ghost use Rattle.std.specs.Prelude.{◌≡◌, ◌≤◌, ◌-◌, ◌↔◌, IsTrue, Contains, slice_index};
 ghost use Rattle.region_eu868.specs.Region.{channels, max_payloads, snr_depths, IsMargin};
 
+pub mod laws;
+
 /// The frequency of RX2, in Hz.
-const RX2_FREQUENCY: u32 = 869_525_000;
+pub const RX2_FREQUENCY: u32 = 869_525_000;
 
 /// The frequency and the data rate of a receive window.
 #[derive(Clone, Copy, Debug, PartialEq, Eq)]
@@ -32,7 +34,7 @@ pub fn rx1(frequency: u32, data_rate: u8, offset: u8) -> Window
 
 /// RX2: 869.525 MHz at DR0.
 pub fn rx2() -> Window
-    ensures { result ≡ record { frequency = 869525000; data_rate = 0 } }
+    ensures { result ≡ record { frequency = RX2_FREQUENCY; data_rate = 0 } }
 {
     Window {
         frequency: RX2_FREQUENCY,
@@ -84,64 +86,5 @@ fn snr_depth(data_rate: u8) -> u8
         3 => 50,
         4 => 40,
         _ => 30,
-    }
-}
-
-#[cfg(test)]
-mod tests {
-    use super::*;
-
-    #[test]
-    fn margins_are_whole_decibels(rt: HostRuntime) {
-        let cases = [
-            (-20, 5, 2),
-            (-100, 0, 0),
-            (32767, 0, 254),
-            (-32768, 5, 0),
-            (-80, 0, 0),
-            (-77, 0, 0),
-            (-76, 0, 1),
-            (939, 0, 254),
-            (935, 0, 253),
-        ];
-        for (snr, data_rate, wanted) in cases {
-            assert_eq!(rt;
-                margin(snr, data_rate),
-                wanted,
-                "SNR {snr} at DR{data_rate}"
-            );
-        }
-    }
-
-    #[test]
-    fn windows_and_channels_are_the_regions(rt: HostRuntime) {
-        for (data_rate, most) in [(0, 59), (1, 59), (2, 59), (3, 123), (4, 250), (5, 250)] {
-            assert_eq!(rt; max_mac(data_rate), most, "DR{data_rate}");
-        }
-        for (frequency, is) in [
-            (868_100_000, true),
-            (868_300_000, true),
-            (868_500_000, true),
-            (868_200_000, false),
-            (869_525_000, false),
-        ] {
-            assert_eq!(rt; is_channel(frequency), is, "{frequency} Hz");
-        }
-        let window = rx1(868_100_000, 2, 3);
-        assert_eq!(rt;
-            window,
-            Window {
-                frequency: 868_100_000,
-                data_rate: 0
-            }
-        );
-        assert_eq!(rt; rx1(868_500_000, 5, 2).data_rate, 3);
-        assert_eq!(rt;
-            rx2(),
-            Window {
-                frequency: 869_525_000,
-                data_rate: 0
-            }
-        );
     }
 }

@@ -1,12 +1,15 @@
 -- How a core is kept.
 use Rattle.std.specs.Prelude.{◌≡◌}
+use Rattle.sessions.specs.Decision.{taken_back_all}
 use Rattle.session_core.specs.State.{CoreState, IsLawful, now_of}
-use Rattle.session_core.specs.declared.life.Core.TheInside.{Inside}
+use Rattle.session_core.specs.declared.decisions.Core.TheInside.{Inside}
 
+-- the table that the taken decisions leave is the one at hand with the others taken back
 abbrev pub state_of : Inside → CoreState
-state_of c = record { base = c.base; opening = c.opening; made = c.made; taken = c.taken; log = c.log.items }
+state_of c =
+    record { base = taken_back_all c.table c.log.items; opening = c.opening; made = c.made; taken = c.taken; log = c.log.items }
 
 -- the state is lawful, and the table at hand is the one that the log leaves
 pub record IsKept (c : Inside) : Type 0 where
   pub lawful : IsLawful (state_of c)
-  pub table : c.now_table ≡ now_of (state_of c)
+  pub table : c.table ≡ now_of (state_of c)

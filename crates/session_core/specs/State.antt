@@ -1,11 +1,12 @@
 -- The decisions of one life.
-use Rattle.std.specs.Prelude.{◌≡◌, ◌+◌, ◌-◌, ◌≤◌, ◌^◌, ℕ, List, [], length, max}
+use Rattle.std.specs.Prelude.{◌≡◌, ◌+◌, ◌≤◌, ℕ, List, [], length, max}
 use Rattle.sessions.specs.Table.{TableState}
 use Rattle.sessions.specs.Decision.{ContinueAll, applied_all}
 use Rattle.sessions.specs.declared.decision.Decision.{Decision}
+use Rattle.session_core.specs.declared.decisions.TheConstants.{LAST_NUMBER, MOST_UNTAKEN}
 
--- The table that the taken decisions leave, the number at which this life began, how many decisions
--- were made and taken in it, and those that were made and not taken, the oldest first.
+-- The table that the taken decisions leave, the number at which this life began, how many decisions were made and
+-- taken in it, and those that were made and not taken, the oldest first.
 pub record CoreState : Type 0 where
   pub base : TableState
   pub opening : ℕ
@@ -20,14 +21,6 @@ now_of s = applied_all s.base s.log
 -- the sequence number of the last decision made
 abbrev pub last_number : CoreState → ℕ
 last_number s = s.opening + s.made
-
--- no decision is made beyond this number
-abbrev pub LAST_NUMBER : ℕ
-LAST_NUMBER = 2 ^ 63 - 1
-
--- how many decisions may wait
-abbrev pub MOST_UNTAKEN : ℕ
-MOST_UNTAKEN = 4096
 
 -- the log continues what was taken, none is missing from it, and it has its limits
 pub record IsLawful (s : CoreState) : Type 0 where

@@ -1,11 +1,9 @@
-//! The decisions of one life: a base table, the decisions made on it and not yet taken, and the table
-//! that they leave.
+//! The decisions of one life: those made and not yet taken, and the table that they leave.
 #![tactic(auto)]
 
-mod life;
-#[cfg(test)]
-mod tests;
+mod decisions;
+pub mod laws;
 mod turn;
 
-pub use life::{Core, Most};
-pub use turn::Turn;
+pub use decisions::{Core, LAST_NUMBER, MOST_TAKEN, MOST_UNTAKEN, Most};
+pub use turn::{LAST_MOMENT, Moment, Turn};

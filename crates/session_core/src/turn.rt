@@ -1,5 +1,11 @@
 // What a call of the core answers.
-use lw_types::Refusal;
+use lw_types::{Ranged, Refusal};
+
+/// The last moment, 2^63 - 1 milliseconds.
+pub const LAST_MOMENT: u64 = (1 << 63) - 1;
+
+/// A moment in milliseconds, below 2^63.
+pub type Moment = Ranged<0, LAST_MOMENT>;
 
 /// The decisions `from + 1` to `to` of this life were made in the call. `refused` says why the
 /// event's own command was not decided, if it was not.

@@ -1,11 +1,12 @@
 -- Decisions that continue a table, joined and folded.
 use Rattle.std.proofs.Common.{Err, ◌≡◌, ◌+◌, ◌∙◌, ℕ, List, [], ◌∷◌, ◌++◌, length, Result, Ok, suc, sym, ap, subst, refl, arith}
-use Rattle.std.proofs.Common.{◌<◌, ◌≤◌, cond, nat_lt, Option, Some, None, take, drop, get_or}
-use Rattle.std.proofs.lemmas.Bool.{ltb-true}
-use Rattle.std.proofs.lemmas.List.{append_assoc, take_more, drop_more, take-append-drop, length-take-le}
+use Rattle.std.proofs.Common.{◌<◌, ◌≤◌, cond, true, nat_lt, Option, Some, None, take, drop, get_or}
+use Rattle.std.proofs.lemmas.Bool.{ltb-true, lt-ltb}
+use Rattle.std.proofs.lemmas.List.{append_assoc, take_more, drop_more, take-append-drop, length-take-le, take_at, take_all}
 use Rattle.std.proofs.lemmas.Option.{slice_get_past}
 use Rattle.std.specs.Option.{MatchOption}
 use Rattle.std.specs.Result.{MatchResult}
+use Rattle.devices.specs.declared.device.Device.{Device}
 use Rattle.lw_types.specs.declared.refusal.Refusal.TheVariants.{TableFull, DevEuiTaken}
 use Rattle.devices.specs.Device.{provisioned}
 use Rattle.devices.specs.declared.command.Provisioning.{Provisioning}
@@ -15,24 +16,18 @@ use Rattle.std.specs.List.{slice_get}
 use Rattle.lw_types.specs.declared.refusal.Refusal.{Refusal}
 use Rattle.sessions.specs.Step.{Outcome, step1, outcome, provisioned_effects}
 use Rattle.sessions.proofs.Slots.{split}
-use Rattle.sessions.specs.Table.{TableState, Step, CanPlace, CanPut, place_for, new_slot, slot_of, step, step_at, stepped, step_effects, folded, effects_of, ◌>>=◌}
-use Rattle.sessions.specs.Decision.{Continues, Decides, IsDecision, Fits, FitAll, AreNumbered, ContinueAll, applied, applied_all, commands_of, effects_in}
+use Rattle.sessions.specs.Table.{TableState, Step, TakesNext, CanPlace, CanPut, place_for, new_slot, slot_of, with_device, step, step_at, stepped, step_effects, folded, effects_of, ◌>>=◌}
+use Rattle.sessions.specs.Decision.{Continues, Decides, IsDecision, Fits, FitAll, AreNumbered, ContinueAll, applied, applied_all, back_at, taken_back, taken_back_all, commands_of, effects_in}
 use Rattle.sessions.specs.declared.decision.Decision.{Decision}
-
--- a decision that was made of a table is the step of its command there
-pub step-fits : (t : TableState) (d : Decision) → Fits t d
-    → step t d.command ≡ Ok (step_at d.slot (slice_get t.devices d.slot) (outcome d.after d.effects))
-step-fits t d fits =
-    ap (λ (p : Result ℕ Refusal). p >>= λ slot. step1 t.net_id slot (slice_get t.devices slot) d.command >>= λ o. Ok (step_at slot (slice_get t.devices slot) o)) fits.place
-    ∙ ap (λ p. p >>= λ o. Ok (step_at d.slot (slice_get t.devices d.slot) o))
-    (ap (λ n. step1 n d.slot (slice_get t.devices d.slot) d.command) (sym fits.net)
-    ∙ (ap (λ b. step1 d.net_id d.slot b d.command) (sym fits.before) ∙ d.is_step))
 
 same_Ok : {A : Type 0} (x y : A) → ◌≡◌ {A = Result A Refusal} (Ok x) (Ok y) → x ≡ y
 same_Ok x y h = cc
 
 err_ok : {A : Type 0} (e : Refusal) (x : A) → ◌≡◌ {A = Result A Refusal} (Err e) (Ok x) → ⊥
 err_ok e x h = cc
+
+ok-or-err : {A : Type 0} (e : Refusal) (x : A) (P : Type 0) → ◌≡◌ {A = Result A Refusal} (Err e) (Ok x) → P
+ok-or-err e x P h = absurd (err_ok e x h)
 
 taken-ok : (x : ℕ) → ◌≡◌ {A = Result ℕ Refusal} (Err DevEuiTaken) (Ok x) → ⊥
 taken-ok x h = cc
@@ -57,6 +52,34 @@ new_slot-ok t None slot P h goes =
 
 MatchOption-of_none : {X : Type 0} (o : Option X) (P : Type 0) (Q : X → Type 0) → o ≡ None → P → MatchOption o P Q
 MatchOption-of_none o P Q none p = subst (λ o. MatchOption o P Q) (sym none) p
+
+-- a provisioning's outcome has its device's name
+name_provisioned : (net_id slot : ℕ) (p : Provisioning) (o : Outcome) → step1 net_id slot None (Provision p) ≡ Ok o → o.device.dev_eui.0 ≡ p.dev_eui.0
+name_provisioned net_id slot p o is = ap (λ (o : Outcome). o.device.dev_eui.0) (sym (same_Ok (outcome (provisioned p) (provisioned_effects slot p)) o is))
+
+-- no command is carried out on a record that isn't its own
+not_provisioned : (net_id slot : ℕ) (d : Device) (p : Provisioning) (o : Outcome) (P : Type 0) → step1 net_id slot (Some d) (Provision p) ≡ Ok o → P
+not_provisioned net_id slot d p o P is = ok-or-err DevEuiTaken o P is
+
+-- the slot of a command that was carried out on what is at a slot
+place-carried : (t : TableState) (slot : ℕ) (c : Command) (before : Option Device) (o : Outcome) → step1 t.net_id slot before c ≡ Ok o
+    → MatchOption before (TakesNext t slot o.device) (λ _. Unit {0}) → place_for t c ≡ Ok slot
+place-carried t slot (Provision p) (Some d) o is place = not_provisioned t.net_id slot d p o _ is
+place-carried t slot (Provision p) None o is place =
+    let name = name_provisioned t.net_id slot p o is in
+    let within : nat_lt (length t.devices) t.slots ≡ true = lt-ltb (length t.devices) t.slots (omega (arith, place.0, place.1)) in
+    ap (new_slot t) (ap (λ e. slot_of e t.devices) (sym name) ∙ place.2)
+    ∙ (ap (λ b. cond b (Ok (length t.devices)) (Err TableFull)) within ∙ ap Ok (sym place.0))
+
+-- a decision that was made of a table is the step of its command there
+step-fits : (t : TableState) (d : Decision) → Fits t d
+    → step t d.command ≡ Ok (step_at d.slot (slice_get t.devices d.slot) (outcome d.after d.effects))
+step-fits t d fits =
+    let carried : step1 t.net_id d.slot d.before d.command ≡ Ok (outcome d.after d.effects) = ap (λ n. step1 n d.slot d.before d.command) (sym fits.net) ∙ d.is_step in
+    let place = place-carried t d.slot d.command d.before (outcome d.after d.effects) carried fits.place in
+    ap (λ (p : Result ℕ Refusal). p >>= λ slot. step1 t.net_id slot (slice_get t.devices slot) d.command >>= λ o. Ok (step_at slot (slice_get t.devices slot) o)) place
+    ∙ ap (λ p. p >>= λ o. Ok (step_at d.slot (slice_get t.devices d.slot) o))
+    (ap (λ b. step1 t.net_id d.slot b d.command) (sym fits.before) ∙ carried)
 
 pub folded-fit : (t : TableState) (ds : List Decision) → FitAll t ds → folded t (commands_of ds) ≡ applied_all t ds
 folded-fit t [] fit = refl
@@ -118,24 +141,44 @@ ContinueAll-split t seq first second both =
     let numbered = AreNumbered-split seq first second both.numbered in
     (record { fit = fit.0; numbered = numbered.0 }, record { fit = fit.1; numbered = numbered.1 })
 
--- the name of the record that a provisioning leaves is new, and its slot is the next one
-can_place_new : (t : TableState) (d : Decision) (p : Provisioning) → d.command ≡ Provision p → Fits t d → CanPlace t d.slot d.after
-can_place_new t d p asked fits =
-    let place : new_slot t (slot_of p.dev_eui.0 t.devices) ≡ Ok d.slot = ap (place_for t) (sym asked) ∙ fits.place in
-    new_slot-ok t (slot_of p.dev_eui.0 t.devices) d.slot (CanPlace t d.slot d.after) place (λ new last room.
-    let past : length t.devices ≤ d.slot = omega arith in
-    let empty = slice_get_past t.devices d.slot past in
-    let made : Ok (outcome (provisioned p) (provisioned_effects d.slot p)) ≡ Ok (outcome d.after d.effects) =
-    ap (λ b. step1 d.net_id d.slot b (Provision p)) (sym (fits.before ∙ empty)) ∙ (ap (step1 d.net_id d.slot d.before) (sym asked) ∙ d.is_step) in
-    let name : d.after.dev_eui.0 ≡ p.dev_eui.0 = ap (λ (o : Outcome). o.device.dev_eui.0) (sym (same_Ok _ _ made)) in
-    MatchOption-of_none (slice_get t.devices d.slot) _ _ empty (last, room, ap (λ e. slot_of e t.devices) name ∙ new))
+-- a decision on a record in use doesn't fit yet: the one command brings a device
+in_use : (net_id slot : ℕ) (d : Device) (c : Command) (o : Outcome) (P : Type 0) → step1 net_id slot (Some d) c ≡ Ok o → P
+in_use net_id slot d (Provision p) o P is = not_provisioned net_id slot d p o P is
 
-by_command : (t : TableState) (d : Decision) (c : Command) → d.command ≡ c → Fits t d → CanPlace t d.slot d.after
-by_command t d (Provision p) asked fits = can_place_new t d p asked fits
+-- what holds of a decision that brings a device holds of each
+brings : (t : TableState) (d : Decision) → Fits t d → (P : Type 0) → (slice_get t.devices d.slot ≡ None → TakesNext t d.slot d.after → P) → P
+brings t d fits P new = by_before d.before (sym fits.before) fits.place d.is_step
+  where
+    by_before : (before : Option Device) → slice_get t.devices d.slot ≡ before → MatchOption before (TakesNext t d.slot d.after) (λ _. Unit {0})
+        → step1 d.net_id d.slot before d.command ≡ Ok (outcome d.after d.effects) → P
+    by_before None found place is = new found place
+    by_before (Some device) found place is = in_use d.net_id d.slot device d.command (outcome d.after d.effects) P is
 
 -- the record of a decision that was made of a table has its place there
 pub CanPlace-fits : (t : TableState) (d : Decision) → Fits t d → CanPlace t d.slot d.after
-CanPlace-fits t d fits = by_command t d d.command refl fits
+CanPlace-fits t d fits = brings t d fits (CanPlace t d.slot d.after) (λ empty next. MatchOption-of_none (slice_get t.devices d.slot) _ _ empty next)
+
+-- and may be put there
+pub CanPut-fits : (t : TableState) (d : Decision) → Fits t d → CanPut t d.slot d.after
+CanPut-fits t d fits =
+    brings t d fits (CanPut t d.slot d.after)
+    (λ empty next. (omega (arith, next.0), next.1, MatchOption-of_none (slot_of d.after.dev_eui.0 t.devices) _ _ next.2 tt))
+
+-- it can be taken back
+taken_back-applied : (t : TableState) (d : Decision) → Fits t d → taken_back (applied t d) d ≡ t
+taken_back-applied t d fits =
+    brings t d fits (taken_back (applied t d) d ≡ t) (λ empty next.
+    ap (back_at (applied t d) d.slot) (fits.before ∙ empty)
+    ∙ ap (λ ds. record t { devices = ds }) (take_at_end t.devices d.slot d.after next.0))
+  where
+    take_at_end : (ds : List Device) (slot : ℕ) (x : Device) → slot ≡ length ds → take slot (with_device slot x ds) ≡ ds
+    take_at_end ds slot x last =
+        let all : take slot ds ≡ ds = take_all slot ds (omega arith) in
+        ap (λ front. take slot (front ++ x ∷ drop (suc slot) ds)) all ∙ take_at ds (x ∷ drop (suc slot) ds) slot (sym last)
+
+pub taken_back_all-applied_all : (t : TableState) (ds : List Decision) → FitAll t ds → taken_back_all (applied_all t ds) ds ≡ t
+taken_back_all-applied_all t [] fit = refl
+taken_back_all-applied_all t (d ∷ ds) fit = ap (λ s. taken_back s d) (taken_back_all-applied_all (applied t d) ds fit.1) ∙ taken_back-applied t d fit.0
 
 pub FitAll-next : (t : TableState) (n : ℕ) (d : Decision) (ds : List Decision) → n < length ds → d ≡ get_or ds n d
     → FitAll t ds → Fits (applied_all t (take n ds)) d
@@ -148,11 +191,8 @@ pub applied_all-next : (t : TableState) (n : ℕ) (d : Decision) (ds : List Deci
 applied_all-next t n d ds within item =
     ap (applied_all t) (take_more ds n d within ∙ ap (λ x. take n ds ++ x ∷ []) (sym item)) ∙ applied_all-append t (take n ds) (d ∷ [])
 
-ok-or-err : {A : Type 0} (e : Refusal) (x : A) (P : Type 0) → ◌≡◌ {A = Result A Refusal} (Err e) (Ok x) → P
-ok-or-err e x P h = absurd (err_ok e x h)
-
 -- what a table decides is a step there
-pub Decides-ok : (t : TableState) (seq : ℕ) (c : Command) (d : Decision) → Decides t seq c (Ok d)
+Decides-ok : (t : TableState) (seq : ℕ) (c : Command) (d : Decision) → Decides t seq c (Ok d)
     → (s : Step) × (step t c ≡ Ok s) × IsDecision t seq c s d
 Decides-ok t seq c d h = go (step t c) refl h
   where
@@ -177,15 +217,39 @@ step-parts t c s h = at (place_for t c) refl h
     at (Ok slot) is e = done slot (step1 t.net_id slot (slice_get t.devices slot) c) e is
     at (Err e') is e = ok-or-err e' s _ e
 
+-- a device that a step brings takes the next slot
+place-stepped : (t : TableState) (c : Command) (slot : ℕ) (o : Outcome) → place_for t c ≡ Ok slot → step1 t.net_id slot (slice_get t.devices slot) c ≡ Ok o
+    → MatchOption (slice_get t.devices slot) (TakesNext t slot o.device) (λ _. Unit {0})
+place-stepped t (Provision p) slot o place is =
+    new_slot-ok t (slot_of p.dev_eui.0 t.devices) slot (MatchOption (slice_get t.devices slot) (TakesNext t slot o.device) (λ _. Unit {0})) place (λ new last room.
+    let past : length t.devices ≤ slot = omega arith in
+    let empty = slice_get_past t.devices slot past in
+    let name = name_provisioned t.net_id slot p o (ap (λ b. step1 t.net_id slot b (Provision p)) (sym empty) ∙ is) in
+    MatchOption-of_none (slice_get t.devices slot) _ _ empty (last, room, ap (λ e. slot_of e t.devices) name ∙ new))
+
 -- a decision that is a step of a table was made of it
-pub Fits-decision : (t : TableState) (seq : ℕ) (c : Command) (s : Step) (d : Decision) → step t c ≡ Ok s → IsDecision t seq c s d → Fits t d
+Fits-decision : (t : TableState) (seq : ℕ) (c : Command) (s : Step) (d : Decision) → step t c ≡ Ok s → IsDecision t seq c s d → Fits t d
 Fits-decision t seq c s d is made =
     let parts = step-parts t c s is in
+    let at : slice_get t.devices s.slot ≡ slice_get t.devices d.slot = ap (slice_get t.devices) (sym made.slot) in
+    let before = made.before ∙ (parts.1 ∙ at) in
+    let placed_at : place_for t c ≡ Ok d.slot = parts.0 ∙ ap Ok (sym made.slot) in
+    let carried : step1 t.net_id d.slot (slice_get t.devices d.slot) c ≡ Ok (outcome d.after d.effects) =
+    ap (λ n. step1 n d.slot (slice_get t.devices d.slot) c) (sym made.net)
+    ∙ (ap (λ b. step1 d.net_id d.slot b c) (sym before) ∙ (ap (step1 d.net_id d.slot d.before) (sym made.command) ∙ d.is_step)) in
     record {
       net = made.net;
-      place = ap (place_for t) made.command ∙ (parts.0 ∙ ap Ok (sym made.slot));
-      before = made.before ∙ (parts.1 ∙ ap (slice_get t.devices) (sym made.slot));
+      before = before;
+      place =
+          subst (λ b. MatchOption b (TakesNext t d.slot d.after) (λ _. Unit {0})) (sym before)
+          (place-stepped t c d.slot (outcome d.after d.effects) placed_at carried);
     }
+
+-- and what a table decides too
+pub Decides-fits : (t : TableState) (seq : ℕ) (c : Command) (d : Decision) → Decides t seq c (Ok d) → Fits t d × (d.seq ≡ seq)
+Decides-fits t seq c d made =
+    let found = Decides-ok t seq c d made in
+    (Fits-decision t seq c found.0 d found.1 found.2, found.2.number)
 
 -- the decision behind those that continue a table continues what they leave
 pub ContinueAll-next : (t : TableState) (seq n : ℕ) (d : Decision) (ds : List Decision) → n < length ds → d ≡ get_or ds n d
@@ -207,22 +271,3 @@ ContinueAll-more t seq n d ds within item front next =
     let one : ContinueAll (applied_all t (take n ds)) (seq + n) (d ∷ []) = record { fit = (next.fits, tt); numbered = (next.number, tt) } in
     let placed_so = ContinueAll-append t seq (take n ds) (d ∷ []) front (subst (λ k. ContinueAll (applied_all t (take n ds)) (seq + k) (d ∷ [])) (sym long) one) in
     subst (ContinueAll t seq) (sym (take_more ds n d within ∙ ap (λ x. take n ds ++ x ∷ []) (sym item))) placed_so
-
--- the record of a provisioning may be put as an image has it
-can_put_new : (t : TableState) (d : Decision) (p : Provisioning) → d.command ≡ Provision p → Fits t d → CanPut t d.slot d.after
-can_put_new t d p asked fits =
-    let place : new_slot t (slot_of p.dev_eui.0 t.devices) ≡ Ok d.slot = ap (place_for t) (sym asked) ∙ fits.place in
-    new_slot-ok t (slot_of p.dev_eui.0 t.devices) d.slot (CanPut t d.slot d.after) place (λ new last room.
-    let past : length t.devices ≤ d.slot = omega arith in
-    let empty = slice_get_past t.devices d.slot past in
-    let made : Ok (outcome (provisioned p) (provisioned_effects d.slot p)) ≡ Ok (outcome d.after d.effects) =
-    ap (λ b. step1 d.net_id d.slot b (Provision p)) (sym (fits.before ∙ empty)) ∙ (ap (step1 d.net_id d.slot d.before) (sym asked) ∙ d.is_step) in
-    let name : d.after.dev_eui.0 ≡ p.dev_eui.0 = ap (λ (o : Outcome). o.device.dev_eui.0) (sym (same_Ok _ _ made)) in
-    (omega arith, room, MatchOption-of_none (slot_of d.after.dev_eui.0 t.devices) _ _ (ap (λ e. slot_of e t.devices) name ∙ new) tt))
-
-put_by_command : (t : TableState) (d : Decision) (c : Command) → d.command ≡ c → Fits t d → CanPut t d.slot d.after
-put_by_command t d (Provision p) asked fits = can_put_new t d p asked fits
-
--- the record of a decision that was made of a table may be put there
-pub CanPut-fits : (t : TableState) (d : Decision) → Fits t d → CanPut t d.slot d.after
-CanPut-fits t d fits = put_by_command t d d.command refl fits

@@ -1,20 +1,21 @@
 -- Decisions that continue a table.
-use Rattle.std.specs.Prelude.{◌≡◌, ◌≢◌, ◌+◌, ℕ, List, [], ◌∷◌, Result, Ok, Err, map, slice_get}
+use Rattle.std.specs.Prelude.{◌≡◌, ◌≢◌, ◌+◌, ℕ, List, [], ◌∷◌, Option, Some, None, Result, map, slice_get, take}
 use Rattle.std.specs.List.{flat_map}
-use Rattle.std.specs.Result.{MatchResult}
+use Rattle.std.specs.Option.{MatchOption}
+use Rattle.lw_types.specs.Answer.{Answers}
 use Rattle.lw_types.specs.declared.refusal.Refusal.{Refusal}
-use Rattle.lw_types.specs.declared.refusal.Refusal.TheVariants.{OutOfMemory}
 use Rattle.devices.specs.declared.device.Device.{Device}
 use Rattle.devices.specs.declared.command.Command.{Command}
 use Rattle.devices.specs.declared.effect.Effect.{Effect}
-use Rattle.sessions.specs.Table.{TableState, Step, place_for, step, placed}
+use Rattle.sessions.specs.Table.{TableState, Step, TakesNext, step, placed}
 use Rattle.sessions.specs.declared.decision.Decision.{Decision}
 
--- the decision was made of this table: its slot is the command's, and its record is the one there
+-- The decision was made of this table: its network and the record at its slot are the table's, and a device that it
+-- brings takes the next slot.
 pub record Fits (t : TableState) (d : Decision) : Type 0 where
   pub net : d.net_id ≡ t.net_id
-  pub place : place_for t d.command ≡ Ok d.slot
   pub before : d.before ≡ slice_get t.devices d.slot
+  pub place : MatchOption d.before (TakesNext t d.slot d.after) (λ _. Unit {0})
 
 -- it was made of this table and has the next sequence number
 pub record Continues (t : TableState) (seq : ℕ) (d : Decision) : Type 0 where
@@ -28,6 +29,19 @@ applied t d = placed t d.slot d.after
 abbrev pub applied_all : TableState → List Decision → TableState
 applied_all t [] = t
 applied_all t (d ∷ ds) = applied_all (applied t d) ds
+
+-- the table with what was at this slot before: a record, or nothing where the slot was the next one
+abbrev pub back_at : TableState → ℕ → Option Device → TableState
+back_at t slot (Some before) = placed t slot before
+back_at t slot None = record t { devices = take slot t.devices }
+
+-- the table with the record that the decision found, or without a device where it found none
+abbrev pub taken_back : TableState → Decision → TableState
+taken_back t d = back_at t d.slot d.before
+
+abbrev pub taken_back_all : TableState → List Decision → TableState
+taken_back_all t [] = t
+taken_back_all t (d ∷ ds) = taken_back (taken_back_all t ds) d
 
 -- each decision was made of the table that those before it leave
 abbrev pub FitAll : TableState → List Decision → Type 0
@@ -69,9 +83,6 @@ pub record IsDecision (t : TableState) (seq : ℕ) (asked : Command) (s : Step) 
   pub after : d.after ≡ s.after
   pub effects : d.effects ≡ s.effects
 
--- the step of the command is decided, unless memory runs out; or its refusal is answered
+-- the step of the command is decided, or exactly its refusal is answered
 abbrev pub Decides : TableState → ℕ → Command → Result Decision Refusal → Type 0
-Decides t seq command result =
-    MatchResult (step t command)
-    (λ s. MatchResult result (IsDecision t seq command s) (λ e. e ≡ OutOfMemory))
-    (λ e. result ≡ Err e)
+Decides t seq command result = Answers (step t command) (IsDecision t seq command) result

@@ -3,6 +3,7 @@ use Rattle.devices.specs.declared.device.Device.{Device}
 use Rattle.std.specs.Prelude.{List, Some, slice_get, ◌≡◌, ◌≤◌, ◌-◌, ℕ, nat_eq, length, vec_capacity}
 use Rattle.std.specs.HashMap.{get, spare}
 use Rattle.sessions.specs.Table.{TableState, slot_of}
+use Rattle.sessions.specs.declared.table.TheConstants.{MOST_SLOTS}
 use Rattle.sessions.specs.declared.table.Table.TheInside.{Inside}
 
 abbrev pub table_of : Inside → TableState
@@ -15,7 +16,7 @@ HaveOwnSlots devices = (slot : ℕ) (d : Device) → slice_get devices slot ≡ 
 -- the index has the slot of each DevEUI, and there is room for every slot
 pub record IsIndexed (t : Inside) : Type 0 where
   pub few : length t.devices.items ≤ t.slots
-  pub slots : t.slots ≤ 4096
+  pub slots : t.slots ≤ MOST_SLOTS
   pub finds : (dev_eui : ℕ) → get nat_eq t.index dev_eui ≡ slot_of dev_eui t.devices.items
   pub own : HaveOwnSlots t.devices.items
   pub room : t.slots ≤ vec_capacity t.devices

@@ -1,8 +1,7 @@
 -- What a command does to one device.
-use Rattle.std.specs.Result.{MatchResult}
 use Rattle.std.specs.Prelude.{◌≡◌, ℕ, List, [], ◌∷◌, Option, Some, None, Result, Ok, Err}
 use Rattle.lw_types.specs.declared.refusal.Refusal.{Refusal}
-use Rattle.lw_types.specs.declared.refusal.Refusal.TheVariants.{DevEuiTaken, OutOfMemory}
+use Rattle.lw_types.specs.declared.refusal.Refusal.TheVariants.{DevEuiTaken}
 use Rattle.devices.specs.Device.{provisioned}
 use Rattle.devices.specs.declared.device.Device.{Device}
 use Rattle.devices.specs.declared.command.Provisioning.{Provisioning}
@@ -30,9 +29,6 @@ abbrev pub step1 : ℕ → ℕ → Option Device → Command → Result Outcome 
 step1 net_id slot None (Provision p) = Ok (outcome (provisioned p) (provisioned_effects slot p))
 step1 net_id slot (Some device) (Provision p) = Err DevEuiTaken
 
--- the step's record and effects are answered, unless memory runs out; or its refusal is
-abbrev pub Steps : Result Outcome Refusal → Result (Device × List Effect) Refusal → Type 0
-Steps wanted result =
-    MatchResult wanted
-    (λ o. MatchResult result (λ r. (r.0 ≡ o.device) × (r.1 ≡ o.effects)) (λ e. e ≡ OutOfMemory))
-    (λ e. result ≡ Err e)
+-- this record and these effects are the outcome
+abbrev pub IsOutcome : Outcome → Device × List Effect → Type 0
+IsOutcome o found = (found.0 ≡ o.device) × (found.1 ≡ o.effects)

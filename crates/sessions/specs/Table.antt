@@ -41,12 +41,13 @@ place_for t (Provision p) = new_slot t (slot_of p.dev_eui.0 t.devices)
 abbrev pub with_device : ℕ → Device → List Device → List Device
 with_device slot device devices = take slot devices ++ device ∷ drop (suc slot) devices
 
+-- the next slot, where there is one, takes a device whose DevEUI no other has
+abbrev pub TakesNext : TableState → ℕ → Device → Type 0
+TakesNext t slot device = (slot ≡ length t.devices) × (slot < t.slots) × (slot_of device.dev_eui.0 t.devices ≡ None)
+
 -- a slot in use takes a record of its own device, and the next slot one of a device that isn't there yet
 abbrev pub CanPlace : TableState → ℕ → Device → Type 0
-CanPlace t slot device =
-    MatchOption (slice_get t.devices slot)
-    ((slot ≡ length t.devices) × (slot < t.slots) × (slot_of device.dev_eui.0 t.devices ≡ None))
-    (λ old. old.dev_eui ≡ device.dev_eui)
+CanPlace t slot device = MatchOption (slice_get t.devices slot) (TakesNext t slot device) (λ old. old.dev_eui ≡ device.dev_eui)
 
 -- an image may put a record at a slot in use or at the next one, under a name that no other slot has
 abbrev pub CanPut : TableState → ℕ → Device → Type 0

@@ -1,14 +1,13 @@
 // Decisions on a table: whether they continue it, and the table with their records.
-ghost use Rattle.std.specs.Prelude.{◌≡◌, ◌↔◌, ◌<◌, ◌≤◌, ◌+◌, ℕ, IsTrue, MatchResult, length, map, Ok, slice_get};
+ghost use Rattle.std.specs.Prelude.{◌≡◌, ◌≢◌, ◌↔◌, ◌+◌, IsTrue, MatchResult, length};
 ghost use Rattle.std.specs.Option.{option_copied};
-ghost use Rattle.lw_types.specs.declared.refusal.Refusal.TheVariants.{OutOfMemory};
-ghost use Rattle.sessions.specs.Table.{place_for};
-ghost use Rattle.sessions.specs.Decision.{Fits, Continues, FitAll, applied, applied_all};
+ghost use Rattle.lw_types.specs.declared.refusal.Refusal.TheVariants.{OutOfMemory, OutOfStep};
+ghost use Rattle.sessions.specs.Table.{TakesNext};
+ghost use Rattle.sessions.specs.Decision.{Fits, Continues, ContinueAll, applied, applied_all};
 
-use crate::{Decision, Table};
+use crate::{Batch, Decision, Table};
 use devices::Device;
 use lw_types::Refusal;
-use std::alloc::Global;
 
 impl Table {
     /// Whether the decision was made of this table and has the sequence number after `seq`. The cost
@@ -23,14 +22,19 @@ impl Table {
     fn fits(&self, decision: &Decision) -> bool
         ensures { IsTrue result ↔ Fits self.now decision.now }
     {
-        match self.place_for(&decision.command) {
-            Ok(slot) => {
-                self.net_id() == decision.net_id
-                    && slot == decision.slot
-                    && is_record(&decision.before, self.devices().get(slot as usize))
-            }
-            Err(_) => false,
-        }
+        let found = self.devices().get(decision.slot as usize);
+        self.net_id() == decision.net_id
+            && is_record(&decision.before, found)
+            && (found.is_some() || self.takes_next(decision.slot, &decision.after))
+    }
+
+    // Whether a new device with this record may have this slot.
+    fn takes_next(&self, slot: u16, device: &Device) -> bool
+        ensures { IsTrue result ↔ TakesNext self.now slot device.now }
+    {
+        slot as usize == self.devices().len()
+            && u64::from(slot) < self.slots().get()
+            && self.slot_of(device.dev_eui).is_none()
     }
 
     /// Puts the record of a decision that was made of this table into its slot. After an `Err`, which
@@ -44,6 +48,27 @@ impl Table {
         let after = decision.after.copy()?;
         self.place(decision.slot, after);
         Ok(())
+    }
+
+    /// Puts the records that a batch leaves into their slots, where each decision continues the table
+    /// and the number behind those before it, and gives the number of the last one. Refused with `OutOfStep` exactly where one doesn't, and
+    /// with `OutOfMemory` for want of memory. After an `Err` a beginning of the batch is put, and the
+    /// table is of no use. The cost doesn't grow with the number of devices.
+    pub fn advance(&mut self, seq: u64, batch: &Batch) -> Result<u64, Refusal>
+        ensures { MatchResult result
+            (λ last. ContinueAll self.old seq batch.now × ((self.new ≡ applied_all self.old batch.now)
+            × (last ≡ seq + length batch.now)))
+            (λ e. e ≢ OutOfMemory → (e ≡ OutOfStep) × ¬ (ContinueAll self.old seq batch.now)) }
+    {
+        let mut last = seq;
+        for decision in batch.as_slice() {
+            if !self.admits(last, decision) {
+                return Err(Refusal::OutOfStep);
+            }
+            self.apply(decision)?;
+            last = decision.seq;
+        }
+        Ok(last)
     }
 }
 

@@ -1,8 +1,9 @@
 // A command becomes a decision, or is refused.
-ghost use Rattle.std.specs.Prelude.{◌≡◌, ◌<◌, ℕ, IfOk, MatchResult, Err, length};
+ghost use Rattle.std.specs.Prelude.{◌≡◌, MatchResult};
 ghost use Rattle.std.specs.Option.{option_copied};
 ghost use Rattle.lw_types.specs.declared.refusal.Refusal.TheVariants.{OutOfMemory};
-ghost use Rattle.sessions.specs.Step.{step1, Steps, provisioned_effects};
+ghost use Rattle.lw_types.specs.Answer.{Answers};
+ghost use Rattle.sessions.specs.Step.{step1, IsOutcome, provisioned_effects};
 ghost use Rattle.sessions.specs.Table.{place_for};
 ghost use Rattle.sessions.specs.Decision.{Decides};
 
@@ -63,7 +64,7 @@ fn step(
     found: Option<&Device>,
     command: &Command,
 ) -> Result<(Device, Effects), Refusal>
-    ensures { Steps (step1 _net_id slot (option_copied found.entry) command.now) result }
+    ensures { Answers (step1 _net_id slot (option_copied found.entry) command.now) IsOutcome result }
 {
     match command {
         Command::Provision(provisioning) => {

@@ -1,9 +1,11 @@
-//! Laws on the definitions that the contracts of this crate cite. Nothing here does anything.
-ghost use Rattle.std.specs.Prelude.{◌≡◌, ◌++◌, ◌↔◌, ◌+◌, ℕ, List, length};
+//! Laws on the definitions that the contracts of this crate cite. Nothing here is of use but its contracts.
+ghost use Rattle.std.specs.Prelude.{◌≡◌, ◌++◌, ◌↔◌, ◌≤◌, ◌+◌, ℕ, List, SomeIff, length};
 ghost use Rattle.devices.specs.declared.command.Command.{Command};
 ghost use Rattle.sessions.specs.Table.{TableState, CanPut, folded, effects_of};
-ghost use Rattle.sessions.specs.Decision.{Fits, FitAll, ContinueAll, applied_all, commands_of, effects_in};
+ghost use Rattle.sessions.specs.Decision.{Decides, Fits, FitAll, ContinueAll, applied_all, taken_back_all, commands_of, effects_in};
 ghost use Rattle.sessions.specs.declared.decision.Decision.{Decision};
+
+use crate::Slots;
 
 /// Decisions that continue a table leave the fold of their commands, and their effects are those of
 /// the commands.
@@ -12,6 +14,11 @@ pub fn folding()
         folded t (commands_of ds) ≡ applied_all t ds }
     ensures effects { (t : TableState) (ds : List Decision) → FitAll t ds →
         effects_of t (commands_of ds) ≡ effects_in ds }
+{}
+
+/// What a table decides was made of it, under the number that was asked for.
+pub fn deciding()
+    ensures { (t : TableState) (seq : ℕ) (command : Command) (d : Decision) → Decides t seq command (Ok d) → Fits t d × (d.seq ≡ seq) }
 {}
 
 /// Two runs of commands, one after the other, leave the table that the second leaves on the table of
@@ -37,3 +44,16 @@ pub fn joining()
 pub fn decided_records_may_be_put()
     ensures { (t : TableState) (d : Decision) → Fits t d → CanPut t d.slot d.after }
 {}
+
+/// The decisions that continue a table can be taken back from what they leave: the records that they
+/// found are those of the table.
+pub fn taking_back()
+    ensures { (t : TableState) (ds : List Decision) → FitAll t ds → taken_back_all (applied_all t ds) ds ≡ t }
+{}
+
+/// A table has from 1 to 4,096 slots.
+pub fn slots_of(number: u64) -> Option<Slots>
+    ensures { SomeIff result ((1 ≤ number) × (number ≤ 4096)) number }
+{
+    Slots::new(number)
+}

@@ -4,19 +4,15 @@
 //! and `effects` are what the command does to `before`.
 #![tactic(auto)]
 
-mod advance;
 mod batch;
 mod continuation;
 mod decide;
 mod decision;
 pub mod laws;
 mod records;
-mod replay;
 mod table;
-#[cfg(test)]
-mod tests;
 
 pub use batch::Batch;
 pub use decision::Decision;
 pub use records::Records;
-pub use table::{Slots, Table};
+pub use table::{MOST_SLOTS, Slots, Table};

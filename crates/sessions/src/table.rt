@@ -1,15 +1,18 @@
 // The table of a network's devices.
-ghost use Rattle.std.specs.Prelude.{◌≡◌, ◌≤◌, ◌<◌, ℕ, IfOk, MatchResult, None, length, slice_get};
-ghost use Rattle.lw_types.specs.declared.refusal.Refusal.TheVariants.{OutOfMemory};
+ghost use Rattle.std.specs.Prelude.{◌≡◌, ◌≢◌, ◌≤◌, ◌<◌, MatchResult, None, length};
+ghost use Rattle.lw_types.specs.declared.refusal.Refusal.TheVariants.{Damaged, OutOfMemory};
 
-use devices::{Device, Ranged};
-use lw_types::{Eui, NetId, Refusal};
+use devices::Device;
+use lw_types::{Eui, NetId, Ranged, Refusal};
 use std::alloc::Global;
 use std::collections::HashMap;
 use std::marker::Model;
 
+/// The most slots that a table has.
+pub const MOST_SLOTS: u64 = 4096;
+
 /// The number of slots of a table, from 1 to 4,096.
-pub type Slots = Ranged<1, 4096>;
+pub type Slots = Ranged<1, MOST_SLOTS>;
 
 /// A network's devices by slot, and an index of their DevEUIs. All its room is got when it is made,
 /// so that a device that is placed takes no memory. A look-up's cost doesn't grow with the devices.
@@ -35,7 +38,7 @@ impl Model for Table {
 }
 
 impl Table {
-    ghost use Rattle.sessions.specs.Table.{empty_table, slot_of, placed, CanPlace};
+    ghost use Rattle.sessions.specs.Table.{empty_table, slot_of, placed, CanPlace, CanPut};
 
     /// A table without devices.
     pub fn new(alloc: Global, net_id: NetId, slots: Slots) -> Result<Self, Refusal>
@@ -120,9 +123,31 @@ impl Table {
         })
     }
 
-    /// Puts a record of a device that isn't there yet into a slot in use, in the place of another
-    /// device's. After an `Err`, which is want of memory, the table is as before.
-    pub(crate) fn rename(&mut self, slot: u16, device: Device) -> Result<(), Refusal>
+    /// Puts a record at a slot as an image of a store has it: at a slot in use or the next one, under
+    /// a DevEUI that no other slot has. Refused with `Damaged` exactly where that doesn't hold, and
+    /// with `OutOfMemory` for want of memory. A refusal changes nothing.
+    pub fn put(&mut self, slot: u16, device: Device) -> Result<(), Refusal>
+        ensures { MatchResult result
+            (λ _. CanPut self.old slot device × (self.new ≡ placed self.old slot device))
+            (λ e. (self.new ≡ self.old) × (e ≢ OutOfMemory → (e ≡ Damaged) × ¬ (CanPut self.old slot device))) }
+    {
+        let at = slot as usize;
+        let next = self.devices().len();
+        if at > next || at as u64 >= self.slots().get() {
+            return Err(Refusal::Damaged);
+        }
+        match self.slot_of(device.dev_eui) {
+            Some(other) if other != slot => return Err(Refusal::Damaged),
+            Some(_) => self.place(slot, device),
+            None if at == next => self.place(slot, device),
+            None => self.rename(slot, device)?,
+        }
+        Ok(())
+    }
+
+    // Puts a record of a device that isn't there yet into a slot in use, in the place of another
+    // device's. After an `Err`, which is want of memory, the table is as before.
+    fn rename(&mut self, slot: u16, device: Device) -> Result<(), Refusal>
         requires used { slot < length self.old.devices }
         requires new_name { slot_of device.dev_eui.0 self.old.devices ≡ None }
         ensures { MatchResult result

@@ -10,6 +10,7 @@ use Rattle.gate_log.specs.Recover.{contents_in}
 use Rattle.sessions.specs.Table.{empty_table}
 use Rattle.store_layout.specs.Superblock.{area_len, disk_len, superblock}
 use Rattle.store.specs.Image.{area_a}
+use Rattle.store.specs.declared.areas.TheConstants.{RECORD_VERSION}
 use Rattle.store.specs.State.{IsSettled}
 
 pub OnOk-map : {T E : Type 0} {P Q : Type 0} (r : Result T E) → (P → Q) → OnOk r P → OnOk r Q
@@ -49,26 +50,26 @@ front_after at c1 c2 c3 c4 body far size some is one two =
     ∙ (ap (take 31) (drop_at (take 1 c1) (body ++ rest) 1 gate) ∙ take_at body rest 31 size)))
 
 -- the superblock's gate is opened
-pub opened_front : (c4 c5 : List ℕ) → c5 ≡ written c4 0 (165 ∷ []) → take 32 c5 ≡ 165 ∷ drop 1 (take 32 c4)
-opened_front c4 c5 is = ap (take 32) is ∙ ap (λ (l : List ℕ). 165 ∷ l) (sym (drop-take 1 31 c4))
+pub opened_front : (c4 c5 : List ℕ) → c5 ≡ written c4 0 (OPEN ∷ []) → take 32 c5 ≡ OPEN ∷ drop 1 (take 32 c4)
+opened_front c4 c5 is = ap (take 32) is ∙ ap (λ (l : List ℕ). OPEN ∷ l) (sym (drop-take 1 31 c4))
 
-pub opened_range : (c4 c5 : List ℕ) (end : ℕ) → c5 ≡ written c4 0 (165 ∷ []) → slice_range c5 32 end ≡ slice_range c4 32 end
+pub opened_range : (c4 c5 : List ℕ) (end : ℕ) → c5 ≡ written c4 0 (OPEN ∷ []) → slice_range c5 32 end ≡ slice_range c4 32 end
 opened_range c4 c5 end is = ap (λ (l : List ℕ). slice_range l 32 end) is ∙ ap (take (end - 32)) (drop-drop 31 1 c4)
 
 -- a disk with a superblock and an area without records or batches is at rest
 pub settled_empty : (net_id slots : ℕ) (state : State) → net_id < 64 → (1 ≤ slots) × (slots ≤ 4096) → NothingOpen state → length state.content ≡ disk_len slots
-    → Holds (area_a slots) (contents_in (area_a slots) state.content (fresh_header 1) [] []) state.content → take 32 state.content ≡ superblock net_id slots
+    → Holds (area_a slots) (contents_in (area_a slots) state.content (fresh_header RECORD_VERSION) [] []) state.content → take 32 state.content ≡ superblock net_id slots
     → IsSettled (record {
-      log = record { disk = state; area = area_a slots; next = 62 };
+      log = record { disk = state; area = area_a slots; next = (area_a slots).start + 30 };
       table = empty_table net_id slots;
       seq = 0;
       failed = false;
     })
 unfolding header_bytes
 settled_empty net_id slots state net range settled long holds front =
-    let c = contents_in (area_a slots) state.content (fresh_header 1) [] [] in
+    let c = contents_in (area_a slots) state.content (fresh_header RECORD_VERSION) [] [] in
     let size : length (take 32 state.content) ≡ 32 = ap length front in
-    let spelled = length-append (take 32 state.content) (OPEN ∷ (header_bytes (fresh_header 1) ++ ([] ++ []))) in
+    let spelled = length-append (take 32 state.content) (OPEN ∷ (header_bytes (fresh_header RECORD_VERSION) ++ ([] ++ []))) in
     let behind = length-drop (32 + area_len slots) state.content in
     record {
       contents = c;

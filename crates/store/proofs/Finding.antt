@@ -1,31 +1,29 @@
 -- What was read of a disk, against what the disk holds.
-use Rattle.std.proofs.Common.{◌≡◌, ◌≢◌, ◌↔◌, inl, inr, ◌<◌, ◌≤◌, ◌+◌, ◌∙◌, ◌^◌, ℕ, List, [], ◌∷◌, ◌++◌, get_or, length, drop, sym, ap, subst, refl, arith, append_assoc, length-drop}
-use Rattle.std.proofs.lemmas.List.{drop_at}
+use Rattle.std.proofs.Common.{◌≡◌, ◌≢◌, ◌↔◌, inl, inr, ◌<◌, ◌≤◌, ◌+◌, ◌∙◌, ℕ, List, [], ◌∷◌, length, sym, ap, subst, refl, arith, length-drop}
 use Rattle.lw_types.specs.declared.refusal.Refusal.{Refusal}
 use Rattle.lw_types.specs.declared.refusal.Refusal.TheVariants.{Damaged, WrongVersion}
+use Rattle.gate_log.specs.declared.layout.Area.{Area}
 use Rattle.gate_log.specs.declared.layout.Header.{Header}
-use Rattle.gate_log.specs.declared.layout.TheConstants.{OPEN}
 use Rattle.gate_log.specs.declared.recover.Recovered.{Recovered}
-use Rattle.gate_log.specs.Layout.{BatchValue, Contents, Holds, IsClosedArea, header_bytes, open_batches}
+use Rattle.gate_log.specs.Layout.{BatchValue, Contents, HasRoomFor, Holds, IsClosedArea}
 use Rattle.gate_log.specs.Recover.{IsHeaderAt}
 use Rattle.gate_log.specs.Recovered.{IsRecovered, contents_of}
 use Rattle.sessions.specs.Table.{TableState, empty_table}
 use Rattle.store_layout.specs.Entries.{Entry, put_all}
 use Rattle.store_layout.specs.Superblock.{area_len, disk_len, superblock}
+use Rattle.store_layout.specs.declared.superblock.TheConstants.Superblock.{LEN}
+use Rattle.store.specs.declared.areas.TheConstants.{LAST_GENERATION, RECORD_VERSION}
 use Rattle.store.specs.declared.found.Found.{Found}
-use Rattle.store.specs.Faults.{IsFault, IsStoreOf}
+use Rattle.store.specs.Faults.{HasGoodFront, HeaderFault, IsFault, IsStoreOf, IsUsable}
 use Rattle.store.specs.Found.{IsFound}
 use Rattle.store.specs.Image.{HoldsTable, Lead, Restores, Says, area_a}
 use Rattle.store.proofs.Holding.{store_of}
 
--- the header at the front of the area is the contents'
-header_version : (slots : ℕ) (c : Contents) (image : List ℕ) (h : Header) → Holds (area_a slots) c image → IsHeaderAt image 32 h → h.version ≡ c.header.version
-unfolding header_bytes
-header_version slots c image h holds at =
-    let more = OPEN ∷ (header_bytes c.header ++ (c.records ++ open_batches c.batches)) in
-    let rest = holds.gate ∷ (holds.free ++ c.behind) in
-    let here : drop 32 image ≡ more ++ rest = ap (drop 32) (holds.bytes ∙ append_assoc c.front more rest) ∙ drop_at c.front (more ++ rest) 32 holds.fits.front in
-    ap (λ (l : List ℕ). get_or l 1 0) (sym at.bytes ∙ here)
+-- the header at the front of an area is that of what the area holds
+pub record HeaderLaws : Type 0 where
+  pub header : (area : Area) (disk : List ℕ) (c : Contents) → Holds area c disk → IsHeaderAt disk area.start c.header
+  pub room : (area : Area) (disk : List ℕ) (c : Contents) → Holds area c disk → HasRoomFor area c.header
+  pub one : (disk : List ℕ) (at : ℕ) (h k : Header) → IsHeaderAt disk at h → IsHeaderAt disk at k → h ≡ k
 
 -- records that are put keep the network and the number of slots
 pub record KeepLaws : Type 0 where
@@ -49,17 +47,42 @@ module _ (content : List ℕ) (net slots : ℕ) (store : IsStoreOf content net s
   closed_fault e nothing closed is =
       record { none = λ t seq x. nothing x.contents (held_at t seq x); first = inr (net, slots, store, long, inl (closed, is)) }
 
-  pub version_fault : (e : Refusal) (h : Header) → IsHeaderAt content 32 h → h.version ≢ 1 → e ≡ WrongVersion → IsFault content e
-  version_fault e h at other is = record {
-    none = λ t seq x. other (header_version slots x.contents content h (held_at t seq x) at ∙ x.says.version);
+  header_is : HeaderLaws → (h : Header) → IsHeaderAt content LEN h → (t : TableState) (seq : ℕ) (x : HoldsTable t seq content) → x.contents.header ≡ h
+  header_is laws h at t seq x = laws.one content LEN x.contents.header h (laws.header (area_a slots) content x.contents (held_at t seq x)) at
+
+  pub version_fault : HeaderLaws → (e : Refusal) (h : Header) → IsHeaderAt content LEN h → h.version ≢ RECORD_VERSION → e ≡ WrongVersion → IsFault content e
+  version_fault laws e h at other is = record {
+    none = λ t seq x. other (sym (ap (λ (k : Header). k.version) (header_is laws h at t seq x)) ∙ x.says.version);
     first = inr (net, slots, store, long, inr (h, at, inl (other, is)));
   }
 
-  pub area_fault : (e : Refusal) (h : Header) → IsHeaderAt content 32 h → h.version ≡ 1 → e ≡ Damaged → ((c : Contents) → ¬ (Holds (area_a slots) c content)) → IsFault content e
+  pub useless_fault : HeaderLaws → (e : Refusal) (h : Header) → IsHeaderAt content LEN h → h.version ≡ RECORD_VERSION → ¬ (IsUsable (area_a slots) h) → e ≡ Damaged → IsFault content e
+  useless_fault laws e h at version useless is = record {
+    none = λ t seq x.
+        let same = header_is laws h at t seq x in
+        useless (record {
+          version = version;
+          generation = subst (λ (k : Header). k.generation ≤ LAST_GENERATION) same x.says.generation;
+          room = subst (HasRoomFor (area_a slots)) same (laws.room (area_a slots) content x.contents (held_at t seq x));
+        });
+    first = inr (net, slots, store, long, inr (h, at, inr (version, is)));
+  }
+
+  -- what is wrong with the area's gate or header
+  pub header_fault : HeaderLaws → (e : Refusal) → ((c : Contents) → IsClosedArea (area_a slots) content → ¬ (Holds (area_a slots) c content))
+      → HeaderFault content (area_a slots) e → IsFault content e
+  header_fault laws e nothing (inl closed) = closed_fault e (λ c. nothing c closed.0) closed.0 closed.1
+  header_fault laws e nothing (inr (h, at, inl (other, is))) = version_fault laws e h at other is
+  header_fault laws e nothing (inr (h, at, inr (version, (useless, is)))) = useless_fault laws e h at version useless is
+
+  pub area_fault : (e : Refusal) (h : Header) → IsHeaderAt content LEN h → h.version ≡ RECORD_VERSION → e ≡ Damaged → ((c : Contents) → ¬ (Holds (area_a slots) c content)) → IsFault content e
   area_fault e h at version is nothing = record {
     none = λ t seq x. nothing x.contents (held_at t seq x);
     first = inr (net, slots, store, long, inr (h, at, inr (version, is)));
   }
+
+  pub good_front : (h : Header) → IsHeaderAt content LEN h → IsUsable (area_a slots) h → HasGoodFront content
+  good_front h at usable = record { net_id = net; slots = slots; header = h; store = store; long = long; at = at; usable = usable }
 
   module _ (r : Recovered) (recovered : IsRecovered (area_a slots) content r) where
     Journal : TableState → ℕ → Type 0
@@ -74,18 +97,17 @@ module _ (content : List ℕ) (net slots : ℕ) (store : IsStoreOf content net s
         subst (λ k. Restores k slots r.header r.records.items r.batches.items t seq) same.0
         (subst (λ k. Restores t.net_id k r.header r.records.items r.batches.items t seq) same.1 (said t seq x).journal)
 
-    pub journal_fault : (e : Refusal) (h : Header) → IsHeaderAt content 32 h → h.version ≡ 1 → e ≡ Damaged
-        → ((t : TableState) (seq : ℕ) → r.header.generation < 2 ^ 63 → ¬ (Restores net slots r.header r.records.items r.batches.items t seq)) → IsFault content e
+    pub journal_fault : (e : Refusal) (h : Header) → IsHeaderAt content LEN h → h.version ≡ RECORD_VERSION → e ≡ Damaged
+        → ((t : TableState) (seq : ℕ) → ¬ (Restores net slots r.header r.records.items r.batches.items t seq)) → IsFault content e
     journal_fault e h at version is none = record {
-      none = λ t seq x. none t seq (said t seq x).generation (journal_of t seq x);
+      none = λ t seq x. none t seq (journal_of t seq x);
       first = inr (net, slots, store, long, inr (h, at, inr (version, is)));
     }
 
-    pub found_in : KeepLaws → (found : Found) (h : Header) → IsHeaderAt content 32 h → h.version ≡ 1 → found.area ≡ area_a slots → found.next ≡ r.next
-        → r.header.generation < 2 ^ 63
+    pub found_in : KeepLaws → (found : Found) → IsUsable (area_a slots) r.header → found.area ≡ area_a slots → found.next ≡ r.next
         → ((t : TableState) (seq : ℕ) → Restores net slots r.header r.records.items r.batches.items t seq ↔ ((t ≡ found.table) × (seq ≡ found.seq)))
         → IsFound content found
-    found_in keep found h at version area next generation exact =
+    found_in keep found usable area next exact =
         let c = contents_of (area_a slots) content r in
         let journal = (exact found.table found.seq).1 (refl, refl) in
         let first = journal.checkpoint.table in
@@ -96,7 +118,7 @@ module _ (content : List ℕ) (net slots : ℕ) (store : IsStoreOf content net s
         let slots_is : found.table.slots ≡ slots =
         lead_slots keep base r.header.sequence r.batches.items found.table found.seq journal.batches
         ∙ (ap (λ (t : TableState). t.slots) first ∙ keep.slots (empty_table net slots) journal.checkpoint.entries) in
-        let behind = length-drop (32 + area_len slots) content in
+        let behind = length-drop (LEN + area_len slots) content in
         let size : length c.behind ≡ area_len slots = omega (arith, behind, long) in
         record {
           contents = c;
@@ -108,8 +130,8 @@ module _ (content : List ℕ) (net slots : ℕ) (store : IsStoreOf content net s
             slots = subst (λ k. (1 ≤ k) × (k ≤ 4096)) (sym slots_is) store.slots_range;
             front = store.superblock ∙ (ap (λ k. superblock k slots) (sym net_is) ∙ ap (superblock found.table.net_id) (sym slots_is));
             behind = size ∙ ap area_len (sym slots_is);
-            version = sym (header_version slots c content h recovered.holds at) ∙ version;
-            generation = generation;
+            version = usable.version;
+            generation = usable.generation;
             journal =
                 subst (λ k. Restores found.table.net_id k r.header r.records.items r.batches.items found.table found.seq) (sym slots_is)
                 (subst (λ k. Restores k slots r.header r.records.items r.batches.items found.table found.seq) (sym net_is) journal);

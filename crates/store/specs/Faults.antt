@@ -2,16 +2,20 @@
 use Rattle.std.specs.Prelude.{◌≡◌, ◌≢◌, ◌<◌, ◌≤◌, ◌⊎◌, ◌↔◌, ℕ, List, ◌∷◌, length, take, slice_index, codes}
 use Rattle.lw_types.specs.declared.refusal.Refusal.{Refusal}
 use Rattle.lw_types.specs.declared.refusal.Refusal.TheVariants.{NotFormatted, Damaged, WrongVersion, WrongSize, DeviceFailed, OutOfMemory}
+use Rattle.gate_log.specs.declared.layout.Area.{Area}
 use Rattle.gate_log.specs.declared.layout.Header.{Header}
-use Rattle.gate_log.specs.Layout.{IsClosedArea}
+use Rattle.gate_log.specs.declared.layout.TheConstants.{OPEN}
+use Rattle.gate_log.specs.Layout.{HasRoomFor, IsClosedArea}
 use Rattle.gate_log.specs.Recover.{IsHeaderAt}
 use Rattle.sessions.specs.Table.{TableState}
 use Rattle.store_layout.specs.Superblock.{superblock, disk_len}
+use Rattle.store_layout.specs.declared.superblock.TheConstants.Superblock.{LEN}
+use Rattle.store.specs.declared.areas.TheConstants.{LAST_GENERATION, RECORD_VERSION}
 use Rattle.store.specs.Image.{HoldsTable, area_a}
 
 -- the gate of a store is open, and its name is there
 abbrev pub IsNamed : List ℕ → Type 0
-IsNamed bytes = take 8 bytes ≡ 165 ∷ codes "LNSTORE"
+IsNamed bytes = take 8 bytes ≡ OPEN ∷ codes "LNSTORE"
 
 -- no store has these 32 bytes in front
 abbrev pub IsNoSuperblock : List ℕ → Type 0
@@ -28,25 +32,49 @@ pub record SuperblockFault (bytes : List ℕ) (e : Refusal) : Type 0 where
 pub record IsStoreOf (image : List ℕ) (net_id slots : ℕ) : Type 0 where
   pub net_id_range : net_id < 64
   pub slots_range : (1 ≤ slots) × (slots ≤ 4096)
-  pub superblock : take 32 image ≡ superblock net_id slots
+  pub superblock : take LEN image ≡ superblock net_id slots
 
 -- what is wrong with the length or the superblock
 abbrev pub FrontFault : List ℕ → Refusal → Type 0
 FrontFault image e =
-    ((length image < 32) × (e ≡ WrongSize))
-    ⊎ ((32 ≤ length image)
-    × (SuperblockFault (take 32 image) e ⊎ ((net_id slots : ℕ) × IsStoreOf image net_id slots × (length image ≢ disk_len slots) × (e ≡ WrongSize))))
+    ((length image < LEN) × (e ≡ WrongSize))
+    ⊎ ((LEN ≤ length image)
+    × (SuperblockFault (take LEN image) e ⊎ ((net_id slots : ℕ) × IsStoreOf image net_id slots × (length image ≢ disk_len slots) × (e ≡ WrongSize))))
 
--- what is wrong with the area
-abbrev pub AreaFault : List ℕ → ℕ → Refusal → Type 0
-AreaFault image slots e =
-    (IsClosedArea (area_a slots) image × (e ≡ Damaged))
-    ⊎ ((h : Header) × IsHeaderAt image 32 h × (((h.version ≢ 1) × (e ≡ WrongVersion)) ⊎ ((h.version ≡ 1) × (e ≡ Damaged))))
+-- a header of the version that is read, of a generation that may be, and with records that fit the area
+pub record IsUsable (area : Area) (h : Header) : Type 0 where
+  pub version : h.version ≡ RECORD_VERSION
+  pub generation : h.generation ≤ LAST_GENERATION
+  pub room : HasRoomFor area h
+
+-- the superblock, the length and the header of the area are in order
+pub record HasGoodFront (image : List ℕ) : Type 0 where
+  pub net_id : ℕ
+  pub slots : ℕ
+  pub header : Header
+  pub store : IsStoreOf image net_id slots
+  pub long : length image ≡ disk_len slots
+  pub at : IsHeaderAt image (area_a slots).start header
+  pub usable : IsUsable (area_a slots) header
+
+-- what is wrong with the gate or the header in front of an area
+abbrev pub HeaderFault : List ℕ → Area → Refusal → Type 0
+HeaderFault image area e =
+    (IsClosedArea area image × (e ≡ Damaged))
+    ⊎ ((h : Header) × IsHeaderAt image area.start h
+    × (((h.version ≢ RECORD_VERSION) × (e ≡ WrongVersion)) ⊎ ((h.version ≡ RECORD_VERSION) × ((¬ (IsUsable area h)) × (e ≡ Damaged)))))
+
+-- what is wrong with an area
+abbrev pub AreaFault : List ℕ → Area → Refusal → Type 0
+AreaFault image area e =
+    (IsClosedArea area image × (e ≡ Damaged))
+    ⊎ ((h : Header) × IsHeaderAt image area.start h
+    × (((h.version ≢ RECORD_VERSION) × (e ≡ WrongVersion)) ⊎ ((h.version ≡ RECORD_VERSION) × (e ≡ Damaged))))
 
 -- what is wrong with an image that holds no table
 pub record IsFault (image : List ℕ) (e : Refusal) : Type 0 where
   pub none : (t : TableState) (seq : ℕ) → ¬ (HoldsTable t seq image)
-  pub first : FrontFault image e ⊎ ((net_id slots : ℕ) × IsStoreOf image net_id slots × (length image ≡ disk_len slots) × AreaFault image slots e)
+  pub first : FrontFault image e ⊎ ((net_id slots : ℕ) × IsStoreOf image net_id slots × (length image ≡ disk_len slots) × AreaFault image (area_a slots) e)
 
 -- a store has this many slots
 abbrev pub IsSlots : ℕ → Type 0

@@ -1,19 +1,22 @@
 -- What the disk of a store says: a table and the number of its last decision.
-use Rattle.std.specs.Prelude.{◌≡◌, ◌<◌, ◌≤◌, ◌^◌, ℕ, ◌+◌, List, [], ◌∷◌, length}
+use Rattle.std.specs.Prelude.{◌≡◌, ◌<◌, ◌≤◌, ℕ, ◌+◌, List, [], ◌∷◌, length}
 use Rattle.gate_log.specs.declared.layout.Area.{Area}
 use Rattle.gate_log.specs.declared.layout.Header.{Header}
 use Rattle.gate_log.specs.Layout.{BatchValue, Contents, Holds}
 use Rattle.sessions.specs.Table.{TableState, empty_table}
+use Rattle.sessions.specs.declared.batch.TheConstants.Batch.{MOST}
 use Rattle.store_layout.specs.Superblock.{area_len, superblock}
+use Rattle.store_layout.specs.declared.superblock.TheConstants.Superblock.{LEN}
+use Rattle.store.specs.declared.areas.TheConstants.{LAST_GENERATION, RECORD_VERSION}
 use Rattle.store_layout.specs.Entries.{Entry, Replay, put_all}
 
 -- the first area, behind the superblock
 abbrev pub area_a : ℕ → Area
-area_a slots = record { start = 32; end = 32 + area_len slots }
+area_a slots = record { start = LEN; end = LEN + area_len slots }
 
 -- the second area, behind the first
 abbrev pub area_b : ℕ → Area
-area_b slots = record { start = 32 + area_len slots; end = 32 + area_len slots + area_len slots }
+area_b slots = record { start = LEN + area_len slots; end = LEN + area_len slots + area_len slots }
 
 -- so many records, each of a slot of its own, that put this table together
 pub record IsCheckpoint (net_id slots : ℕ) (records : List ℕ) (count : ℕ) (t : TableState) : Type 0 where
@@ -26,7 +29,7 @@ pub record IsCheckpoint (net_id slots : ℕ) (records : List ℕ) (count : ℕ) 
 pub record IsBatchOn (t : TableState) (seq : ℕ) (b : BatchValue) (entries : List Entry) : Type 0 where
   pub replay : Replay t b.entries b.entry_count entries
   pub some : 1 ≤ b.entry_count
-  pub few : b.entry_count ≤ 64
+  pub few : b.entry_count ≤ MOST
   pub number : b.last_sequence ≡ seq + b.entry_count
 
 -- batches lead from one table and number to another
@@ -46,8 +49,8 @@ pub record Says (c : Contents) (t : TableState) (seq : ℕ) : Type 0 where
   pub slots : (1 ≤ t.slots) × (t.slots ≤ 4096)
   pub front : c.front ≡ superblock t.net_id t.slots
   pub behind : length c.behind ≡ area_len t.slots
-  pub version : c.header.version ≡ 1
-  pub generation : c.header.generation < 2 ^ 63
+  pub version : c.header.version ≡ RECORD_VERSION
+  pub generation : c.header.generation ≤ LAST_GENERATION
   pub journal : Restores t.net_id t.slots c.header c.records c.batches t seq
 
 -- the image of a disk holds a store with this table and number

@@ -8,6 +8,7 @@ use Rattle.gate_log.specs.Layout.{Contents}
 use Rattle.gate_log.specs.Log.{LogState, IsAtRest, seen as seen_log, disk_of as disk_of_log}
 use Rattle.sessions.specs.Table.{TableState}
 use Rattle.store.specs.declared.store.Store.{Store}
+use Rattle.store.specs.declared.store.TheConstants.{LARGEST_BATCH}
 use Rattle.store.specs.Image.{HoldsTable, Says, area_a}
 
 pub record StoreState : Type 0 where
@@ -26,7 +27,7 @@ seen state store = record { log = seen_log state store.log; table = store.table;
 
 -- the largest batch fits behind the next gate
 abbrev pub IsRoomy : StoreState → Type 0
-IsRoomy s = s.log.next + 275536 ≤ s.log.area.end
+IsRoomy s = s.log.next + LARGEST_BATCH ≤ s.log.area.end
 
 -- nothing is under way: the disk holds the store's table and number, and a crash changes nothing
 pub record IsSettled (s : StoreState) : Type 0 where

@@ -1,5 +1,5 @@
 // Makes a store on a new disk.
-ghost use Rattle.std.specs.Prelude.{◌≡◌, ◌≢◌, ◌<◌, false, [], length, take, drop, IfOk, IfErr, OnOk, MatchResult, IsTrue, is_ok};
+ghost use Rattle.std.specs.Prelude.{◌≡◌, ◌≢◌, ◌<◌, ◌+◌, false, [], length, take, drop, IfOk, IfErr, OnOk, MatchResult, IsTrue, is_ok};
 ghost use Rattle.lw_types.specs.declared.refusal.Refusal.TheVariants.{DeviceFailed};
 ghost use Rattle.disk.specs.Outlook.{HasCause};
 ghost use Rattle.disk.specs.Outlook.Outlook.{AllSucceed};
@@ -9,24 +9,17 @@ ghost use Rattle.gate_log.specs.Recover.{contents_in};
 ghost use Rattle.sessions.specs.Table.{empty_table};
 ghost use Rattle.store_layout.specs.Superblock.{disk_len, superblock as superblock_bytes, superblock_body};
 ghost use Rattle.store.specs.Faults.{IsFormatRefusal, IsSlots};
-ghost use Rattle.store.specs.Image.{area_a, area_b};
+ghost use Rattle.store.specs.Image.{area_a};
 ghost use Rattle.store.specs.State.{seen, disk_of, IsSettled};
 
 use crate::Store;
+use crate::areas::{RECORD_VERSION, first_area, second_area};
 use disk::Disk;
-use gate_log::{Area, Log, close_area, format_area, laws};
+use gate_log::{CLOSED, Log, OPEN, close_area, format_area, laws};
 use lw_types::{NetId, Refusal};
 use sessions::{Slots, Table};
 use std::alloc::Global;
 use store_layout::Superblock;
-
-/// The version of the records in an area.
-pub(crate) const RECORD_VERSION: u8 = 1;
-
-/// A gate of the superblock.
-const OPEN: u8 = 0xA5;
-
-const CLOSED: u8 = 0;
 
 /// The length in bytes of the disk of a store with so many slots.
 pub fn disk_len(slots: Slots) -> u64
@@ -81,13 +74,13 @@ pub fn format<D: Disk + Drop>(
 fn write_empty<D: Disk>(disk: &mut D, superblock: &Superblock) -> Result<u64, disk::DeviceFailed>
     requires { length (D.state disk.old).content ≡ disk_len superblock.now.slots }
     ensures area { D.honest → OnOk result (Holds (area_a superblock.now.slots)
-        (contents_in (area_a superblock.now.slots) (D.state disk.new).content (fresh_header 1) [] [])
+        (contents_in (area_a superblock.now.slots) (D.state disk.new).content (fresh_header RECORD_VERSION) [] [])
         (D.state disk.new).content) }
-    ensures front { D.honest → OnOk result (take 32 (D.state disk.new).content
+    ensures front { D.honest → OnOk result (take Superblock.LEN (D.state disk.new).content
         ≡ superblock_bytes superblock.now.net_id superblock.now.slots) }
     ensures settled { D.honest → OnOk result (NothingOpen (D.state disk.new)) }
     ensures in_range { OnOk result ((superblock.now.net_id < 64) × IsSlots superblock.now.slots) }
-    ensures next { IfOk result (λ next. next ≡ 62) }
+    ensures next { IfOk result (λ next. next ≡ (area_a superblock.now.slots).start + 30) }
     ensures same_length { length (D.state disk.new).content ≡ length (D.state disk.old).content }
     ensures cause { HasCause (D.failures disk.old) (D.failures disk.new) result }
     ensures unarmed { D.outlook disk.old ≡ AllSucceed → IsTrue (is_ok result) × (D.outlook disk.new ≡ AllSucceed) }
@@ -106,12 +99,12 @@ fn write_empty<D: Disk>(disk: &mut D, superblock: &Superblock) -> Result<u64, di
 fn write_closed<D: Disk>(disk: &mut D, superblock: &Superblock) -> Result<u64, disk::DeviceFailed>
     requires { length (D.state disk.old).content ≡ disk_len superblock.now.slots }
     ensures area { D.honest → OnOk result (Holds (area_a superblock.now.slots)
-        (contents_in (area_a superblock.now.slots) (D.state disk.new).content (fresh_header 1) [] [])
+        (contents_in (area_a superblock.now.slots) (D.state disk.new).content (fresh_header RECORD_VERSION) [] [])
         (D.state disk.new).content) }
-    ensures body { D.honest → OnOk result (drop 1 (take 32 (D.state disk.new).content)
+    ensures body { D.honest → OnOk result (drop 1 (take Superblock.LEN (D.state disk.new).content)
         ≡ superblock_body superblock.now.net_id superblock.now.slots) }
     ensures in_range { OnOk result ((superblock.now.net_id < 64) × IsSlots superblock.now.slots) }
-    ensures next { IfOk result (λ next. next ≡ 62) }
+    ensures next { IfOk result (λ next. next ≡ (area_a superblock.now.slots).start + 30) }
     ensures same_length { length (D.state disk.new).content ≡ length (D.state disk.old).content }
     ensures cause { HasCause (D.failures disk.old) (D.failures disk.new) result }
     ensures unarmed { D.outlook disk.old ≡ AllSucceed → IsTrue (is_ok result) × (D.outlook disk.new ≡ AllSucceed) }
@@ -120,25 +113,4 @@ fn write_closed<D: Disk>(disk: &mut D, superblock: &Superblock) -> Result<u64, d
     disk.write_at(1, &bytes[1..])?;
     close_area(disk, second_area(superblock))?;
     format_area(disk, first_area(superblock), RECORD_VERSION)
-}
-
-/// The area behind the superblock.
-pub(crate) fn first_area(superblock: &Superblock) -> Area
-    ensures { result ≡ area_a superblock.now.slots }
-{
-    Area {
-        start: 32,
-        end: 32 + superblock.area_len(),
-    }
-}
-
-// The area behind the first one.
-fn second_area(superblock: &Superblock) -> Area
-    ensures { result ≡ area_b superblock.now.slots }
-{
-    let first = first_area(superblock);
-    Area {
-        start: first.end,
-        end: first.end + superblock.area_len(),
-    }
 }

@@ -5,6 +5,7 @@
 //! leaves, and it ends where a batch ended.
 #![tactic(auto)]
 
+mod areas;
 mod begin;
 mod commit;
 mod formatting;
@@ -15,10 +16,9 @@ mod phases;
 mod recover;
 mod restore;
 mod store;
-#[cfg(test)]
-mod tests;
 
+pub use areas::{LAST_GENERATION, RECORD_VERSION};
 pub use formatting::{disk_len, format};
 pub use opening::{open, open_back};
 pub use phases::{Begun, BodySynced, Durable, GateWritten, Written};
-pub use store::Store;
+pub use store::{LARGEST_BATCH, Store};

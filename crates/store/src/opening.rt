@@ -1,10 +1,10 @@
 // Opens a store.
-ghost use Rattle.std.specs.Prelude.{◌≡◌, ◌≢◌, ◌<◌, ◌≤◌, ◌⊎◌, false, length, take, drop, IfOk, IfErr, OnOk, MatchResult};
+ghost use Rattle.std.specs.Prelude.{◌≡◌, ◌≢◌, ◌<◌, ◌≤◌, ◌⊎◌, Err, false, length, take, drop, IfOk, IfErr, OnOk, MatchResult};
 ghost use Rattle.lw_types.specs.declared.refusal.Refusal.TheVariants.{DeviceFailed, OutOfMemory};
 ghost use Rattle.disk.specs.Outlook.Outlook.{AllSucceed};
 ghost use Rattle.disk.specs.State.{NothingOpen};
 ghost use Rattle.gate_log.specs.Opening.{opened};
-ghost use Rattle.store.specs.Faults.{IsFault};
+ghost use Rattle.store.specs.Faults.{HasGoodFront, IsFault};
 ghost use Rattle.store.specs.Found.{IsFound};
 ghost use Rattle.store.specs.State.{seen, disk_of, IsOpened};
 
@@ -23,6 +23,7 @@ pub fn open<D: Disk + Drop>(alloc: Global, disk: D) -> Result<Store<D>, Refusal>
         × (D.failures (disk_of store) ≡ D.failures disk)) }
     ensures refused { D.honest → IfErr result (λ e. e ≢ DeviceFailed → e ≢ OutOfMemory
         → IsFault (D.state disk).content e) }
+    ensures memory { D.honest → result ≡ Err OutOfMemory → HasGoodFront (D.state disk).content }
     ensures unarmed { D.outlook disk ≡ AllSucceed → MatchResult result
         (λ store. D.outlook (disk_of store) ≡ AllSucceed)
         (λ e. e ≢ DeviceFailed) }
@@ -40,7 +41,8 @@ pub fn open<D: Disk + Drop>(alloc: Global, disk: D) -> Result<Store<D>, Refusal>
 /// for a closed gate or another name, `WrongVersion` for another version, `Damaged` for another field
 /// out of range, `WrongSize` for another length than the superblock's, `Damaged` where the area is
 /// closed, `WrongVersion` for another version of records, and `Damaged` for all else. `OutOfMemory`
-/// comes for want of memory. With a refusal the disk comes back. The cost grows with the area's bytes.
+/// comes for want of memory, and only where the superblock and the area's header are in order. With a
+/// refusal the disk comes back. The cost grows with the area's bytes.
 pub fn open_back<D: Disk>(alloc: Global, disk: D) -> Result<Store<D>, (D, Refusal)>
     ensures opened { D.honest → IfOk result (λ store. IsOpened (D.state disk).content (seen D.state store)) }
     ensures healthy { IfOk result (λ store. ((seen D.state store).failed ≡ false)
@@ -49,6 +51,8 @@ pub fn open_back<D: Disk>(alloc: Global, disk: D) -> Result<Store<D>, (D, Refusa
         × (e.1 ≢ DeviceFailed → D.failures e.0 ≡ D.failures disk)) }
     ensures refused { D.honest → IfErr result (λ e. e.1 ≢ DeviceFailed → e.1 ≢ OutOfMemory
         → IsFault (D.state disk).content e.1) }
+    ensures memory { D.honest → IfErr result (λ e. e.1 ≡ OutOfMemory
+        → HasGoodFront (D.state disk).content) }
     ensures unarmed { D.outlook disk ≡ AllSucceed → MatchResult result
         (λ store. D.outlook (disk_of store) ≡ AllSucceed)
         (λ e. (e.1 ≢ DeviceFailed) × (D.outlook e.0 ≡ AllSucceed)) }

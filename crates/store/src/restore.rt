@@ -11,9 +11,6 @@ use sessions::Table;
 use std::alloc::Global;
 use store_layout::{Superblock, laws, replay};
 
-/// The greatest generation of an area.
-const LAST_GENERATION: u64 = (1 << 63) - 1;
-
 /// The table and the number that an area leads to. Refused with `Damaged` exactly where it leads to
 /// none, and with `OutOfMemory` for want of memory.
 pub(crate) fn restore(
@@ -22,17 +19,13 @@ pub(crate) fn restore(
     recovered: &Recovered,
 ) -> Result<(Table, u64), Refusal>
     ensures { MatchResult result
-        (λ r. (recovered.now.header.generation < 2 ^ 63) × ((t : TableState) (seq : ℕ)
+        (λ r. (t : TableState) (seq : ℕ)
         → Restores superblock.now.net_id superblock.now.slots recovered.now.header recovered.now.records.items recovered.now.batches.items t seq
-        ↔ ((t ≡ r.0) × (seq ≡ r.1))))
+        ↔ ((t ≡ r.0) × (seq ≡ r.1)))
         (λ e. e ≢ OutOfMemory → (e ≡ Damaged) × ((t : TableState) (seq : ℕ)
-        → recovered.now.header.generation < 2 ^ 63
         → ¬ Restores superblock.now.net_id superblock.now.slots recovered.now.header recovered.now.records.items recovered.now.batches.items t seq)) }
 {
     let header = recovered.header;
-    if header.generation > LAST_GENERATION {
-        return Err(Refusal::Damaged);
-    }
     let mut table = checkpoint(alloc, superblock, &recovered.records, header.record_count)?;
     let seq = replay_batches(alloc, &mut table, header.sequence, &recovered.batches)?;
     Ok((table, seq))
@@ -87,7 +80,10 @@ fn replay_batch(alloc: Global, table: &mut Table, seq: u64, batch: &Batch) -> Re
 {
     laws::bytes_replay_in_one_way();
     let count = u64::from(batch.entry_count());
-    if count < 1 || count > 64 || batch.last_sequence().checked_sub(seq) != Some(count) {
+    if count < 1
+        || count > sessions::Batch::MOST as u64
+        || batch.last_sequence().checked_sub(seq) != Some(count)
+    {
         return Err(Refusal::Damaged);
     }
     replay(

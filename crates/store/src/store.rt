@@ -10,7 +10,7 @@ use lw_types::Refusal;
 use sessions::Table;
 
 /// The bytes of the journal that the largest batch takes, with its gate and the next one.
-const LARGEST_BATCH: u64 = 275_536;
+pub const LARGEST_BATCH: u64 = 275_536;
 
 /// A durable table with its journal on a disk. After a call of the disk has failed, it answers no
 /// `begin` but with [`Refusal::Failed`]: it is closed, and its disk opened again.
@@ -58,7 +58,7 @@ impl<D: Disk> Store<D> {
         self.seq
     }
 
-    /// Whether the largest batch fits into the journal: 275,536 bytes are left in it.
+    /// Whether the largest batch fits into the journal: [`LARGEST_BATCH`] bytes are left in it.
     pub fn roomy(&self) -> bool
         ensures { IsTrue result ↔ IsRoomy (seen D.state self.now) }
     {

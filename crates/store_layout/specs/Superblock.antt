@@ -1,6 +1,7 @@
 -- The first 32 bytes of a store, and where its areas lie.
 use Rattle.std.specs.Prelude.{ℕ, ◌+◌, ◌*◌, List, ◌∷◌, ◌++◌, replicate, codes}
 use Rattle.std.specs.Int.{bytes_high_first}
+use Rattle.gate_log.specs.declared.layout.TheConstants.{OPEN}
 
 -- the length of an area with room for the record of each slot and a mebibyte of batches
 abbrev pub area_len : ℕ → ℕ
@@ -18,4 +19,4 @@ superblock_body net_id slots =
 
 -- the superblock of a formatted store: an open gate and its body
 abbrev pub superblock : ℕ → ℕ → List ℕ
-superblock net_id slots = 165 ∷ superblock_body net_id slots
+superblock net_id slots = OPEN ∷ superblock_body net_id slots

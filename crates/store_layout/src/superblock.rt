@@ -3,11 +3,9 @@ ghost use Rattle.std.specs.Prelude.{◌≡◌, ◌≢◌, ◌<◌, ◌≤◌, �
 ghost use Rattle.lw_types.specs.declared.refusal.Refusal.TheVariants.{NotFormatted, WrongVersion, Damaged};
 ghost use Rattle.store_layout.specs.Superblock.{superblock, area_len, disk_len};
 
+use gate_log::OPEN;
 use lw_types::{NetId, Refusal};
 use sessions::Slots;
-
-/// The gate of a formatted store.
-const OPEN: u8 = 0xA5;
 
 /// The network of a store, and how many devices it has room for.
 #[derive(Clone, Copy, Debug, PartialEq, Eq)]
@@ -57,9 +55,9 @@ impl Superblock {
         ensures in_range { IfOk result (λ s. (s.net_id < 64) × ((1 ≤ s.slots) × (s.slots ≤ 4096))) }
         ensures only { (net_id slots : ℕ) → net_id < 64 → 1 ≤ slots → slots ≤ 4096 → bytes.now ≡ superblock net_id slots
             → result ≡ Ok (record { net_id = net_id; slots = slots }) }
-        ensures not_formatted { (result ≡ Err NotFormatted) ↔ (take 8 bytes.now ≢ 165 ∷ codes "LNSTORE") }
+        ensures not_formatted { (result ≡ Err NotFormatted) ↔ (take 8 bytes.now ≢ OPEN ∷ codes "LNSTORE") }
         ensures version { (result ≡ Err WrongVersion)
-            ↔ ((take 8 bytes.now ≡ 165 ∷ codes "LNSTORE") × (slice_index bytes.now 8 ≢ 1)) }
+            ↔ ((take 8 bytes.now ≡ OPEN ∷ codes "LNSTORE") × (slice_index bytes.now 8 ≢ 1)) }
         ensures refused { IfErr result (λ e. (e ≡ NotFormatted) ⊎ ((e ≡ WrongVersion) ⊎ (e ≡ Damaged))) }
     {
         if bytes[..8] != [OPEN, b'L', b'N', b'S', b'T', b'O', b'R', b'E'] {

@@ -6,7 +6,7 @@ use Rattle.devices.specs.declared.command.Command.{Command}
 use Rattle.sessions.specs.Table.{TableState, folded, effects_of}
 use Rattle.sessions.specs.Decision.{commands_of, effects_in}
 use Rattle.sessions.specs.declared.decision.Decision.{Decision}
-use Rattle.sessions.proofs.Runs.{folded-fit, folded-append, effects_of-fit}
+use Rattle.world.specs.Folding.{RunLaws}
 use Rattle.session_core.specs.State.{CoreState}
 use Rattle.store.specs.declared.phases.Begun.{Begun}
 use Rattle.store.specs.declared.phases.Written.{Written}
@@ -38,14 +38,14 @@ pub to_stage : (P : Course → Type 0) (c : Course) (st : Stage) → c.stage ≡
 to_stage P c st is p = subst (λ st. P (record c { stage = st })) is p
 
 -- the table that a change leaves is the fold of its commands too
-module _ (start : TableState) (settled flying : List Command) (s : StoreState) (change : Change) (size : ℕ)
+module _ (laws : RunLaws) (start : TableState) (settled flying : List Command) (s : StoreState) (change : Change) (size : ℕ)
     (table : s.table ≡ folded start settled) (seq : s.seq ≡ length settled) (way : IsUnderWay s change size)
     (commands : commands_of change.decisions ≡ flying) where
   pub table_ahead : change.table ≡ folded start (settled ++ flying)
   table_ahead =
       way.table
-      ∙ (sym (folded-fit s.table change.decisions way.legal.continues.fit)
-      ∙ (ap (folded s.table) commands ∙ (ap (λ t. folded t flying) table ∙ sym (folded-append start settled flying))))
+      ∙ (sym (laws.folding s.table change.decisions way.legal.continues.fit)
+      ∙ (ap (folded s.table) commands ∙ (ap (λ t. folded t flying) table ∙ sym (laws.joined start settled flying))))
 
   pub seq_ahead : change.seq ≡ length (settled ++ flying)
   seq_ahead =
@@ -68,7 +68,7 @@ module _ (start : TableState) (settled flying : List Command) (s : StoreState) (
   holds_before image holds = held image s.table s.seq settled table seq holds
 
 -- a device call of a batch, on a store that has this table and number still
-module _ (start : TableState) (c : Course) (s s' : StoreState) (core : CoreState) (room : Room)
+module _ (laws : RunLaws) (start : TableState) (c : Course) (s s' : StoreState) (core : CoreState) (room : Room)
     (table : s'.table ≡ s.table) (seq : s'.seq ≡ s.seq) where
   at_most : (stage : Stage) → (EveryImage s'.log.disk (HoldsTable s.table s.seq)) → s.table ≡ folded start c.settled → s.seq ≡ length c.settled
       → (image : List ℕ) → IsPermitted s'.log.disk image → HoldsTable (folded start c.settled) (length c.settled) image
@@ -128,8 +128,8 @@ module _ (start : TableState) (c : Course) (s s' : StoreState) (core : CoreState
       → (kept : List Command) × ((kept ≡ c.settled) ⊎ (kept ≡ c.settled ++ c.flying)) × HoldsTable (folded start kept) (length kept) image
   either change size table_is seq_is way commands images image p =
       elim (images image p) [
-        | inl h ↦ (c.settled, inl refl, holds_before start c.settled c.flying s change size table_is seq_is way commands image h)
-        | inr h ↦ (c.settled ++ c.flying, inr refl, holds_ahead start c.settled c.flying s change size table_is seq_is way commands image h)
+        | inl h ↦ (c.settled, inl refl, holds_before laws start c.settled c.flying s change size table_is seq_is way commands image h)
+        | inr h ↦ (c.settled ++ c.flying, inr refl, holds_ahead laws start c.settled c.flying s change size table_is seq_is way commands image h)
       ]
 
   pub open_ok : (phase : BodySynced) (next : GateWritten) (size : ℕ) → IsLife start (record c { stage = Synced }) s core (commits.BodySynced phase room)
@@ -166,17 +166,17 @@ module _ (start : TableState) (c : Course) (s s' : StoreState) (core : CoreState
   }
 
 -- the last device call
-pub made_durable : (start : TableState) (c : Course) (s s' : StoreState) (core : CoreState) (room : Room) (phase : GateWritten) (size : ℕ) (durable : Durable)
+pub made_durable : (laws : RunLaws) (start : TableState) (c : Course) (s s' : StoreState) (core : CoreState) (room : Room) (phase : GateWritten) (size : ℕ) (durable : Durable)
     → IsLife start (record c { stage = Opened }) s core (commits.GateWritten phase room) → s'.table ≡ (opened_change phase).table
     → s'.seq ≡ (opened_change phase).seq → s'.failed ≡ s.failed → decisions_of durable ≡ (opened_change phase).decisions → IsUnderWay s (opened_change phase) size
     → IsSettled s' → EveryImage s'.log.disk (HoldsTable (opened_change phase).table (opened_change phase).seq)
     → IsLife start (record c { stage = IsDurable }) s' core (commits.Durable durable)
-made_durable start c s s' core room phase size durable f table seq failed decisions way settled images =
+made_durable laws start c s s' core room phase size durable f table seq failed decisions way settled images =
     let change = opened_change phase in
     let commands = f.under_way.0.commands in
     record {
-      table = table ∙ table_ahead start c.settled c.flying s change size f.table f.seq way commands;
-      seq = seq ∙ seq_ahead start c.settled c.flying s change size f.table f.seq way commands;
+      table = table ∙ table_ahead laws start c.settled c.flying s change size f.table f.seq way commands;
+      seq = seq ∙ seq_ahead laws start c.settled c.flying s change size f.table f.seq way commands;
       base = f.base;
       number = f.number;
       untaken = f.untaken;
@@ -185,13 +185,13 @@ made_durable start c s s' core room phase size durable f table seq failed decisi
         refl,
         (
           ap effects_in decisions
-              ∙ (sym (effects_of-fit s.table change.decisions way.legal.continues.fit)
+              ∙ (sym (laws.effects s.table change.decisions way.legal.continues.fit)
               ∙ (ap (effects_of s.table) commands ∙ ap (λ t. effects_of t c.flying) f.table)),
           settled,
         ),
       );
       healthy = failed ∙ f.healthy;
-      survives = λ image p. (c.settled ++ c.flying, refl, holds_ahead start c.settled c.flying s change size f.table f.seq way commands image (images image p));
+      survives = λ image p. (c.settled ++ c.flying, refl, holds_ahead laws start c.settled c.flying s change size f.table f.seq way commands image (images image p));
     }
 
 -- the answer to a call that succeeded, and to one that failed

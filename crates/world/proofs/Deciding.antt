@@ -1,16 +1,17 @@
 -- What a course decides is what its core decides.
 use Rattle.std.proofs.Common.{◌≡◌, ◌∙◌, ◌+◌, ℕ, [], ◌∷◌, ◌++◌, length, ◌&&◌, cond, nat_lt, Option, Some, None, Result, Ok, Err, sym, ap, subst, arith, append_assoc, length-append}
-use Rattle.std.specs.Option.{MatchOption}
-use Rattle.std.specs.Result.{MatchResult}
+use Rattle.std.specs.Result.{OnErr}
 use Rattle.std.proofs.lemmas.List.{length-map, map-append}
+use Rattle.lw_types.specs.Answer.{Answers}
 use Rattle.lw_types.specs.declared.refusal.Refusal.{Refusal}
-use Rattle.lw_types.specs.declared.refusal.Refusal.TheVariants.{OutOfMemory, Backlog}
+use Rattle.lw_types.specs.declared.refusal.Refusal.TheVariants.{Backlog}
 use Rattle.devices.specs.declared.command.Command.{Command}
 use Rattle.sessions.specs.Table.{TableState, Step, folded, step}
 use Rattle.sessions.specs.declared.decision.Decision.{Decision}
-use Rattle.sessions.proofs.Runs.{folded-fit, folded-append}
-use Rattle.session_core.specs.State.{CoreState, IsLawful, now_of, last_number, MOST_UNTAKEN, LAST_NUMBER}
-use Rattle.session_core.specs.Events.{Makes, Stays, Turns, wanted as core_wanted}
+use Rattle.world.specs.Folding.{RunLaws}
+use Rattle.session_core.specs.declared.decisions.TheConstants.{MOST_UNTAKEN, LAST_NUMBER}
+use Rattle.session_core.specs.State.{CoreState, IsLawful, now_of, last_number}
+use Rattle.session_core.specs.Events.{Makes, Stays, Turns, verdict_of, wanted as core_wanted}
 use Rattle.session_core.specs.declared.turn.Turn.{Turn}
 use Rattle.store.specs.State.{StoreState}
 use Rattle.world.specs.declared.commit.Commit.{Commit}
@@ -18,10 +19,13 @@ use Rattle.world.specs.Course.{Course, decided, turned}
 use Rattle.world.specs.Answers.{IsTurn, now, wanted}
 use Rattle.world.specs.Follows.{IsLife, taken}
 
+not_refused : (why : Refusal) → ◌≡◌ {A = Result (Unit {0}) Refusal} (Ok tt) (Err why) → ⊥
+not_refused why h = cc
+
 pub decided_is : (c : Course) → taken c ++ c.untaken ≡ decided c
 decided_is c = append_assoc c.settled (c.flying ++ c.given_up) c.untaken ∙ ap (λ l. c.settled ++ l) (append_assoc c.flying c.given_up c.untaken)
 
-module _ (start : TableState) (c : Course) (s : StoreState) (core : CoreState) (commit : Commit) (lawful : IsLawful core) (f : IsLife start c s core commit) where
+module _ (laws : RunLaws) (start : TableState) (c : Course) (s : StoreState) (core : CoreState) (commit : Commit) (lawful : IsLawful core) (f : IsLife start c s core commit) where
   pub waiting : length core.log ≡ length c.untaken
   waiting = sym (length-map core.log (λ (d : Decision). d.command)) ∙ ap length f.untaken
 
@@ -33,9 +37,9 @@ module _ (start : TableState) (c : Course) (s : StoreState) (core : CoreState) (
 
   pub now_is : now_of core ≡ now start c
   now_is =
-      sym (folded-fit core.base core.log lawful.continues.fit)
+      sym (laws.folding core.base core.log lawful.continues.fit)
       ∙ (ap (folded core.base) f.untaken
-      ∙ (ap (λ t. folded t c.untaken) f.base ∙ (sym (folded-append start (taken c) c.untaken) ∙ ap (folded start) (decided_is c))))
+      ∙ (ap (λ t. folded t c.untaken) f.base ∙ (sym (laws.joined start (taken c) c.untaken) ∙ ap (folded start) (decided_is c))))
 
   wanted_is : (command : Command) → core_wanted core command ≡ wanted start c command
   wanted_is command =
@@ -64,26 +68,35 @@ module _ (start : TableState) (c : Course) (s : StoreState) (core : CoreState) (
   same : (new : CoreState) → new ≡ core → IsLife start c s new commit
   same new is = subst (λ n. IsLife start c s n commit) (sym is) f
 
-  ok_turn : (command : Command) (st : Step) (new : CoreState) (from to : ℕ) (refused : Option Refusal) → from ≡ core.made
-      → MatchOption refused ((to ≡ from + 1) × Makes core command st new) (λ e. (e ≡ OutOfMemory) × Stays core (record { from = from; to = to; refused = refused }) new)
-      → IsTurn c (Ok st) (record { from = from; to = to; refused = refused }) × IsLife start (turned c command refused) s new commit
-  ok_turn command st new from to None at (up, makes) = (record { from = at ∙ f.made; answer = up }, made command st new makes)
-  ok_turn command st new from to (Some e) at (memory, stays) = (record { from = at ∙ f.made; answer = (memory, stays.none) }, same new stays.same)
+  -- a command that was to be decided
+  ok_turn : (command : Command) (st : Step) (new : CoreState) (turn : Turn) (refused : Option Refusal)
+      → Answers (Ok st) (λ st _. (turn.to ≡ turn.from + 1) × Makes core command st new) (verdict_of refused) → OnErr (verdict_of refused) (Stays core turn new)
+      → Answers (Ok st) (λ _ _. turn.to ≡ turn.from + 1) (verdict_of refused) × OnErr (verdict_of refused) (turn.to ≡ turn.from)
+      × IsLife start (turned c command refused) s new commit
+  ok_turn command st new turn None decided kept = (decided.0, kept, made command st new decided.1)
+  ok_turn command st new turn (Some e) decided kept = (decided, kept.none, same new kept.same)
+
+  -- and one that was to be refused
+  no_turn : (command : Command) (why : Refusal) (new : CoreState) (turn : Turn) (refused : Option Refusal)
+      → ◌≡◌ {A = Result (Unit {0}) Refusal} (verdict_of refused) (Err why) → OnErr (verdict_of refused) (Stays core turn new)
+      → OnErr (verdict_of refused) (turn.to ≡ turn.from) × IsLife start (turned c command refused) s new commit
+  no_turn command why new turn None refusal kept = absurd (not_refused why refusal)
+  no_turn command why new turn (Some e) refusal kept = (kept.none, same new kept.same)
 
   any_turn : (command : Command) (new : CoreState) (turn : Turn) (w : Result Step Refusal) → turn.from ≡ core.made
-      → MatchResult w
-      (λ st. MatchOption turn.refused ((turn.to ≡ turn.from + 1) × Makes core command st new) (λ e. (e ≡ OutOfMemory) × Stays core turn new))
-      (λ e. (turn.refused ≡ Some e) × Stays core turn new)
+      → Answers w (λ st _. (turn.to ≡ turn.from + 1) × Makes core command st new) (verdict_of turn.refused)
+      → OnErr (verdict_of turn.refused) (Stays core turn new)
       → IsTurn c w turn × IsLife start (turned c command turn.refused) s new commit
-  any_turn command new turn (Ok st) at outcome = ok_turn command st new turn.from turn.to turn.refused at outcome
-  any_turn command new turn (Err e) at (refused, stays) = (
-    record { from = at ∙ f.made; answer = (refused, stays.none) },
-    subst (λ r. IsLife start (turned c command r) s new commit) (sym refused) (same new stays.same),
-  )
+  any_turn command new turn (Ok st) at decided kept =
+      let found = ok_turn command st new turn turn.refused decided kept in
+      (record { from = at ∙ f.made; decided = found.0; refused = found.1 }, found.2)
+  any_turn command new turn (Err e) at decided kept =
+      let found = no_turn command e new turn turn.refused decided kept in
+      (record { from = at ∙ f.made; decided = decided; refused = found.0 }, found.1)
 
   -- the turn of a command of the core is one of the course
   pub turn_is : (command : Command) (turn : Turn) (new : CoreState) → Turns core command turn new
       → IsTurn c (wanted start c command) turn × IsLife start (turned c command turn.refused) s new commit
   turn_is command turn new turns =
       subst (λ w. IsTurn c w turn × IsLife start (turned c command turn.refused) s new commit) (wanted_is command)
-      (any_turn command new turn (core_wanted core command) turns.from turns.outcome)
+      (any_turn command new turn (core_wanted core command) turns.from turns.decided turns.refused)

@@ -4,12 +4,10 @@ use Rattle.std.proofs.lemmas.List.{append-nil}
 use Rattle.lw_types.specs.declared.refusal.Refusal.{Refusal}
 use Rattle.lw_types.specs.declared.refusal.Refusal.TheVariants.{OutOfStep}
 use Rattle.disk.specs.declared.sim.Image.{Image}
-use Rattle.devices.specs.declared.command.Provisioning.{Provisioning}
-use Rattle.devices.specs.declared.command.Command.TheVariants as commands
 use Rattle.devices.specs.declared.command.Command.{Command}
 use Rattle.devices.specs.declared.effect.Effect.{Effect}
 use Rattle.sessions.specs.Table.{TableState, effects_of}
-use Rattle.sessions.proofs.Runs.{effects_of-append}
+use Rattle.world.specs.Folding.{RunLaws}
 use Rattle.world.specs.declared.answer.Answer.{Answer}
 use Rattle.world.specs.declared.answer.Answer.TheVariants as answers
 use Rattle.world.specs.declared.step.Step.{Step}
@@ -31,9 +29,9 @@ turn_keeps : (start : TableState) (c : Course) (command : Command) (refused : Op
 turn_keeps start c command None = record { emitted = refl; is_open = refl; once = λ h. h; complete = λ h. h; grown = ([], sym (append-nil c.left)) }
 turn_keeps start c command (Some e) = record { emitted = refl; is_open = refl; once = λ h. h; complete = λ h. h; grown = ([], sym (append-nil c.left)) }
 
-event_keeps : (start : TableState) (c : Course) (moment : ℕ) (p : Provisioning) (answer : Answer) → Keeps start c (after start c (steps.Provision moment p) answer)
-event_keeps start c moment p (answers.Turn turn) = turn_keeps start c (commands.Provision p) turn.refused
-event_keeps start c moment p answer = record { emitted = refl; is_open = refl; once = λ h. h; complete = λ h. h; grown = ([], sym (append-nil c.left)) }
+request_keeps : (start : TableState) (c : Course) (moment : ℕ) (command : Command) (answer : Answer) → Keeps start c (after start c (steps.Request moment command) answer)
+request_keeps start c moment command (answers.Turn turn) = turn_keeps start c command turn.refused
+request_keeps start c moment command answer = record { emitted = refl; is_open = refl; once = λ h. h; complete = λ h. h; grown = ([], sym (append-nil c.left)) }
 
 refusal_keeps : (start : TableState) (c : Course) (most : ℕ) (e : Refusal) → Keeps start c (after start c (steps.Take most) (answers.Refused e))
 refusal_keeps start c most OutOfStep = record { emitted = refl; is_open = refl; once = λ h. h; complete = λ h. h; grown = ([], sym (append-nil c.left)) }
@@ -50,27 +48,27 @@ call_keeps start c answers.Called = record { emitted = refl; is_open = refl; onc
 call_keeps start c (answers.Refused e) = record { emitted = refl; is_open = refl; once = λ h. h; complete = λ h. h; grown = ([], sym (append-nil c.left)) }
 call_keeps start c answer = record { emitted = refl; is_open = refl; once = λ h. h; complete = λ h. h; grown = ([], sym (append-nil c.left)) }
 
-release_keeps : (start : TableState) (c : Course) (answer : Answer) → Keeps start c (after start c steps.Release answer)
-release_keeps start c (answers.Released n) = record {
+release_keeps : (laws : RunLaws) (start : TableState) (c : Course) (answer : Answer) → Keeps start c (after start c steps.Release answer)
+release_keeps laws start c (answers.Released n) = record {
   emitted = refl;
   is_open = refl;
   once = λ h.
-      subst (IsSubsequence (c.left ++ effects_under_way start c)) (sym (effects_of-append start c.settled c.flying))
+      subst (IsSubsequence (c.left ++ effects_under_way start c)) (sym (laws.joined_effects start c.settled c.flying))
       (extended c.left (effects_of start c.settled) (effects_under_way start c) h);
-  complete = λ h. ap (λ l. l ++ effects_under_way start c) h ∙ sym (effects_of-append start c.settled c.flying);
+  complete = λ h. ap (λ l. l ++ effects_under_way start c) h ∙ sym (laws.joined_effects start c.settled c.flying);
   grown = (effects_under_way start c, refl);
 }
-release_keeps start c answer = record { emitted = refl; is_open = refl; once = λ h. h; complete = λ h. h; grown = ([], sym (append-nil c.left)) }
+release_keeps laws start c answer = record { emitted = refl; is_open = refl; once = λ h. h; complete = λ h. h; grown = ([], sym (append-nil c.left)) }
 
-pub step_keeps : (start : TableState) (c : Course) (step : Step) (answer : Answer) → IsOwn step → Keeps start c (after start c step answer)
-step_keeps start c (steps.Provision moment p) answer own = event_keeps start c moment p answer
-step_keeps start c (steps.Take most) answer own = take_keeps start c most answer
-step_keeps start c steps.Call answer own = call_keeps start c answer
-step_keeps start c steps.Release answer own = release_keeps start c answer
-step_keeps start c steps.Fail answer own = record { emitted = refl; is_open = refl; once = λ h. h; complete = λ h. h; grown = ([], sym (append-nil c.left)) }
-step_keeps start c steps.List answer own = record { emitted = refl; is_open = refl; once = λ h. h; complete = λ h. h; grown = ([], sym (append-nil c.left)) }
-step_keeps start c steps.Emit answer own = absurd own
-step_keeps start c (steps.Crash image) answer own = absurd own
+pub step_keeps : (laws : RunLaws) (start : TableState) (c : Course) (step : Step) (answer : Answer) → IsOwn step → Keeps start c (after start c step answer)
+step_keeps laws start c (steps.Request moment command) answer own = request_keeps start c moment command answer
+step_keeps laws start c (steps.Take most) answer own = take_keeps start c most answer
+step_keeps laws start c steps.Call answer own = call_keeps start c answer
+step_keeps laws start c steps.Release answer own = release_keeps laws start c answer
+step_keeps laws start c steps.Fail answer own = record { emitted = refl; is_open = refl; once = λ h. h; complete = λ h. h; grown = ([], sym (append-nil c.left)) }
+step_keeps laws start c steps.List answer own = record { emitted = refl; is_open = refl; once = λ h. h; complete = λ h. h; grown = ([], sym (append-nil c.left)) }
+step_keeps laws start c steps.Emit answer own = absurd own
+step_keeps laws start c (steps.Crash image) answer own = absurd own
 
 -- the answer to a step of a life that is open
 pub right_open : (start : TableState) (c : Course) (step : Step) (answer : Answer) → c.is_open ≡ true → AnswersOpen start c step answer → IsRight start c step answer

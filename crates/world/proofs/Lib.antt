@@ -5,5 +5,5 @@ pub mod Causes
 pub mod Subsequences
 pub mod Opening
 pub mod Going
-pub mod Runs
+pub mod Stepping
 pub mod OneLife

@@ -8,6 +8,7 @@ use Rattle.lw_types.specs.declared.refusal.Refusal.TheVariants.{OutOfStep}
 use Rattle.lw_types.specs.Refusal.{number_of}
 use Rattle.devices.specs.declared.command.Command.{Command}
 use Rattle.devices.specs.declared.effect.Effect.{Effect}
+use Rattle.world.specs.Folding.{RunLaws}
 use Rattle.sessions.specs.Table.{TableState, effects_of}
 use Rattle.gateway_wire.specs.declared.emission.Emission.{Emission}
 use Rattle.gateway_wire.specs.Emission.{emission}
@@ -15,8 +16,6 @@ use Rattle.world.specs.declared.answer.Answer.{Answer}
 use Rattle.world.specs.declared.answer.Answer.TheVariants as answers
 use Rattle.world.specs.declared.step.Step.{Step}
 use Rattle.world.specs.declared.step.Step.TheVariants as steps
-use Rattle.devices.specs.declared.command.Provisioning.{Provisioning}
-use Rattle.devices.specs.declared.command.Command.TheVariants as commands
 use Rattle.world.specs.Course.{Course, Stage, decided, turned, after, course_of, beginning, effects_under_way}
 use Rattle.world.specs.Course.Stage.{Rest, Begun, Written, Synced, Opened, Durable, Stopped, Unsure}
 use Rattle.lw_types.specs.declared.refusal.Refusal.TheVariants as refusals
@@ -75,7 +74,7 @@ list_quiet e listed quiet (inl h) = apart e listed quiet h
 list_quiet e listed quiet (inr h) = apart e (answers.Refused refusals.OutOfMemory) refl h
 
 quiet : (start : TableState) (c : Course) (step : Step) (e : Emission) → IsOwn step → AnswersOpen start c step (answers.Emitted e) → ⊥
-quiet start c (steps.Provision moment p) e own h = h
+quiet start c (steps.Request moment command) e own h = h
 quiet start c (steps.Take most) e own h = take_quiet c.stage c most e h
 quiet start c steps.Call e own h = call_quiet c.stage e h
 quiet start c steps.Fail e own h = apart e answers.Armed refl h
@@ -85,10 +84,10 @@ quiet start c steps.Emit e own h = own
 quiet start c (steps.Crash image) e own h = own
 
 -- a step of the life alone
-own_lives : (start : TableState) (c : Course) (said : List Emission) (step : Step) (answer : Answer) → IsOwn step → told_by answer ≡ [] → Lives start c said
+own_lives : (laws : RunLaws) (start : TableState) (c : Course) (said : List Emission) (step : Step) (answer : Answer) → IsOwn step → told_by answer ≡ [] → Lives start c said
     → Lives start (after start c step answer) (said ++ told_by answer)
-own_lives start c said step answer own silent lives =
-    let keeps = step_keeps start c step answer own in
+own_lives laws start c said step answer own silent lives =
+    let keeps = step_keeps laws start c step answer own in
     let more = keeps.grown.0 in
     let longer = ap length keeps.grown.1 ∙ length-append c.left more in
     let same = keeps.emitted in
@@ -141,28 +140,28 @@ calm step rest h = (tt, h)
 open_right : (start : TableState) (c : Course) (step : Step) (answer : Answer) → c.is_open ≡ true → IsRight start c step answer → AnswersOpen start c step answer
 open_right start c step answer is right = subst (λ b. MatchBool b (AnswersOpen start c step answer) (AnswersClosed start c step answer)) is right
 
-step_lives : (start : TableState) (c : Course) (said : List Emission) (step : Step) (answer : Answer) → IsCalm step → AnswersOpen start c step answer → Lives start c said
+step_lives : (laws : RunLaws) (start : TableState) (c : Course) (said : List Emission) (step : Step) (answer : Answer) → IsCalm step → AnswersOpen start c step answer → Lives start c said
     → Lives start (after start c step answer) (said ++ told_by answer)
-step_lives start c said steps.Emit answer calm right lives = emit_lives start c said answer (slice_get c.left c.emitted) refl right lives
-step_lives start c said (steps.Crash image) answer calm right lives = absurd calm
-step_lives start c said (steps.Provision moment p) answer calm right lives =
-    own_lives start c said (steps.Provision moment p) answer tt (silent start c (steps.Provision moment p) answer tt right) lives
-step_lives start c said (steps.Take most) answer calm right lives =
-    own_lives start c said (steps.Take most) answer tt (silent start c (steps.Take most) answer tt right) lives
-step_lives start c said steps.Call answer calm right lives = own_lives start c said steps.Call answer tt (silent start c steps.Call answer tt right) lives
-step_lives start c said steps.Fail answer calm right lives = own_lives start c said steps.Fail answer tt (silent start c steps.Fail answer tt right) lives
-step_lives start c said steps.Release answer calm right lives = own_lives start c said steps.Release answer tt (silent start c steps.Release answer tt right) lives
-step_lives start c said steps.List answer calm right lives = own_lives start c said steps.List answer tt (silent start c steps.List answer tt right) lives
+step_lives laws start c said steps.Emit answer calm right lives = emit_lives start c said answer (slice_get c.left c.emitted) refl right lives
+step_lives laws start c said (steps.Crash image) answer calm right lives = absurd calm
+step_lives laws start c said (steps.Request moment command) answer calm right lives =
+    own_lives laws start c said (steps.Request moment command) answer tt (silent start c (steps.Request moment command) answer tt right) lives
+step_lives laws start c said (steps.Take most) answer calm right lives =
+    own_lives laws start c said (steps.Take most) answer tt (silent start c (steps.Take most) answer tt right) lives
+step_lives laws start c said steps.Call answer calm right lives = own_lives laws start c said steps.Call answer tt (silent start c steps.Call answer tt right) lives
+step_lives laws start c said steps.Fail answer calm right lives = own_lives laws start c said steps.Fail answer tt (silent start c steps.Fail answer tt right) lives
+step_lives laws start c said steps.Release answer calm right lives = own_lives laws start c said steps.Release answer tt (silent start c steps.Release answer tt right) lives
+step_lives laws start c said steps.List answer calm right lives = own_lives laws start c said steps.List answer tt (silent start c steps.List answer tt right) lives
 
-lives_on : (start : TableState) (c : Course) (said : List Emission) (steps : List Step) (told : List Answer) → AreRight start c steps told → HasNoCrash steps → Lives start c said
+lives_on : (laws : RunLaws) (start : TableState) (c : Course) (said : List Emission) (steps : List Step) (told : List Answer) → AreRight start c steps told → HasNoCrash steps → Lives start c said
     → Lives start (course_of start c steps told) (said ++ emitted told)
-lives_on start c said [] [] right still lives = subst (Lives start c) (sym (append-nil said)) lives
-lives_on start c said [] (a ∷ told) right still lives = absurd right
-lives_on start c said (s ∷ steps) [] right still lives = absurd right
-lives_on start c said (s ∷ steps) (a ∷ told) right still lives =
+lives_on laws start c said [] [] right still lives = subst (Lives start c) (sym (append-nil said)) lives
+lives_on laws start c said [] (a ∷ told) right still lives = absurd right
+lives_on laws start c said (s ∷ steps) [] right still lives = absurd right
+lives_on laws start c said (s ∷ steps) (a ∷ told) right still lives =
     let first = calm s steps still in
-    let next = step_lives start c said s a first.0 (open_right start c s a lives.is_open right.0) lives in
-    let rest = lives_on start (after start c s a) (said ++ told_by a) steps told right.1 first.1 next in
+    let next = step_lives laws start c said s a first.0 (open_right start c s a lives.is_open right.0) lives in
+    let rest = lives_on laws start (after start c s a) (said ++ told_by a) steps told right.1 first.1 next in
     subst (Lives start (course_of start (after start c s a) steps told)) (append_assoc said (told_by a) (emitted told) ∙ ap (λ l. said ++ l) (sym (emitted_cons a told))) rest
 
 -- what is refused has its number, and nothing else has one
@@ -186,9 +185,9 @@ turn_given : (c : Course) (command : Command) (refused : Option Refusal) → (tu
 turn_given c command None = refl
 turn_given c command (Some e) = refl
 
-event_given : (start : TableState) (c : Course) (moment : ℕ) (p : Provisioning) (answer : Answer) → (after start c (steps.Provision moment p) answer).given_up ≡ c.given_up
-event_given start c moment p (answers.Turn turn) = turn_given c (commands.Provision p) turn.refused
-event_given start c moment p answer = refl
+request_given : (start : TableState) (c : Course) (moment : ℕ) (command : Command) (answer : Answer) → (after start c (steps.Request moment command) answer).given_up ≡ c.given_up
+request_given start c moment command (answers.Turn turn) = turn_given c command turn.refused
+request_given start c moment command answer = refl
 
 call_given : (start : TableState) (c : Course) (answer : Answer) → (after start c steps.Call answer).given_up ≡ c.given_up
 call_given start c answers.Called = refl
@@ -217,7 +216,7 @@ take_given start c most answer rest right up none = none
 
 given_stays : (start : TableState) (c : Course) (step : Step) (answer : Answer) (rest : List Answer) → IsCalm step → AnswersOpen start c step answer
     → NoneGivenUp (answer ∷ rest) → c.given_up ≡ [] → (after start c step answer).given_up ≡ []
-given_stays start c (steps.Provision moment p) answer rest calm right up none = event_given start c moment p answer ∙ none
+given_stays start c (steps.Request moment command) answer rest calm right up none = request_given start c moment command answer ∙ none
 given_stays start c (steps.Take most) answer rest calm right up none = take_given start c most answer rest right up none
 given_stays start c steps.Call answer rest calm right up none = call_given start c answer ∙ none
 given_stays start c steps.Fail answer rest calm right up none = none
@@ -245,30 +244,30 @@ emit_open : (start : TableState) (c : Course) (answer : Answer) → (after start
 emit_open start c (answers.Emitted e) = refl
 emit_open start c answer = refl
 
-stays_open : (start : TableState) (c : Course) (step : Step) (answer : Answer) → IsCalm step → c.is_open ≡ true → (after start c step answer).is_open ≡ true
-stays_open start c steps.Emit answer calm is = emit_open start c answer ∙ is
-stays_open start c (steps.Crash image) answer calm is = absurd calm
-stays_open start c (steps.Provision moment p) answer calm is = (step_keeps start c (steps.Provision moment p) answer tt).is_open ∙ is
-stays_open start c (steps.Take most) answer calm is = (step_keeps start c (steps.Take most) answer tt).is_open ∙ is
-stays_open start c steps.Call answer calm is = (step_keeps start c steps.Call answer tt).is_open ∙ is
-stays_open start c steps.Fail answer calm is = (step_keeps start c steps.Fail answer tt).is_open ∙ is
-stays_open start c steps.Release answer calm is = (step_keeps start c steps.Release answer tt).is_open ∙ is
-stays_open start c steps.List answer calm is = (step_keeps start c steps.List answer tt).is_open ∙ is
+stays_open : (laws : RunLaws) (start : TableState) (c : Course) (step : Step) (answer : Answer) → IsCalm step → c.is_open ≡ true → (after start c step answer).is_open ≡ true
+stays_open laws start c steps.Emit answer calm is = emit_open start c answer ∙ is
+stays_open laws start c (steps.Crash image) answer calm is = absurd calm
+stays_open laws start c (steps.Request moment command) answer calm is = (step_keeps laws start c (steps.Request moment command) answer tt).is_open ∙ is
+stays_open laws start c (steps.Take most) answer calm is = (step_keeps laws start c (steps.Take most) answer tt).is_open ∙ is
+stays_open laws start c steps.Call answer calm is = (step_keeps laws start c steps.Call answer tt).is_open ∙ is
+stays_open laws start c steps.Fail answer calm is = (step_keeps laws start c steps.Fail answer tt).is_open ∙ is
+stays_open laws start c steps.Release answer calm is = (step_keeps laws start c steps.Release answer tt).is_open ∙ is
+stays_open laws start c steps.List answer calm is = (step_keeps laws start c steps.List answer tt).is_open ∙ is
 
-in_step_on : (start : TableState) (c : Course) (steps : List Step) (told : List Answer) → AreRight start c steps told → HasNoCrash steps → NoneGivenUp told
+in_step_on : (laws : RunLaws) (start : TableState) (c : Course) (steps : List Step) (told : List Answer) → AreRight start c steps told → HasNoCrash steps → NoneGivenUp told
     → c.given_up ≡ [] → c.is_open ≡ true → NoneOutOfStep steps told
-in_step_on start c [] told right still up none is = tt
-in_step_on start c (s ∷ steps) [] right still up none is = absurd right
-in_step_on start c (s ∷ steps) (a ∷ told) right still up none is =
+in_step_on laws start c [] told right still up none is = tt
+in_step_on laws start c (s ∷ steps) [] right still up none is = absurd right
+in_step_on laws start c (s ∷ steps) (a ∷ told) right still up none is =
     let first = calm s steps still in
     let right0 = open_right start c s a is right.0 in
     step_in_step start c s a steps told right0 none
-    (in_step_on start (after start c s a) steps told right.1 first.1 (none_before a told up) (given_stays start c s a told first.0 right0 up none)
-    (stays_open start c s a first.0 is))
+    (in_step_on laws start (after start c s a) steps told right.1 first.1 (none_before a told up) (given_stays start c s a told first.0 right0 up none)
+    (stays_open laws start c s a first.0 is))
 
 -- what a new world gave, when no step was a crash
-pub one_life : (start : TableState) (steps : List Step) (told : List Answer) → AreRight start beginning steps told → HasNoCrash steps
+pub one_life : (laws : RunLaws) (start : TableState) (steps : List Step) (told : List Answer) → AreRight start beginning steps told → HasNoCrash steps
     → IsOneLife start (course_of start beginning steps told) steps told
-one_life start steps told right still =
-    let lives = lives_on start beginning [] steps told right still (record { released = refl; emitted = refl; within = omega arith; is_open = refl }) in
-    record { released = lives.released; emitted = lives.emitted; in_step = λ up. in_step_on start beginning steps told right still up refl refl }
+one_life laws start steps told right still =
+    let lives = lives_on laws start beginning [] steps told right still (record { released = refl; emitted = refl; within = omega arith; is_open = refl }) in
+    record { released = lives.released; emitted = lives.emitted; in_step = λ up. in_step_on laws start beginning steps told right still up refl refl }

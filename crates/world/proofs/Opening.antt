@@ -9,7 +9,7 @@ use Rattle.lw_types.specs.Refusal.{number_of}
 use Rattle.devices.specs.declared.command.Command.{Command}
 use Rattle.devices.specs.declared.effect.Effect.{Effect}
 use Rattle.sessions.specs.Table.{TableState, folded, effects_of}
-use Rattle.sessions.proofs.Runs.{effects_of-append}
+use Rattle.world.specs.Folding.{RunLaws}
 use Rattle.session_core.specs.State.{opened}
 use Rattle.store.specs.Image.{HoldsTable}
 use Rattle.store.specs.State.{StoreState, IsSettled}
@@ -51,13 +51,13 @@ kept_front c kept leaves =
     ]
 
 -- it holds every command of which an effect has left
-pub kept_once : (start : TableState) (c : Course) (left : List Effect) (kept : List Command) → Leaves c kept → IsSubsequence left (effects_of start c.settled)
+pub kept_once : (laws : RunLaws) (start : TableState) (c : Course) (left : List Effect) (kept : List Command) → Leaves c kept → IsSubsequence left (effects_of start c.settled)
     → IsSubsequence left (effects_of start kept)
-kept_once start c left kept leaves once =
+kept_once laws start c left kept leaves once =
     elim (either c.stage c.settled c.flying kept leaves) [
       | inl is ↦ subst (λ k. IsSubsequence left (effects_of start k)) (sym is) once
       | inr is ↦ subst (λ k. IsSubsequence left (effects_of start k)) (sym is)
-          (subst (IsSubsequence left) (sym (effects_of-append start c.settled c.flying))
+          (subst (IsSubsequence left) (sym (laws.joined_effects start c.settled c.flying))
           (longer left (effects_of start c.settled) (effects_of (folded start c.settled) c.flying) once))
     ]
 
@@ -125,11 +125,11 @@ crash_emitted start c image (answers.Opened devices seq) right = refl
 crash_emitted start c image (answers.Refused e) right = refl
 crash_emitted start c image answer right = absurd right
 
-pub crash_once : (start : TableState) (c : Course) (image : Image) (answer : Answer) → AnswersCrash start c answer
+pub crash_once : (laws : RunLaws) (start : TableState) (c : Course) (image : Image) (answer : Answer) → AnswersCrash start c answer
     → IsSubsequence c.left (effects_of start c.settled)
     → IsSubsequence (after start c (steps.Crash image) answer).left (effects_of start (after start c (steps.Crash image) answer).settled)
-crash_once start c image (answers.Opened devices seq) (kept, leaves, seq_is, count) once =
+crash_once laws start c image (answers.Opened devices seq) (kept, leaves, seq_is, count) once =
     let front : kept ≡ take seq (decided c) = sym (ap (λ n. take n (decided c)) seq_is ∙ kept_front c kept leaves) in
-    subst (λ k. IsSubsequence c.left (effects_of start k)) front (kept_once start c c.left kept leaves once)
-crash_once start c image (answers.Refused e) right once = once
-crash_once start c image answer right once = absurd right
+    subst (λ k. IsSubsequence c.left (effects_of start k)) front (kept_once laws start c c.left kept leaves once)
+crash_once laws start c image (answers.Refused e) right once = once
+crash_once laws start c image answer right once = absurd right

@@ -7,7 +7,7 @@ use Rattle.devices.specs.declared.command.Command.{Command}
 use Rattle.sessions.specs.Table.{TableState, folded}
 use Rattle.sessions.specs.Decision.{ContinueAll, AreNumbered, IsLegalContinuation, applied_all, commands_of}
 use Rattle.sessions.specs.declared.decision.Decision.{Decision}
-use Rattle.sessions.proofs.Runs.{folded-fit, folded-append, ContinueAll-split}
+use Rattle.world.specs.Folding.{RunLaws}
 use Rattle.session_core.specs.State.{CoreState, IsLawful}
 use Rattle.session_core.specs.Events.{taken_from}
 use Rattle.store.specs.State.{StoreState}
@@ -57,7 +57,7 @@ behind : (a g x : List Command) → g ≡ [] → (a ++ g) ++ x ≡ a ++ (x ++ g)
 behind a g x none = subst (λ g. (a ++ g) ++ x ≡ a ++ (x ++ g)) (sym none) (append_assoc a [] x ∙ ap (λ l. a ++ l) (sym (append-nil x)))
 
 -- At rest. The decisions that are taken are those of the commands that are taken.
-module _ (start : TableState) (c : Course) (s : StoreState) (core : CoreState) (lawful : IsLawful core) (most : ℕ)
+module _ (laws : RunLaws) (start : TableState) (c : Course) (s : StoreState) (core : CoreState) (lawful : IsLawful core) (most : ℕ)
     (f : IsLife start (record c { stage = Rest; flying = [] }) s core commits.Idle) where
   commands : commands_of (take most core.log) ≡ take most c.untaken
   commands = sym (take-map (λ (d : Decision). d.command) most core.log) ∙ ap (take most) f.untaken
@@ -71,13 +71,13 @@ module _ (start : TableState) (c : Course) (s : StoreState) (core : CoreState) (
   continues : ContinueAll core.base (core.opening + core.taken) (take most core.log)
   continues =
       let P : List Decision → Type 0 = λ l. ContinueAll core.base (core.opening + core.taken) l in
-      (ContinueAll-split core.base (core.opening + core.taken) (take most core.log) (drop most core.log) (subst P (sym (take-append-drop most core.log)) lawful.continues)).0
+      (laws.split core.base (core.opening + core.taken) (take most core.log) (drop most core.log) (subst P (sym (take-append-drop most core.log)) lawful.continues)).0
 
   base : applied_all core.base (take most core.log) ≡ folded start ((c.settled ++ c.given_up) ++ take most c.untaken)
   base =
-      sym (folded-fit core.base (take most core.log) continues.fit)
+      sym (laws.folding core.base (take most core.log) continues.fit)
       ∙ (ap (folded core.base) commands
-      ∙ (ap (λ t. folded t (take most c.untaken)) f.base ∙ sym (folded-append start (c.settled ++ c.given_up) (take most c.untaken))))
+      ∙ (ap (λ t. folded t (take most c.untaken)) f.base ∙ sym (laws.joined start (c.settled ++ c.given_up) (take most c.untaken))))
 
   number : core.opening + (core.taken + length (take most core.log)) ≡ length ((c.settled ++ c.given_up) ++ take most c.untaken)
   number =

@@ -1,12 +1,13 @@
 -- Which answers are right in a course.
-use Rattle.std.specs.Prelude.{◌≡◌, ◌≢◌, ◌+◌, ◌⊎◌, ℕ, List, [], ◌∷◌, ◌++◌, length, take, nat_lt, ◌&&◌, if◌then◌else◌, slice_get, Some, Result, Err, MatchBool, MatchResult}
+use Rattle.std.specs.Prelude.{◌≡◌, ◌≢◌, ◌+◌, ◌⊎◌, ℕ, List, [], ◌∷◌, ◌++◌, length, take, nat_lt, ◌&&◌, if◌then◌else◌, slice_get, Result, Err, OnErr, MatchBool}
 use Rattle.std.specs.Option.{MatchOption}
+use Rattle.lw_types.specs.Answer.{Answers}
 use Rattle.lw_types.specs.declared.refusal.Refusal.{Refusal}
 use Rattle.lw_types.specs.declared.refusal.Refusal.TheVariants as refusals
 use Rattle.devices.specs.declared.command.Command.{Command}
-use Rattle.devices.specs.declared.command.Command.TheVariants as commands
 use Rattle.sessions.specs.Table.{TableState, folded, step, Step as TableStep}
-use Rattle.session_core.specs.State.{MOST_UNTAKEN, LAST_NUMBER}
+use Rattle.session_core.specs.declared.decisions.TheConstants.{MOST_UNTAKEN, LAST_NUMBER}
+use Rattle.session_core.specs.Events.{verdict_of}
 use Rattle.session_core.specs.declared.turn.Turn.{Turn}
 use Rattle.gateway_wire.specs.Emission.{emission}
 use Rattle.world.specs.declared.step.Step.{Step}
@@ -20,17 +21,16 @@ use Rattle.world.specs.Course.Stage.{Rest, Begun, Written, Synced, Opened, Durab
 abbrev pub now : TableState → Course → TableState
 now start c = folded start (decided c)
 
--- what a command is to get: its step, while fewer than 4,096 wait and a number is left
+-- what a command is to get: its step, while there is room for one more that waits and a number is left
 abbrev pub wanted : TableState → Course → Command → Result TableStep Refusal
 wanted start c command =
     if nat_lt (length c.untaken) MOST_UNTAKEN && nat_lt (length (decided c)) LAST_NUMBER then step (now start c) command else Err refusals.Backlog
 
--- the turn of one command: it was decided, or refused as it had to be, or memory ran out
+-- the turn of one command: it was decided, or refused exactly as it had to be
 pub record IsTurn (c : Course) (outcome : Result TableStep Refusal) (turn : Turn) : Type 0 where
   pub from : turn.from ≡ c.made
-  pub answer : MatchResult outcome
-      (λ _. MatchOption turn.refused (turn.to ≡ turn.from + 1) (λ e. (e ≡ refusals.OutOfMemory) × (turn.to ≡ turn.from)))
-      (λ e. (turn.refused ≡ Some e) × (turn.to ≡ turn.from))
+  pub decided : Answers outcome (λ _ _. turn.to ≡ turn.from + 1) (verdict_of turn.refused)
+  pub refused : OnErr (verdict_of turn.refused) (turn.to ≡ turn.from)
 
 abbrev pub AnswersEvent : TableState → Course → Command → Answer → Type 0
 AnswersEvent start c command (answers.Turn turn) = IsTurn c (wanted start c command) turn
@@ -98,7 +98,7 @@ AnswersCrash start c answer = ⊥
 
 -- while the store is open
 abbrev pub AnswersOpen : TableState → Course → Step → Answer → Type 0
-AnswersOpen start c (steps.Provision moment p) answer = AnswersEvent start c (commands.Provision p) answer
+AnswersOpen start c (steps.Request moment command) answer = AnswersEvent start c command answer
 AnswersOpen start c (steps.Take most) answer = AnswersTake c.stage c most answer
 AnswersOpen start c steps.Call answer = AnswersCall c.stage answer
 AnswersOpen start c steps.Fail answer = answer ≡ answers.Armed

@@ -4,7 +4,6 @@ use Rattle.std.specs.Prelude.{ℕ, ◌+◌, Bool, true, false, List, [], ◌∷�
 use Rattle.lw_types.specs.declared.refusal.Refusal.{Refusal}
 use Rattle.lw_types.specs.declared.refusal.Refusal.TheVariants.{OutOfStep}
 use Rattle.devices.specs.declared.command.Command.{Command}
-use Rattle.devices.specs.declared.command.Command.TheVariants as commands
 use Rattle.devices.specs.declared.effect.Effect.{Effect}
 use Rattle.sessions.specs.Table.{TableState, folded, effects_of}
 use Rattle.world.specs.declared.step.Step.{Step}
@@ -130,7 +129,7 @@ closed c = record c { emitted = length c.left; is_open = false }
 
 -- the course after a step that was answered so; `start` is the table as it was formatted
 abbrev pub after : TableState → Course → Step → Answer → Course
-after start c (steps.Provision moment p) (answers.Turn turn) = turned c (commands.Provision p) turn.refused
+after start c (steps.Request moment command) (answers.Turn turn) = turned c command turn.refused
 after start c (steps.Take most) (answers.Taken n) = begun c most
 after start c (steps.Take most) (answers.GivenUp n) = gave_up c most
 after start c (steps.Take most) (answers.Refused OutOfStep) = gave_up c most

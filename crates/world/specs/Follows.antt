@@ -18,7 +18,7 @@ use Rattle.world.specs.declared.commit.Commit.TheVariants as commits
 use Rattle.world.specs.declared.life.Life.{Life}
 use Rattle.world.specs.declared.place.Place.{Place}
 use Rattle.world.specs.declared.place.Place.TheVariants.{Open, Closed, Crashing}
-use Rattle.world.specs.declared.lives.World.{World}
+use Rattle.world.specs.declared.world.World.{World}
 use Rattle.world.specs.declared.step.Step.{Step}
 use Rattle.world.specs.declared.answer.Answer.{Answer}
 use Rattle.world.specs.Course.{Course, Stage, effects_under_way, after, course_of}

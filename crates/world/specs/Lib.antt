@@ -4,4 +4,4 @@ pub mod Course
 pub mod Answers
 pub mod Follows
 pub mod OneLife
-pub mod Plain
+pub mod Folding

@@ -4,12 +4,13 @@ use Rattle.disk.specs.State.{State}
 use Rattle.store.specs.Commit.{IsUnderWay}
 use Rattle.store.specs.Phases.{begun_change, begun_size, written_change, written_size, synced_change, synced_size, opened_change, opened_size}
 use Rattle.store.specs.State.{StoreState, seen, disk_of}
+use Rattle.flusher.specs.declared.room.TheConstants.{MOST_EFFECTS}
 use Rattle.world.specs.declared.commit.Commit.{Commit}
 use Rattle.world.specs.declared.commit.Commit.TheVariants.{Idle, Failed, Begun, Written, BodySynced, GateWritten, Durable}
 use Rattle.world.specs.declared.life.Life.{Life}
 use Rattle.world.specs.declared.place.Place.{Place}
 use Rattle.world.specs.declared.place.Place.TheVariants.{Open, Closed, Crashing}
-use Rattle.world.specs.declared.lives.World.{World}
+use Rattle.world.specs.declared.world.World.{World}
 
 -- a batch on its way is a legal continuation of the store's table, and there is room for it
 abbrev pub IsOnItsWay : StoreState → Commit → Type 0
@@ -28,7 +29,7 @@ IsSoundLife state life = IsOnItsWay (seen state life.store) life.commit
 abbrev pub HasRoom : Commit → ℕ → ℕ → Type 0
 HasRoom Idle there fit = Unit {0}
 HasRoom Failed there fit = Unit {0}
-HasRoom commit there fit = there + 256 ≤ fit
+HasRoom commit there fit = there + MOST_EFFECTS ≤ fit
 
 abbrev pub IsSoundPlace : {D : Type 0} {g : _} → (D → State) → Place D g → ℕ → ℕ → Type 0
 IsSoundPlace state (Open life) there fit = IsSoundLife state life × HasRoom life.commit there fit

@@ -4,19 +4,14 @@
 
 mod answer;
 mod commit;
+pub mod laws;
 mod life;
-mod lives;
-mod living;
-#[cfg(test)]
-mod model;
 mod place;
-mod running;
+mod runs;
 mod step;
-mod stepping;
-#[cfg(test)]
-mod tests;
+mod world;
 
 pub use answer::Answer;
-pub use lives::World;
-pub use running::run;
-pub use step::{Moment, Step};
+pub use runs::run;
+pub use step::Step;
+pub use world::World;

@@ -1,7 +1,15 @@
 // One life of a network server: from an opening of its store to the next crash.
+ghost use Rattle.std.specs.Prelude.{◌≡◌, ◌++◌, ◌+◌, ◌≤◌, length, vec_capacity};
+
 use crate::commit::Commit;
+use crate::{Answer, Step, laws};
+use devices::Command;
 use disk::Sim;
-use session_core::Core;
+use flusher::{Durable, MOST_EFFECTS, Released, Room};
+use lw_types::Refusal;
+use session_core::{Core, Moment, Most};
+use std::alloc::Global;
+use std::mem;
 use store::Store;
 
 /// A store that is open, the core that decides on its table, and the commit under way.
@@ -9,4 +17,301 @@ pub(crate) struct Life<D: Sim> {
     pub(crate) store: Store<D>,
     pub(crate) core: Core,
     pub(crate) commit: Commit,
+}
+
+impl<D: Sim> Life<D> {
+    ghost use Rattle.std.specs.Prelude.{◌≢◌, ◌<◌, ◌^◌, ℕ, [], IfOk, IfErr, MatchResult};
+    ghost use Rattle.lw_types.specs.declared.refusal.Refusal.TheVariants.{OutOfMemory};
+    ghost use Rattle.disk.specs.Outlook.Outlook.{FailsAfter};
+    ghost use Rattle.session_core.specs.State.{opened};
+    ghost use Rattle.store.specs.State.{seen, disk_of, IsRoomy};
+    ghost use Rattle.world.specs.declared.commit.Commit.TheVariants as commits;
+    ghost use Rattle.world.specs.declared.step.Step.TheVariants as steps;
+    ghost use Rattle.world.specs.declared.answer.Answer.TheVariants as answers;
+    ghost use Rattle.world.specs.Cause.{IsCause, IsForetold};
+    ghost use Rattle.world.specs.Follows.{IsOwn, MovesLife, Lets};
+    ghost use Rattle.world.specs.Sound.{IsSoundLife, HasRoom};
+
+    /// A life that begins with this store.
+    pub(crate) fn new(alloc: Global, store: Store<D>) -> Result<Self, (D, Refusal)>
+        ensures store { IfOk result (λ life. seen D.state life.store ≡ seen D.state store) }
+        ensures disk { IfOk result (λ life. disk_of life.store ≡ disk_of store) }
+        ensures core { IfOk result (λ life. life.core
+            ≡ opened (seen D.state store).table (seen D.state store).seq) }
+        ensures idle { IfOk result (λ life. life.commit ≡ commits.Idle) }
+        ensures refused { IfErr result (λ e. (e.0 ≡ disk_of store) × (e.1 ≡ OutOfMemory)) }
+    {
+        match Core::new(alloc, store.table(), store.seq()) {
+            Ok(core) => Ok(Life {
+                store,
+                core,
+                commit: Commit::Idle,
+            }),
+            Err(refusal) => Err((store.close(), refusal)),
+        }
+    }
+
+    /// One step, other than to emit or to crash.
+    pub(crate) fn step(
+        &mut self,
+        alloc: Global,
+        step: &Step,
+        released: &mut Vec<Released>,
+    ) -> Answer
+        requires own { IsOwn step.now }
+        requires sound { IsSoundLife D.state self.old }
+        requires room { HasRoom self.old.commit (length released.old.items) (vec_capacity released.old) }
+        ensures sound { IsSoundLife D.state self.new }
+        ensures room { HasRoom self.new.commit (length released.new.items) (vec_capacity released.new) }
+        ensures course { MovesLife D.state self.old step.now result self.new }
+        ensures full { result ≡ answers.Full → ¬ (IsRoomy (seen D.state self.old.store)) }
+        ensures cause { IsCause (D.failures (disk_of self.old.store)) result (D.failures (disk_of self.new.store)) }
+        ensures foretold { IsForetold (D.outlook (disk_of self.old.store)) step.now result
+            (D.outlook (disk_of self.new.store)) }
+        ensures left { Lets D.state self.old step.now result released.old.items released.new.items }
+    {
+        match step {
+            Step::Request { moment, command } => self.request(*moment, command),
+            Step::Take(most) => self.take(alloc, *most, released),
+            Step::Call => self.call(),
+            Step::Fail => self.fail(),
+            Step::Release => self.release(released),
+            Step::List => self.list(),
+            Step::Emit | Step::Crash(_) => unreachable!(),
+        }
+    }
+
+    /// An application asks for a command.
+    pub(crate) fn request(&mut self, moment: Moment, command: &Command) -> Answer
+        requires { IsSoundLife D.state self.old }
+        ensures sound { IsSoundLife D.state self.new }
+        ensures commit { self.new.commit ≡ self.old.commit }
+        ensures course { MovesLife D.state self.old (steps.Request moment command.now) result self.new }
+        ensures full { result ≢ answers.Full }
+        ensures cause { IsCause (D.failures (disk_of self.old.store)) result (D.failures (disk_of self.new.store)) }
+        ensures foretold { IsForetold (D.outlook (disk_of self.old.store)) (steps.Request moment command.now) result
+            (D.outlook (disk_of self.new.store)) }
+    {
+        laws::of_runs();
+        Answer::Turn(self.core.decide(moment, copy_of(command)))
+    }
+
+    /// The flusher takes a batch and begins its commit. `Full` comes only where the journal has no room
+    /// for the largest batch.
+    pub(crate) fn take(&mut self, alloc: Global, most: Most, released: &mut Vec<Released>) -> Answer
+        requires sound { IsSoundLife D.state self.old }
+        requires room { HasRoom self.old.commit (length released.old.items) (vec_capacity released.old) }
+        ensures sound { IsSoundLife D.state self.new }
+        ensures room { HasRoom self.new.commit (length released.new.items) (vec_capacity released.new) }
+        ensures released { released.new.items ≡ released.old.items }
+        ensures full { result ≡ answers.Full → ¬ (IsRoomy (seen D.state self.old.store)) }
+        ensures course { MovesLife D.state self.old (steps.Take most) result self.new }
+        ensures cause { IsCause (D.failures (disk_of self.old.store)) result (D.failures (disk_of self.new.store)) }
+        ensures foretold { IsForetold (D.outlook (disk_of self.old.store)) (steps.Take most) result
+            (D.outlook (disk_of self.new.store)) }
+    {
+        match &self.commit {
+            Commit::Failed => return Answer::Refused(Refusal::Failed),
+            Commit::Idle => {}
+            _ => return Answer::Idle,
+        }
+        if self.core.untaken() == 0 {
+            return Answer::Idle;
+        }
+        if !self.store.roomy() {
+            return Answer::Full;
+        }
+        match self.begin(alloc, most, released) {
+            Ok(answer) => answer,
+            Err(refusal) => Answer::Refused(refusal),
+        }
+    }
+
+    // Takes a batch and begins its commit. The room for its effects is got first, so that nothing is
+    // taken for want of it.
+    fn begin(
+        &mut self,
+        alloc: Global,
+        most: Most,
+        released: &mut Vec<Released>,
+    ) -> Result<Answer, Refusal>
+        requires idle { self.old.commit ≡ commits.Idle }
+        requires some { self.old.core.log ≢ [] }
+        requires roomy { IsRoomy (seen D.state self.old.store) }
+        ensures sound { IsSoundLife D.state self.new }
+        ensures room { HasRoom self.new.commit (length released.new.items) (vec_capacity released.new) }
+        ensures released { released.new.items ≡ released.old.items }
+        ensures full { IfOk result (λ answer. answer ≢ answers.Full) }
+        ensures course { MatchResult result
+            (λ answer. MovesLife D.state self.old (steps.Take most) answer self.new)
+            (λ e. (e ≡ OutOfMemory) × (self.new ≡ self.old)) }
+        ensures cause { IfOk result (λ answer. IsCause (D.failures (disk_of self.old.store)) answer (D.failures (disk_of self.new.store))) }
+        ensures foretold { IfOk result (λ answer. IsForetold (D.outlook (disk_of self.old.store)) (steps.Take most) answer
+            (D.outlook (disk_of self.new.store))) }
+    {
+        laws::of_runs();
+        let room = Room::new(alloc)?;
+        released.reserve(MOST_EFFECTS)?;
+        let batch = self.core.take(most)?;
+        let count = batch.len();
+        match self.store.begin(alloc, batch) {
+            Ok(begun) => {
+                self.set(Commit::Begun(begun, room));
+                Ok(Answer::Taken(count))
+            }
+            Err(Refusal::OutOfStep) => Ok(Answer::Refused(Refusal::OutOfStep)),
+            Err(_) => Ok(Answer::GivenUp(count)),
+        }
+    }
+
+    // Replaces the commit.
+    fn set(&mut self, commit: Commit)
+        ensures commit { self.new.commit ≡ commit }
+        ensures store { self.new.store ≡ self.old.store }
+        ensures core { self.new.core ≡ self.old.core }
+    {
+        mem::replace(&mut self.commit, commit).lose();
+    }
+
+    /// One device call of what is under way.
+    pub(crate) fn call(&mut self) -> Answer
+        requires { IsSoundLife D.state self.old }
+        ensures sound { IsSoundLife D.state self.new }
+        ensures room { (there fit : ℕ) → HasRoom self.old.commit there fit → HasRoom self.new.commit there fit }
+        ensures course { MovesLife D.state self.old steps.Call result self.new }
+        ensures full { result ≢ answers.Full }
+        ensures cause { IsCause (D.failures (disk_of self.old.store)) result (D.failures (disk_of self.new.store)) }
+        ensures foretold { IsForetold (D.outlook (disk_of self.old.store)) steps.Call result
+            (D.outlook (disk_of self.new.store)) }
+    {
+        laws::of_runs();
+        match mem::replace(&mut self.commit, Commit::Failed) {
+            Commit::Begun(phase, room) => match phase.write(&mut self.store) {
+                Ok(next) => self.called(Commit::Written(next, room)),
+                Err(refusal) => Answer::Refused(refusal),
+            },
+            Commit::Written(phase, room) => match phase.sync(&mut self.store) {
+                Ok(next) => self.called(Commit::BodySynced(next, room)),
+                Err(refusal) => Answer::Refused(refusal),
+            },
+            Commit::BodySynced(phase, room) => match phase.open_gate(&mut self.store) {
+                Ok(next) => self.called(Commit::GateWritten(next, room)),
+                Err(refusal) => Answer::Refused(refusal),
+            },
+            Commit::GateWritten(phase, room) => match phase.sync(&mut self.store) {
+                Ok(durable) => self.called(Commit::Durable(Durable::new(durable, room))),
+                Err(refusal) => Answer::Refused(refusal),
+            },
+            other => {
+                self.set(other);
+                Answer::Idle
+            }
+        }
+    }
+
+    // A device call succeeded, and this is the commit after it.
+    fn called(&mut self, commit: Commit) -> Answer
+        ensures answer { result ≡ answers.Called }
+        ensures commit { self.new.commit ≡ commit }
+        ensures store { self.new.store ≡ self.old.store }
+        ensures core { self.new.core ≡ self.old.core }
+    {
+        self.set(commit);
+        Answer::Called
+    }
+
+    /// The next device call is to fail, as long as the disk can count failures.
+    pub(crate) fn fail(&mut self) -> Answer
+        requires { IsSoundLife D.state self.old }
+        ensures sound { IsSoundLife D.state self.new }
+        ensures commit { self.new.commit ≡ self.old.commit }
+        ensures course { MovesLife D.state self.old steps.Fail result self.new }
+        ensures full { result ≢ answers.Full }
+        ensures armed { D.failures (disk_of self.old.store) + 1 < 2 ^ 64
+            → D.outlook (disk_of self.new.store) ≡ FailsAfter 0 }
+        ensures cause { IsCause (D.failures (disk_of self.old.store)) result (D.failures (disk_of self.new.store)) }
+        ensures foretold { IsForetold (D.outlook (disk_of self.old.store)) steps.Fail result
+            (D.outlook (disk_of self.new.store)) }
+    {
+        self.store.arm(1);
+        Answer::Armed
+    }
+
+    /// The effects of the batch that became durable are released. Takes no memory.
+    pub(crate) fn release(&mut self, released: &mut Vec<Released>) -> Answer
+        requires sound { IsSoundLife D.state self.old }
+        requires room { HasRoom self.old.commit (length released.old.items) (vec_capacity released.old) }
+        ensures sound { IsSoundLife D.state self.new }
+        ensures room { HasRoom self.new.commit (length released.new.items) (vec_capacity released.new) }
+        ensures course { MovesLife D.state self.old steps.Release result self.new }
+        ensures full { result ≢ answers.Full }
+        ensures cause { IsCause (D.failures (disk_of self.old.store)) result (D.failures (disk_of self.new.store)) }
+        ensures foretold { IsForetold (D.outlook (disk_of self.old.store)) steps.Release result
+            (D.outlook (disk_of self.new.store)) }
+        ensures left { Lets D.state self.old steps.Release result released.old.items released.new.items }
+    {
+        match mem::replace(&mut self.commit, Commit::Idle) {
+            Commit::Durable(durable) => {
+                let effects = durable.release();
+                let count = effects.len();
+                add(effects, released);
+                Answer::Released(count)
+            }
+            other => {
+                self.set(other);
+                Answer::Idle
+            }
+        }
+    }
+
+    /// The table as it is now.
+    pub(crate) fn list(&self) -> Answer
+        ensures course { MovesLife D.state self.now steps.List result self.now }
+        ensures full { result ≢ answers.Full }
+        ensures cause { IsCause (D.failures (disk_of self.now.store)) result (D.failures (disk_of self.now.store)) }
+        ensures foretold { IsForetold (D.outlook (disk_of self.now.store)) steps.List result
+            (D.outlook (disk_of self.now.store)) }
+    {
+        laws::of_runs();
+        match self.core.now().copy() {
+            Ok(table) => Answer::Listed {
+                table,
+                seq: self.core.seq(),
+            },
+            Err(refusal) => Answer::Refused(refusal),
+        }
+    }
+
+    /// Ends the life: what is under way is lost, and the disk comes back.
+    pub(crate) fn end(self) -> D
+        ensures { result ≡ disk_of self.store }
+    {
+        let Life {
+            store,
+            core: _,
+            commit,
+        } = self;
+        commit.lose();
+        store.close()
+    }
+}
+
+// The same command. It takes no memory, so that a refusal is exact without any.
+fn copy_of(command: &Command) -> Command
+    ensures { result ≡ command.now }
+{
+    match command {
+        Command::Provision(provisioning) => Command::Provision(*provisioning),
+    }
+}
+
+// Adds effects behind others.
+fn add(effects: Vec<Released>, released: &mut Vec<Released>)
+    requires { length released.old.items + length effects.items ≤ vec_capacity released.old }
+    ensures items { released.new.items ≡ released.old.items ++ effects.items }
+{
+    for effect in effects {
+        let pushed: Result<_, _> = released.push(effect);
+        pushed.unwrap();
+    }
 }

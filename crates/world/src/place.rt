@@ -1,8 +1,10 @@
 // Where the disk of a world is.
-ghost use Rattle.world.specs.Sound.{IsSomewhere, HasDisk};
-
+use crate::Answer;
 use crate::life::Life;
 use disk::Sim;
+use lw_types::Refusal;
+use std::alloc::Global;
+use store::Store;
 
 /// Where the disk of a world is.
 pub(crate) enum Place<D: Sim> {
@@ -15,6 +17,52 @@ pub(crate) enum Place<D: Sim> {
 }
 
 impl<D: Sim> Place<D> {
+    ghost use Rattle.std.specs.Prelude.{◌≡◌, ◌≢◌, ℕ, false};
+    ghost use Rattle.disk.specs.declared.sim.Image.{Image};
+    ghost use Rattle.store.specs.State.{seen, disk_of, IsSettled};
+    ghost use Rattle.world.specs.declared.answer.Answer.TheVariants as answers;
+    ghost use Rattle.world.specs.declared.step.Step.TheVariants as steps;
+    ghost use Rattle.world.specs.Cause.{IsCause, IsForetold, failures_at, outlook_at};
+    ghost use Rattle.world.specs.Follows.{Reopens, Begins};
+    ghost use Rattle.world.specs.Sound.{IsSomewhere, HasDisk, IsSoundPlace};
+
+    /// The store on a disk that crashed is opened, and a life begins with it.
+    pub(crate) fn reopen(alloc: Global, disk: D) -> (Self, Answer)
+        ensures sound { (there fit : ℕ) → IsSoundPlace D.state result.0 there fit }
+        ensures course { Reopens D.state (D.state disk) result.1 result.0 }
+        ensures full { result.1 ≢ answers.Full }
+        ensures same { (now : D) → HasDisk result.0 now → (D.state now).content ≡ (D.state disk).content }
+        ensures cause { IsCause (D.failures disk) result.1 (failures_at D.failures result.0) }
+        ensures foretold { (image : Image) → IsForetold (D.outlook disk) (steps.Crash image) result.1
+            (outlook_at D.outlook result.0) }
+    {
+        disk::laws::settled_disk_keeps_its_content();
+        match store::open_back(alloc, disk) {
+            Ok(store) => Place::begin(alloc, store),
+            Err((disk, refusal)) => (Place::Closed(disk), Answer::Refused(refusal)),
+        }
+    }
+
+    // A life begins with a store that was opened.
+    fn begin(alloc: Global, store: Store<D>) -> (Self, Answer)
+        ensures sound { (there fit : ℕ) → IsSoundPlace D.state result.0 there fit }
+        ensures course { (seen D.state store).failed ≡ false → IsSettled (seen D.state store)
+            → Begins D.state (seen D.state store) result.1 result.0 }
+        ensures full { result.1 ≢ answers.Full }
+        ensures same { (now : D) → HasDisk result.0 now → now ≡ disk_of store }
+        ensures cause { IsCause (D.failures (disk_of store)) result.1 (failures_at D.failures result.0) }
+        ensures foretold { (image : Image) → IsForetold (D.outlook (disk_of store)) (steps.Crash image) result.1
+            (outlook_at D.outlook result.0) }
+    {
+        store::laws::a_settled_store_is_on_its_disk();
+        let devices = store.table().devices().len();
+        let seq = store.seq();
+        match Life::new(alloc, store) {
+            Ok(life) => (Place::Open(life), Answer::Opened { devices, seq }),
+            Err((disk, refusal)) => (Place::Closed(disk), Answer::Refused(refusal)),
+        }
+    }
+
     /// Ends what is there, and gives the disk back.
     pub(crate) fn end(self) -> D
         requires { IsSomewhere self }

@@ -1,20 +1,14 @@
 // What a world is told to do.
-use devices::{Provisioning, Ranged};
+use devices::Command;
 use disk::Image;
-use session_core::Most;
-
-/// A moment in milliseconds, below 2^63.
-pub type Moment = Ranged<0, 9_223_372_036_854_775_807>;
+use session_core::{Moment, Most};
 
 /// One step of a world. A crash falls between two steps, since no step makes more than one device
 /// call but a crash itself, which opens the store.
 #[derive(Debug, PartialEq, Eq, Drop)]
 pub enum Step {
-    /// An application brings a device at this moment.
-    Provision {
-        moment: Moment,
-        provisioning: Provisioning,
-    },
+    /// An application asks for this command at this moment.
+    Request { moment: Moment, command: Command },
     /// The flusher takes the oldest decisions, at most so many, and begins their commit.
     Take(Most),
     /// One device call of what is under way.

@@ -1,4 +1,4 @@
-use Rattle.std.proofs.Common.{◌∙◌, ℕ, false, sym, ap, subst}
+use Rattle.std.proofs.Common.{◌+◌, ◌∙◌, ℕ, false, sym, ap, subst}
 use Rattle.gate_log.specs.declared.layout.Area.{Area}
 use Rattle.gate_log.specs.Log.{LogState}
 use Rattle.sessions.specs.Table.{TableState}
@@ -17,4 +17,4 @@ returns-in-Ok-clause-settled g c honest =
     let e = c.in-Ok.ensures in
     let settled = settled_empty net_id slots state e.in_range.0 e.in_range.1 (e.settled honest) (e.same_length ∙ (sym c.len.ensures ∙ (c.if-len-disk_len.false ∙ c.disk_len.ensures))) (e.area honest) (e.front honest) in
     let log = c.new-in-Ok.ensures.log ∙ (ap (λ (a : Area). log_at a c.in-Ok.next) c.first_area.ensures ∙ ap (log_at (area_a slots)) e.next) in
-    subst IsSettled (sym (c.new-in-Ok-2.ensures.store ∙ (ap (store_at c.in_ok-table.table) log ∙ ap (λ (t : TableState). store_at t (log_at (area_a slots) 62)) c.in_ok-table.ensures))) settled
+    subst IsSettled (sym (c.new-in-Ok-2.ensures.store ∙ (ap (store_at c.in_ok-table.table) log ∙ ap (λ (t : TableState). store_at t (log_at (area_a slots) ((area_a slots).start + 30))) c.in_ok-table.ensures))) settled

@@ -4,6 +4,7 @@ use Rattle.gate_log.specs.Layout.{Contents, Holds, fresh_header}
 use Rattle.gate_log.specs.Recover.{contents_in}
 use Rattle.disk.specs.State.{IsTorn}
 use Rattle.store.specs.Image.{area_a}
+use Rattle.store.specs.declared.areas.TheConstants.{RECORD_VERSION}
 use Rattle.store.proofs.EmptyStore.{OnOk-map, OnOk-of, contents_after, front_after}
 use Rattle.store.proofs.formatting.write_closed.Goals as goal
 
@@ -15,9 +16,9 @@ returns-clause-area g c honest =
     let area = c.first_area.ensures in
     let torn : IsTorn 32 31 old new = subst (λ (a : Area). IsTorn a.start 31 old new) area (c.format_area.ensures.opens honest).torn in
     OnOk-map c.format_area.result
-    (λ (holds : Holds c.first_area.result (contents_in c.first_area.result old (fresh_header 1) [] []) new).
-    subst (λ (x : Contents). Holds (area_a slots) x new) (contents_after slots (fresh_header 1) old new torn)
-    (subst (λ (a : Area). Holds a (contents_in a old (fresh_header 1) [] []) new) area holds))
+    (λ (holds : Holds c.first_area.result (contents_in c.first_area.result old (fresh_header RECORD_VERSION) [] []) new).
+    subst (λ (x : Contents). Holds (area_a slots) x new) (contents_after slots (fresh_header RECORD_VERSION) old new torn)
+    (subst (λ (a : Area). Holds a (contents_in a old (fresh_header RECORD_VERSION) [] []) new) area holds))
     (c.format_area.ensures.formatted honest)
 
 pub returns-clause-body : goal.returns-clause-body

@@ -1,4 +1,4 @@
-use Rattle.std.proofs.Common.{◌≡◌, ℕ, List, sym, subst, refl, arith}
+use Rattle.std.proofs.Common.{◌≡◌, ℕ, List, sym, subst, refl}
 use Rattle.std.proofs.lemmas.Result.{err_from_is_err_and}
 use Rattle.gate_log.specs.Layout.{BatchValue}
 use Rattle.sessions.specs.Table.{TableState}
@@ -12,7 +12,7 @@ returns-in_err-table c =
     let found = c.in_err-table.ensures other in
     let s = c.args.superblock.now in (
       found.0,
-      λ t seq low r. found.1 r.base
+      λ t seq r. found.1 r.base
           (subst (λ (l : List ℕ). IsCheckpoint s.net_id s.slots l c.args.recovered.now.header.record_count r.base) (sym c.deref.ensures.value) r.checkpoint),
     ))
 
@@ -24,7 +24,7 @@ returns-in_err-seq c =
     let s = c.args.superblock.now in
     let h = c.args.recovered.now.header in (
       found.0,
-      λ t seq low r.
+      λ t seq r.
           let base : r.base ≡ c.in_ok-table.table =
           (c.in_ok-table.ensures r.base).0 (subst (λ (l : List ℕ). IsCheckpoint s.net_id s.slots l h.record_count r.base) (sym c.deref.ensures.value) r.checkpoint) in
           found.1 t seq
@@ -36,19 +36,17 @@ pub returns : goal.returns
 returns c =
     let s = c.args.superblock.now in
     let h = c.args.recovered.now.header in
-    let table = c.in_ok-table.table in (
-      omega (arith, c.if-header-gt-LAST_GENERATION.false),
-      λ t seq. (
-        λ r.
-            let base : r.base ≡ table =
-            (c.in_ok-table.ensures r.base).0 (subst (λ (l : List ℕ). IsCheckpoint s.net_id s.slots l h.record_count r.base) (sym c.deref.ensures.value) r.checkpoint) in
-            (c.in_ok-seq.ensures t seq).0
-            (subst (λ (x : TableState). Lead x h.sequence c.deref-2.result.now t seq) base
-            (subst (λ (bs : List BatchValue). Lead r.base h.sequence bs t seq) (sym c.deref-2.ensures.value) r.batches)),
-        λ same. record {
-          base = table;
-          checkpoint = subst (λ (l : List ℕ). IsCheckpoint s.net_id s.slots l h.record_count table) c.deref.ensures.value ((c.in_ok-table.ensures table).1 refl);
-          batches = subst (λ (bs : List BatchValue). Lead table h.sequence bs t seq) c.deref-2.ensures.value ((c.in_ok-seq.ensures t seq).1 same);
-        },
-      ),
+    let table = c.in_ok-table.table in
+    λ t seq. (
+      λ r.
+          let base : r.base ≡ table =
+          (c.in_ok-table.ensures r.base).0 (subst (λ (l : List ℕ). IsCheckpoint s.net_id s.slots l h.record_count r.base) (sym c.deref.ensures.value) r.checkpoint) in
+          (c.in_ok-seq.ensures t seq).0
+          (subst (λ (x : TableState). Lead x h.sequence c.deref-2.result.now t seq) base
+          (subst (λ (bs : List BatchValue). Lead r.base h.sequence bs t seq) (sym c.deref-2.ensures.value) r.batches)),
+      λ same. record {
+        base = table;
+        checkpoint = subst (λ (l : List ℕ). IsCheckpoint s.net_id s.slots l h.record_count table) c.deref.ensures.value ((c.in_ok-table.ensures table).1 refl);
+        batches = subst (λ (bs : List BatchValue). Lead table h.sequence bs t seq) c.deref-2.ensures.value ((c.in_ok-seq.ensures t seq).1 same);
+      },
     )

@@ -23,16 +23,16 @@ returns-in-Ok-clause-course g c start course f =
     let took = c.in_ok-batch.ensures.taken in
     let lawful = c.take.ensures.lawful in
     let way = when_healthy s.failed _ _ f1.healthy c.in-Ok.ensures.answer in
-    let none = none_lost start course s life.core lawful most f0 c.in_ok-batch.batch took.0
+    let none = none_lost c.of_runs.ensures start course s life.core lawful most f0 c.in_ok-batch.batch took.0
     (subst (IsLegalContinuation s.table s.seq) c.in-Ok.ensures.batch way.legal) in
-    let l0 = under_way start course s life.core lawful most f0 c.in-Ok.begun c.in_ok-room.room none
+    let l0 = under_way c.of_runs.ensures start course s life.core lawful most f0 c.in-Ok.begun c.in_ok-room.room none
     (c.in-Ok.ensures.batch ∙ took.0) (c.in-Ok.ensures.begun f1.under_way.1.1) in
     let P : Course → Type 0 = λ k. AnswersTake k.stage k most (answers.Taken c.len-count.result)
     × IsLife start (begun k most) (seen g.D.Disk.state c.set.new.self.store) c.set.new.self.core c.set.new.self.commit in
     at_rest P course f1.under_way.0 f1.under_way.1.0 (
       (
-        waits start course s life.core lawful most f0 c.requires.some,
-        (none, c.len-count.ensures.len ∙ (ap (λ (ds : List Decision). length ds) took.0 ∙ count start course s life.core lawful most f0)),
+        waits c.of_runs.ensures start course s life.core lawful most f0 c.requires.some,
+        (none, c.len-count.ensures.len ∙ (ap (λ (ds : List Decision). length ds) took.0 ∙ count c.of_runs.ensures start course s life.core lawful most f0)),
       ),
       moved start (begun (record course { stage = Rest; flying = [] }) most) s (seen g.D.Disk.state c.set.new.self.store)
           (taken_from life.core most) c.set.new.self.core (commits.Begun c.in-Ok.begun c.in_ok-room.room) c.set.new.self.commit
@@ -54,12 +54,12 @@ returns-in-Err-OutOfStep-clause-course g c start course f =
     × IsLife start (gave_up k most) (seen g.D.Disk.state c.begin.new.self) c.take.new.self life.commit in
     at_rest P course f1.under_way.0 f1.under_way.1.0 (
       (
-        waits start course s life.core lawful most f0 c.requires.some,
-        inr (refl, λ none. illegal (subst (IsLegalContinuation s.table s.seq) (sym took.0) (is_legal start course s life.core lawful most f0 c.take.ensures.asked c.requires.some none))),
+        waits c.of_runs.ensures start course s life.core lawful most f0 c.requires.some,
+        inr (refl, λ none. illegal (subst (IsLegalContinuation s.table s.seq) (sym took.0) (is_legal c.of_runs.ensures start course s life.core lawful most f0 c.take.ensures.asked c.requires.some none))),
       ),
       moved start (gave_up (record course { stage = Rest; flying = [] }) most) s (seen g.D.Disk.state c.begin.new.self)
           (taken_from life.core most) c.take.new.self commits.Idle life.commit
-          c.in-Err-OutOfStep.ensures.same took.1 c.requires.idle (lost start course s life.core lawful most f0),
+          c.in-Err-OutOfStep.ensures.same took.1 c.requires.idle (lost c.of_runs.ensures start course s life.core lawful most f0),
     )
 
 pub returns : goal.returns
@@ -83,11 +83,11 @@ returns g c =
           × IsLife start (gave_up k most) (seen g.D.Disk.state c.begin.new.self) c.take.new.self life.commit in
           at_rest P course f1.under_way.0 f1.under_way.1.0 (
             (
-              waits start course s life.core lawful most f0 c.requires.some,
-              c.len-count.ensures.len ∙ (ap (λ (ds : List Decision). length ds) took.0 ∙ count start course s life.core lawful most f0),
+              waits c.of_runs.ensures start course s life.core lawful most f0 c.requires.some,
+              c.len-count.ensures.len ∙ (ap (λ (ds : List Decision). length ds) took.0 ∙ count c.of_runs.ensures start course s life.core lawful most f0),
             ),
             moved start (gave_up (record course { stage = Rest; flying = [] }) most) s (seen g.D.Disk.state c.begin.new.self)
                 (taken_from life.core most) c.take.new.self commits.Idle life.commit
-                c.begin.ensures.same took.1 c.requires.idle (lost start course s life.core lawful most f0),
+                c.begin.ensures.same took.1 c.requires.idle (lost c.of_runs.ensures start course s life.core lawful most f0),
           );
     }

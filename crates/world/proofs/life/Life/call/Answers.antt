@@ -25,7 +25,7 @@ returns-in-Ok-clause-course g c start course f =
     let honest = g.met.D.Sim.is_honest in
     let e = c.in-Ok.ensures in
     let now = seen state c.called.new.self.store in
-    let l = write_ok start course s s' life.core room e.table e.seq phase c.in-Ok.next f2 e.call.failed e.change (e.next honest on) (e.images honest on) in
+    let l = write_ok c.of_runs.ensures start course s s' life.core room e.table e.seq phase c.in-Ok.next f2 e.call.failed e.change (e.next honest on) (e.images honest on) in
     succeeds start course now c.called.new.self.core c.called.new.self.commit Began stage c.called.result c.called.ensures.answer (inl refl)
     (moved start (record course { stage = Wrote }) s' now life.core c.called.new.self.core (commits.Written c.in-Ok.next room) c.called.new.self.commit
     (ap (seen state) c.called.ensures.store) c.called.ensures.core c.called.ensures.commit l)
@@ -44,7 +44,7 @@ returns-in-Err-clause-course g c start course f =
     let on = f1.under_way.1 in
     let honest = g.met.D.Sim.is_honest in
     let e = c.in-Err.ensures in
-    let l = stopped start course s s' life.core room e.table e.seq Began (commits.Begun phase room) f2 f2.table f2.seq (e.images honest on) in
+    let l = stopped c.of_runs.ensures start course s s' life.core room e.table e.seq Began (commits.Begun phase room) f2 f2.table f2.seq (e.images honest on) in
     fails start course s' life.core c.replace.new.dest Began stage c.in-Err.refusal (inr (ap answers.Refused e.call.failed.0))
     (moved start (record course { stage = Stopped }) s' s' life.core life.core commits.Failed c.replace.new.dest refl refl c.replace.ensures.after l)
 
@@ -63,7 +63,7 @@ returns-in-Ok-sync-clause-course g c start course f =
     let honest = g.met.D.Sim.is_honest in
     let e = c.in-Ok-sync.ensures in
     let now = seen state c.called-in-Ok-sync.new.self.store in
-    let l = sync_ok start course s s' life.core room e.table e.seq phase c.in-Ok-sync.next f2 e.call.failed e.change (e.next honest on) (e.images honest on) in
+    let l = sync_ok c.of_runs.ensures start course s s' life.core room e.table e.seq phase c.in-Ok-sync.next f2 e.call.failed e.change (e.next honest on) (e.images honest on) in
     succeeds start course now c.called-in-Ok-sync.new.self.core c.called-in-Ok-sync.new.self.commit Wrote stage c.called-in-Ok-sync.result c.called-in-Ok-sync.ensures.answer (inl refl)
     (moved start (record course { stage = Synced }) s' now life.core c.called-in-Ok-sync.new.self.core (commits.BodySynced c.in-Ok-sync.next room) c.called-in-Ok-sync.new.self.commit
     (ap (seen state) c.called-in-Ok-sync.ensures.store) c.called-in-Ok-sync.ensures.core c.called-in-Ok-sync.ensures.commit l)
@@ -82,7 +82,7 @@ returns-in-Err-sync-clause-course g c start course f =
     let on = f1.under_way.1 in
     let honest = g.met.D.Sim.is_honest in
     let e = c.in-Err-sync.ensures in
-    let l = stopped start course s s' life.core room e.table e.seq Wrote (commits.Written phase room) f2 f2.table f2.seq (e.images honest on) in
+    let l = stopped c.of_runs.ensures start course s s' life.core room e.table e.seq Wrote (commits.Written phase room) f2 f2.table f2.seq (e.images honest on) in
     fails start course s' life.core c.replace.new.dest Wrote stage c.in-Err-sync.refusal (inr (ap answers.Refused e.call.failed.0))
     (moved start (record course { stage = Stopped }) s' s' life.core life.core commits.Failed c.replace.new.dest refl refl c.replace.ensures.after l)
 
@@ -101,7 +101,7 @@ returns-in-Ok-open_gate-clause-course g c start course f =
     let honest = g.met.D.Sim.is_honest in
     let e = c.in-Ok-open_gate.ensures in
     let now = seen state c.called-in-Ok-open_gate.new.self.store in
-    let l = open_ok start course s s' life.core room e.table e.seq phase c.in-Ok-open_gate.next (synced_size phase) f2 e.call.failed e.change (e.next honest on) (subst (IsOnItsWay s) (sym c.replace.ensures.value ∙ c.in-BodySynced.is) c.requires) (e.images honest on) in
+    let l = open_ok c.of_runs.ensures start course s s' life.core room e.table e.seq phase c.in-Ok-open_gate.next (synced_size phase) f2 e.call.failed e.change (e.next honest on) (subst (IsOnItsWay s) (sym c.replace.ensures.value ∙ c.in-BodySynced.is) c.requires) (e.images honest on) in
     succeeds start course now c.called-in-Ok-open_gate.new.self.core c.called-in-Ok-open_gate.new.self.commit Synced stage c.called-in-Ok-open_gate.result c.called-in-Ok-open_gate.ensures.answer (inl refl)
     (moved start (record course { stage = Opened }) s' now life.core c.called-in-Ok-open_gate.new.self.core (commits.GateWritten c.in-Ok-open_gate.next room) c.called-in-Ok-open_gate.new.self.commit
     (ap (seen state) c.called-in-Ok-open_gate.ensures.store) c.called-in-Ok-open_gate.ensures.core c.called-in-Ok-open_gate.ensures.commit l)
@@ -120,7 +120,7 @@ returns-in-Err-open_gate-clause-course g c start course f =
     let on = f1.under_way.1 in
     let honest = g.met.D.Sim.is_honest in
     let e = c.in-Err-open_gate.ensures in
-    let l = unsure start course s s' life.core room e.table e.seq Synced (commits.BodySynced phase room) (synced_change phase) (synced_size phase) f2 f2.table f2.seq (subst (IsOnItsWay s) (sym c.replace.ensures.value ∙ c.in-BodySynced.is) c.requires) f2.under_way.0.commands (e.images honest on) in
+    let l = unsure c.of_runs.ensures start course s s' life.core room e.table e.seq Synced (commits.BodySynced phase room) (synced_change phase) (synced_size phase) f2 f2.table f2.seq (subst (IsOnItsWay s) (sym c.replace.ensures.value ∙ c.in-BodySynced.is) c.requires) f2.under_way.0.commands (e.images honest on) in
     fails start course s' life.core c.replace.new.dest Synced stage c.in-Err-open_gate.refusal (inr (ap answers.Refused e.call.failed.0))
     (moved start (record course { stage = Unsure }) s' s' life.core life.core commits.Failed c.replace.new.dest refl refl c.replace.ensures.after l)
 
@@ -139,7 +139,7 @@ returns-in-Ok-sync-2-clause-course g c start course f =
     let honest = g.met.D.Sim.is_honest in
     let e = c.in-Ok-sync-2.ensures in
     let now = seen state c.called-in-Ok-sync-2.new.self.store in
-    let l = made_durable start course s s' life.core room phase (opened_size phase) c.new.result f2 e.table e.seq e.call.failed (c.new.ensures ∙ e.batch) (subst (IsOnItsWay s) (sym c.replace.ensures.value ∙ c.in-GateWritten.is) c.requires) (e.settled honest on) (e.durable honest on) in
+    let l = made_durable c.of_runs.ensures start course s s' life.core room phase (opened_size phase) c.new.result f2 e.table e.seq e.call.failed (c.new.ensures ∙ e.batch) (subst (IsOnItsWay s) (sym c.replace.ensures.value ∙ c.in-GateWritten.is) c.requires) (e.settled honest on) (e.durable honest on) in
     succeeds start course now c.called-in-Ok-sync-2.new.self.core c.called-in-Ok-sync-2.new.self.commit Opened stage c.called-in-Ok-sync-2.result c.called-in-Ok-sync-2.ensures.answer (inl refl)
     (moved start (record course { stage = IsDurable }) s' now life.core c.called-in-Ok-sync-2.new.self.core (commits.Durable c.new.result) c.called-in-Ok-sync-2.new.self.commit
     (ap (seen state) c.called-in-Ok-sync-2.ensures.store) c.called-in-Ok-sync-2.ensures.core c.called-in-Ok-sync-2.ensures.commit l)
@@ -158,6 +158,6 @@ returns-in-Err-sync-2-clause-course g c start course f =
     let on = f1.under_way.1 in
     let honest = g.met.D.Sim.is_honest in
     let e = c.in-Err-sync-2.ensures in
-    let l = unsure start course s s' life.core room e.table e.seq Opened (commits.GateWritten phase room) (opened_change phase) (opened_size phase) f2 f2.table f2.seq (subst (IsOnItsWay s) (sym c.replace.ensures.value ∙ c.in-GateWritten.is) c.requires) f2.under_way.0.commands (e.images honest on) in
+    let l = unsure c.of_runs.ensures start course s s' life.core room e.table e.seq Opened (commits.GateWritten phase room) (opened_change phase) (opened_size phase) f2 f2.table f2.seq (subst (IsOnItsWay s) (sym c.replace.ensures.value ∙ c.in-GateWritten.is) c.requires) f2.under_way.0.commands (e.images honest on) in
     fails start course s' life.core c.replace.new.dest Opened stage c.in-Err-sync-2.refusal (inr (ap answers.Refused e.call.failed.0))
     (moved start (record course { stage = Unsure }) s' s' life.core life.core commits.Failed c.replace.new.dest refl refl c.replace.ensures.after l)

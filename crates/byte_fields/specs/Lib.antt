@@ -1,0 +1,5 @@
+pub mod Reading
+pub mod Spelling
+pub mod Field
+pub mod FieldLemmas
+pub mod NumberLemmas

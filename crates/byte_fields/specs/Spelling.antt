@@ -1,0 +1,21 @@
+-- How fields are spelled.
+use Rattle.std.specs.Prelude.{ℕ, Bool, false, true, List, [], ◌∷◌, length, Option, Some, None}
+use Rattle.std.specs.Int.{bytes_high_first}
+
+-- 00 or 01
+abbrev pub flag : Bool → List ℕ
+flag false = 0 ∷ []
+flag true = 1 ∷ []
+
+-- a number of three bytes, the highest first
+abbrev pub three_bytes : ℕ → List ℕ
+three_bytes n = bytes_high_first 3 n
+
+-- a byte of length, and that many bytes
+abbrev pub counted : List ℕ → List ℕ
+counted bytes = length bytes ∷ bytes
+
+-- a flag, and behind a 1 the field
+abbrev pub optional : {X : Type 0} → (X → List ℕ) → Option X → List ℕ
+optional spelled None = 0 ∷ []
+optional spelled (Some x) = 1 ∷ spelled x

@@ -1,0 +1,69 @@
+// Values that several tests are about.
+use devices::{
+    Application, CurrentSession, Device, Item, NextDown, Payload, Port, Provisioning, Rx1Offset,
+    RxDelay, Session, Tag,
+};
+use lw_types::{Eui, JoinNonce, Key};
+use std::alloc::Global;
+use std::test::Fail;
+
+pub const DEVICE: Eui = Eui(0x1112_1314_1516_1718);
+
+pub const JOIN_EUI: Eui = Eui(0x0102_0304_0506_0708);
+
+// The example key of FIPS 197.
+pub const KEY: Key = Key([
+    0x2B, 0x7E, 0x15, 0x16, 0x28, 0xAE, 0xD2, 0xA6, 0xAB, 0xF7, 0x15, 0x88, 0x09, 0xCF, 0x4F, 0x3C,
+]);
+
+pub fn application() -> Result<Application, Fail> {
+    Ok(Application::new(3).ok_or("application")?)
+}
+
+// A device of application 3, with RX1 after a second.
+pub fn provisioning(dev_eui: Eui) -> Result<Provisioning, Fail> {
+    Ok(Provisioning {
+        application: application()?,
+        dev_eui,
+        join_eui: JOIN_EUI,
+        app_key: KEY,
+        rx1_offset: Rx1Offset::new(0).ok_or("offset")?,
+        rx_delay: RxDelay::new(1).ok_or("delay")?,
+    })
+}
+
+pub fn brought(alloc: Global, dev_eui: Eui) -> Result<Device, Fail> {
+    Ok(Device::provisioned(alloc, &provisioning(dev_eui)?))
+}
+
+pub fn nonce(number: u32) -> Result<JoinNonce, Fail> {
+    Ok(JoinNonce::new(number).ok_or("join nonce")?)
+}
+
+pub fn session(number: u32) -> Result<Session, Fail> {
+    Ok(Session {
+        join_nonce: nonce(number)?,
+        nwk_skey: Key([0xAA; 16]),
+        app_skey: Key([0xBB; 16]),
+    })
+}
+
+// A session whose last downlink counter was used.
+pub fn current(number: u32, last_up: u32) -> Result<CurrentSession, Fail> {
+    Ok(CurrentSession {
+        session: session(number)?,
+        last_up,
+        next_down: NextDown::new(1 << 32).ok_or("next down")?,
+    })
+}
+
+// An item of so many bytes.
+pub fn item(alloc: Global, tag: u32, len: usize) -> Result<Item, Fail> {
+    let payload = Payload::new(vec![in alloc; 0xA5; len]?);
+    Ok(Item {
+        tag: Tag(tag),
+        port: Port::new(223).ok_or("port")?,
+        confirmed: true,
+        payload: payload.ok().ok_or("at most 242 bytes")?,
+    })
+}

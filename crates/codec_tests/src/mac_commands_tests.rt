@@ -1,0 +1,200 @@
+use lw_types::{Direction, Refusal};
+use mac_commands::{
+    Cid, CommandPayload, Decoded, MacCommand, are_queueable, decode_down, decode_up, encode_down,
+    fit15,
+};
+use std::alloc::Global;
+use std::test::Fail;
+
+// Each command of TS001-1.0.4 §5, with the length of its payload in an uplink and in a downlink.
+const TABLE: [(u8, Cid, u8, u8); 10] = [
+    (0x02, Cid::LinkCheck, 0, 2),
+    (0x03, Cid::LinkAdr, 1, 4),
+    (0x04, Cid::DutyCycle, 0, 1),
+    (0x05, Cid::RxParamSetup, 1, 4),
+    (0x06, Cid::DevStatus, 2, 0),
+    (0x07, Cid::NewChannel, 1, 5),
+    (0x08, Cid::RxTimingSetup, 0, 1),
+    (0x09, Cid::TxParamSetup, 0, 1),
+    (0x0A, Cid::DlChannel, 1, 4),
+    (0x0D, Cid::DeviceTime, 0, 5),
+];
+
+// A payload of this length, of bytes that are identifiers too.
+fn payload(len: u8) -> Result<&'static [u8], Fail> {
+    let bytes: &'static [u8] = &[0x02, 0x0B, 0x06, 0x04, 0x0D];
+    Ok(bytes.get(..usize::from(len)).ok_or("at most 5 bytes")?)
+}
+
+// The bytes of the command with that payload.
+fn spelled(alloc: Global, number: u8, len: u8) -> Result<Vec<u8>, Fail> {
+    let mut bytes = Vec::from_slice(alloc, &[number])?;
+    bytes.extend_from_slice(payload(len)?)?;
+    Ok(bytes)
+}
+
+fn command(alloc: Global, cid: Cid, payload: &[u8]) -> Result<MacCommand, Fail> {
+    let payload = CommandPayload::new(Vec::from_slice(alloc, payload)?);
+    Ok(MacCommand {
+        cid,
+        payload: payload.ok().ok_or("at most 5 bytes")?,
+    })
+}
+
+fn read(alloc: Global, direction: Direction, bytes: &[u8]) -> Result<Decoded, Refusal> {
+    match direction {
+        Direction::Up => decode_up(alloc, bytes),
+        Direction::Down => decode_down(alloc, bytes),
+    }
+}
+
+#[test]
+fn reading_stops_where_no_known_command_begins(rt: HostRuntime) -> Result<(), Fail> {
+    let alloc = rt.alloc();
+    let known = Decoded {
+        commands: vec![in alloc;
+            command(alloc, Cid::LinkCheck, &[])?,
+            command(alloc, Cid::LinkAdr, &[0x07])?,
+            command(alloc, Cid::DeviceTime, &[])?,
+        ]?,
+        stop: 4,
+    };
+    assert_eq!(rt; decode_up(alloc, &[0x02, 0x03, 0x07, 0x0D])?, known);
+    let before = Decoded {
+        commands: vec![in alloc; command(alloc, Cid::LinkCheck, &[])?]?,
+        stop: 1,
+    };
+    assert_eq!(rt; decode_up(alloc, &[0x02, 0x0B, 0x02])?, before);
+    Ok(())
+}
+
+#[test]
+fn each_command_is_read_whole_both_ways(rt: HostRuntime) -> Result<(), Fail> {
+    let alloc = rt.alloc();
+    for (number, cid, up, down) in TABLE {
+        for (direction, len) in [(Direction::Up, up), (Direction::Down, down)] {
+            let mut bytes = spelled(alloc, number, len)?;
+            let wanted = Decoded {
+                commands: vec![in alloc; command(alloc, cid, payload(len)?)?]?,
+                stop: bytes.len(),
+            };
+            let found = read(alloc, direction, bytes.as_slice())?;
+            assert_eq!(rt; found, wanted, "{cid:?} {direction:?}");
+            bytes.pop();
+            let cut = read(alloc, direction, bytes.as_slice())?;
+            assert_eq!(rt; cut.stop, 0, "{cid:?} {direction:?}, cut");
+        }
+    }
+    Ok(())
+}
+
+#[test]
+fn downlinks_are_written_behind_what_is_there(rt: HostRuntime) -> Result<(), Fail> {
+    let alloc = rt.alloc();
+    for (number, cid, _, down) in TABLE {
+        let commands = [command(alloc, cid, payload(down)?)?];
+        let mut out = Vec::from_slice(alloc, &[0xAA])?;
+        encode_down(alloc, &commands, &mut out)?;
+        assert_eq!(rt; out.first(), Some(&0xAA));
+        assert_eq!(rt;
+            &out[1..],
+            spelled(alloc, number, down)?.as_slice(),
+            "{cid:?}"
+        );
+    }
+    Ok(())
+}
+
+#[test]
+fn ten_numbers_are_known(rt: HostRuntime) {
+    for number in 0..=u8::MAX {
+        let known = TABLE.iter().any(|row| row.0 == number);
+        assert_eq!(rt; Cid::from_number(number).is_some(), known, "{number}");
+    }
+    for (number, cid, up, down) in TABLE {
+        assert_eq!(rt; Cid::from_number(number), Some(cid));
+        assert_eq!(rt; cid.number(), number, "{cid:?}");
+        assert_eq!(rt;
+            cid.payload_len(Direction::Up),
+            usize::from(up),
+            "{cid:?} up"
+        );
+        assert_eq!(rt;
+            cid.payload_len(Direction::Down),
+            usize::from(down),
+            "{cid:?} down"
+        );
+    }
+}
+
+#[test]
+fn whole_commands_fit_the_room(rt: HostRuntime) {
+    // LinkADRReq three times, of 5 bytes each.
+    let requests = [
+        0x03, 0x11, 0x22, 0x33, 0x44, 0x03, 0x11, 0x22, 0x33, 0x44, 0x03, 0x11, 0x22, 0x33, 0x44,
+    ];
+    for (room, fits) in [
+        (0, 0),
+        (4, 0),
+        (5, 5),
+        (9, 5),
+        (12, 10),
+        (14, 10),
+        (15, 15),
+        (255, 15),
+    ] {
+        assert_eq!(rt; fit15(&requests, room), fits, "room for {room}");
+    }
+    assert_eq!(rt; fit15(&[], 15), 0);
+    // DevStatusReq, DutyCycleReq, and a LinkADRReq that is cut; an identifier that is not known.
+    assert_eq!(rt; fit15(&[0x06, 0x04, 0x0F, 0x03, 0x11], 15), 3);
+    assert_eq!(rt; fit15(&[0x06, 0x0B, 0x06], 15), 1);
+}
+
+// So many bytes of LinkADRReq, of which the last one is cut where the length isn't a multiple of 5.
+fn requests(alloc: Global, len: usize) -> Result<Vec<u8>, Fail> {
+    let mut bytes = vec![in alloc; 0xA5; len]?;
+    for first in bytes.iter_mut().step_by(5) {
+        *first = 0x03;
+    }
+    Ok(bytes)
+}
+
+#[test]
+fn many_commands_are_read(rt: HostRuntime) -> Result<(), Fail> {
+    let alloc = rt.alloc();
+    let found = decode_down(alloc, requests(alloc, 242)?.as_slice())?;
+    assert_eq!(rt; found.stop, 240);
+    assert_eq!(rt; found.commands.len(), 48);
+    let found = decode_up(alloc, &[0x02; 242])?;
+    assert_eq!(rt; found.stop, 242);
+    assert_eq!(rt; found.commands.len(), 242);
+    Ok(())
+}
+
+#[test]
+fn many_commands_are_written(rt: HostRuntime) -> Result<(), Fail> {
+    let alloc = rt.alloc();
+    let bytes = requests(alloc, 240)?;
+    let found = decode_down(alloc, bytes.as_slice())?;
+    let mut out = Vec::new(alloc);
+    encode_down(alloc, found.commands.as_slice(), &mut out)?;
+    assert_eq!(rt; out, bytes);
+    assert_eq!(rt; fit15(out.as_slice(), 242), 240);
+    Ok(())
+}
+
+#[test]
+fn queues_are_whole_commands_of_three_kinds(rt: HostRuntime) -> Result<(), Fail> {
+    let alloc = rt.alloc();
+    for (_, cid, _, down) in TABLE {
+        let may = matches!(cid, Cid::LinkAdr | Cid::DutyCycle | Cid::DevStatus);
+        assert_eq!(rt; cid.may_be_queued(), may, "{cid:?}");
+        let bytes = spelled(alloc, cid.number(), down)?;
+        assert_eq!(rt; are_queueable(bytes.as_slice()), may, "{cid:?}");
+    }
+    assert!(rt; are_queueable(requests(alloc, 60)?.as_slice()));
+    assert!(rt; !are_queueable(requests(alloc, 61)?.as_slice()));
+    assert!(rt; are_queueable(&[]));
+    Ok(())
+}

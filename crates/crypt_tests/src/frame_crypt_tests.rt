@@ -1,0 +1,102 @@
+// An outside frame, and each call against the cipher and the CMAC of the blocks that the standard names.
+ghost use Rattle.std.specs.Prelude.{◌≡◌, length};
+
+use aes_cmac::cmac;
+use aes128::encrypt;
+use frame_crypt::{crypt_payload, data_mic, derive_keys, join_mic, seal_accept};
+use lw_types::{DevAddr, Direction, JoinNonce, Key, NetId};
+use std::test::Fail;
+
+fn key_of(bytes: u128) -> Key {
+    Key(bytes.to_be_bytes())
+}
+
+// The first frame of the readme of npm's `lora-packet`, with its keys.
+#[test]
+fn a_frame_of_another_implementation(rt: HostRuntime) {
+    let nwk_skey = key_of(0x44024241ed4ce9a68c6a8bc055233fd3);
+    let app_skey = key_of(0xec925802ae430ca77fd3dd73cb2cc588);
+    let addr = DevAddr(0x49be7df1);
+    let message = *b"\x40\xf1\x7d\xbe\x49\x00\x02\x00\x01\x95\x43\x78\x76";
+    assert_eq!(rt;
+        data_mic(&nwk_skey, Direction::Up, addr, 2, &message),
+        *b"\x2b\x11\xff\x0d"
+    );
+    let mut payload = *b"\x95\x43\x78\x76";
+    crypt_payload(&app_skey, Direction::Up, addr, 2, &mut payload);
+    assert_eq!(rt; payload, *b"test");
+}
+
+#[test]
+fn the_mic_of_b_0_and_the_message(rt: HostRuntime) {
+    let key = key_of(0x44024241ed4ce9a68c6a8bc055233fd3);
+    let message = [7u8; 13];
+    let up = *b"\x49\0\0\0\0\x00\xf1\x7d\xbe\x49\x02\0\0\0\0\x0d";
+    let down = *b"\x49\0\0\0\0\x01\xf1\x7d\xbe\x49\x02\0\0\0\0\x0d";
+    for (dir, block) in [(Direction::Up, up), (Direction::Down, down)] {
+        let mac = cmac(&key, &[&block, &message]);
+        let mic = data_mic(&key, dir, DevAddr(0x49be7df1), 2, &message);
+        assert_eq!(rt; mic, [mac[0], mac[1], mac[2], mac[3]]);
+    }
+}
+
+#[test]
+fn the_keystream_of_a_1_and_a_2(rt: HostRuntime) {
+    let key = key_of(0xec925802ae430ca77fd3dd73cb2cc588);
+    let mut first = *b"\x01\0\0\0\0\x00\xf1\x7d\xbe\x49\x02\0\0\0\0\x01";
+    let mut second = *b"\x01\0\0\0\0\x00\xf1\x7d\xbe\x49\x02\0\0\0\0\x02";
+    encrypt(&key, &mut first);
+    encrypt(&key, &mut second);
+    let mut payload = [0u8; 20];
+    crypt_payload(&key, Direction::Up, DevAddr(0x49be7df1), 2, &mut payload);
+    assert_eq!(rt; &payload[..16], first.as_slice());
+    assert_eq!(rt; &payload[16..], &second[..4]);
+}
+
+#[test]
+fn the_session_keys_of_a_join(rt: HostRuntime) -> Result<(), Fail> {
+    let key = key_of(0x2b7e151628aed2a6abf7158809cf4f3c);
+    let join_nonce = JoinNonce::new(1).ok_or("1 is a JoinNonce")?;
+    let net_id = NetId::new(0x2a).ok_or("2A is a NetID")?;
+    let (nwk_skey, app_skey) = derive_keys(&key, join_nonce, net_id, 1);
+    let mut nwk_block = *b"\x01\x01\0\0\x2a\0\0\x01\0\0\0\0\0\0\0\0";
+    let mut app_block = *b"\x02\x01\0\0\x2a\0\0\x01\0\0\0\0\0\0\0\0";
+    encrypt(&key, &mut nwk_block);
+    encrypt(&key, &mut app_block);
+    assert_eq!(rt; nwk_skey, Key(nwk_block));
+    assert_eq!(rt; app_skey, Key(app_block));
+    Ok(())
+}
+
+// A block of a sealed accept as the device opens it.
+fn opened(key: &Key, sealed: &[u8]) -> [u8; 16]
+    requires { length sealed.now ≡ 16 }
+{
+    let mut block = [0; 16];
+    block.copy_from_slice(sealed);
+    encrypt(key, &mut block);
+    block
+}
+
+#[test]
+fn an_accept_is_opened_by_encryption(rt: HostRuntime) {
+    let key = key_of(0x2b7e151628aed2a6abf7158809cf4f3c);
+    let mut frame = *b"\x20\x01\0\0\x2a\0\0\x01\0\0\x54\x20\x01\0\0\0\0";
+    let [a, b, c, d] = join_mic(&key, &frame[..13]);
+    seal_accept(&key, &mut frame);
+    assert_eq!(rt; frame[0], 0x20);
+    let expected = [1, 0, 0, 0x2a, 0, 0, 1, 0, 0, 0x54, 0x20, 1, a, b, c, d];
+    assert_eq!(rt; opened(&key, &frame[1..]), expected);
+}
+
+#[test]
+fn an_accept_with_a_list_of_channels_is_opened_by_encryption(rt: HostRuntime) {
+    let key = key_of(0x2b7e151628aed2a6abf7158809cf4f3c);
+    let mut frame = [7u8; 33];
+    let [a, b, c, d] = join_mic(&key, &frame[..29]);
+    seal_accept(&key, &mut frame);
+    assert_eq!(rt; frame[0], 7);
+    assert_eq!(rt; opened(&key, &frame[1..17]), [7; 16]);
+    let last = [7, 7, 7, 7, 7, 7, 7, 7, 7, 7, 7, 7, a, b, c, d];
+    assert_eq!(rt; opened(&key, &frame[17..]), last);
+}

@@ -1,0 +1,36 @@
+// The fields that records are made of, appended to the bytes so far.
+ghost use Rattle.std.specs.Prelude.{◌≡◌, ◌++◌, ◌≤◌, OnOk, length};
+ghost use Rattle.lw_types.specs.Hex.{IsBytes};
+ghost use Rattle.byte_fields.specs.Spelling.{counted, flag};
+ghost use Rattle.record_codec.specs.DeviceRecord.{IsKey};
+
+use lw_types::Key;
+use std::alloc::AllocError;
+
+/// Appends the bytes of a key.
+pub(crate) fn put_key(out: &mut Vec<u8>, key: Key) -> Result<(), AllocError>
+    ensures written { OnOk result (out.new.items ≡ out.old.items ++ key.0) }
+    ensures in_range { IsKey key }
+{
+    out.extend_from_slice(&key.0)?;
+    Ok(())
+}
+
+/// Appends a byte of length, and the bytes.
+pub(crate) fn put_counted(out: &mut Vec<u8>, bytes: &[u8]) -> Result<(), AllocError>
+    requires { length bytes.now ≤ 255 }
+    ensures written { OnOk result (out.new.items ≡ out.old.items ++ counted bytes.now) }
+    ensures in_range { IsBytes bytes.now }
+{
+    out.push(bytes.len() as u8)?;
+    out.extend_from_slice(bytes)?;
+    Ok(())
+}
+
+/// Appends 00 or 01.
+pub(crate) fn put_flag(out: &mut Vec<u8>, is_there: bool) -> Result<(), AllocError>
+    ensures { OnOk result (out.new.items ≡ out.old.items ++ flag is_there) }
+{
+    out.push(u8::from(is_there))?;
+    Ok(())
+}

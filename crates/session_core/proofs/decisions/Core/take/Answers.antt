@@ -1,0 +1,35 @@
+use Rattle.std.proofs.Common.{◌≡◌, ◌≤◌, ◌∙◌, min, List, length, take, sym, ap, subst, arith}
+use Rattle.std.proofs.lemmas.List.{take_min}
+use Rattle.sessions.specs.declared.decision.Decision.{Decision}
+use Rattle.session_core.specs.State.{CoreState, IsLawful, now_of}
+use Rattle.session_core.specs.Events.{taken_from}
+use Rattle.session_core.specs.Kept.{state_of}
+use Rattle.session_core.proofs.Lawful.{lawful-taken, now-taken, state-taken, taken-min}
+use Rattle.session_core.proofs.decisions.Core.take.Goals as goal
+
+pub invariant_of-self : goal.invariant_of-self
+invariant_of-self c =
+    let s = state_of c.self.inside in
+    let n = c.min-count.result in
+    let within : n ≤ length s.log = omega (arith, c.self.inside.log.ok.0) in
+    let same =
+    state-taken c.joining.ensures.continues c.joining.ensures.table c.taking_back.ensures s n c.self.inside.table c.move_front.new.log.items
+    c.self.invariant.lawful within c.self.invariant.table c.move_front.ensures.left in
+    record {
+      lawful = subst IsLawful (sym same) (lawful-taken c.joining.ensures.continues c.joining.ensures.table c.taking_back.ensures s n c.self.invariant.lawful);
+      table = c.self.invariant.table ∙ (sym (now-taken c.joining.ensures.continues c.joining.ensures.table c.taking_back.ensures s n) ∙ ap now_of (sym same));
+    }
+
+pub returns-clause-taken : goal.returns-clause-taken
+returns-clause-taken c =
+    let s = state_of c.self.inside in
+    let n = c.min-count.result in
+    let most = c.args.max in
+    let within : n ≤ length s.log = omega (arith, c.self.inside.log.ok.0) in
+    let least : n ≡ min most (length s.log) = omega (arith, c.self.inside.log.ok.0) in
+    let same =
+    state-taken c.joining.ensures.continues c.joining.ensures.table c.taking_back.ensures s n c.self.inside.table c.move_front.new.log.items
+    c.self.invariant.lawful within c.self.invariant.table c.move_front.ensures.left in (
+      c.move_front.ensures.moved ∙ (ap (λ k. take k s.log) least ∙ (take_min most s.log ∙ ap (λ (old : CoreState). take most old.log) c.self.view_is)),
+      same ∙ (taken-min s n most least ∙ ap (λ (old : CoreState). taken_from old most) c.self.view_is),
+    )

@@ -1,0 +1,173 @@
+// The decisions of one life.
+ghost use Rattle.std.specs.Prelude.{◌≡◌, ◌≤◌, MatchResult, OnErr, SomeIff, take, drop, length, []};
+ghost use Rattle.lw_types.specs.declared.refusal.Refusal.TheVariants.{OutOfMemory};
+ghost use Rattle.session_core.specs.State.{IsLawful, now_of, opened, last_number};
+ghost use Rattle.session_core.specs.Events.{Turns, Makes, wanted, taken_from};
+ghost use Rattle.lw_types.specs.Answer.{Answers};
+
+use crate::{Moment, Turn};
+use devices::Command;
+use lw_types::{Ranged, Refusal};
+use sessions::{Batch, Decision, Table};
+use std::alloc::Global;
+use std::collections::VecDeque;
+use std::marker::Model;
+
+/// How many decisions are taken at most, those of a batch.
+pub const MOST_TAKEN: u64 = Batch::MOST as u64;
+
+/// How many decisions a `take` asks for, from 1 to 64.
+pub type Most = Ranged<1, MOST_TAKEN>;
+
+/// The most decisions that wait to be taken.
+pub const MOST_UNTAKEN: u64 = 4096;
+
+/// The greatest sequence number that a decision gets, 2^63 - 1.
+pub const LAST_NUMBER: u64 = (1 << 63) - 1;
+
+/// The decisions of one life. Its state is lawful whenever it can be seen: the untaken decisions
+/// continue what was taken, none is missing, and the table at hand is the one that they leave.
+#[derive(Drop)]
+pub struct Core {
+    alloc: Global,
+    // The table after every decision made. The one that they began at is this with the log taken back,
+    // which no call needs.
+    table: Table,
+    opening: u64,
+    made: u64,
+    taken: u64,
+    log: VecDeque<Decision>,
+}
+
+impl Model for Core {
+    ghost use Rattle.session_core.specs.State.{CoreState};
+
+    ghost Value = { CoreState };
+
+    ghost use Rattle.session_core.specs.Kept.{state_of, IsKept};
+
+    ghost view = { state_of };
+
+    ghost invariant = { IsKept };
+}
+
+impl Core {
+    /// The core at the beginning of a life, over a copy of this table, whose last decision has the
+    /// number `seq`.
+    pub fn new(alloc: Global, table: &Table, seq: u64) -> Result<Self, Refusal>
+        ensures { MatchResult result (λ core. core ≡ opened table.now seq) (λ e. e ≡ OutOfMemory) }
+    {
+        Ok(Core {
+            alloc,
+            table: table.copy()?,
+            opening: seq,
+            made: 0,
+            taken: 0,
+            log: VecDeque::new(alloc),
+        })
+    }
+
+    /// The table after every decision made.
+    pub fn now(&self) -> &Table
+        ensures table { result.now ≡ now_of self.now }
+        ensures lawful { IsLawful self.now }
+    {
+        &self.table
+    }
+
+    /// The sequence number of the last decision made.
+    pub fn seq(&self) -> u64
+        ensures number { result ≡ last_number self.now }
+        ensures lawful { IsLawful self.now }
+    {
+        self.opening + self.made
+    }
+
+    /// How many decisions were made in this life.
+    pub fn made(&self) -> u64
+        ensures { result ≡ self.now.made }
+    {
+        self.made
+    }
+
+    /// How many decisions wait to be taken.
+    pub fn untaken(&self) -> usize
+        ensures count { result ≡ length self.now.log }
+        ensures lawful { IsLawful self.now }
+    {
+        self.log.len()
+    }
+
+    /// Decides a command that comes at this moment. Refused with `Backlog` where 4,096 decisions wait or
+    /// no number is left, then as [`Table::decide`] refuses it; with `OutOfMemory` for want of memory. A
+    /// refusal changes nothing.
+    pub fn decide(&mut self, _moment: Moment, command: Command) -> Turn
+        ensures turns { Turns self.old command result self.new }
+        ensures lawful { IsLawful self.old }
+    {
+        let from = self.made;
+        match self.keep(command) {
+            Ok(()) => Turn {
+                from,
+                to: from + 1,
+                refused: None,
+            },
+            Err(refusal) => Turn {
+                from,
+                to: from,
+                refused: Some(refusal),
+            },
+        }
+    }
+
+    /// Takes the oldest untaken decisions, at most `max` of them. After an `Err`, which is want of
+    /// memory, the core is as before. Its cost doesn't grow with the number of devices.
+    pub fn take(&mut self, max: Most) -> Result<Batch, Refusal>
+        ensures asked { 1 ≤ max }
+        ensures taken { MatchResult result
+            (λ batch. (batch ≡ take max self.old.log) × (self.new ≡ taken_from self.old max))
+            (λ e. (e ≡ OutOfMemory) × (self.new ≡ self.old)) }
+        ensures lawful { IsLawful self.old }
+    {
+        let count = self.log.len().min(max.get() as usize);
+        let mut batch = Batch::new(self.alloc)?;
+        sessions::laws::joining();
+        sessions::laws::taking_back();
+        move_front(&mut self.log, &mut batch, count);
+        self.taken += count as u64;
+        Ok(batch)
+    }
+
+    // Decides a command on the table as it is now, and keeps the decision.
+    fn keep(&mut self, command: Command) -> Result<(), Refusal>
+        ensures made { Answers (wanted self.old command) (λ s _. Makes self.old command s self.new) result }
+        ensures same { OnErr result (self.new ≡ self.old) }
+    {
+        if self.log.len() as u64 >= MOST_UNTAKEN || self.seq() >= LAST_NUMBER {
+            return Err(Refusal::Backlog);
+        }
+        let decision = self.table.decide(self.alloc, self.seq() + 1, command)?;
+        self.log.reserve(1)?;
+        sessions::laws::deciding();
+        sessions::laws::joining();
+        sessions::laws::taking_back();
+        self.table.apply(&decision)?;
+        self.log.push_back_reserved(decision);
+        self.made += 1;
+        Ok(())
+    }
+}
+
+// Moves the first decisions into an empty batch.
+fn move_front(log: &mut VecDeque<Decision>, batch: &mut Batch, count: usize)
+    requires within { count ≤ length log.old.items }
+    requires few { count ≤ Batch.MOST }
+    requires empty { batch.old ≡ [] }
+    ensures moved { batch.new ≡ take count log.old.items }
+    ensures left { log.new.items ≡ drop count log.old.items }
+{
+    for _i in 0..count {
+        let decision = log.pop_front();
+        batch.push(decision.unwrap());
+    }
+}

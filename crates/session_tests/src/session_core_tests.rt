@@ -1,0 +1,89 @@
+use crate::fixture::provision;
+use crate::tables::new_table;
+use lw_types::Refusal;
+use session_core::{Core, Moment, Most, Turn};
+use std::alloc::Global;
+use std::process::Abort;
+use std::test::Fail;
+
+fn new_core(alloc: Global, slots: u64, seq: u64) -> Result<Core, Fail> {
+    Ok(Core::new(alloc, &new_table(alloc, slots)?, seq)?)
+}
+
+fn turn(from: u64, to: u64, refused: Option<Refusal>) -> Turn {
+    Turn { from, to, refused }
+}
+
+// A device is brought, and the core answers so.
+fn answers(rt: &impl Abort, core: &mut Core, dev_eui: u64, wanted: Turn) -> Result<(), Fail> {
+    let moment = Moment::new(0).ok_or("moment")?;
+    assert_eq!(rt;
+        core.decide(moment, provision(dev_eui).ok_or("command")?),
+        wanted
+    );
+    Ok(())
+}
+
+// A take gives decisions of these numbers.
+fn takes(
+    rt: &impl Abort,
+    core: &mut Core,
+    most: u64,
+    numbers: std::ops::Range<u64>,
+) -> Result<(), Fail> {
+    let batch = core.take(Most::new(most).ok_or("most")?)?;
+    let mut taken = batch.as_slice().iter();
+    for number in numbers {
+        assert_eq!(rt; taken.next().map(|decision| decision.seq), Some(number));
+    }
+    assert!(rt; taken.next().is_none());
+    Ok(())
+}
+
+#[test]
+fn decisions_are_made_and_taken_in_order(rt: HostRuntime) -> Result<(), Fail> {
+    let mut core = new_core(rt.alloc(), 8, 6)?;
+    answers(&rt, &mut core, 50, turn(0, 1, None))?;
+    answers(&rt, &mut core, 50, turn(1, 1, Some(Refusal::DevEuiTaken)))?;
+    answers(&rt, &mut core, 40, turn(1, 2, None))?;
+    answers(&rt, &mut core, 30, turn(2, 3, None))?;
+    assert_eq!(rt; (core.made(), core.seq()), (3, 9));
+    assert_eq!(rt; core.now().devices().len(), 3);
+    takes(&rt, &mut core, 2, 7..9)?;
+    takes(&rt, &mut core, 64, 9..10)?;
+    takes(&rt, &mut core, 1, 10..10)
+}
+
+#[test]
+fn no_number_is_left(rt: HostRuntime) -> Result<(), Fail> {
+    let mut last = new_core(rt.alloc(), 8, (1 << 63) - 2)?;
+    answers(&rt, &mut last, 50, turn(0, 1, None))?;
+    answers(&rt, &mut last, 40, turn(1, 1, Some(Refusal::Backlog)))?;
+    let mut beyond = new_core(rt.alloc(), 8, u64::MAX)?;
+    answers(&rt, &mut beyond, 50, turn(0, 0, Some(Refusal::Backlog)))
+}
+
+#[test]
+fn as_many_decisions_wait_as_there_is_room_for(rt: HostRuntime) -> Result<(), Fail> {
+    let mut core = new_core(rt.alloc(), 4096, 0)?;
+    for made in 0..4096 {
+        answers(&rt, &mut core, made, turn(made, made + 1, None))?;
+    }
+    answers(
+        &rt,
+        &mut core,
+        5000,
+        turn(4096, 4096, Some(Refusal::Backlog)),
+    )?;
+    assert_eq!(rt; core.untaken(), 4096);
+    for batch in 0..64 {
+        takes(&rt, &mut core, 64, batch * 64 + 1..batch * 64 + 65)?;
+    }
+    assert_eq!(rt; core.untaken(), 0);
+    answers(
+        &rt,
+        &mut core,
+        5000,
+        turn(4096, 4096, Some(Refusal::TableFull)),
+    )
+}

@@ -1,0 +1,34 @@
+// The areas of a store's disk.
+ghost use Rattle.std.specs.Prelude.{◌≡◌};
+ghost use Rattle.store.specs.Image.{area_a, area_b};
+
+use gate_log::Area;
+use store_layout::Superblock;
+
+/// The version of the records in an area.
+pub const RECORD_VERSION: u8 = 1;
+
+/// The greatest generation of an area.
+pub const LAST_GENERATION: u64 = (1 << 63) - 1;
+
+/// The area behind the superblock.
+pub(crate) fn first_area(superblock: &Superblock) -> Area
+    ensures { result ≡ area_a superblock.now.slots }
+{
+    let start = Superblock::LEN as u64;
+    Area {
+        start,
+        end: start + superblock.area_len(),
+    }
+}
+
+/// The area behind the first one.
+pub(crate) fn second_area(superblock: &Superblock) -> Area
+    ensures { result ≡ area_b superblock.now.slots }
+{
+    let first = first_area(superblock);
+    Area {
+        start: first.end,
+        end: first.end + superblock.area_len(),
+    }
+}

@@ -1,0 +1,14 @@
+use Rattle.std.proofs.Common.{◌≡◌, ◌∙◌, ◌∷◌, ◌++◌, ℕ, List, length, ap}
+use Rattle.std.specs.Int.{to_be_bytes, w16}
+use Rattle.record_codec.specs.DeviceRecord.{spelling}
+use Rattle.store_layout.specs.Entries.{entry}
+use Rattle.store_layout.proofs.entries.put_entry.Goals as goal
+
+pub returns : goal.returns
+returns c =
+    let d = c.args.device.now in
+    let spelled : c.as_slice.result.now ≡ spelling d =
+    c.as_slice.ensures.value ∙ (c.in_ok-write_device.ensures.ok ∙ ap (λ l. l ++ spelling d) c.new-record.ensures.items) in
+    let word : List ℕ → List ℕ = λ r. 1 ∷ (to_be_bytes w16 c.args.slot ++ (to_be_bytes w16 (length r) ++ r)) in
+    let bytes : c.as_slice-2.result.now ≡ entry (c.args.slot, d) = c.as_slice-2.ensures.value ∙ (c.in_ok-bytes.ensures ∙ ap word spelled) in
+    (c.in_ok-extend_from_slice.ensures.items ∙ ap (λ b. c.args.out.now.items ++ b) bytes, (c.ranges.slot.fits, c.in_ok-write_device.ensures.in_range))

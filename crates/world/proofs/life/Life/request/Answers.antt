@@ -1,0 +1,11 @@
+use Rattle.std.proofs.Common.{subst}
+use Rattle.session_core.specs.Events.{Turns}
+use Rattle.store.specs.State.{seen}
+use Rattle.world.proofs.Deciding.{turn_is}
+use Rattle.world.proofs.life.Life.request.Goals as goal
+
+pub returns-clause-course : goal.returns-clause-course
+returns-clause-course g c start course f =
+    let life = c.args.self.now in
+    turn_is c.of_runs.ensures start course (seen g.D.Disk.state life.store) life.core life.commit c.decide.ensures.lawful f c.args.command.now c.decide.result c.decide.new.self
+    (subst (λ command. Turns life.core command c.decide.result c.decide.new.self) c.copy_of.ensures c.decide.ensures.turns)

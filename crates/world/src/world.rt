@@ -1,0 +1,152 @@
+// The world.
+ghost use Rattle.std.specs.Prelude.{◌≡◌};
+
+use crate::life::Life;
+use crate::place::Place;
+use crate::{Answer, Step, laws};
+use disk::{Image, Sim};
+use flusher::Released;
+use gateway_wire::Emission;
+use lw_types::{NetId, Refusal};
+use std::alloc::Global;
+use std::mem;
+
+/// A simulated network server over all its lives: a store on a disk, the core that decides on its
+/// table, the commit under way, and the effects that were released.
+pub struct World<D: Sim> {
+    pub(crate) place: Place<D>,
+    /// The effects released over all lives, in order.
+    pub(crate) released: Vec<Released>,
+    /// How many of them were emitted, or lost at a crash.
+    pub(crate) emitted: usize,
+}
+
+impl<D: Sim + Drop> World<D> {
+    ghost use Rattle.std.specs.Prelude.{◌≢◌, IfOk, IfErr, MatchResult, length};
+    ghost use Rattle.lw_types.specs.declared.refusal.Refusal.TheVariants.{DeviceFailed};
+    ghost use Rattle.disk.specs.Outlook.Outlook.{AllSucceed};
+    ghost use Rattle.disk.specs.declared.sim.Image.{Image};
+    ghost use Rattle.sessions.specs.Table.{empty_table};
+    ghost use Rattle.store.specs.Faults.{IsFormatRefusal};
+    ghost use Rattle.world.specs.declared.answer.Answer.TheVariants as answers;
+    ghost use Rattle.world.specs.declared.step.Step.TheVariants as steps;
+    ghost use Rattle.world.specs.Cause.{IsCause, IsForetold, IsFull, CrashesTo, failures_at, outlook_at};
+    ghost use Rattle.world.specs.Course.{beginning};
+    ghost use Rattle.world.specs.Follows.{Follows, Moves};
+    ghost use Rattle.world.specs.Sound.{IsSound, HasDisk};
+
+    /// A world with a new store on this disk. Refused as [`store::format`] is, and with `OutOfMemory`.
+    pub fn format(alloc: Global, disk: D, net_id: NetId, slots: u64) -> Result<Self, Refusal>
+        ensures sound { IfOk result (IsSound D.state) }
+        ensures course { IfOk result (Follows D.state (empty_table net_id slots) beginning) }
+        ensures failures { IfOk result (λ world. failures_at D.failures world.place ≡ D.failures disk) }
+        ensures refused { IfErr result (IsFormatRefusal slots (length (D.state disk).content)) }
+        ensures unarmed { D.outlook disk ≡ AllSucceed → MatchResult result
+            (λ world. outlook_at D.outlook world.place ≡ AllSucceed)
+            (λ e. e ≢ DeviceFailed) }
+    {
+        let store = store::format(alloc, disk, net_id, slots)?;
+        store::laws::a_settled_store_is_on_its_disk();
+        match Life::new(alloc, store) {
+            Ok(life) => Ok(World {
+                place: Place::Open(life),
+                released: Vec::new(alloc),
+                emitted: 0,
+            }),
+            Err((_, refusal)) => Err(refusal),
+        }
+    }
+
+    /// One step.
+    pub(crate) fn step(&mut self, alloc: Global, step: &Step) -> Answer
+        requires { IsSound D.state self.old }
+        ensures sound { IsSound D.state self.new }
+        ensures course { Moves D.state self.old step.now result self.new }
+        ensures full { result ≡ answers.Full → IsFull D.state self.old.place }
+        ensures crashed { (image : Image) → step.now ≡ steps.Crash image
+            → CrashesTo D.state image self.old.place self.new.place }
+        ensures cause { IsCause (failures_at D.failures self.old.place) result (failures_at D.failures self.new.place) }
+        ensures foretold { IsForetold (outlook_at D.outlook self.old.place) step.now result
+            (outlook_at D.outlook self.new.place) }
+    {
+        laws::of_runs();
+        match step {
+            Step::Crash(image) => self.crash(alloc, image),
+            Step::Emit => self.emit(alloc),
+            _ => match &mut self.place {
+                Place::Open(life) => life.step(alloc, step, &mut self.released),
+                Place::Closed(_) | Place::Crashing => Answer::Idle,
+            },
+        }
+    }
+
+    // The oldest released effect leaves.
+    fn emit(&mut self, alloc: Global) -> Answer
+        requires { IsSound D.state self.old }
+        ensures sound { IsSound D.state self.new }
+        ensures course { Moves D.state self.old steps.Emit result self.new }
+        ensures full { result ≢ answers.Full }
+        ensures cause { IsCause (failures_at D.failures self.old.place) result (failures_at D.failures self.new.place) }
+        ensures foretold { IsForetold (outlook_at D.outlook self.old.place) steps.Emit result
+            (outlook_at D.outlook self.new.place) }
+    {
+        match self.released.get(self.emitted) {
+            None => Answer::Idle,
+            Some(released) => match Emission::of(alloc, released.effect()) {
+                Ok(emission) => {
+                    self.emitted += 1;
+                    Answer::Emitted(emission)
+                }
+                Err(refusal) => Answer::Refused(refusal),
+            },
+        }
+    }
+
+    // The disk crashes to this image, and the store is opened again. Effects that were released and
+    // not emitted are lost.
+    fn crash(&mut self, alloc: Global, image: &Image) -> Answer
+        requires { IsSound D.state self.old }
+        ensures sound { IsSound D.state self.new }
+        ensures course { Moves D.state self.old (steps.Crash image.now) result self.new }
+        ensures full { result ≢ answers.Full }
+        ensures crashed { CrashesTo D.state image.now self.old.place self.new.place }
+        ensures cause { IsCause (failures_at D.failures self.old.place) result (failures_at D.failures self.new.place) }
+        ensures foretold { IsForetold (outlook_at D.outlook self.old.place) (steps.Crash image.now) result
+            (outlook_at D.outlook self.new.place) }
+    {
+        laws::of_runs();
+        self.emitted = self.released.len();
+        let mut disk = mem::replace(&mut self.place, Place::Crashing).end();
+        disk.crash(image);
+        disk::laws::settled_disk_keeps_its_content();
+        let (place, answer) = Place::reopen(alloc, disk);
+        self.put(place);
+        answer
+    }
+
+    fn put(&mut self, place: Place<D>)
+        ensures place { self.new.place ≡ place }
+        ensures released { self.new.released ≡ self.old.released }
+        ensures emitted { self.new.emitted ≡ self.old.emitted }
+    {
+        match mem::replace(&mut self.place, place) {
+            Place::Open(life) => {
+                let _ = life.end();
+            }
+            Place::Closed(_) | Place::Crashing => {}
+        }
+    }
+
+    /// Ends the world: what is under way is lost, and the disk comes back.
+    pub fn close(self) -> D
+        requires { IsSound D.state self }
+        ensures { HasDisk self.place result }
+    {
+        let World {
+            place,
+            released: _,
+            emitted: _,
+        } = self;
+        place.end()
+    }
+}

@@ -1,0 +1,358 @@
+// The world told plainly: whole lists of commands, and the table made anew from all of them each time
+// that one is wanted.
+ghost use Rattle.std.specs.Prelude.{◌≡◌, ◌++◌, ℕ, true, IfOk};
+ghost use Rattle.sessions.specs.Table.{empty_table, folded, effects_of, step, stepped, step_effects};
+ghost use Rattle.world.specs.declared.step.Step.TheVariants as steps;
+ghost use Rattle.world.specs.Answers.{Leaves, wanted};
+ghost use Rattle.world.specs.Course.{beginning, decided};
+ghost use Rattle.world_tests.specs.Plain.{Goes, IsRefusal, kept_with};
+
+use devices::{Command, Effect};
+use disk::Image;
+use gateway_wire::Emission;
+use lw_types::{NetId, Refusal};
+use session_core::{LAST_NUMBER, MOST_UNTAKEN, Most, Turn};
+use sessions::{Slots, Table};
+use std::alloc::Global;
+use std::marker::Model;
+use std::mem;
+use world::{Answer, Step};
+
+/// How far the commit of the batch that was taken last is.
+#[derive(Clone, Copy, Debug, PartialEq, Eq)]
+pub(crate) enum Stage {
+    Rest,
+    Begun,
+    Written,
+    Synced,
+    Opened,
+    Durable,
+    Stopped,
+    Unsure,
+}
+
+/// A world told plainly. Contracts see the table as it was formatted, and the course. Want of memory
+/// ends it, so that no batch is given up.
+#[derive(Drop)]
+pub(crate) struct Plain {
+    net_id: NetId,
+    slots: Slots,
+    settled: Vec<Command>,
+    flying: Vec<Command>,
+    stage: Stage,
+    untaken: Vec<Command>,
+    made: u64,
+    left: Vec<Effect>,
+    emitted: usize,
+    is_open: bool,
+    // Whether the next device call fails.
+    armed: bool,
+    // Whether the gate of the batch under way is open on the disk, as written and as synced.
+    gate_written: bool,
+    gate_synced: bool,
+}
+
+impl Model for Plain {
+    ghost use Rattle.std.specs.Prelude.{[]};
+    ghost use Rattle.sessions.specs.Table.{empty_table};
+    ghost use Rattle.world_tests.specs.declared.model.Stage.TheVariants as variants;
+    ghost use Rattle.world.specs.Course.Stage.{Rest, Begun, Written, Synced, Opened, Durable, Stopped, Unsure};
+    ghost use Rattle.world_tests.specs.Plain.{PlainState};
+
+    ghost Value = { PlainState };
+
+    ghost view = { λ m. record {
+      start = empty_table m.net_id m.slots;
+      course = record {
+        settled = m.settled.items;
+        flying = m.flying.items;
+        stage = elim m.stage [
+          | variants.Rest ↦ Rest
+          | variants.Begun ↦ Begun
+          | variants.Written ↦ Written
+          | variants.Synced ↦ Synced
+          | variants.Opened ↦ Opened
+          | variants.Durable ↦ Durable
+          | variants.Stopped ↦ Stopped
+          | variants.Unsure ↦ Unsure
+        ];
+        given_up = [];
+        untaken = m.untaken.items;
+        made = m.made;
+        left = m.left.items;
+        emitted = m.emitted;
+        is_open = m.is_open;
+      };
+    } };
+}
+
+impl Plain {
+    /// A world that was just formatted.
+    pub(crate) fn new(alloc: Global, net_id: NetId, slots: Slots) -> Self
+        ensures start { result.start ≡ empty_table net_id slots }
+        ensures course { result.course ≡ beginning }
+    {
+        Plain {
+            net_id,
+            slots,
+            settled: Vec::new(alloc),
+            flying: Vec::new(alloc),
+            stage: Stage::Rest,
+            untaken: Vec::new(alloc),
+            made: 0,
+            left: Vec::new(alloc),
+            emitted: 0,
+            is_open: true,
+            armed: false,
+            gate_written: false,
+            gate_synced: false,
+        }
+    }
+
+    /// One step. An `Err` is want of memory, and then the model is of no use.
+    pub(crate) fn step(&mut self, alloc: Global, step: &Step) -> Result<Answer, Refusal>
+        ensures { IfOk result (λ answer. Goes self.old step.now answer self.new) }
+    {
+        match step {
+            Step::Crash(image) => self.crash(alloc, image),
+            Step::Emit => self.emit(alloc),
+            _ if !self.is_open => Ok(Answer::Idle),
+            Step::Request { command, .. } => self.request(alloc, command),
+            Step::Take(most) => self.take(*most),
+            Step::Call => Ok(self.call()),
+            Step::Fail => {
+                self.armed = true;
+                Ok(Answer::Armed)
+            }
+            Step::Release => self.release(alloc),
+            Step::List => self.list(alloc),
+        }
+    }
+
+    fn request(&mut self, alloc: Global, command: &Command) -> Result<Answer, Refusal>
+        requires { self.old.course.is_open ≡ true }
+        ensures { (moment : ℕ) → IfOk result (λ answer. Goes self.old (steps.Request moment command.now) answer self.new) }
+    {
+        let from = self.made;
+        let refused = self.why_not(alloc, command)?;
+        if refused.is_none() {
+            self.untaken.push(command.clone()?)?;
+            self.made = from.checked_add(1).ok_or(Refusal::OutOfMemory)?;
+        }
+        Ok(Answer::Turn(Turn {
+            from,
+            to: self.made,
+            refused,
+        }))
+    }
+
+    // Why the command is not decided, if it is not.
+    fn why_not(&self, alloc: Global, command: &Command) -> Result<Option<Refusal>, Refusal>
+        ensures { IfOk result (λ refused. IsRefusal (wanted self.now.start self.now.course command.now) refused) }
+    {
+        let all = self.decided(alloc)?;
+        if self.untaken.len() as u64 >= MOST_UNTAKEN || all.len() as u64 >= LAST_NUMBER {
+            return Ok(Some(Refusal::Backlog));
+        }
+        let table = self.table(alloc, &all)?;
+        match table.decide(alloc, 1, command.clone()?) {
+            Ok(_) => Ok(None),
+            Err(Refusal::OutOfMemory) => Err(Refusal::OutOfMemory),
+            Err(refusal) => Ok(Some(refusal)),
+        }
+    }
+
+    fn take(&mut self, most: Most) -> Result<Answer, Refusal>
+        requires { self.old.course.is_open ≡ true }
+        ensures { IfOk result (λ answer. Goes self.old (steps.Take most) answer self.new) }
+    {
+        match self.stage {
+            Stage::Stopped | Stage::Unsure => return Ok(Answer::Refused(Refusal::Failed)),
+            Stage::Rest => {}
+            _ => return Ok(Answer::Idle),
+        }
+        if self.untaken.is_empty() {
+            return Ok(Answer::Idle);
+        }
+        let count = self.untaken.len().min(most.get() as usize);
+        let rest = self.untaken.split_off(count)?;
+        self.flying = mem::replace(&mut self.untaken, rest);
+        self.stage = Stage::Begun;
+        self.gate_written = false;
+        self.gate_synced = false;
+        Ok(Answer::Taken(count))
+    }
+
+    fn call(&mut self) -> Answer
+        requires { self.old.course.is_open ≡ true }
+        ensures { Goes self.old steps.Call result self.new }
+    {
+        let (succeeded, failed) = match self.stage {
+            Stage::Begun => (Stage::Written, Stage::Stopped),
+            Stage::Written => (Stage::Synced, Stage::Stopped),
+            Stage::Synced => (Stage::Opened, Stage::Unsure),
+            Stage::Opened => (Stage::Durable, Stage::Unsure),
+            _ => return Answer::Idle,
+        };
+        if self.armed {
+            self.armed = false;
+            self.stage = failed;
+            return Answer::Refused(Refusal::DeviceFailed);
+        }
+        self.stage = succeeded;
+        self.gate_written = succeeded == Stage::Opened;
+        Answer::Called
+    }
+
+    fn release(&mut self, alloc: Global) -> Result<Answer, Refusal>
+        requires { self.old.course.is_open ≡ true }
+        ensures { IfOk result (λ answer. Goes self.old steps.Release answer self.new) }
+    {
+        if self.stage != Stage::Durable {
+            return Ok(Answer::Idle);
+        }
+        let mut table = self.table(alloc, &self.settled)?;
+        let mut effects = fold(alloc, &mut table, &self.flying)?;
+        let count = effects.len();
+        self.left.append(&mut effects)?;
+        self.settled.append(&mut self.flying)?;
+        self.stage = Stage::Rest;
+        Ok(Answer::Released(count))
+    }
+
+    fn emit(&mut self, alloc: Global) -> Result<Answer, Refusal>
+        ensures { IfOk result (λ answer. Goes self.old steps.Emit answer self.new) }
+    {
+        match self.left.get(self.emitted) {
+            None => Ok(Answer::Idle),
+            Some(effect) => {
+                let emission = Emission::of(alloc, effect)?;
+                self.emitted += 1;
+                Ok(Answer::Emitted(emission))
+            }
+        }
+    }
+
+    fn list(&self, alloc: Global) -> Result<Answer, Refusal>
+        requires { self.now.course.is_open ≡ true }
+        ensures { IfOk result (λ answer. Goes self.now steps.List answer self.now) }
+    {
+        let all = self.decided(alloc)?;
+        let table = self.table(alloc, &all)?;
+        Ok(Answer::Listed {
+            table,
+            seq: all.len() as u64,
+        })
+    }
+
+    // The opening after it reads the disk, so that a failure that is armed comes there.
+    fn crash(&mut self, alloc: Global, image: &Image) -> Result<Answer, Refusal>
+        ensures { IfOk result (λ answer. Goes self.old (steps.Crash image.now) answer self.new) }
+    {
+        world::laws::what_a_crash_leaves();
+        self.emitted = self.left.len();
+        let flew = self.flew(image);
+        self.gate_written = flew;
+        self.gate_synced = flew;
+        if self.armed {
+            self.armed = false;
+            self.is_open = false;
+            return Ok(Answer::Refused(Refusal::DeviceFailed));
+        }
+        let kept = self.kept(alloc, flew)?;
+        let table = self.table(alloc, &kept)?;
+        self.settled = kept;
+        self.flying.clear();
+        self.stage = Stage::Rest;
+        self.untaken.clear();
+        self.made = 0;
+        self.is_open = true;
+        Ok(Answer::Opened {
+            devices: table.devices().len(),
+            seq: self.settled.len() as u64,
+        })
+    }
+
+    // Whether the batch under way is part of what a crash leaves.
+    fn flew(&self, image: &Image) -> bool
+        ensures { Leaves self.now.course (kept_with result self.now.course) }
+    {
+        match self.stage {
+            Stage::Durable => true,
+            Stage::Opened | Stage::Unsure => match image {
+                Image::Old => self.gate_synced,
+                _ => self.gate_written,
+            },
+            _ => false,
+        }
+    }
+
+    // The commands that a crash leaves, with the batch under way or without it.
+    fn kept(&self, alloc: Global, flew: bool) -> Result<Vec<Command>, Refusal>
+        ensures { IfOk result (λ kept. kept.items ≡ kept_with flew self.now.course) }
+    {
+        let mut kept = Vec::new(alloc);
+        add(&mut kept, &self.settled)?;
+        if flew {
+            add(&mut kept, &self.flying)?;
+        }
+        Ok(kept)
+    }
+
+    // The decided commands.
+    fn decided(&self, alloc: Global) -> Result<Vec<Command>, Refusal>
+        ensures { IfOk result (λ all. all.items ≡ decided self.now.course) }
+    {
+        let mut all = Vec::new(alloc);
+        add(&mut all, &self.settled)?;
+        add(&mut all, &self.flying)?;
+        add(&mut all, &self.untaken)?;
+        Ok(all)
+    }
+
+    // The table that these commands leave of the one that was formatted.
+    fn table(&self, alloc: Global, commands: &[Command]) -> Result<Table, Refusal>
+        ensures { IfOk result (λ table. table ≡ folded self.now.start commands.now) }
+    {
+        let mut table = Table::new(alloc, self.net_id, self.slots)?;
+        let _ = fold(alloc, &mut table, commands)?;
+        Ok(table)
+    }
+}
+
+// Adds commands behind others.
+fn add(commands: &mut Vec<Command>, more: &[Command]) -> Result<(), Refusal>
+    ensures { IfOk result (λ _. commands.new.items ≡ commands.old.items ++ more.now) }
+{
+    for command in more {
+        commands.push(command.clone()?)?;
+    }
+    Ok(())
+}
+
+// Decides these commands on the table, one after the other, and gives their effects.
+fn fold(alloc: Global, table: &mut Table, commands: &[Command]) -> Result<Vec<Effect>, Refusal>
+    ensures table { IfOk result (λ _. table.new ≡ folded table.old commands.now) }
+    ensures effects { IfOk result (λ effects. effects.items ≡ effects_of table.old commands.now) }
+{
+    let mut effects = Vec::new(alloc);
+    for command in commands {
+        effects.append(&mut decide(alloc, table, command)?)?;
+    }
+    Ok(effects)
+}
+
+// Decides a command on the table, and gives its effects. One that is refused changes nothing.
+fn decide(alloc: Global, table: &mut Table, command: &Command) -> Result<Vec<Effect>, Refusal>
+    ensures table { IfOk result (λ _. table.new ≡ stepped table.old (step table.old command.now)) }
+    ensures effects { IfOk result (λ effects. effects.items ≡ step_effects (step table.old command.now)) }
+{
+    match table.decide(alloc, 1, command.clone()?) {
+        Ok(decision) => {
+            table.apply(&decision)?;
+            Ok(decision.effects.into_vec())
+        }
+        Err(refusal) if refusal == Refusal::OutOfMemory => Err(refusal),
+        Err(_) => Ok(Vec::new(alloc)),
+    }
+}

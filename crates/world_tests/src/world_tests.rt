@@ -1,0 +1,209 @@
+ghost use Rattle.std.specs.Prelude.{IfOk};
+ghost use Rattle.disk.specs.MemDisk.{state_of};
+ghost use Rattle.world.specs.Sound.{IsSound};
+
+use crate::model::Plain;
+use disk::{Image, MemDisk};
+use lw_types::NetId;
+use session_core::{Moment, Most};
+use session_tests::fixture;
+use sessions::Slots;
+use std::alloc::Global;
+use std::process::Abort;
+use std::test::Fail;
+use world::{Answer, Step, World, run};
+
+/// The slots of the worlds here, which the devices of eleven scripts can fill.
+const SLOTS: u64 = 20;
+
+// A world with so many slots, on a disk that isn't empty.
+fn new_world(alloc: Global, slots: u64) -> Result<World<MemDisk>, Fail>
+    ensures { IfOk result (IsSound state_of) }
+{
+    let len = store::disk_len(Slots::new(slots).ok_or("slots")?);
+    let disk = MemDisk::new(alloc, vec![in alloc; 0xA5; len as usize]?)?;
+    Ok(World::format(alloc, disk, NetId::new(0x2A).ok_or("net id")?, slots)?)
+}
+
+#[test]
+fn a_new_world_is_idle(rt: HostRuntime) -> Result<(), Fail> {
+    let alloc = rt.alloc();
+    let mut world = new_world(alloc, SLOTS)?;
+    let answers = run(&mut world, alloc, &[Step::Call, Step::Release, Step::Emit]);
+    let _ = world.close();
+    let answers = answers?;
+    assert_eq!(rt; answers.len(), 3);
+    assert!(rt; answers.iter().all(|answer| matches!(answer, Answer::Idle)));
+    Ok(())
+}
+
+// An application brings a device of its own DevEUI.
+fn provision(dev_eui: u64) -> Result<Step, Fail> {
+    Ok(Step::Request {
+        moment: Moment::new(dev_eui).ok_or("moment")?,
+        command: fixture::provision(dev_eui).ok_or("command")?,
+    })
+}
+
+// The steps that scripts are made of, each by its letter: two devices of the script, two sizes of a
+// batch, and two images of a crash.
+fn step_of(script: char, letter: char) -> Result<Step, Fail> {
+    let device = u64::from(script as u32) * 2;
+    Ok(match letter {
+        'a' => provision(device)?,
+        'b' => provision(device + 1)?,
+        't' => Step::Take(Most::new(1).ok_or("most")?),
+        'T' => Step::Take(Most::new(64).ok_or("most")?),
+        'c' => Step::Call,
+        'f' => Step::Fail,
+        'r' => Step::Release,
+        'e' => Step::Emit,
+        'o' => Step::Crash(Image::Old),
+        'n' => Step::Crash(Image::New),
+        _ => Step::List,
+    })
+}
+
+const LETTERS: &str = "abtTcfreonl";
+
+// Scripts that lead to a stage: nothing is there, two commands wait, a batch has begun, so many of its
+// four device calls succeeded, and one of them failed.
+const OPENINGS: [&str; 11] = [
+    "", "ab", "abt", "abtc", "abtcc", "abtccc", "abtcccc", "abtfc", "abtcfc", "abtccfc", "abtcccfc",
+];
+
+// Whether the answers are the same, tables by their devices.
+fn same(one: &Answer, other: &Answer) -> bool {
+    match (one, other) {
+        (Answer::Turn(a), Answer::Turn(b)) => a == b,
+        (Answer::Taken(a), Answer::Taken(b)) => a == b,
+        (Answer::Idle, Answer::Idle) => true,
+        (Answer::Called, Answer::Called) => true,
+        (Answer::Armed, Answer::Armed) => true,
+        (Answer::Released(a), Answer::Released(b)) => a == b,
+        (Answer::Emitted(a), Answer::Emitted(b)) => a == b,
+        (
+            Answer::Opened { devices, seq },
+            Answer::Opened {
+                devices: other_devices,
+                seq: other_seq,
+            },
+        ) => devices == other_devices && seq == other_seq,
+        (
+            Answer::Listed { table, seq },
+            Answer::Listed {
+                table: other_table,
+                seq: other_seq,
+            },
+        ) => table.devices() == other_table.devices() && seq == other_seq,
+        (Answer::Refused(a), Answer::Refused(b)) => a == b,
+        _ => false,
+    }
+}
+
+// The scripts from one stage with the same first step, one after the other: its opening, that step,
+// another one, a look at the table and at what may leave, and a crash.
+fn scripts(alloc: Global, opening: &str, first: char) -> Result<Vec<Step>, Fail> {
+    let mut steps = Vec::new(alloc);
+    for second in LETTERS.chars() {
+        for letter in opening.chars() {
+            steps.push(step_of(second, letter)?)?;
+        }
+        steps.push(step_of(second, first)?)?;
+        steps.push(step_of(second, second)?)?;
+        for letter in "leo".chars() {
+            steps.push(step_of(second, letter)?)?;
+        }
+    }
+    Ok(steps)
+}
+
+// Takes steps on a new world and on a new model, and compares their answers.
+fn compare(
+    rt: &impl Abort,
+    alloc: Global,
+    slots: u64,
+    steps: &[Step],
+    name: &str,
+) -> Result<(), Fail> {
+    let mut world = new_world(alloc, slots)?;
+    let answers = run(&mut world, alloc, steps);
+    let _ = world.close();
+    let answers = answers?;
+    let net_id = NetId::new(0x2A).ok_or("net id")?;
+    let mut model = Plain::new(alloc, net_id, Slots::new(slots).ok_or("slots")?);
+    assert_eq!(rt; answers.len(), steps.len());
+    for (number, step) in steps.iter().enumerate() {
+        let wanted = model.step(alloc, step)?;
+        assert!(rt; same(&answers[number], &wanted), "{name}: step {number}");
+    }
+    Ok(())
+}
+
+// Every step after every other, from each stage.
+#[test]
+fn worlds_answer_as_their_model(rt: HostRuntime) -> Result<(), Fail> {
+    let alloc = rt.alloc();
+    for opening in OPENINGS {
+        for first in LETTERS.chars() {
+            let steps = scripts(alloc, opening, first)?;
+            compare(&rt, alloc, SLOTS, &steps, opening)?;
+        }
+    }
+    Ok(())
+}
+
+// So many devices are brought, and all their decisions taken, committed and released, at most so many
+// at a time. Then there is a look at the table, and a crash.
+fn many(alloc: Global, devices: u64, most: Most) -> Result<Vec<Step>, Fail> {
+    let mut steps = Vec::new(alloc);
+    for dev_eui in 0..devices {
+        steps.push(provision(dev_eui)?)?;
+    }
+    for _ in 0..devices.div_ceil(most.get()) {
+        steps.push(Step::Take(most))?;
+        for _ in 0..4 {
+            steps.push(Step::Call)?;
+        }
+        steps.push(Step::Release)?;
+    }
+    for _ in 0..devices {
+        steps.push(Step::Emit)?;
+    }
+    steps.push(Step::List)?;
+    steps.push(Step::Crash(Image::Old))?;
+    steps.push(Step::List)?;
+    Ok(steps)
+}
+
+// More than one decision waits, and more than one batch is taken.
+#[test]
+fn many_decisions_wait(rt: HostRuntime) -> Result<(), Fail> {
+    let alloc = rt.alloc();
+    for (devices, most) in [(5, 2), (100, 64)] {
+        let steps = many(alloc, devices, Most::new(most).ok_or("most")?)?;
+        compare(&rt, alloc, devices, &steps, "many")?;
+    }
+    Ok(())
+}
+
+#[test]
+fn a_store_of_4096_devices_is_opened(rt: HostRuntime) -> Result<(), Fail> {
+    let alloc = rt.alloc();
+    let steps = many(alloc, 4096, Most::new(64).ok_or("most")?)?;
+    let mut world = new_world(alloc, 4096)?;
+    let answers = run(&mut world, alloc, &steps);
+    let _ = world.close();
+    let answers = answers?;
+    let opened = answers.iter().filter(|answer| {
+        matches!(
+            answer,
+            Answer::Opened {
+                devices: 4096,
+                seq: 4096
+            }
+        )
+    });
+    assert_eq!(rt; opened.count(), 1);
+    Ok(())
+}
