@@ -1,11 +1,11 @@
 -- What a join server grants, and what it refuses (TS001-1.0.4 §6.2).
-use Rattle.std.specs.Prelude.{◌≡◌, ◌==◌, ◌+◌, ◌^◌, ℕ, Bool, true, not, nat_eq, nat_lt, if◌then◌else◌, List, [], ◌∷◌, ◌++◌, take, drop, Option, Some, Result, Ok, Err, unwrap_or}
+use Rattle.std.specs.Prelude.{◌≡◌, ◌==◌, ◌+◌, ◌^◌, ℕ, Bool, true, not, nat_eq, nat_lt, if◌then◌else◌, List, [], ◌∷◌, ◌++◌, take, drop, Option, Some, Result, Ok, Err, unwrap_or, replicate}
 use Rattle.std.specs.Option.{option_map_or}
 use Rattle.std.specs.Int.{w16, w32, w64, from_le_bytes, to_le_bytes}
 use Rattle.std.specs.Cmp.Lexicographic.{pointwise}
 use Rattle.lw_types.specs.declared.refusal.Refusal.{Refusal}
 use Rattle.lw_types.specs.declared.refusal.Refusal.TheVariants.{WrongJoinEui, BadMic, DevNonceUsed, JoinNonceSpent}
-use Rattle.frame_crypt.specs.Joins.{join_mic, opened, session_key, three_bytes}
+use Rattle.frame_crypt.specs.Joins.{join_mic, sealed, session_key, three_bytes}
 use Rattle.join_server.specs.declared.state.JoinState.{JoinState}
 use Rattle.join_server.specs.declared.ask.JoinAsk.{JoinAsk}
 use Rattle.join_server.specs.declared.grant.JoinGrant.{JoinGrant}
@@ -41,20 +41,18 @@ admission s request =
     else (if not (nat_lt (next_join_nonce s.join_nonce) (2 ^ 24)) then Err JoinNonceSpent
     else Ok tt)))
 
--- a Join-Accept before it is sealed, but for its MIC: MHDR, JoinNonce (3), NetID (3), DevAddr (4), DLSettings and
--- RXDelay, low bytes first (§6.2.6)
+-- a Join-Accept before it is sealed: MHDR, JoinNonce (3), NetID (3), DevAddr (4), DLSettings and RXDelay, low bytes
+-- first, and four bytes for the MIC (§6.2.6)
 abbrev pub accept_fields : ℕ → JoinAsk → List ℕ
 accept_fields join_nonce ask =
-    0x20 ∷ (three_bytes join_nonce ++ (three_bytes ask.net_id ++ (to_le_bytes w32 ask.dev_addr.0 ++ (ask.dl_settings ∷ ask.rx_delay ∷ []))))
+    0x20 ∷ (three_bytes join_nonce ++ (three_bytes ask.net_id ++ (to_le_bytes w32 ask.dev_addr.0 ++ (ask.dl_settings ∷ ask.rx_delay ∷ replicate 4 0))))
 
--- what a device is granted: the keys of the next JoinNonce and this DevNonce (§6.2.3), and an accept that the device
--- opens to these fields and their MIC
+-- what a device is granted: the keys of the next JoinNonce and this DevNonce (§6.2.3), and the sealed accept
 pub record IsGrantOf (s : JoinState) (ask : JoinAsk) (grant : JoinGrant) : Type 0 where
   pub join_nonce : grant.join_nonce ≡ next_join_nonce s.join_nonce
   pub nwk_skey : grant.nwk_skey.0 ≡ session_key s.app_key.0 1 grant.join_nonce ask.net_id (dev_nonce_of ask.request)
   pub app_skey : grant.app_skey.0 ≡ session_key s.app_key.0 2 grant.join_nonce ask.net_id (dev_nonce_of ask.request)
-  pub accept : let fields = accept_fields grant.join_nonce ask in
-      opened s.app_key.0 grant.accept ≡ fields ++ join_mic s.app_key.0 fields
+  pub accept : grant.accept ≡ sealed s.app_key.0 (accept_fields grant.join_nonce ask)
 
 -- the device's state after a join: both nonces are used, and nothing else has changed
 abbrev pub joined : JoinState → ℕ → ℕ → JoinState

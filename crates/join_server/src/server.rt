@@ -1,7 +1,7 @@
 // Joins are granted or refused.
 ghost use Rattle.std.specs.Prelude.{◌≡◌, ◌<◌, ◌==◌, ◌^◌, ◌++◌, ℕ, IfOk, IsTrue, MatchResult, Ok, Err, SomeIff, take, drop, nat_eq, nat_lt, length};
 ghost use Rattle.std.specs.Cmp.Lexicographic.{pointwise};
-ghost use Rattle.frame_crypt.specs.Joins.{join_mic, opened};
+ghost use Rattle.frame_crypt.specs.Joins.{join_mic, sealed};
 ghost use Rattle.join_server.specs.Join.{IsAnswer, admission, accept_fields, dev_nonce_of, is_later, join_eui_of, message_of, mic_of, next_join_nonce};
 
 use crate::{JoinAsk, JoinGrant, JoinRequest, JoinState, SealedAccept};
@@ -96,8 +96,7 @@ fn next_join_nonce(last: Option<JoinNonce>) -> Option<JoinNonce>
 
 // The sealed Join-Accept.
 fn accept(key: &Key, join_nonce: JoinNonce, ask: &JoinAsk) -> SealedAccept
-    ensures { let fields = accept_fields join_nonce ask.now in
-        opened key.now.0 result ≡ fields ++ join_mic key.now.0 fields }
+    ensures { result ≡ sealed key.now.0 (accept_fields join_nonce ask.now) }
 {
     let [j0, j1, j2, _] = join_nonce.get().to_le_bytes();
     let [n0, n1, n2, _] = u32::from(ask.net_id.get()).to_le_bytes();
