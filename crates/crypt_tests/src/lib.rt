@@ -10,4 +10,6 @@ mod counters_tests;
 #[cfg(test)]
 mod frame_crypt_tests;
 #[cfg(test)]
+mod join_server_tests;
+#[cfg(test)]
 mod region_eu868_tests;

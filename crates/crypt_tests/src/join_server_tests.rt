@@ -1,0 +1,122 @@
+// Joins by hand: the request's MIC by `join_mic`, and the accept opened by the cipher, as a device opens it.
+use aes128::encrypt;
+use frame_crypt::{derive_keys, join_mic};
+use join_server::{JoinAsk, JoinGrant, JoinRequest, JoinState, RxDelay, SealedAccept, answer};
+use lw_types::{DevAddr, Eui, JoinNonce, Key, NetId, Refusal};
+use std::process::Abort;
+use std::test::Fail;
+
+const APP_KEY: Key = Key([
+    0x2B, 0x7E, 0x15, 0x16, 0x28, 0xAE, 0xD2, 0xA6, 0xAB, 0xF7, 0x15, 0x88, 0x09, 0xCF, 0x4F, 0x3C,
+]);
+
+// MHDR, JoinEUI 0102030405060708 and DevEUI 1112131415161718, low bytes first.
+const NAMES: [u8; 17] = *b"\x00\x08\x07\x06\x05\x04\x03\x02\x01\x18\x17\x16\x15\x14\x13\x12\x11";
+
+fn state(dev_nonce: Option<u16>, join_nonce: Option<u32>) -> Result<JoinState, Fail> {
+    Ok(JoinState {
+        dev_eui: Eui(0x1112_1314_1516_1718),
+        join_eui: Eui(0x0102_0304_0506_0708),
+        app_key: APP_KEY,
+        dev_nonce,
+        join_nonce: match join_nonce {
+            None => None,
+            Some(number) => Some(JoinNonce::new(number).ok_or("a JoinNonce")?),
+        },
+    })
+}
+
+// A Join-Request of this DevNonce.
+fn request(dev_nonce: u16) -> JoinRequest {
+    let mut request = [0; 23];
+    request[..17].copy_from_slice(&NAMES);
+    request[17..19].copy_from_slice(&dev_nonce.to_le_bytes());
+    let mic = join_mic(&APP_KEY, &request[..19]);
+    request[19..].copy_from_slice(&mic);
+    request
+}
+
+fn ask(request: JoinRequest) -> Result<JoinAsk, Fail> {
+    Ok(JoinAsk {
+        net_id: NetId::new(0x2A).ok_or("a NetID")?,
+        dev_addr: DevAddr(0x5400_0001),
+        dl_settings: 0x20,
+        rx_delay: RxDelay::new(1).ok_or("a delay")?,
+        request,
+        transaction: 2,
+    })
+}
+
+// What a device has of an accept: each block encrypted.
+fn opened(accept: SealedAccept) -> [u8; 16] {
+    let mut block = [0; 16];
+    block.copy_from_slice(&accept[1..]);
+    encrypt(&APP_KEY, &mut block);
+    block
+}
+
+#[test]
+fn a_first_join_is_granted(rt: HostRuntime) -> Result<(), Fail> {
+    let (after, grant) = answer(&state(None, None)?, &ask(request(1))?)?;
+    assert_eq!(rt; after, state(Some(1), Some(1))?);
+    let fields = *b"\x20\x01\0\0\x2A\0\0\x01\0\0\x54\x20\x01";
+    let mic = join_mic(&APP_KEY, &fields);
+    let device = opened(grant.accept);
+    assert_eq!(rt; grant.accept[0], 0x20);
+    assert_eq!(rt; &device[..12], &fields[1..]);
+    assert_eq!(rt; &device[12..], mic.as_slice());
+    keys_are_derived(&rt, grant, 1)
+}
+
+fn keys_are_derived(rt: &impl Abort, grant: JoinGrant, dev_nonce: u16) -> Result<(), Fail> {
+    let net_id = NetId::new(0x2A).ok_or("a NetID")?;
+    let keys = derive_keys(&APP_KEY, grant.join_nonce, net_id, dev_nonce);
+    assert_eq!(rt; (grant.nwk_skey, grant.app_skey), keys);
+    Ok(())
+}
+
+// What is granted after these nonces to this one: the next JoinNonce, or nothing.
+fn grants(
+    rt: &impl Abort,
+    last: Option<u16>,
+    granted: u32,
+    dev_nonce: u16,
+    next: u32,
+) -> Result<(), Fail> {
+    let (after, grant) = answer(&state(last, Some(granted))?, &ask(request(dev_nonce))?)?;
+    assert_eq!(rt; grant.join_nonce.get(), next);
+    assert_eq!(rt; after, state(Some(dev_nonce), Some(next))?);
+    Ok(())
+}
+
+#[test]
+fn nonces_grow(rt: HostRuntime) -> Result<(), Fail> {
+    grants(&rt, None, 8191, 0, 8192)?;
+    grants(&rt, Some(0), 8192, 1, 8193)?;
+    grants(&rt, Some(7), 16_777_214, 65_535, 16_777_215)
+}
+
+fn refuses(
+    rt: &impl Abort,
+    state: JoinState,
+    request: JoinRequest,
+    refusal: Refusal,
+) -> Result<(), Fail> {
+    assert_eq!(rt; answer(&state, &ask(request)?), Err(refusal));
+    Ok(())
+}
+
+// Each join here has the faults of those below it too, so that the first one is answered.
+#[test]
+fn the_first_fault_is_answered(rt: HostRuntime) -> Result<(), Fail> {
+    let spent = state(Some(9), Some(16_777_215))?;
+    let mut forged = request(9);
+    forged[22] ^= 1;
+    let mut elsewhere = forged;
+    elsewhere[1] ^= 1;
+    refuses(&rt, spent, elsewhere, Refusal::WrongJoinEui)?;
+    refuses(&rt, spent, forged, Refusal::BadMic)?;
+    refuses(&rt, spent, request(9), Refusal::DevNonceUsed)?;
+    refuses(&rt, spent, request(8), Refusal::DevNonceUsed)?;
+    refuses(&rt, spent, request(10), Refusal::JoinNonceSpent)
+}

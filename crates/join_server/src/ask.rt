@@ -1,0 +1,21 @@
+// What a network asks of a join server.
+use lw_types::{DevAddr, NetId, Ranged};
+
+/// The bytes of a Join-Request: MHDR, JoinEUI, DevEUI, DevNonce and MIC (TS001-1.0.4 §6.2.5).
+pub type JoinRequest = [u8; 23];
+
+/// The delay from the end of an uplink to RX1, from 1 to 15 seconds (TS001-1.0.4 §6.2.6).
+pub type RxDelay = Ranged<1, 15>;
+
+/// A device's Join-Request, and what its session is to have if it is granted.
+#[derive(Clone, Copy, Debug, PartialEq, Eq)]
+pub struct JoinAsk {
+    pub net_id: NetId,
+    pub dev_addr: DevAddr,
+    /// RX1DROffset in bits 6 to 4 and the data rate of RX2 in bits 3 to 0 (TS001-1.0.4 §6.2.6).
+    pub dl_settings: u8,
+    pub rx_delay: RxDelay,
+    pub request: JoinRequest,
+    /// The number by which the answer names the question.
+    pub transaction: u32,
+}

@@ -1,0 +1,14 @@
+// What a granted join gives.
+use lw_types::{JoinNonce, Key};
+
+/// The bytes of a Join-Accept, of which all but the first are sealed (TS001-1.0.4 §6.2.6).
+pub type SealedAccept = [u8; 17];
+
+/// A session: its JoinNonce and keys for the network, and the accept for the device.
+#[derive(Clone, Copy, Debug, PartialEq, Eq)]
+pub struct JoinGrant {
+    pub join_nonce: JoinNonce,
+    pub nwk_skey: Key,
+    pub app_skey: Key,
+    pub accept: SealedAccept,
+}

@@ -1,0 +1,12 @@
+//! The join server of a network: it grants a device a session, or refuses it (TS001-1.0.4 §6.2). No call takes memory.
+#![tactic(auto)]
+
+mod ask;
+mod grant;
+mod server;
+mod state;
+
+pub use ask::{JoinAsk, JoinRequest, RxDelay};
+pub use grant::{JoinGrant, SealedAccept};
+pub use server::answer;
+pub use state::JoinState;
