@@ -1,5 +1,5 @@
 // Joins are granted or refused.
-ghost use Rattle.std.specs.Prelude.{◌≡◌, ◌<◌, ◌==◌, ◌^◌, ◌++◌, ℕ, IfOk, IsTrue, MatchResult, Ok, Err, SomeIff, take, drop, nat_eq, nat_lt, length};
+ghost use Rattle.std.specs.Prelude.{◌≡◌, ◌<◌, ◌^◌, MatchResult, Ok, Err, SomeIff, nat_eq};
 ghost use Rattle.std.specs.Cmp.Lexicographic.{pointwise};
 ghost use Rattle.frame_crypt.specs.Joins.{join_mic, sealed};
 ghost use Rattle.join_server.specs.Join.{IsAnswer, admission, accept_fields, dev_nonce_of, is_later, join_eui_of, message_of, mic_of, next_join_nonce};
