@@ -372,13 +372,14 @@ fn parts_have_their_lengths(rt: HostRuntime) -> Result<(), Fail> {
     Ok(())
 }
 
-// A data frame of these lengths is written, and read again.
+// A data frame of these lengths is written in so many bytes, and read again.
 fn is_read_again(
     rt: &impl Abort,
     alloc: Global,
     f_opts: usize,
     port: Option<u8>,
     payload: usize,
+    len: usize,
 ) -> Result<(), Fail> {
     let bytes = [0xA5; 242];
     let f_opts = bytes.get(..f_opts).ok_or("at most 15")?;
@@ -394,16 +395,15 @@ fn is_read_again(
     let mut out = Vec::new(alloc);
     encode(alloc, &frame, &mut out)?;
     assert_eq!(rt; decode(alloc, out.as_slice())?, frame);
-    let port_len = usize::from(port.is_some());
-    assert_eq!(rt; out.len(), 12 + f_opts.len() + port_len + payload.len());
+    assert_eq!(rt; out.len(), len);
     Ok(())
 }
 
 #[test]
 fn each_length_of_f_opts_is_read_again(rt: HostRuntime) -> Result<(), Fail> {
     for len in 0usize..16 {
-        is_read_again(&rt, rt.alloc(), len, None, 0)?;
-        is_read_again(&rt, rt.alloc(), len, Some(9), 242 - len)?;
+        is_read_again(&rt, rt.alloc(), len, None, 0, 12 + len)?;
+        is_read_again(&rt, rt.alloc(), len, Some(9), 242 - len, 255)?;
     }
     Ok(())
 }
