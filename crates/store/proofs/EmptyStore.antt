@@ -1,15 +1,18 @@
 -- The bytes of a store that is being made.
-use Rattle.std.proofs.Common.{◌≡◌, ◌<◌, ◌≤◌, ◌+◌, ◌-◌, ◌∙◌, ℕ, List, [], ◌∷◌, ◌++◌, Result, Ok, Err, OnOk, false, length, take, drop, sym, ap, refl, arith, append_assoc, length-append, length-drop}
-use Rattle.std.proofs.lemmas.List.{drop-drop, drop_at, drop-take, take_at, take-take, length-take-le}
+use Rattle.std.proofs.Common.{◌≡◌, ◌<◌, ◌≤◌, ◌+◌, ◌-◌, ◌∙◌, ℕ, List, [], ◌∷◌, ◌++◌, Result, Ok, Err, OnOk, false, length, take, drop, get_or, sym, ap, refl, arith, inl, inr, ◌⊎◌, ◌≢◌, append_assoc, length-append, length-drop}
+use Rattle.std.proofs.lemmas.List.{drop-drop, drop_at, drop-take, take_at, take-take, length-take-le, get_or-take, get_or-drop}
 use Rattle.std.specs.List.{slice_range}
-use Rattle.disk.specs.State.{IsTorn, NothingOpen, State, written}
+use Rattle.disk.specs.State.{IsPermitted, IsTorn, NothingOpen, Opens, State, written}
+use Rattle.gate_log.specs.declared.layout.Area.{Area}
+use Rattle.std.proofs.lemmas.Bool.{cases_eq}
 use Rattle.gate_log.specs.declared.layout.Header.{Header}
 use Rattle.gate_log.specs.declared.layout.TheConstants.{OPEN}
-use Rattle.gate_log.specs.Layout.{Contents, Holds, fresh_header, header_bytes}
+use Rattle.gate_log.specs.Layout.{Contents, Holds, IsClosedArea, fresh_header, header_bytes}
 use Rattle.gate_log.specs.Recover.{contents_in}
 use Rattle.sessions.specs.Table.{empty_table}
-use Rattle.store_layout.specs.Superblock.{area_len, disk_len, superblock}
-use Rattle.store.specs.Image.{area_a}
+use Rattle.store_layout.specs.Superblock.{area_len, disk_len, superblock, superblock_body}
+use Rattle.store.specs.Formatting.{IsFormatImage, IsShut}
+use Rattle.store.specs.Image.{area_a, area_b}
 use Rattle.store.specs.declared.areas.TheConstants.{RECORD_VERSION}
 use Rattle.store.specs.State.{IsSettled}
 
@@ -89,3 +92,51 @@ settled_empty net_id slots state net range settled long holds front =
         };
       };
     }
+
+-- the first byte of a shut disk is one at every crash
+pub shut_images : (state : State) → IsShut state → (image : List ℕ) → IsPermitted state image → get_or image 0 0 ≢ OPEN
+shut_images state shut image permitted same = shut.closed (sym (permitted.kept 0 shut.settled) ∙ same)
+
+-- a write behind the first byte leaves it
+pub shut_after : (at n : ℕ) (old new : State) → 1 ≤ at → Opens at n old new → IsShut old → IsShut new
+shut_after at n old new behind opens shut = record {
+  settled = opens.others 0 (inl (omega arith)) ∙ shut.settled;
+  closed = λ same. shut.closed (sym (first_kept at old.content new.content behind opens.torn.before) ∙ same);
+}
+  where
+    first_kept : (at : ℕ) (xs ys : List ℕ) → 1 ≤ at → take at ys ≡ take at xs → get_or ys 0 0 ≡ get_or xs 0 0
+    first_kept at xs ys behind same =
+        sym (get_or-take at ys 0 0 (omega arith)) ∙ (ap (λ (l : List ℕ). get_or l 0 0) same ∙ get_or-take at xs 0 0 (omega arith))
+
+-- a torn gate that reads open is the open one
+opened_image : (old image : List ℕ) → IsTorn 0 1 old image → 1 ≤ length old → get_or image 0 0 ≡ OPEN → image ≡ written old 0 (OPEN ∷ [])
+opened_image old [] torn some is = absurd (omega (arith, torn.same_length))
+opened_image old (x ∷ image) torn some is = (λ i. is i ∷ torn.after i)
+
+-- a torn gate in front of a store without devices
+pub formatted_image : (net_id slots : ℕ) (old image : List ℕ) → net_id < 64 → (1 ≤ slots) × (slots ≤ 4096) → length old ≡ disk_len slots
+    → ((area : Area) (old new : List ℕ) (c : Contents) → Holds area c old → length new ≡ length old → slice_range new area.start area.end ≡ slice_range old area.start area.end
+    → Holds area (contents_in area new c.header c.records c.batches) new)
+    → Holds (area_a slots) (contents_in (area_a slots) old (fresh_header RECORD_VERSION) [] []) old → drop 1 (take 32 old) ≡ superblock_body net_id slots
+    → IsTorn 0 1 old image → (before : List ℕ) → IsFormatImage net_id slots before image
+formatted_image net_id slots old image net range long outside holds body torn before =
+    elim (cases_eq (get_or image 0 0) OPEN) [
+      | inl is ↦
+          let same = opened_image old image torn (omega (arith, long)) is in
+          let size = torn.same_length in
+          let state : State = record { content = image; synced = image; is_open = λ i. false } in
+          let held = outside (area_a slots) old image (contents_in (area_a slots) old (fresh_header RECORD_VERSION) [] []) holds size (opened_range old image (32 + area_len slots) same) in
+          let front = opened_front old image same ∙ ap (λ (l : List ℕ). OPEN ∷ l) body in
+          let settled = settled_empty net_id slots state net range (λ i. refl) (size ∙ long) held front in
+          inr (inl (record { contents = settled.contents; in_area = settled.rest.holds; says = settled.says }))
+      | inr other ↦ inl other
+    ]
+
+-- a gate in the second area stays where the first one is formatted
+pub closed_after : (slots : ℕ) (old new : List ℕ) → IsTorn 32 31 old new → IsClosedArea (area_b slots) old → IsClosedArea (area_b slots) new
+closed_after slots old new torn closed same =
+    let start = 32 + area_len slots in
+    closed (sym (at_front start old) ∙ (ap (λ (l : List ℕ). get_or l 0 0) (sym (behind_after start old new (omega arith) torn)) ∙ (at_front start new ∙ same)))
+  where
+    at_front : (k : ℕ) (xs : List ℕ) → get_or (drop k xs) 0 0 ≡ get_or xs k 0
+    at_front k xs = get_or-drop k xs 0 0 ∙ ap (λ n. get_or xs n 0) (let same : k + 0 ≡ k = omega arith in same)

@@ -1,6 +1,7 @@
 pub mod Image
 pub mod Found
 pub mod Faults
+pub mod Formatting
 pub mod State
 pub mod Commit
 pub mod Phases

@@ -1,15 +1,16 @@
 // Makes a store on a new disk.
-ghost use Rattle.std.specs.Prelude.{◌≡◌, ◌≢◌, ◌<◌, ◌+◌, false, [], length, take, drop, IfOk, IfErr, OnOk, MatchResult, IsTrue, is_ok};
-ghost use Rattle.lw_types.specs.declared.refusal.Refusal.TheVariants.{DeviceFailed};
+ghost use Rattle.std.specs.Prelude.{◌≡◌, ◌≢◌, ◌<◌, ◌≤◌, ◌+◌, false, [], ◌∷◌, length, take, drop, IfOk, IfErr, OnOk, MatchResult, IsTrue, is_ok};
+ghost use Rattle.lw_types.specs.declared.refusal.Refusal.TheVariants.{DeviceFailed, OutOfMemory};
 ghost use Rattle.disk.specs.Outlook.{HasCause};
 ghost use Rattle.disk.specs.Outlook.Outlook.{AllSucceed};
-ghost use Rattle.disk.specs.State.{NothingOpen};
-ghost use Rattle.gate_log.specs.Layout.{Holds, fresh_header};
+ghost use Rattle.disk.specs.State.{EveryImage, IsTorn, NothingOpen, written};
+ghost use Rattle.gate_log.specs.Layout.{Holds, IsClosedArea, fresh_header};
 ghost use Rattle.gate_log.specs.Recover.{contents_in};
 ghost use Rattle.sessions.specs.Table.{empty_table};
 ghost use Rattle.store_layout.specs.Superblock.{disk_len, superblock as superblock_bytes, superblock_body};
 ghost use Rattle.store.specs.Faults.{IsFormatRefusal, IsSlots};
-ghost use Rattle.store.specs.Image.{area_a};
+ghost use Rattle.store.specs.Formatting.{IsFormatImage, IsShut};
+ghost use Rattle.store.specs.Image.{area_a, area_b};
 ghost use Rattle.store.specs.State.{seen, disk_of, IsSettled};
 
 use crate::Store;
@@ -29,10 +30,7 @@ pub fn disk_len(slots: Slots) -> u64
     Superblock { net_id, slots }.disk_len()
 }
 
-/// Makes a store without devices. Refused with `Damaged` exactly where `slots` is not from 1 to
-/// 4,096, else with `WrongSize` exactly where the disk hasn't the length of such a store, else with
-/// `DeviceFailed` exactly where a call of the disk failed, and with `OutOfMemory` for want of memory,
-/// before any call. It makes eight calls of the disk, and its cost grows with the number of slots.
+/// Makes a store without devices, as [`format_back`] does.
 pub fn format<D: Disk + Drop>(
     alloc: Global,
     disk: D,
@@ -44,19 +42,61 @@ pub fn format<D: Disk + Drop>(
     ensures healthy { IfOk result (λ store. ((seen D.state store).failed ≡ false)
         × (D.failures (disk_of store) ≡ D.failures disk)) }
     ensures settled { D.honest → IfOk result (λ store. IsSettled (seen D.state store)) }
+    ensures other_area { D.honest → IfOk result
+        (λ store. IsClosedArea (area_b slots) (D.state (disk_of store)).content) }
     ensures fits { IfOk result (λ _. IsSlots slots × (length (D.state disk).content ≡ disk_len slots)) }
     ensures refused { IfErr result (IsFormatRefusal slots (length (D.state disk).content)) }
     ensures unarmed { D.outlook disk ≡ AllSucceed → MatchResult result
         (λ store. D.outlook (disk_of store) ≡ AllSucceed)
         (λ e. e ≢ DeviceFailed) }
 {
-    let slots = Slots::new(slots).ok_or(Refusal::Damaged)?;
+    match format_back(alloc, disk, net_id, slots) {
+        Ok(store) => Ok(store),
+        Err((_, refusal)) => Err(refusal),
+    }
+}
+
+/// Makes a store without devices. Refused with `Damaged` exactly where `slots` is not from 1 to
+/// 4,096, else with `WrongSize` exactly where the disk hasn't the length of such a store, else with
+/// `DeviceFailed` exactly where a call of the disk failed, and with `OutOfMemory` for want of memory,
+/// before any call. With a refusal the disk comes back. It makes eight calls of the disk, and its cost
+/// grows with the number of slots.
+///
+/// Whatever a crash leaves of a disk on which it failed, or was cut between two calls: no store, the new
+/// one, or all but the first byte as it was.
+pub fn format_back<D: Disk>(
+    alloc: Global,
+    disk: D,
+    net_id: NetId,
+    slots: u64,
+) -> Result<Store<D>, (D, Refusal)>
+    ensures empty { IfOk result (λ store. ((seen D.state store).table ≡ empty_table net_id slots)
+        × ((seen D.state store).seq ≡ 0)) }
+    ensures healthy { IfOk result (λ store. ((seen D.state store).failed ≡ false)
+        × (D.failures (disk_of store) ≡ D.failures disk)) }
+    ensures settled { D.honest → IfOk result (λ store. IsSettled (seen D.state store)) }
+    ensures other_area { D.honest → IfOk result
+        (λ store. IsClosedArea (area_b slots) (D.state (disk_of store)).content) }
+    ensures fits { IfOk result (λ _. IsSlots slots × (length (D.state disk).content ≡ disk_len slots)) }
+    ensures refused { IfErr result (λ e. IsFormatRefusal slots (length (D.state disk).content) e.1) }
+    ensures unarmed { D.outlook disk ≡ AllSucceed → MatchResult result
+        (λ store. D.outlook (disk_of store) ≡ AllSucceed)
+        (λ e. e.1 ≢ DeviceFailed) }
+    ensures images { D.honest → NothingOpen (D.state disk) → IfErr result
+        (λ e. EveryImage (D.state e.0) (IsFormatImage net_id slots (D.state disk).content)) }
+{
+    disk::laws::settled_disk_keeps_its_content();
+    let Some(slots) = Slots::new(slots) else {
+        return Err((disk, Refusal::Damaged));
+    };
     let superblock = Superblock { net_id, slots };
     if disk.len() != superblock.disk_len() {
-        return Err(Refusal::WrongSize);
+        return Err((disk, Refusal::WrongSize));
     }
-    let table = Table::new(alloc, net_id, slots)?;
-    let spare = Table::new(alloc, net_id, slots)?;
+    let (table, spare) = match two_tables(alloc, net_id, slots) {
+        Ok(tables) => tables,
+        Err(refusal) => return Err((disk, refusal)),
+    };
     let mut disk = disk;
     match write_empty(&mut disk, &superblock) {
         Ok(next) => Ok(Store::new(
@@ -65,34 +105,81 @@ pub fn format<D: Disk + Drop>(
             spare,
             0,
         )),
-        Err(_) => Err(Refusal::DeviceFailed),
+        Err(_) => Err((disk, Refusal::DeviceFailed)),
     }
 }
 
+// An empty table, twice.
+fn two_tables(alloc: Global, net_id: NetId, slots: Slots) -> Result<(Table, Table), Refusal>
+    ensures { MatchResult result
+        (λ tables. (tables.0 ≡ empty_table net_id slots) × (tables.1 ≡ empty_table net_id slots))
+        (λ e. e ≡ OutOfMemory) }
+{
+    let table = Table::new(alloc, net_id, slots)?;
+    let spare = Table::new(alloc, net_id, slots)?;
+    Ok((table, spare))
+}
+
 // Writes a store without devices, and gives the place of the first batch's gate. The superblock's gate
-// is opened last, when all else is on the disk.
+// is closed first and opened last, when all else is on the disk.
 fn write_empty<D: Disk>(disk: &mut D, superblock: &Superblock) -> Result<u64, disk::DeviceFailed>
     requires { length (D.state disk.old).content ≡ disk_len superblock.now.slots }
     ensures area { D.honest → OnOk result (Holds (area_a superblock.now.slots)
         (contents_in (area_a superblock.now.slots) (D.state disk.new).content (fresh_header RECORD_VERSION) [] [])
         (D.state disk.new).content) }
+    ensures other_area { D.honest → OnOk result
+        (IsClosedArea (area_b superblock.now.slots) (D.state disk.new).content) }
     ensures front { D.honest → OnOk result (take Superblock.LEN (D.state disk.new).content
         ≡ superblock_bytes superblock.now.net_id superblock.now.slots) }
     ensures settled { D.honest → OnOk result (NothingOpen (D.state disk.new)) }
+    ensures images { D.honest → NothingOpen (D.state disk.old) → EveryImage (D.state disk.new)
+        (IsFormatImage superblock.now.net_id superblock.now.slots (D.state disk.old).content) }
     ensures in_range { OnOk result ((superblock.now.net_id < 64) × IsSlots superblock.now.slots) }
     ensures next { IfOk result (λ next. next ≡ (area_a superblock.now.slots).start + 30) }
     ensures same_length { length (D.state disk.new).content ≡ length (D.state disk.old).content }
     ensures cause { HasCause (D.failures disk.old) (D.failures disk.new) result }
     ensures unarmed { D.outlook disk.old ≡ AllSucceed → IsTrue (is_ok result) × (D.outlook disk.new ≡ AllSucceed) }
 {
-    disk.write_at(0, &[CLOSED])?;
-    disk.sync()?;
+    laws::contents_stay_where_others_change();
+    shut(disk)?;
     let next = write_closed(disk, superblock)?;
     disk.sync()?;
-    disk.write_at(0, &[OPEN])?;
-    disk.sync()?;
-    laws::contents_stay_where_others_change();
+    open_front(disk)?;
     Ok(next)
+}
+
+// Closes the superblock's gate.
+fn shut<D: Disk>(disk: &mut D) -> Result<(), disk::DeviceFailed>
+    requires { 1 ≤ length (D.state disk.old).content }
+    ensures shut { D.honest → OnOk result (IsShut (D.state disk.new)) }
+    ensures images { D.honest → NothingOpen (D.state disk.old) → EveryImage (D.state disk.new)
+        (λ image. drop 1 image ≡ drop 1 (D.state disk.old).content) }
+    ensures same_length { length (D.state disk.new).content ≡ length (D.state disk.old).content }
+    ensures cause { HasCause (D.failures disk.old) (D.failures disk.new) result }
+    ensures unarmed { D.outlook disk.old ≡ AllSucceed → IsTrue (is_ok result) × (D.outlook disk.new ≡ AllSucceed) }
+{
+    disk::laws::one_write_tears_its_range();
+    disk::laws::settled_disk_keeps_its_content();
+    disk.write_at(0, &[CLOSED])?;
+    disk.sync()
+}
+
+// Opens the superblock's gate.
+fn open_front<D: Disk>(disk: &mut D) -> Result<(), disk::DeviceFailed>
+    requires { 1 ≤ length (D.state disk.old).content }
+    ensures opened { D.honest → OnOk result ((D.state disk.new).content
+        ≡ written (D.state disk.old).content 0 (OPEN ∷ [])) }
+    ensures settled { D.honest → OnOk result (NothingOpen (D.state disk.new)) }
+    ensures images { D.honest → NothingOpen (D.state disk.old) → EveryImage (D.state disk.new)
+        (IsTorn 0 1 (D.state disk.old).content) }
+    ensures same_length { length (D.state disk.new).content ≡ length (D.state disk.old).content }
+    ensures cause { HasCause (D.failures disk.old) (D.failures disk.new) result }
+    ensures unarmed { D.outlook disk.old ≡ AllSucceed → IsTrue (is_ok result) × (D.outlook disk.new ≡ AllSucceed) }
+{
+    disk::laws::one_write_tears_its_range();
+    disk::laws::settled_disk_keeps_its_content();
+    disk.write_at(0, &[OPEN])?;
+    disk.sync()
 }
 
 // Writes the superblock behind its gate, and the gates of both areas.
@@ -101,9 +188,12 @@ fn write_closed<D: Disk>(disk: &mut D, superblock: &Superblock) -> Result<u64, d
     ensures area { D.honest → OnOk result (Holds (area_a superblock.now.slots)
         (contents_in (area_a superblock.now.slots) (D.state disk.new).content (fresh_header RECORD_VERSION) [] [])
         (D.state disk.new).content) }
+    ensures other_area { D.honest → OnOk result
+        (IsClosedArea (area_b superblock.now.slots) (D.state disk.new).content) }
     ensures body { D.honest → OnOk result (drop 1 (take Superblock.LEN (D.state disk.new).content)
         ≡ superblock_body superblock.now.net_id superblock.now.slots) }
-    ensures in_range { OnOk result ((superblock.now.net_id < 64) × IsSlots superblock.now.slots) }
+    ensures shut { D.honest → IsShut (D.state disk.old) → IsShut (D.state disk.new) }
+    ensures in_range { (superblock.now.net_id < 64) × IsSlots superblock.now.slots }
     ensures next { IfOk result (λ next. next ≡ (area_a superblock.now.slots).start + 30) }
     ensures same_length { length (D.state disk.new).content ≡ length (D.state disk.old).content }
     ensures cause { HasCause (D.failures disk.old) (D.failures disk.new) result }

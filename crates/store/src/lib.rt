@@ -18,7 +18,7 @@ mod restore;
 mod store;
 
 pub use areas::{LAST_GENERATION, RECORD_VERSION};
-pub use formatting::{disk_len, format};
+pub use formatting::{disk_len, format, format_back};
 pub use opening::{open, open_back};
 pub use phases::{Begun, BodySynced, Durable, GateWritten, Written};
 pub use store::{LARGEST_BATCH, Store};

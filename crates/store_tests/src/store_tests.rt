@@ -8,7 +8,7 @@ use sessions::Batch;
 use std::alloc::Global;
 use std::process::Abort;
 use std::test::Fail;
-use store::{Store, disk_len, format, open};
+use store::{Store, disk_len, format, format_back, open};
 
 // The length of the disk of a store with 8 slots, and the place of its second area.
 pub const LEN: usize = 2_166_124;
@@ -117,6 +117,38 @@ fn a_disk_that_is_no_stores_is_not_formatted(rt: HostRuntime) -> Result<(), Fail
     ] {
         let answer = format(alloc, blank(alloc, len)?, net_id()?, slots);
         assert_eq!(rt; answer.err(), Some(refusal), "{slots} slots, {len} bytes");
+    }
+    Ok(())
+}
+
+// What is opened after a crash that leaves open gates, of a format whose nth call fails.
+fn cut_format(alloc: Global, call: u64) -> Result<Result<(usize, u64), Refusal>, Fail>
+    requires { 0 < call }
+{
+    let mut disk = blank(alloc, LEN)?;
+    disk.arm(call);
+    let Err((mut disk, Refusal::DeviceFailed)) = format_back(alloc, disk, net_id()?, 8) else {
+        return Err(Fail::from("no failure"));
+    };
+    disk.crash(&Image::Fill(0xA5));
+    match open(alloc, disk) {
+        Ok(store) => Ok(Ok((store.table().devices().len(), store.seq()))),
+        Err(refusal) => Ok(Err(refusal)),
+    }
+}
+
+#[test]
+fn a_format_that_is_cut_leaves_no_store_or_a_new_one(rt: HostRuntime) -> Result<(), Fail> {
+    let alloc = rt.alloc();
+    for (call, wanted) in [
+        (1, Err(Refusal::NotFormatted)),
+        (2, Err(Refusal::NotFormatted)),
+        (5, Err(Refusal::NotFormatted)),
+        (6, Err(Refusal::NotFormatted)),
+        (7, Ok((0, 0))),
+        (8, Ok((0, 0))),
+    ] {
+        assert_eq!(rt; cut_format(alloc, call)?, wanted, "call {call}");
     }
     Ok(())
 }

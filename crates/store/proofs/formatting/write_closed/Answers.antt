@@ -5,7 +5,7 @@ use Rattle.gate_log.specs.Recover.{contents_in}
 use Rattle.disk.specs.State.{IsTorn}
 use Rattle.store.specs.Image.{area_a}
 use Rattle.store.specs.declared.areas.TheConstants.{RECORD_VERSION}
-use Rattle.store.proofs.EmptyStore.{OnOk-map, OnOk-of, contents_after, front_after}
+use Rattle.store.proofs.EmptyStore.{OnOk-map, OnOk-of, contents_after, front_after, shut_after}
 use Rattle.store.proofs.formatting.write_closed.Goals as goal
 
 pub returns-clause-area : goal.returns-clause-area
@@ -37,3 +37,11 @@ returns-clause-body g c honest =
     let front = front_after c.second_area.result.start first (g.D.Disk.state c.write_at.new.self).content old new body
     (omega (arith, start)) size (omega (arith, c.requires)) (c.in_ok-write_at.ensures.written honest) (c.close_area.ensures.opens honest).torn torn in
     OnOk-of c.format_area.result (front ∙ ap (λ (l : List ℕ). take 31 (drop 1 l)) c.to_bytes-bytes.ensures.bytes)
+
+pub returns-clause-shut : goal.returns-clause-shut
+returns-clause-shut g c honest shut =
+    let b = ap (λ (a : Area). a.start) c.second_area.ensures in
+    let a = ap (λ (a : Area). a.start) c.first_area.ensures in
+    shut_after c.first_area.result.start 31 (g.D.Disk.state c.close_area.new.disk) (g.D.Disk.state c.format_area.new.disk) (omega (arith, a)) (c.format_area.ensures.opens honest)
+    (shut_after c.second_area.result.start 1 (g.D.Disk.state c.write_at.new.self) (g.D.Disk.state c.close_area.new.disk) (omega (arith, b)) (c.close_area.ensures.opens honest)
+    (shut_after 1 _ (g.D.Disk.state c.args.disk.now) (g.D.Disk.state c.write_at.new.self) (omega arith) (c.write_at.ensures.opens honest) shut))

@@ -1,31 +1,49 @@
-use Rattle.std.proofs.Common.{◌≡◌, ◌∙◌, ◌+◌, [], ◌∷◌, List, ℕ, ap}
-use Rattle.disk.specs.State.{written}
+use Rattle.std.proofs.Common.{◌≡◌, ◌+◌, ◌∙◌, [], ◌∷◌, List, ℕ, length, sym, ap, subst}
+use Rattle.disk.specs.State.{IsTorn, written}
+use Rattle.gate_log.specs.declared.layout.TheConstants.{OPEN}
 use Rattle.gate_log.specs.Layout.{fresh_header}
 use Rattle.gate_log.specs.Recover.{contents_in}
-use Rattle.gate_log.specs.declared.layout.TheConstants.{OPEN}
-use Rattle.store.specs.Image.{area_a}
 use Rattle.store.specs.declared.areas.TheConstants.{RECORD_VERSION}
-use Rattle.store_layout.specs.Superblock.{area_len}
-use Rattle.store.proofs.EmptyStore.{opened_front, opened_range}
+use Rattle.store.specs.Image.{area_a}
+use Rattle.store_layout.specs.Superblock.{area_len, disk_len}
+use Rattle.store.proofs.EmptyStore.{formatted_image, opened_front, opened_range}
 use Rattle.store.proofs.formatting.write_empty.Goals as goal
 
 pub returns-clause-area : goal.returns-clause-area
 returns-clause-area g c honest =
     let area = area_a c.args.superblock.now.slots in
     let old = (g.D.Disk.state c.write_closed.new.disk).content in
-    let new = (g.D.Disk.state c.sync-3.new.self).content in
+    let new = (g.D.Disk.state c.open_front.new.disk).content in
     let is : new ≡ written old 0 (OPEN ∷ []) =
-    (c.in_ok-sync-3.ensures.settled honest).content
-    ∙ (c.in_ok-write_at-2.ensures.written honest ∙ ap (λ (l : List ℕ). written l 0 (OPEN ∷ [])) (c.in_ok-sync-2.ensures.settled honest).content) in
+    c.in_ok-open_front.ensures.opened honest ∙ ap (λ (l : List ℕ). written l 0 (OPEN ∷ [])) (c.in_ok-sync.ensures.settled honest).content in
     c.contents_stay_where_others_change.ensures.holds area old new (contents_in area old (fresh_header RECORD_VERSION) [] []) (c.in_ok-next.ensures.area honest)
-    (c.in_ok-sync-3.ensures.same_length ∙ (c.in_ok-write_at-2.ensures.same_length ∙ c.in_ok-sync-2.ensures.same_length))
+    (c.in_ok-open_front.ensures.same_length ∙ c.in_ok-sync.ensures.same_length)
     (opened_range old new (32 + area_len c.args.superblock.now.slots) is)
 
 pub returns-clause-front : goal.returns-clause-front
 returns-clause-front g c honest =
     let old = (g.D.Disk.state c.write_closed.new.disk).content in
-    let new = (g.D.Disk.state c.sync-3.new.self).content in
+    let new = (g.D.Disk.state c.open_front.new.disk).content in
     let is : new ≡ written old 0 (OPEN ∷ []) =
-    (c.in_ok-sync-3.ensures.settled honest).content
-    ∙ (c.in_ok-write_at-2.ensures.written honest ∙ ap (λ (l : List ℕ). written l 0 (OPEN ∷ [])) (c.in_ok-sync-2.ensures.settled honest).content) in
+    c.in_ok-open_front.ensures.opened honest ∙ ap (λ (l : List ℕ). written l 0 (OPEN ∷ [])) (c.in_ok-sync.ensures.settled honest).content in
     opened_front old new is ∙ ap (λ (l : List ℕ). OPEN ∷ l) (c.in_ok-next.ensures.body honest)
+
+pub returns-in_err-open_front-clause-images : goal.returns-in_err-open_front-clause-images
+returns-in_err-open_front-clause-images g c honest nothing image permitted =
+    let s = c.args.superblock.now in
+    let old = (g.D.Disk.state c.write_closed.new.disk).content in
+    let settled = c.in_ok-sync.ensures.settled honest in
+    let torn : IsTorn 0 1 old image = subst (λ (l : List ℕ). IsTorn 0 1 l image) settled.content (c.open_front.ensures.images honest settled.nothing_open image permitted) in
+    let long : length old ≡ disk_len s.slots = c.write_closed.ensures.same_length ∙ (c.shut.ensures.same_length ∙ c.requires) in
+    formatted_image s.net_id s.slots old image c.in_ok-next.ensures.in_range.0 c.in_ok-next.ensures.in_range.1 long c.contents_stay_where_others_change.ensures.holds
+    (c.in_ok-next.ensures.area honest) (c.in_ok-next.ensures.body honest) torn (g.D.Disk.state c.args.disk.now).content
+
+pub returns-clause-images : goal.returns-clause-images
+returns-clause-images g c honest nothing image permitted =
+    let s = c.args.superblock.now in
+    let old = (g.D.Disk.state c.write_closed.new.disk).content in
+    let settled = c.in_ok-sync.ensures.settled honest in
+    let torn : IsTorn 0 1 old image = subst (λ (l : List ℕ). IsTorn 0 1 l image) settled.content (c.open_front.ensures.images honest settled.nothing_open image permitted) in
+    let long : length old ≡ disk_len s.slots = c.write_closed.ensures.same_length ∙ (c.shut.ensures.same_length ∙ c.requires) in
+    formatted_image s.net_id s.slots old image c.in_ok-next.ensures.in_range.0 c.in_ok-next.ensures.in_range.1 long c.contents_stay_where_others_change.ensures.holds
+    (c.in_ok-next.ensures.area honest) (c.in_ok-next.ensures.body honest) torn (g.D.Disk.state c.args.disk.now).content
