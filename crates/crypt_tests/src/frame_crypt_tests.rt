@@ -1,9 +1,9 @@
 // An outside frame, and each call against the cipher and the CMAC of the blocks that the standard names.
 ghost use Rattle.std.specs.Prelude.{◌≡◌, length};
 
-use frame_crypt::{crypt_payload, data_mic, derive_keys, join_mic, seal_accept};
 use aes_cmac::cmac;
 use aes128::encrypt;
+use frame_crypt::{crypt_payload, data_mic, derive_keys, join_mic, seal_accept};
 use lw_types::{DevAddr, Direction, JoinNonce, Key, NetId};
 use std::test::Fail;
 

@@ -220,9 +220,12 @@ pub is_only : (bytes : List ℕ) (d : Device) (r : Result Device Refusal) (other
 is_only bytes d (Ok made) other e is h spelled = is ∙ some_is d other (sym e ∙ ap record_at spelled ∙ record_again other (in_range other h))
 is_only bytes d (Err x) other e is h spelled = is
 
-pub is_refused : (bytes : List ℕ) (d : Device) (r : Result Device Refusal) → IsBytes bytes → record_at bytes ≡ Some d → AreQueueable d.mac_queue → Makes d r → IfErr r (λ e. ((e ≡ OutOfMemory) × IsSomeRecord bytes) ⊎ (e ≡ Damaged))
-is_refused bytes d (Ok made) fits e whole is = tt
-is_refused bytes d (Err x) fits e whole is = let t = is_device bytes d fits e whole in inl (is, (d, t.0, t.1))
+pub is_refused : (d : Device) (r : Result Device Refusal) → Makes d r → IfErr r (λ e. (e ≡ OutOfMemory) ⊎ (e ≡ Damaged))
+is_refused d (Ok made) is = tt
+is_refused d (Err x) is = inl is
+
+pub is_record : (bytes : List ℕ) (d : Device) → IsBytes bytes → record_at bytes ≡ Some d → AreQueueable d.mac_queue → IsSomeRecord bytes
+is_record bytes d fits e whole = let t = is_device bytes d fits e whole in (d, t.0, t.1)
 
 pub none_there : (bytes : List ℕ) (d : Device) → IsDevice d → bytes ≡ spelling d → IsNoRecord bytes → ⊥
 none_there bytes d h e none = none d (ap record_at e ∙ record_again d (in_range d h)) h.mac_queue.2

@@ -1,5 +1,5 @@
 // A device record as a whole.
-ghost use Rattle.std.specs.Prelude.{◌≡◌, ◌≤◌, ◌<◌, ◌^◌, ◌++◌, ◌⊎◌, IfErr, IfOk, IfSome, IsSome, MatchOption, MatchResult, OnErr, OnOk, Some, length};
+ghost use Rattle.std.specs.Prelude.{◌≡◌, ◌≤◌, ◌<◌, ◌^◌, ◌++◌, ◌⊎◌, Err, IfErr, IfOk, IfSome, IsSome, MatchOption, MatchResult, OnErr, OnOk, Some, length};
 ghost use Rattle.std.specs.Int.{w16};
 ghost use Rattle.lw_types.specs.declared.refusal.Refusal.TheVariants.{OutOfMemory, Damaged};
 ghost use Rattle.byte_fields.specs.Reading.{Gives, GivesSeen};
@@ -135,8 +135,9 @@ pub fn read_device(alloc: Global, bytes: &[u8]) -> Result<Device, Refusal>
     // What is spelled so is read, unless memory runs out.
     ensures only { (device : Device) → IsDevice device → bytes.now ≡ spelling device
         → MatchResult result (λ found. found ≡ device) (λ e. e ≡ OutOfMemory) }
-    // Memory runs out only for a record, and else the bytes are damaged.
-    ensures refused { IfErr result (λ e. ((e ≡ OutOfMemory) × IsSomeRecord bytes.now) ⊎ (e ≡ Damaged)) }
+    ensures refused { IfErr result (λ e. (e ≡ OutOfMemory) ⊎ (e ≡ Damaged)) }
+    // Memory runs out for records alone.
+    ensures memory { (result ≡ Err OutOfMemory) → IsSomeRecord bytes.now }
 {
     match read_record(bytes) {
         Some(parts) => parts.device(alloc),

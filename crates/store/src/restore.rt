@@ -80,7 +80,10 @@ fn replay_batch(alloc: Global, table: &mut Table, seq: u64, batch: &Batch) -> Re
 {
     laws::bytes_replay_in_one_way();
     let count = u64::from(batch.entry_count());
-    if count < 1 || count > sessions::Batch::MOST as u64 || batch.last_sequence().checked_sub(seq) != Some(count) {
+    if count < 1
+        || count > sessions::Batch::MOST as u64
+        || batch.last_sequence().checked_sub(seq) != Some(count)
+    {
         return Err(Refusal::Damaged);
     }
     replay(

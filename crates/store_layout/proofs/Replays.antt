@@ -1,13 +1,12 @@
 -- Entries that replay: those of decisions, and that there is one list of them at most.
-use Rattle.std.proofs.Common.{◌≡◌, ◌≤◌, ◌+◌, ◌*◌, ◌∙◌, ℕ, List, [], ◌∷◌, ◌++◌, length, suc, sym, ap, subst, refl, arith}
-use Rattle.std.proofs.lemmas.List.{append-nil, length-append}
-use Rattle.std.specs.Int.{to_be_bytes, w16}
+use Rattle.std.proofs.Common.{◌≡◌, ◌≤◌, ◌+◌, ◌*◌, ◌∙◌, ℕ, List, [], ◌∷◌, ◌++◌, length, suc, sym, ap, refl, arith}
+use Rattle.std.proofs.lemmas.List.{length-append}
 use Rattle.devices.specs.declared.device.Device.{Device}
 use Rattle.record_codec.specs.DeviceRecord.{spelling, IsDevice}
 use Rattle.sessions.specs.Table.{TableState, CanPut, placed}
 use Rattle.sessions.specs.Decision.{Fits, FitAll, applied, applied_all}
 use Rattle.sessions.specs.declared.decision.Decision.{Decision}
-use Rattle.store_layout.specs.Entries.{Entry, entry, entries, entries_of, IsEntry, AreEntries, Replay, CanPutAll, put_all}
+use Rattle.store_layout.specs.Entries.{Entry, entry, entries, entries_of, AreEntries, Replay, CanPutAll, put_all}
 use Rattle.store_layout.proofs.EntryLaws.{RecordLaws, entry-one}
 
 -- the records of decisions may be put, one after another

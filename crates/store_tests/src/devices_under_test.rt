@@ -68,6 +68,8 @@ fn item(alloc: Global) -> Result<Item, Fail> {
         tag: Tag(0x01020304),
         port: Port::new(7).ok_or("port")?,
         confirmed: true,
-        payload: Payload::new(vec![in alloc; 0xA5; 242]?).ok().ok_or("payload")?,
+        payload: Payload::new(vec![in alloc; 0xA5; 242]?)
+            .ok()
+            .ok_or("payload")?,
     })
 }

@@ -160,7 +160,10 @@ fn ten_long_batches_are_recovered(rt: HostRuntime) -> Result<(), Fail> {
         assert!(rt; commit(alloc, &mut log, number, &entries)?);
     }
     let (numbers, len) = recovered_in(alloc, log.close(), area)?;
-    assert_eq!(rt; numbers.as_slice(), [1, 2, 3, 4, 5, 6, 7, 8, 9, 10].as_slice());
+    assert_eq!(rt;
+        numbers.as_slice(),
+        [1, 2, 3, 4, 5, 6, 7, 8, 9, 10].as_slice()
+    );
     assert_eq!(rt; len, 100_000);
     Ok(())
 }

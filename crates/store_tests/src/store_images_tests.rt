@@ -207,7 +207,11 @@ fn records_that_may_not_stand_are_refused(rt: HostRuntime) -> Result<(), Fail> {
         let (first, second) = (idle_device(alloc, 1)?, idle_device(alloc, dev_eui)?);
         let records = entries(alloc, &[(0, &first), (slot, &second)])?;
         let disk = disk_of(alloc, checkpoint(alloc, 2, &records)?)?;
-        assert_eq!(rt; open(alloc, disk).err(), Some(Refusal::Damaged), "slot {slot}");
+        assert_eq!(rt;
+            open(alloc, disk).err(),
+            Some(Refusal::Damaged),
+            "slot {slot}"
+        );
     }
     Ok(())
 }

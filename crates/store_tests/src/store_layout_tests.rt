@@ -100,7 +100,11 @@ fn is_damaged(
 ) -> Result<(), Fail> {
     let mut other = table(alloc, most)?;
     let answer = replay(alloc, &mut other, bytes, count);
-    assert_eq!(rt; answer, Err(Refusal::Damaged), "{count} entries, {most} slots");
+    assert_eq!(rt;
+        answer,
+        Err(Refusal::Damaged),
+        "{count} entries, {most} slots"
+    );
     Ok(())
 }
 

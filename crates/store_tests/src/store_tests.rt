@@ -256,11 +256,7 @@ fn a_store_that_failed_is_opened_again(rt: HostRuntime) -> Result<(), Fail> {
 }
 
 // The answers of two commits where the nth call from now fails.
-fn two_commits(
-    rt: &impl Abort,
-    alloc: Global,
-    n: u64,
-) -> Result<[Result<(), Refusal>; 2], Fail>
+fn two_commits(rt: &impl Abort, alloc: Global, n: u64) -> Result<[Result<(), Refusal>; 2], Fail>
     requires { 0 < n }
 {
     let mut store = fresh(alloc)?;

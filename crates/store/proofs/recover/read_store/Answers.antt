@@ -1,12 +1,11 @@
-use Rattle.std.proofs.Common.{◌≡◌, ◌∙◌, List, ℕ, refl, sym, ap, subst}
+use Rattle.std.proofs.Common.{List, ℕ, refl, sym, ap, subst}
 use Rattle.std.proofs.lemmas.Result.{err_from_is_err_and}
 use Rattle.disk.specs.State.{State}
-use Rattle.gate_log.specs.declared.layout.Header.{Header}
-use Rattle.gate_log.specs.Layout.{Contents, Holds}
+use Rattle.gate_log.specs.Layout.{Holds}
 use Rattle.gate_log.specs.Opening.{opened}
 use Rattle.gate_log.specs.Recover.{IsHeaderAt}
 use Rattle.gate_log.specs.Recovered.{IsRecovered}
-use Rattle.store.specs.Faults.{HasGoodFront, IsStoreOf, IsUsable}
+use Rattle.store.specs.Faults.{IsUsable}
 use Rattle.store.specs.Image.{area_a}
 use Rattle.store.proofs.Finding.{KeepLaws, area_fault, found_in, good_front, journal_fault}
 use Rattle.store.proofs.recover.read_store.Goals as goal

@@ -38,15 +38,15 @@ returns c =
     let h = c.args.recovered.now.header in
     let table = c.in_ok-table.table in
     λ t seq. (
-        λ r.
-            let base : r.base ≡ table =
-            (c.in_ok-table.ensures r.base).0 (subst (λ (l : List ℕ). IsCheckpoint s.net_id s.slots l h.record_count r.base) (sym c.deref.ensures.value) r.checkpoint) in
-            (c.in_ok-seq.ensures t seq).0
-            (subst (λ (x : TableState). Lead x h.sequence c.deref-2.result.now t seq) base
-            (subst (λ (bs : List BatchValue). Lead r.base h.sequence bs t seq) (sym c.deref-2.ensures.value) r.batches)),
-        λ same. record {
-          base = table;
-          checkpoint = subst (λ (l : List ℕ). IsCheckpoint s.net_id s.slots l h.record_count table) c.deref.ensures.value ((c.in_ok-table.ensures table).1 refl);
-          batches = subst (λ (bs : List BatchValue). Lead table h.sequence bs t seq) c.deref-2.ensures.value ((c.in_ok-seq.ensures t seq).1 same);
-        },
-      )
+      λ r.
+          let base : r.base ≡ table =
+          (c.in_ok-table.ensures r.base).0 (subst (λ (l : List ℕ). IsCheckpoint s.net_id s.slots l h.record_count r.base) (sym c.deref.ensures.value) r.checkpoint) in
+          (c.in_ok-seq.ensures t seq).0
+          (subst (λ (x : TableState). Lead x h.sequence c.deref-2.result.now t seq) base
+          (subst (λ (bs : List BatchValue). Lead r.base h.sequence bs t seq) (sym c.deref-2.ensures.value) r.batches)),
+      λ same. record {
+        base = table;
+        checkpoint = subst (λ (l : List ℕ). IsCheckpoint s.net_id s.slots l h.record_count table) c.deref.ensures.value ((c.in_ok-table.ensures table).1 refl);
+        batches = subst (λ (bs : List BatchValue). Lead table h.sequence bs t seq) c.deref-2.ensures.value ((c.in_ok-seq.ensures t seq).1 same);
+      },
+    )
