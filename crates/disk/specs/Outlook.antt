@@ -1,5 +1,5 @@
 -- Which calls of a disk fail, and what is known of that beforehand.
-use Rattle.std.specs.Prelude.{◌≡◌, ◌<◌, ℕ, zero, suc, Bool, false, IsTrue, Result, MatchResult}
+use Rattle.std.specs.Prelude.{◌≡◌, ◌+◌, ℕ, zero, suc, Bool, false, IsTrue, Result, MatchResult}
 
 -- what is known of the answers of the coming calls
 pub data Outlook : Type 0 where
@@ -17,6 +17,12 @@ IsForeseen AllSucceed succeeded after = IsTrue succeeded × (after ≡ AllSuccee
 IsForeseen (FailsAfter zero) succeeded after = (succeeded ≡ false) × (after ≡ AllSucceed)
 IsForeseen (FailsAfter (suc n)) succeeded after = IsTrue succeeded × (after ≡ FailsAfter n)
 
--- an error comes exactly where the count of failures rose in the call
+-- one of the coming calls fails
+abbrev pub IsArmed : Outlook → Type 0
+IsArmed Unknown = ⊥
+IsArmed AllSucceed = ⊥
+IsArmed (FailsAfter n) = Unit {0}
+
+-- an error comes exactly where the call was counted as a failure
 abbrev pub HasCause : {T E : Type 0} → ℕ → ℕ → Result T E → Type 0
-HasCause before now result = MatchResult result (λ _. now ≡ before) (λ _. before < now)
+HasCause before now result = MatchResult result (λ _. now ≡ before) (λ _. now ≡ before + 1)

@@ -1,6 +1,6 @@
 mod AreaContents
 mod Batches
 mod Middle
-mod ReadsOn
+pub mod ReadsOn
 mod Spelling
 mod Steps

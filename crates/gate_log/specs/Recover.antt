@@ -1,6 +1,6 @@
 -- What the bytes of an area give when it is opened.
 use Rattle.std.specs.Prelude.{◌≡◌, ◌≢◌, ◌<◌, ◌≤◌, ℕ, ◌+◌, Bool, true, false, List, ◌∷◌, ◌++◌, length, take, drop, slice_index, MatchBool, Result, Ok, Err}
-use Rattle.disk.specs.Outlook.{Outlook}
+use Rattle.disk.specs.Outlook.{IsArmed, Outlook}
 use Rattle.disk.specs.Outlook.Outlook.{AllSucceed}
 use Rattle.disk.specs.State.{State}
 use Rattle.gate_log.specs.declared.error.RecoverError.{RecoverError}
@@ -10,13 +10,14 @@ use Rattle.gate_log.specs.declared.layout.Header.{Header}
 use Rattle.gate_log.specs.declared.layout.TheConstants.{OPEN}
 use Rattle.gate_log.specs.Layout.{BatchValue, Contents, AreHeads, IsHead, IsHeader, body, head_of, header_bytes, open_batches}
 
--- calls of a disk that only read, and whether one of them failed
+-- calls of a disk that only read, up to the first that failed, and whether one did
 pub record OnlyReads {D : Type 0} (honest : Type 0) (state : D → State) (failures : D → ℕ) (outlook : D → Outlook)
     (old new : D) (failed : Bool) : Type 0 where
   pub same : honest → state new ≡ state old
   pub same_length : length (state new).content ≡ length (state old).content
-  pub cause : MatchBool failed (failures old < failures new) (failures new ≡ failures old)
+  pub cause : MatchBool failed (failures new ≡ failures old + 1) (failures new ≡ failures old)
   pub unarmed : outlook old ≡ AllSucceed → (failed ≡ false) × (outlook new ≡ AllSucceed)
+  pub armed : IsArmed (outlook old) → MatchBool failed (outlook new ≡ AllSucceed) (IsArmed (outlook new))
 
 -- whether a device failed
 abbrev pub is_device_error : RecoverError → Bool

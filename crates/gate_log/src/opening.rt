@@ -52,6 +52,7 @@ impl<D: Disk> Opening<D> {
     }
 
     /// Fills the buffer with the bytes of the disk from a position on.
+    #[tactic(auto, using(crate::proofs::ReadsOn::armed_call))]
     pub fn read_at(&mut self, at: u64, buffer: &mut [u8]) -> Result<(), DeviceFailed>
         requires { at + length buffer.old ≤ length (D.state (opened self.old)).content }
         ensures bytes { D.honest

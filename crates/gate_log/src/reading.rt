@@ -10,6 +10,7 @@ use disk::{DeviceFailed, Disk};
 use std::alloc::Global;
 
 /// Whether the gate at a position is open.
+#[tactic(auto, using(crate::proofs::ReadsOn::armed_call))]
 fn is_open<D: Disk>(disk: &mut D, at: u64) -> Result<bool, DeviceFailed>
     requires { at < length (D.state disk.old).content }
     ensures gate { D.honest → IfOk result
@@ -22,6 +23,7 @@ fn is_open<D: Disk>(disk: &mut D, at: u64) -> Result<bool, DeviceFailed>
 }
 
 /// The header behind the gate at a position, where that is open.
+#[tactic(auto, using(crate::proofs::ReadsOn::armed_call))]
 pub fn read_header<D: Disk>(disk: &mut D, at: u64) -> Result<Option<Header>, DeviceFailed>
     requires { at + 30 ≤ length (D.state disk.old).content }
     ensures header { D.honest → IfOk result
@@ -39,6 +41,7 @@ pub fn read_header<D: Disk>(disk: &mut D, at: u64) -> Result<Option<Header>, Dev
 }
 
 /// The head of a batch at a position.
+#[tactic(auto, using(crate::proofs::ReadsOn::armed_call))]
 fn read_head<D: Disk>(disk: &mut D, at: u64) -> Result<BatchHead, DeviceFailed>
     requires { at + 14 ≤ length (D.state disk.old).content }
     ensures head { D.honest
@@ -52,6 +55,7 @@ fn read_head<D: Disk>(disk: &mut D, at: u64) -> Result<BatchHead, DeviceFailed>
 }
 
 /// So many bytes from a position on.
+#[tactic(auto, using(crate::proofs::ReadsOn::armed_call))]
 pub fn read_bytes<D: Disk>(
     disk: &mut D,
     alloc: Global,

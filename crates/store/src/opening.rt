@@ -1,7 +1,8 @@
 // Opens a store.
-ghost use Rattle.std.specs.Prelude.{◌≡◌, ◌≢◌, ◌<◌, ◌≤◌, ◌⊎◌, Err, false, length, take, drop, IfOk, IfErr, OnOk, MatchResult};
+ghost use Rattle.std.specs.Prelude.{◌≡◌, ◌≢◌, ◌≤◌, ◌+◌, ◌⊎◌, Err, IsErrAnd, false, length, take, drop, IfOk, IfErr, OnOk, MatchResult};
 ghost use Rattle.lw_types.specs.declared.refusal.Refusal.TheVariants.{DeviceFailed, OutOfMemory};
-ghost use Rattle.disk.specs.Outlook.Outlook.{AllSucceed};
+ghost use Rattle.disk.specs.Outlook.{IsArmed};
+ghost use Rattle.disk.specs.Outlook.Outlook.{AllSucceed, FailsAfter};
 ghost use Rattle.disk.specs.State.{NothingOpen};
 ghost use Rattle.gate_log.specs.Opening.{opened};
 ghost use Rattle.store.specs.Faults.{HasGoodFront, IsFault};
@@ -27,6 +28,7 @@ pub fn open<D: Disk + Drop>(alloc: Global, disk: D) -> Result<Store<D>, Refusal>
     ensures unarmed { D.outlook disk ≡ AllSucceed → MatchResult result
         (λ store. D.outlook (disk_of store) ≡ AllSucceed)
         (λ e. e ≢ DeviceFailed) }
+    ensures fails { D.outlook disk ≡ FailsAfter 0 → result ≡ Err DeviceFailed }
 {
     match open_back(alloc, disk) {
         Ok(store) => Ok(store),
@@ -47,7 +49,7 @@ pub fn open_back<D: Disk>(alloc: Global, disk: D) -> Result<Store<D>, (D, Refusa
     ensures opened { D.honest → IfOk result (λ store. IsOpened (D.state disk).content (seen D.state store)) }
     ensures healthy { IfOk result (λ store. ((seen D.state store).failed ≡ false)
         × (D.failures (disk_of store) ≡ D.failures disk)) }
-    ensures device { IfErr result (λ e. (e.1 ≡ DeviceFailed → D.failures disk < D.failures e.0)
+    ensures device { IfErr result (λ e. (e.1 ≡ DeviceFailed → D.failures e.0 ≡ D.failures disk + 1)
         × (e.1 ≢ DeviceFailed → D.failures e.0 ≡ D.failures disk)) }
     ensures refused { D.honest → IfErr result (λ e. e.1 ≢ DeviceFailed → e.1 ≢ OutOfMemory
         → IsFault (D.state disk).content e.1) }
@@ -56,8 +58,20 @@ pub fn open_back<D: Disk>(alloc: Global, disk: D) -> Result<Store<D>, (D, Refusa
     ensures unarmed { D.outlook disk ≡ AllSucceed → MatchResult result
         (λ store. D.outlook (disk_of store) ≡ AllSucceed)
         (λ e. (e.1 ≢ DeviceFailed) × (D.outlook e.0 ≡ AllSucceed)) }
+
+    // The sync comes first, and one failure is one failure.
+    ensures fails { D.outlook disk ≡ FailsAfter 0
+        → IsErrAnd result (λ e. (e.1 ≡ DeviceFailed) × (D.outlook e.0 ≡ AllSucceed)) }
+    ensures armed { IsArmed (D.outlook disk) → MatchResult result
+        (λ store. IsArmed (D.outlook (disk_of store)))
+        (λ e. (e.1 ≡ DeviceFailed → D.outlook e.0 ≡ AllSucceed)
+        × (e.1 ≢ DeviceFailed → IsArmed (D.outlook e.0))) }
     ensures same { D.honest → IfErr result (λ e. (D.state e.0).content ≡ (D.state disk).content) }
     ensures still { D.honest → NothingOpen (D.state disk) → IfErr result (λ e. NothingOpen (D.state e.0)) }
+
+    // Nothing is open, once the sync has succeeded.
+    ensures settled { D.honest → IfErr result (λ e. NothingOpen (D.state e.0)
+        ⊎ ((e.1 ≡ DeviceFailed) × (D.state e.0 ≡ D.state disk))) }
     ensures same_length { IfErr result (λ e. length (D.state e.0).content ≡ length (D.state disk).content) }
 {
     let mut opening = match Opening::new(disk) {
