@@ -8,7 +8,7 @@ use Rattle.aes128.specs.declared.substitution.TheConstants.{INVERSE_S_BOX}
 use Rattle.aes128.specs.Field.{◌⊕◌, power, word_product}
 use Rattle.aes128.specs.Cipher.{IsBlock, xor, column, byte_at, s_box, sub_bytes, shifted_column, shift_rows, mixed_column, mix_columns, rot_word, next_round_key, round_key, rounds, encrypted}
 use Rattle.aes128.proofs.FieldLemmas.{xor_byte, product-lt}
-use Rattle.aes128.proofs.SBoxLemmas.{s_box-lt, inverse-s_box}
+use Rattle.aes128.proofs.SBoxLemmas.{any_s_box-lt, s_box-lt, inverse-s_box}
 use Rattle.aes128.proofs.WordLemmas.{AreBytes, entry-lt, length-xor, xor-twice, state_columns, unmixing, unmixed-mixed}
 use Rattle.aes128.proofs.StateLemmas.{joined, joined-same, unshifted}
 
@@ -58,7 +58,7 @@ shift_column s block c = word_bytes _ _ _ _ (record { first = block_byte s block
 pub shift_block : (s : List ℕ) → IsBlock s → IsBlock (shift_rows s)
 shift_block s block = (refl, four_words (shifted_column s 0) (shifted_column s 1) (shifted_column s 2) (shifted_column s 3) (shift_column s block 0) (shift_column s block 1) (shift_column s block 2) (shift_column s block 3))
 
-product_bytes : (p : List ℕ) (a b c d : ℕ) → AreBytes a b c d → All IsByte (word_product p (a ∷ b ∷ c ∷ d ∷ []))
+pub product_bytes : (p : List ℕ) (a b c d : ℕ) → AreBytes a b c d → All IsByte (word_product p (a ∷ b ∷ c ∷ d ∷ []))
 product_bytes p a b c d v =
     let p0 = get_or p 0 0 in
     let p1 = get_or p 1 0 in
@@ -114,11 +114,23 @@ rounds-block key block is_key is_block (suc r) =
     xor_block (mix_columns shifted) (round_key key (suc r)) (mix_block shifted (shifted_block s (rounds-block key block is_key is_block r)))
     (round_key-block key is_key (suc r))
 
-pub encrypted-block : (key block : List ℕ) → IsBlock key → IsBlock block → IsBlock (encrypted key block)
+any_sub_block : (s : List ℕ) → IsBlock (sub_bytes s)
+any_sub_block s = (
+  refl,
+  four_words (map s_box (column s 0)) (map s_box (column s 1)) (map s_box (column s 2)) (map s_box (column s 3)) (any_sub_column s 0) (any_sub_column s 1) (any_sub_column s 2)
+      (any_sub_column s 3),
+)
+  where
+    any_sub_column : (s : List ℕ) (c : ℕ) → All IsByte (map s_box (column s c))
+    any_sub_column s c =
+        word_bytes (s_box (byte_at s 0 c)) (s_box (byte_at s 1 c)) (s_box (byte_at s 2 c)) (s_box (byte_at s 3 c))
+        (record { first = any_s_box-lt _; second = any_s_box-lt _; third = any_s_box-lt _; fourth = any_s_box-lt _ })
+
+pub encrypted-block : (key block : List ℕ) → IsBlock key → IsBlock (encrypted key block)
 unfolding encrypted
-encrypted-block key block is_key is_block =
+encrypted-block key block is_key =
     let s : List ℕ = rounds key block 9 in
-    xor_block (shift_rows (sub_bytes s)) (round_key key 10) (shifted_block s (rounds-block key block is_key is_block 9)) (round_key-block key is_key 10)
+    xor_block (shift_rows (sub_bytes s)) (round_key key 10) (shift_block (sub_bytes s) (any_sub_block s)) (round_key-block key is_key 10)
 
 -- ---- what undoes SubBytes and ShiftRows, and MixColumns
 unsub : ℕ → ℕ

@@ -5,4 +5,5 @@ pub mod WordLemmas
 pub mod StateLemmas
 pub mod RoundLemmas
 pub mod LawLemmas
+pub mod InverseLemmas
 pub mod ColumnLemmas

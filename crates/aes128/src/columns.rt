@@ -1,7 +1,7 @@
-// Products with small elements, and what undoes MixColumns of a column (FIPS 197 §4.2, §5.3.3).
+// Products with small elements, and InvMixColumns of a column (FIPS 197 §4.2, §5.3.3).
 ghost use Rattle.std.specs.Prelude.{◌≡◌, [], ◌∷◌};
 ghost use Rattle.aes128.specs.Field.{◌•◌};
-ghost use Rattle.aes128.specs.Cipher.{mixed_column};
+ghost use Rattle.aes128.specs.InverseCipher.{unmixed_column};
 
 #[inline(always)]
 pub fn doubled(byte: u8) -> u8
@@ -30,10 +30,10 @@ fn multiples(byte: u8) -> [u8; 4]
     ]
 }
 
-// The column whose mixed column is this one.
+// InvMixColumns of one column.
 #[inline(always)]
 pub fn unmixed(column: [u8; 4]) -> [u8; 4]
-    ensures { mixed_column result ≡ column }
+    ensures { result ≡ unmixed_column column }
 {
     let [a, b, c, d] = column;
     let [a9, a11, a13, a14] = multiples(a);

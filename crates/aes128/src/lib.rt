@@ -3,6 +3,7 @@
 
 ghost use Rattle.std.specs.Prelude.{◌≡◌};
 ghost use Rattle.aes128.specs.Cipher.{encrypted};
+ghost use Rattle.aes128.specs.InverseCipher.{decrypted};
 
 mod columns;
 pub mod laws;
@@ -22,9 +23,9 @@ pub fn encrypt(key: &Key, block: &mut [u8; 16])
     KeySchedule::new(key).encrypt(block);
 }
 
-/// Decrypts the block in place: what is left is the one block whose encryption was there.
+/// Decrypts the block in place.
 pub fn decrypt(key: &Key, block: &mut [u8; 16])
-    ensures { encrypted key.now.0 block.new ≡ block.old }
+    ensures { block.new ≡ decrypted key.now.0 block.old }
 {
     KeySchedule::new(key).decrypt(block);
 }

@@ -1,6 +1,7 @@
 // One round of the cipher, and what undoes it (FIPS 197 §5.1, §5.3).
 ghost use Rattle.std.specs.Prelude.{◌≡◌, ◌<◌, ◌+◌, ◌%◌, [], ◌∷◌, ◌++◌, map};
-ghost use Rattle.aes128.specs.Cipher.{xor, byte_at, column, s_box, mixed_column, shifted_column, sub_bytes, shift_rows, mix_columns};
+ghost use Rattle.aes128.specs.Cipher.{xor, column, s_box, mixed_column, shifted_column, sub_bytes, shift_rows, mix_columns};
+ghost use Rattle.aes128.specs.InverseCipher.{inv_s_box, inv_sub_bytes, unshifted_column, inv_shift_rows, inv_mix_columns};
 
 use crate::columns::unmixed;
 use crate::substitution::{mixed_substituted, substituted, unsubstituted};
@@ -70,12 +71,11 @@ pub fn last_round(state: &mut [u8; 16], key: &[u8; 16])
     xor(state, key);
 }
 
-// Column c of the state that SubBytes and ShiftRows take to this one.
+// A column of the state after InvShiftRows and InvSubBytes.
 #[inline(always)]
 fn unshifted_column(state: &[u8; 16], c: usize) -> [u8; 4]
     requires { c < 4 }
-    ensures { map s_box (column result 0) ≡ byte_at state.now 0 c ∷ byte_at state.now 1 ((c + 3) % 4)
-        ∷ byte_at state.now 2 ((c + 2) % 4) ∷ byte_at state.now 3 ((c + 1) % 4) ∷ [] }
+    ensures { result ≡ map inv_s_box (unshifted_column state.now c) }
 {
     [
         unsubstituted(state[4 * c]),
@@ -85,10 +85,10 @@ fn unshifted_column(state: &[u8; 16], c: usize) -> [u8; 4]
     ]
 }
 
-// What undoes a last round but for its key: SubBytes and ShiftRows take the new state to the old one.
+// InvShiftRows and InvSubBytes.
 #[inline(always)]
 fn unshift(state: &mut [u8; 16])
-    ensures { shift_rows (sub_bytes state.new) ≡ state.old }
+    ensures { state.new ≡ inv_sub_bytes (inv_shift_rows state.old) }
 {
     *state = joined(
         unshifted_column(state, 0),
@@ -111,10 +111,10 @@ pub fn column_at(state: &[u8; 16], c: usize) -> [u8; 4]
     ]
 }
 
-// What undoes MixColumns, which takes the new state to the old one.
+// InvMixColumns.
 #[inline(always)]
 fn unmix(state: &mut [u8; 16])
-    ensures { mix_columns state.new ≡ state.old }
+    ensures { state.new ≡ inv_mix_columns state.old }
 {
     *state = joined(
         unmixed(column_at(state, 0)),
@@ -124,20 +124,20 @@ fn unmix(state: &mut [u8; 16])
     );
 }
 
-// A round takes the new state to the old one.
+// What undoes a round.
 #[inline(always)]
 pub fn unround(state: &mut [u8; 16], key: &[u8; 16])
-    ensures { xor (mix_columns (shift_rows (sub_bytes state.new))) key.now ≡ state.old }
+    ensures { state.new ≡ inv_sub_bytes (inv_shift_rows (inv_mix_columns (xor state.old key.now))) }
 {
     xor(state, key);
     unmix(state);
     unshift(state);
 }
 
-// The last round takes the new state to the old one.
+// What undoes the last round.
 #[inline(always)]
 pub fn undo_last_round(state: &mut [u8; 16], key: &[u8; 16])
-    ensures { xor (shift_rows (sub_bytes state.new)) key.now ≡ state.old }
+    ensures { state.new ≡ inv_sub_bytes (inv_shift_rows (xor state.old key.now)) }
 {
     xor(state, key);
     unshift(state);

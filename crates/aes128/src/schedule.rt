@@ -1,6 +1,7 @@
 // The key schedule (FIPS 197 §5.2), and the cipher over it (§5.1, §5.3).
 ghost use Rattle.std.specs.Prelude.{◌≡◌, List, ℕ, [], slice_index_or};
 ghost use Rattle.aes128.specs.Cipher.{xor, column, next_round_key, AreRoundKeys, encrypted};
+ghost use Rattle.aes128.specs.InverseCipher.{decrypted};
 
 use crate::columns::doubled;
 use crate::rounds::{column_at, joined, last_round, round, undo_last_round, unround};
@@ -48,9 +49,9 @@ impl KeySchedule {
         last_round(block, &self.round_keys[10]);
     }
 
-    /// Decrypts the block in place: what is left is the one block whose encryption was there.
+    /// Decrypts the block in place.
     pub fn decrypt(&self, block: &mut [u8; 16])
-        ensures { encrypted self.now block.new ≡ block.old }
+        ensures { block.new ≡ decrypted self.now block.old }
     {
         undo_last_round(block, &self.round_keys[10]);
         for r in 0..9 {

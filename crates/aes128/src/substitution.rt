@@ -1,6 +1,7 @@
-// SubBytes of one byte, and what undoes it (FIPS 197 §5.1.1, §5.3.2); SubBytes and MixColumns of a column.
+// SubBytes and InvSubBytes of one byte (FIPS 197 §5.1.1, §5.3.2); SubBytes and MixColumns of a column.
 ghost use Rattle.std.specs.Prelude.{◌≡◌, [], ◌∷◌};
 ghost use Rattle.aes128.specs.Cipher.{mixed_column, s_box, xor};
+ghost use Rattle.aes128.specs.InverseCipher.{inv_s_box};
 ghost use Rattle.std.specs.Int.{w32, to_le_bytes};
 
 static S_BOX: [u8; 256] = [
@@ -84,10 +85,9 @@ pub fn substituted(byte: u8) -> u8
     S_BOX[byte as usize]
 }
 
-// The byte whose substitution is this one.
 #[inline(always)]
 pub fn unsubstituted(byte: u8) -> u8
-    ensures { s_box result ≡ byte }
+    ensures { result ≡ inv_s_box byte }
 {
     INVERSE_S_BOX[byte as usize]
 }

@@ -1,9 +1,11 @@
-use crate::fixtures::{DEVICE, brought, current, item, provisioning, session};
+use crate::fixtures::{DEVICE, application, brought, current, item, name, provisioning, session};
 use devices::{
-    Activation, Application, Effect, Effects, ItemQueue, MacQueue, NextDown, Port, Report, RxDelay,
-    Tag,
+    Activation, Application, Downlink, Effect, Effects, ItemQueue, MacQueue, Mark, NextDown, Port,
+    Report, RxDelay, Tag, Windows,
 };
-use lw_types::JoinNonce;
+use lw_types::{Eui, JoinNonce, PhyPayload};
+use mac_commands::are_queueable;
+use std::alloc::Global;
 use std::test::Fail;
 
 #[test]
@@ -47,8 +49,10 @@ fn a_mac_queue_is_whole_commands_that_may_be_queued(rt: HostRuntime) -> Result<(
     }
     let full = MacQueue::new(vec![in alloc; 0x06; 64]?);
     assert!(rt; full.is_ok_and(|queue| queue.as_slice().len() == 64));
-    let copy = MacQueue::from_slice(alloc, &[0x06, 0x04, 0x0F])?;
-    assert_eq!(rt; copy.as_slice(), [0x06, 0x04, 0x0F].as_slice());
+    let bytes = [0x06, 0x04, 0x0F];
+    assert!(rt; are_queueable(&bytes));
+    let copy = MacQueue::from_slice(alloc, &bytes)?;
+    assert_eq!(rt; copy.as_slice(), bytes.as_slice());
     assert!(rt; MacQueue::new(vec![in alloc; 0x06; 65]?).is_err());
     Ok(())
 }
@@ -152,5 +156,47 @@ fn effects_leave_in_order(rt: HostRuntime) -> Result<(), Fail> {
             }
         )
     );
+    Ok(())
+}
+
+fn downlink(alloc: Global) -> Result<Downlink, Fail> {
+    Ok(Downlink {
+        gateway: Eui(0xB1),
+        stamp: 1,
+        frequency: 868_500_000,
+        data_rate: 2,
+        delay: RxDelay::new(5).ok_or("delay")?,
+        windows: Windows::Rx1OrRx2,
+        frame: PhyPayload::empty(alloc),
+    })
+}
+
+#[test]
+fn effects_have_their_marks(rt: HostRuntime) -> Result<(), Fail> {
+    let session = name(7)?;
+    let downlink = downlink(rt.alloc())?;
+    let accept = Effect::Accept {
+        session,
+        downlink: downlink.clone()?,
+    };
+    assert_eq!(rt; accept.mark(), Some(Mark::Granted { session }));
+    let down = Effect::Down {
+        session,
+        counter: 9,
+        downlink,
+    };
+    assert_eq!(rt;
+        down.mark(),
+        Some(Mark::Sent {
+            session,
+            counter: 9
+        })
+    );
+    let report = Effect::Report {
+        application: application()?,
+        dev_eui: DEVICE,
+        report: Report::Provisioned { slot: 0 },
+    };
+    assert_eq!(rt; report.mark(), None);
     Ok(())
 }

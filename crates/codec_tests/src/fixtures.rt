@@ -1,7 +1,7 @@
 // Values that several tests are about.
 use devices::{
     Application, CurrentSession, Device, Item, NextDown, Payload, Port, Provisioning, Rx1Offset,
-    RxDelay, Session, Tag,
+    RxDelay, Session, SessionName, Tag,
 };
 use lw_types::{Eui, JoinNonce, Key};
 use std::alloc::Global;
@@ -38,6 +38,13 @@ pub fn brought(alloc: Global, dev_eui: Eui) -> Result<Device, Fail> {
 
 pub fn nonce(number: u32) -> Result<JoinNonce, Fail> {
     Ok(JoinNonce::new(number).ok_or("join nonce")?)
+}
+
+pub fn name(number: u32) -> Result<SessionName, Fail> {
+    Ok(SessionName {
+        dev_eui: DEVICE,
+        join_nonce: nonce(number)?,
+    })
 }
 
 pub fn session(number: u32) -> Result<Session, Fail> {

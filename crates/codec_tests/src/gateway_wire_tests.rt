@@ -1,9 +1,9 @@
 use crate::fixtures::{
-    DEVICE, JOIN_EUI, KEY, application, brought, current, item, nonce, provisioning,
+    DEVICE, JOIN_EUI, KEY, application, brought, current, item, name, nonce, provisioning,
 };
 use devices::{
-    Activation, Application, Command, Copies, Device, Downlink, Effect, ItemQueue, Payload, Port,
-    Provisioning, Report, Rx1Offset, RxDelay, Tag, Windows,
+    Activation, Application, Command, Copies, Device, Downlink, Effect, ItemQueue, Mark, Payload,
+    Port, Provisioning, Report, Rx1Offset, RxDelay, Tag, Windows,
 };
 use gateway_wire::{
     Emission, Request, app_line, gateway_bytes, list_text, next_ranged, next_value, read_line,
@@ -28,8 +28,7 @@ fn downlink(
     frame: Vec<u8>,
 ) -> Result<Effect, Fail> {
     Ok(Effect::Down {
-        dev_eui: DEVICE,
-        join_nonce: nonce(1)?,
+        session: name(1)?,
         counter: 0,
         downlink: Downlink {
             gateway: GATEWAY,
@@ -92,8 +91,7 @@ fn a_long_downlink_is_one_too(rt: HostRuntime) -> Result<(), Fail> {
 fn an_accept_goes_to_its_gateway(rt: HostRuntime) -> Result<(), Fail> {
     let alloc = rt.alloc();
     let accept = Effect::Accept {
-        dev_eui: DEVICE,
-        join_nonce: nonce(1)?,
+        session: name(1)?,
         downlink: Downlink {
             gateway: GATEWAY,
             stamp: 1,
@@ -133,8 +131,7 @@ fn a_payload_is_told_with_its_reception(rt: HostRuntime) -> Result<(), Fail> {
     let alloc = rt.alloc();
     let forward = Effect::Forward {
         application: application()?,
-        dev_eui: DEVICE,
-        join_nonce: nonce(16_777_215)?,
+        session: name(16_777_215)?,
         counter: 4_294_967_295,
         port: Port::new(223).ok_or("port")?,
         payload: payload(alloc, "00FF")?,
@@ -147,6 +144,11 @@ fn a_payload_is_told_with_its_reception(rt: HostRuntime) -> Result<(), Fail> {
             rssi: -95,
         },
     };
+    let mark = Mark::Forwarded {
+        session: name(16_777_215)?,
+        counter: 4_294_967_295,
+    };
+    assert_eq!(rt; forward.mark(), Some(mark));
     let text =
         "up 1112131415161718 16777215 4294967295 223 00FF 32 00000000000000B1 868100000 5 -20 -95";
     is_told(&rt, alloc, &forward, text)

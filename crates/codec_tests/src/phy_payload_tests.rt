@@ -395,7 +395,7 @@ fn is_read_again(
     encode(alloc, &frame, &mut out)?;
     assert_eq!(rt; decode(alloc, out.as_slice())?, frame);
     let port_len = usize::from(port.is_some());
-    assert_eq!(rt; out.len() - port_len, 12 + f_opts.len() + payload.len());
+    assert_eq!(rt; out.len(), 12 + f_opts.len() + port_len + payload.len());
     Ok(())
 }
 

@@ -1,2 +1,3 @@
 pub mod Activation
 pub mod Device
+pub mod Mark

@@ -1,5 +1,5 @@
 // What leaves the network by a decision.
-use crate::{Application, Copies, Payload, Port, RxDelay, Tag};
+use crate::{Application, Copies, Payload, Port, RxDelay, SessionName, Tag};
 use lw_types::{Eui, JoinNonce, PhyPayload, Reception};
 
 /// In which receive windows of the device a gateway may send (TS001-1.0.4 §3.3).
@@ -61,14 +61,15 @@ pub enum Report {
     },
 }
 
-/// What leaves the network, once its decision is durable.
+/// What leaves the network, once its decision is durable. What may leave but once names its mark: the session, and
+/// the counter that is used up.
 #[derive(Clone, Debug, PartialEq, Eq, Drop)]
 pub enum Effect {
     /// A device's payload, for its application.
     Forward {
         application: Application,
-        dev_eui: Eui,
-        join_nonce: JoinNonce,
+        session: SessionName,
+        /// The whole counter of the uplink.
         counter: u32,
         port: Port,
         payload: Payload,
@@ -78,14 +79,13 @@ pub enum Effect {
     },
     /// A granted join, for a gateway.
     Accept {
-        dev_eui: Eui,
-        join_nonce: JoinNonce,
+        session: SessionName,
         downlink: Downlink,
     },
     /// A frame under a downlink counter, for a gateway.
     Down {
-        dev_eui: Eui,
-        join_nonce: JoinNonce,
+        session: SessionName,
+        /// The whole counter of the downlink.
         counter: u32,
         downlink: Downlink,
     },

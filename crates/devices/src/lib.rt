@@ -11,6 +11,7 @@ mod effect;
 mod effects;
 pub mod laws;
 mod mac_queue;
+mod mark;
 mod queue;
 
 pub use activation::{Activation, CurrentSession, Session};
@@ -20,6 +21,7 @@ pub use effect::{Downlink, Effect, Report, Windows};
 pub use effects::Effects;
 pub use lw_types::{Payload, Ranged};
 pub use mac_queue::MacQueue;
+pub use mark::{Mark, SessionName};
 pub use queue::{Item, ItemQueue};
 
 /// The number of an application, from 0 to 15.

@@ -1,13 +1,16 @@
 -- The keystream, and a payload to which its blocks are added one after another.
-use Rattle.std.proofs.Common.{◌≡◌, ℕ, zero, suc, ◌+◌, ◌-◌, ◌*◌, ◌/◌, ◌≤◌, min, List, [], ◌∷◌, ◌++◌, length, take, drop, refl, sym, ap, ◌∙◌, arith, inl, inr, add-one, length-append, length-drop}
+use Rattle.std.proofs.Common.{◌≡◌, ℕ, zero, suc, ◌+◌, ◌-◌, ◌*◌, ◌/◌, ◌^◌, ◌<◌, ◌≤◌, min, List, [], ◌∷◌, ◌++◌, length, take, drop, refl, sym, ap, ◌∙◌, arith, inl, inr, add-one, length-append, length-drop}
 use Rattle.std.proofs.Math.Seq.{take-add}
 use Rattle.std.proofs.lemmas.Bool.{cases_lt}
+use Rattle.std.proofs.lemmas.Nat.{xor_lt}
 use Rattle.std.proofs.lemmas.List.{take_all, length-take-le, drop-drop}
 use Rattle.std.proofs.lemmas.Slice.{take-put_mid, drop-put_mid}
 use borrow.Rule.Slice.PartMut.{put_mid, post_of}
 use Rattle.std.specs.Int.Bits.{bit_xor, xor_assoc, xor_self, xor_zero_r}
 use Rattle.aes128.specs.Field.{◌⊕◌, power}
-use Rattle.aes128.specs.Cipher.{xor, encrypted, rounds, round_key, next_round_key, shift_rows, sub_bytes}
+use Rattle.std.specs.Prelude.{All}
+use Rattle.std.proofs.lemmas.List.Elements.{All-nil, All-cons, All-head, All-tail, All-append}
+use Rattle.aes128.specs.Cipher.{IsBlock, xor, encrypted, rounds, round_key, next_round_key, shift_rows, sub_bytes}
 use Rattle.lw_types.specs.declared.direction.Direction.{Direction}
 use Rattle.frame_crypt.specs.Frames.{frame_block, keystream, crypted}
 
@@ -61,6 +64,37 @@ crypted-twice key dir addr counter payload =
     let fits : length payload ≤ length stream = omega arith in
     let same : length (xor payload stream) ≡ length payload = length-xor payload stream fits in
     ap (λ (k : ℕ). xor (xor payload stream) (keystream key dir addr counter ((k + 15) / 16))) same ∙ xor-twice payload stream fits
+
+pub length-crypted : (key : List ℕ) (dir : Direction) (addr counter : ℕ) (payload : List ℕ) → length (crypted key dir addr counter payload) ≡ length payload
+unfolding crypted
+length-crypted key dir addr counter payload =
+    let n : ℕ = (length payload + 15) / 16 in
+    let long : length (keystream key dir addr counter n) ≡ 16 * n = length-keystream key dir addr counter n in
+    length-xor payload (keystream key dir addr counter n) (omega arith)
+
+abbrev IsByte : ℕ → Type 0
+IsByte byte = byte < 2 ^ 8
+
+xor_bytes : (xs ys : List ℕ) → All IsByte xs → All IsByte ys → All IsByte (xor xs ys)
+xor_bytes [] ys p q = All-nil IsByte
+xor_bytes (x ∷ xs) [] p q = All-nil IsByte
+xor_bytes (x ∷ xs) (y ∷ ys) p q =
+    All-cons IsByte (x ⊕ y) (xor xs ys) (xor_lt 8 x y (All-head IsByte x xs p) (All-head IsByte y ys q)) (xor_bytes xs ys (All-tail IsByte x xs p) (All-tail IsByte y ys q))
+
+keystream-bytes : ((key block : List ℕ) → IsBlock key → IsBlock (encrypted key block)) → (key : List ℕ) (dir : Direction) (addr counter n : ℕ) → IsBlock key
+    → All IsByte (keystream key dir addr counter n)
+unfolding keystream
+keystream-bytes gives key dir addr counter zero is_key = All-nil IsByte
+keystream-bytes gives key dir addr counter (suc n) is_key =
+    let block = frame_block 0x01 dir addr counter (suc n) in
+    All-append IsByte (keystream key dir addr counter n) (encrypted key block) (keystream-bytes gives key dir addr counter n is_key) (gives key block is_key).1
+
+pub crypted-bytes : ((key block : List ℕ) → IsBlock key → IsBlock (encrypted key block)) → (key : List ℕ) (dir : Direction) (addr counter : ℕ) (payload : List ℕ) → IsBlock key
+    → All IsByte payload → All IsByte (crypted key dir addr counter payload)
+unfolding crypted
+crypted-bytes gives key dir addr counter payload is_key all =
+    let n : ℕ = (length payload + 15) / 16 in
+    xor_bytes payload (keystream key dir addr counter n) all (keystream-bytes gives key dir addr counter n is_key)
 
 -- the first bytes of two lists of one length, by where the shorter end falls
 take-end : (xs : List ℕ) (a e : ℕ) → e ≡ min (length xs) (a + 16) → take (a + 16) xs ≡ take e xs

@@ -5,6 +5,7 @@ use Rattle.lw_types.specs.Hex.{eui_text, field_text}
 use Rattle.lw_types.specs.Words.{line_of}
 use Rattle.lw_types.specs.declared.identifiers.Eui.{Eui}
 use Rattle.lw_types.specs.declared.frame_copy.Reception.{Reception}
+use Rattle.devices.specs.declared.mark.SessionName.{SessionName}
 use Rattle.devices.specs.declared.effect.Report.{Report}
 use Rattle.devices.specs.declared.effect.Report.TheVariants.{Provisioned, Queued, MacQueued, Acked, Lost, Mac, Spent}
 
@@ -29,11 +30,11 @@ heard_words copies best =
     ∷ signed_decimal best.rssi ∷ []
 
 -- a payload under its session and counter, and who heard it
-abbrev pub up_words : Eui → ℕ → ℕ → ℕ → List ℕ → ℕ → Reception → List (List ℕ)
-up_words dev_eui join_nonce counter port payload copies best =
-    codes "up" ∷ eui_text dev_eui ∷ decimal join_nonce ∷ decimal counter ∷ decimal port ∷ field_text payload
+abbrev pub up_words : SessionName → ℕ → ℕ → List ℕ → ℕ → Reception → List (List ℕ)
+up_words session counter port payload copies best =
+    codes "up" ∷ eui_text session.dev_eui ∷ decimal session.join_nonce ∷ decimal counter ∷ decimal port ∷ field_text payload
     ∷ heard_words copies best
 
-abbrev pub up_line : Eui → ℕ → ℕ → ℕ → List ℕ → ℕ → Reception → List ℕ
-up_line dev_eui join_nonce counter port payload copies best =
-    line_of (up_words dev_eui join_nonce counter port payload copies best)
+abbrev pub up_line : SessionName → ℕ → ℕ → List ℕ → ℕ → Reception → List ℕ
+up_line session counter port payload copies best =
+    line_of (up_words session counter port payload copies best)

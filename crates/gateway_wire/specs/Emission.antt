@@ -9,11 +9,11 @@ use Rattle.gateway_wire.specs.Downlink.{downlink_frame}
 
 -- payloads and reports go to the device's application, frames for the device to the gateway that heard it best
 abbrev pub emission : Effect → Emission
-emission (Forward application dev_eui join_nonce counter port payload copies best) =
-    Application application (up_line dev_eui join_nonce counter port payload copies best)
+emission (Forward application session counter port payload copies best) =
+    Application application (up_line session counter port payload copies best)
 emission (Report application dev_eui report) = Application application (report_line dev_eui report)
-emission (Accept dev_eui join_nonce downlink) = Gateway downlink.gateway (downlink_frame downlink)
-emission (Down dev_eui join_nonce counter downlink) = Gateway downlink.gateway (downlink_frame downlink)
+emission (Accept session downlink) = Gateway downlink.gateway (downlink_frame downlink)
+emission (Down session counter downlink) = Gateway downlink.gateway (downlink_frame downlink)
 
 abbrev pub line_in : Emission → Option (List ℕ)
 line_in (Application application line) = Some line

@@ -37,15 +37,15 @@ impl Emission {
         match effect {
             Effect::Forward {
                 application,
-                dev_eui,
-                join_nonce,
+                session,
                 counter,
                 port,
                 payload,
                 copies,
                 best,
             } => {
-                let (nonce, port) = (join_nonce.get(), port.get());
+                let (dev_eui, nonce) = (session.dev_eui, session.join_nonce.get());
+                let port = port.get();
                 let hex = ByteField(payload.as_slice());
                 let heard = Heard {
                     copies: *copies,

@@ -1,7 +1,8 @@
-// The byte strings of frames, as long as a frame of LoRaWAN may be in EU868.
+// The byte strings of frames.
 use crate::bytes::Bytes;
 
-/// The most bytes of a frame: no PHYPayload is longer in any region (TS001-1.0.4 §4.1).
+/// The most bytes of a frame. This is this project's own bound, and not one of the standard: the length of a
+/// frame is a byte wherever a gateway hands one on.
 pub const LONGEST_FRAME: usize = 255;
 
 /// A PHYPayload: the bytes of a frame, of which there are at most 255.

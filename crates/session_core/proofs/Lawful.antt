@@ -38,6 +38,7 @@ decided-made s c d room below made new is =
     at : (r : Result Step Refusal) → Answers r (IsDecision (now_of s) (last_number s + 1) c) (Ok d) → Answers r (λ st _. Makes s c st new) decided
     at (Ok st) found = record { decision = d; is_step = found; new_is = is }
     at (Err e) refused = absurd (no_decision d e refused)
+
 drop_min : {X : Type 0} (n : ℕ) (xs : List X) → drop (min n (length xs)) xs ≡ drop n xs
 drop_min zero xs = let on : min zero (length xs) ≡ zero = omega arith in ap (λ k. drop k xs) on
 drop_min (suc n) [] = let on : min (suc n) 0 ≡ 0 = omega arith in ap (λ k. drop k []) on
@@ -48,10 +49,9 @@ drop_min (suc n) (x ∷ xs) =
 -- Two runs of decisions are one, and what they leave can be taken back.
 module _
     (continues : (t : TableState) (seq : ℕ) (first second : List Decision) → ContinueAll t seq (first ++ second)
-        ↔ (ContinueAll t seq first × ContinueAll (applied_all t first) (seq + length first) second))
+    ↔ (ContinueAll t seq first × ContinueAll (applied_all t first) (seq + length first) second))
     (joined : (t : TableState) (first second : List Decision) → applied_all t (first ++ second) ≡ applied_all (applied_all t first) second)
     (back : (t : TableState) (ds : List Decision) → FitAll t ds → taken_back_all (applied_all t ds) ds ≡ t) where
-
   -- one decision more
   pub lawful-made : (s : CoreState) (d : Decision) → IsLawful s → length s.log < MOST_UNTAKEN → last_number s < LAST_NUMBER
       → Fits (now_of s) d → d.seq ≡ last_number s + 1 → IsLawful (with_decision s d)

@@ -1,9 +1,6 @@
-use Rattle.std.proofs.Common.{arith, ap, ◌∙◌, List, ℕ}
-use Rattle.aes128.specs.Cipher.{mix_columns, xor}
-use Rattle.aes128.proofs.WordLemmas.{xor-twice}
+use Rattle.std.proofs.Common.{ap, ◌∙◌, List, ℕ}
+use Rattle.aes128.specs.InverseCipher.{inv_mix_columns, inv_shift_rows, inv_sub_bytes}
 use Rattle.aes128.proofs.rounds.unround.Goals as goal
 
 pub returns : goal.returns
-returns c =
-    ap (λ (s : List ℕ). xor s c.args.key.now) (ap mix_columns c.unshift.ensures ∙ c.unmix.ensures ∙ c.xor.ensures)
-    ∙ xor-twice c.args.state.now c.args.key.now (omega arith)
+returns c = c.unshift.ensures ∙ ap (λ (s : List ℕ). inv_sub_bytes (inv_shift_rows s)) (c.unmix.ensures ∙ ap inv_mix_columns c.xor.ensures)

@@ -1,11 +1,7 @@
-use Rattle.std.proofs.Common.{◌≡◌, ◌-◌, [], ℕ, List, get_or, length}
-use Rattle.aes128.specs.Cipher.{rounds, encrypted}
+use Rattle.std.proofs.Common.{◌≡◌, [], get_or}
+use Rattle.aes128.specs.InverseCipher.{inv_rounds, inv_shift_rows, inv_sub_bytes}
 use Rattle.aes128.proofs.schedule.KeySchedule.decrypt.Given as goal
 
--- a block that is this state after the rounds that are left encrypts to the block that came
+-- so many inverse rounds are done, and the first half of the next one
 abbrev pub invariant-loop-r : goal.invariant-loop-r
-invariant-loop-r l = record {
-  size : length l.block ≡ 16;
-  undone : (plain : List ℕ) → rounds (get_or l.self-inside.round_keys 0 []) plain (9 - l.r) ≡ l.block
-      → encrypted (get_or l.self-inside.round_keys 0 []) plain ≡ l.fn.block;
-}
+invariant-loop-r l = l.block ≡ inv_sub_bytes (inv_shift_rows (inv_rounds (get_or l.self-inside.round_keys 0 []) l.fn.block l.r))
