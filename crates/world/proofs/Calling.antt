@@ -1,5 +1,5 @@
 -- What a device call does to a course.
-use Rattle.std.proofs.Common.{◌≡◌, ◌∙◌, ◌⊎◌, inl, inr, ℕ, List, ◌++◌, length, sym, ap, subst, refl, arith, length-append}
+use Rattle.std.proofs.Common.{◌≡◌, ◌+◌, ◌∙◌, ◌⊎◌, inl, inr, ℕ, List, ◌++◌, length, sym, ap, subst, refl, arith, length-append}
 use Rattle.std.proofs.lemmas.List.{length-map}
 use Rattle.disk.specs.State.{IsPermitted, EveryImage}
 use Rattle.devices.specs.declared.command.Command.{Command}
@@ -25,15 +25,15 @@ use Rattle.lw_types.specs.declared.refusal.Refusal.{Refusal}
 use Rattle.world.specs.declared.answer.Answer.{Answer}
 use Rattle.world.specs.declared.answer.Answer.TheVariants as answers
 use Rattle.world.specs.declared.step.Step.TheVariants as steps
+use Rattle.disk.specs.Outlook.{Outlook}
+use Rattle.world.specs.Device.{IsSight, MaySucceed, MayFail, passed, used_up}
 use Rattle.world.specs.Answers.{AnswersCall}
-use Rattle.world.specs.Course.{Course, Stage, after, succeeded, failed}
+use Rattle.world.specs.Course.{Course, Stage, after, effects_under_way, succeeded, failed}
 use Rattle.world.specs.Course.Stage.{Begun as Began, Written as Wrote, Synced, Opened, Durable as IsDurable, Stopped, Unsure}
-use Rattle.world.specs.Follows.{IsLife}
+use Rattle.world.specs.Follows.{IsLife, IsAt, IsFlying, IsHealthy, Survives, stored}
+use Rattle.world.proofs.Taking.{moved, same_life}
 
 -- what holds of a course at a stage
-pub at_stage : (P : Course → Type 0) (c : Course) (st : Stage) → c.stage ≡ st → P (record c { stage = st }) → P c
-at_stage P c st is p = subst (λ st. P (record c { stage = st })) (sym is) p
-
 pub to_stage : (P : Course → Type 0) (c : Course) (st : Stage) → c.stage ≡ st → P c → P (record c { stage = st })
 to_stage P c st is p = subst (λ st. P (record c { stage = st })) is p
 
@@ -67,121 +67,92 @@ module _ (laws : RunLaws) (start : TableState) (settled flying : List Command) (
   pub holds_before : (image : List ℕ) → HoldsTable s.table s.seq image → HoldsTable (folded start settled) (length settled) image
   holds_before image holds = held image s.table s.seq settled table seq holds
 
--- a device call of a batch, on a store that has this table and number still
-module _ (laws : RunLaws) (start : TableState) (c : Course) (s s' : StoreState) (core : CoreState) (room : Room)
-    (table : s'.table ≡ s.table) (seq : s'.seq ≡ s.seq) where
-  at_most : (stage : Stage) → (EveryImage s'.log.disk (HoldsTable s.table s.seq)) → s.table ≡ folded start c.settled → s.seq ≡ length c.settled
-      → (image : List ℕ) → IsPermitted s'.log.disk image → HoldsTable (folded start c.settled) (length c.settled) image
-  at_most stage images table_is seq_is image p =
-      subst (λ n. HoldsTable (folded start c.settled) n image) seq_is (subst (λ t. HoldsTable t s.seq image) table_is (images image p))
+-- a device call of the batch under way
+module _ (laws : RunLaws) (start : TableState) (c : Course) (s s' : StoreState) (core : CoreState) where
+  -- the life at another stage, on a store with the table of that stage
+  goes : (from to : Stage) (before after : Commit) → IsLife start (record c { stage = from }) s core before
+      → s'.table ≡ folded start (stored to c.settled c.flying) → s'.seq ≡ length (stored to c.settled c.flying)
+      → IsAt to c.flying (effects_under_way start c) s' after → IsHealthy s' after → Survives start (record c { stage = to }) s'.log.disk
+      → IsLife start (record c { stage = to }) s' core after
+  goes from to before after f table seq at healthy survives =
+      record { table = table; seq = seq; base = f.base; number = f.number; untaken = f.untaken; made = f.made; under_way = at; healthy = healthy; survives = survives }
 
-  pub write_ok : (phase : Begun) (next : Written) → IsLife start (record c { stage = Began }) s core (commits.Begun phase room) → s'.failed ≡ s.failed
-      → written_change next ≡ begun_change phase → IsWrittenOn s' next → EveryImage s'.log.disk (HoldsTable s.table s.seq)
-      → IsLife start (record c { stage = Wrote }) s' core (commits.Written next room)
-  write_ok phase next f failed change on images = record {
-    table = table ∙ f.table;
-    seq = seq ∙ f.seq;
-    base = f.base;
-    number = f.number;
-    untaken = f.untaken;
-    made = f.made;
-    under_way = (record { stage = refl; commands = ap (λ (ch : Change). commands_of ch.decisions) change ∙ f.under_way.0.commands }, on);
-    healthy = failed ∙ f.healthy;
-    survives = λ image p. (c.settled, refl, at_most Wrote images f.table f.seq image p);
-  }
+  -- a change that stays the one under way
+  still_flying : (from to : Stage) (old new : Change) → new ≡ old → IsFlying from c.flying from old → IsFlying to c.flying to new
+  still_flying from to old new is f = record { stage = refl; commands = ap (λ (ch : Change). commands_of ch.decisions) is ∙ f.commands }
 
-  pub sync_ok : (phase : Written) (next : BodySynced) → IsLife start (record c { stage = Wrote }) s core (commits.Written phase room) → s'.failed ≡ s.failed
-      → synced_change next ≡ written_change phase → IsSyncedOn s' next → EveryImage s'.log.disk (HoldsTable s.table s.seq)
-      → IsLife start (record c { stage = Synced }) s' core (commits.BodySynced next room)
-  sync_ok phase next f failed change on images = record {
-    table = table ∙ f.table;
-    seq = seq ∙ f.seq;
-    base = f.base;
-    number = f.number;
-    untaken = f.untaken;
-    made = f.made;
-    under_way = (record { stage = refl; commands = ap (λ (ch : Change). commands_of ch.decisions) change ∙ f.under_way.0.commands }, on);
-    healthy = failed ∙ f.healthy;
-    survives = λ image p. (c.settled, refl, at_most Synced images f.table f.seq image p);
-  }
+  module _ (table : s'.table ≡ s.table) (seq : s'.seq ≡ s.seq) where
+    -- whatever a crash leaves before the gate is touched
+    before_gate : EveryImage s'.log.disk (HoldsTable s.table s.seq) → s.table ≡ folded start c.settled → s.seq ≡ length c.settled
+        → (image : List ℕ) → IsPermitted s'.log.disk image → HoldsTable (folded start c.settled) (length c.settled) image
+    before_gate images table_is seq_is image p =
+        subst (λ n. HoldsTable (folded start c.settled) n image) seq_is (subst (λ t. HoldsTable t s.seq image) table_is (images image p))
 
-  -- the life after a failed call, at a stage that leaves what was settled alone
-  pub stopped : (before : Stage) (commit : Commit) (f : IsLife start (record c { stage = before }) s core commit)
-      → s.table ≡ folded start c.settled → s.seq ≡ length c.settled → EveryImage s'.log.disk (HoldsTable s.table s.seq)
-      → IsLife start (record c { stage = Stopped }) s' core commits.Failed
-  stopped before commit f table_is seq_is images = record {
-    table = table ∙ table_is;
-    seq = seq ∙ seq_is;
-    base = f.base;
-    number = f.number;
-    untaken = f.untaken;
-    made = f.made;
-    under_way = inl refl;
-    healthy = tt;
-    survives = λ image p. (c.settled, refl, at_most Stopped images table_is seq_is image p);
-  }
+    pub write_ok : (room : Room) (phase : Begun) (next : Written) → IsLife start (record c { stage = Began }) s core (commits.Begun phase room)
+        → s'.failed ≡ s.failed → written_change next ≡ begun_change phase → IsWrittenOn s' next → EveryImage s'.log.disk (HoldsTable s.table s.seq)
+        → IsLife start (record c { stage = Wrote }) s' core (commits.Written next room)
+    write_ok room phase next f failed change on images =
+        goes Began Wrote (commits.Begun phase room) (commits.Written next room) f (table ∙ f.table) (seq ∙ f.seq)
+        (still_flying Began Wrote (begun_change phase) (written_change next) change f.under_way.0, on) (failed ∙ f.healthy)
+        (λ image p. (c.settled, refl, before_gate images f.table f.seq image p))
 
-  -- whatever a crash leaves of a batch whose gate was written
-  either : (change : Change) (size : ℕ) → s.table ≡ folded start c.settled → s.seq ≡ length c.settled → IsUnderWay s change size
-      → commands_of change.decisions ≡ c.flying → EveryImage s'.log.disk (HoldsEither s change)
-      → (image : List ℕ) → IsPermitted s'.log.disk image
-      → (kept : List Command) × ((kept ≡ c.settled) ⊎ (kept ≡ c.settled ++ c.flying)) × HoldsTable (folded start kept) (length kept) image
-  either change size table_is seq_is way commands images image p =
-      elim (images image p) [
-        | inl h ↦ (c.settled, inl refl, holds_before laws start c.settled c.flying s change size table_is seq_is way commands image h)
-        | inr h ↦ (c.settled ++ c.flying, inr refl, holds_ahead laws start c.settled c.flying s change size table_is seq_is way commands image h)
-      ]
+    pub sync_ok : (room : Room) (phase : Written) (next : BodySynced) → IsLife start (record c { stage = Wrote }) s core (commits.Written phase room)
+        → s'.failed ≡ s.failed → synced_change next ≡ written_change phase → IsSyncedOn s' next → EveryImage s'.log.disk (HoldsTable s.table s.seq)
+        → IsLife start (record c { stage = Synced }) s' core (commits.BodySynced next room)
+    sync_ok room phase next f failed change on images =
+        goes Wrote Synced (commits.Written phase room) (commits.BodySynced next room) f (table ∙ f.table) (seq ∙ f.seq)
+        (still_flying Wrote Synced (written_change phase) (synced_change next) change f.under_way.0, on) (failed ∙ f.healthy)
+        (λ image p. (c.settled, refl, before_gate images f.table f.seq image p))
 
-  pub open_ok : (phase : BodySynced) (next : GateWritten) (size : ℕ) → IsLife start (record c { stage = Synced }) s core (commits.BodySynced phase room)
-      → s'.failed ≡ s.failed → opened_change next ≡ synced_change phase → IsOpenedOn s' next → IsUnderWay s (synced_change phase) size
-      → EveryImage s'.log.disk (HoldsEither s (synced_change phase))
-      → IsLife start (record c { stage = Opened }) s' core (commits.GateWritten next room)
-  open_ok phase next size f failed change on way images = record {
-    table = table ∙ f.table;
-    seq = seq ∙ f.seq;
-    base = f.base;
-    number = f.number;
-    untaken = f.untaken;
-    made = f.made;
-    under_way = (record { stage = refl; commands = ap (λ (ch : Change). commands_of ch.decisions) change ∙ f.under_way.0.commands }, on);
-    healthy = failed ∙ f.healthy;
-    survives = either (synced_change phase) size f.table f.seq way f.under_way.0.commands images;
-  }
+    -- the life after a failed call, at a stage that leaves what was settled alone
+    pub stopped : (before : Stage) (commit : Commit) → IsLife start (record c { stage = before }) s core commit
+        → s.table ≡ folded start c.settled → s.seq ≡ length c.settled → EveryImage s'.log.disk (HoldsTable s.table s.seq)
+        → IsLife start (record c { stage = Stopped }) s' core commits.Failed
+    stopped before commit f table_is seq_is images =
+        goes before Stopped commit commits.Failed f (table ∙ table_is) (seq ∙ seq_is) (inl refl) tt
+        (λ image p. (c.settled, refl, before_gate images table_is seq_is image p))
 
-  -- the life after a failed call on the gate
-  pub unsure : (before : Stage) (commit : Commit) (change : Change) (size : ℕ) (f : IsLife start (record c { stage = before }) s core commit)
-      → s.table ≡ folded start c.settled → s.seq ≡ length c.settled → IsUnderWay s change size → commands_of change.decisions ≡ c.flying
-      → EveryImage s'.log.disk (HoldsEither s change)
-      → IsLife start (record c { stage = Unsure }) s' core commits.Failed
-  unsure before commit change size f table_is seq_is way commands images = record {
-    table = table ∙ table_is;
-    seq = seq ∙ seq_is;
-    base = f.base;
-    number = f.number;
-    untaken = f.untaken;
-    made = f.made;
-    under_way = inr refl;
-    healthy = tt;
-    survives = either change size table_is seq_is way commands images;
-  }
+    -- whatever a crash leaves of a batch whose gate was written
+    either : (change : Change) (size : ℕ) → s.table ≡ folded start c.settled → s.seq ≡ length c.settled → IsUnderWay s change size
+        → commands_of change.decisions ≡ c.flying → EveryImage s'.log.disk (HoldsEither s change)
+        → (image : List ℕ) → IsPermitted s'.log.disk image
+        → (kept : List Command) × ((kept ≡ c.settled) ⊎ (kept ≡ c.settled ++ c.flying)) × HoldsTable (folded start kept) (length kept) image
+    either change size table_is seq_is way commands images image p =
+        elim (images image p) [
+          | inl h ↦ (c.settled, inl refl, holds_before laws start c.settled c.flying s change size table_is seq_is way commands image h)
+          | inr h ↦ (c.settled ++ c.flying, inr refl, holds_ahead laws start c.settled c.flying s change size table_is seq_is way commands image h)
+        ]
 
--- the last device call
-pub made_durable : (laws : RunLaws) (start : TableState) (c : Course) (s s' : StoreState) (core : CoreState) (room : Room) (phase : GateWritten) (size : ℕ) (durable : Durable)
-    → IsLife start (record c { stage = Opened }) s core (commits.GateWritten phase room) → s'.table ≡ (opened_change phase).table
-    → s'.seq ≡ (opened_change phase).seq → s'.failed ≡ s.failed → decisions_of durable ≡ (opened_change phase).decisions → IsUnderWay s (opened_change phase) size
-    → IsSettled s' → EveryImage s'.log.disk (HoldsTable (opened_change phase).table (opened_change phase).seq)
-    → IsLife start (record c { stage = IsDurable }) s' core (commits.Durable durable)
-made_durable laws start c s s' core room phase size durable f table seq failed decisions way settled images =
-    let change = opened_change phase in
-    let commands = f.under_way.0.commands in
-    record {
-      table = table ∙ table_ahead laws start c.settled c.flying s change size f.table f.seq way commands;
-      seq = seq ∙ seq_ahead laws start c.settled c.flying s change size f.table f.seq way commands;
-      base = f.base;
-      number = f.number;
-      untaken = f.untaken;
-      made = f.made;
-      under_way = (
+    pub open_ok : (room : Room) (phase : BodySynced) (next : GateWritten) (size : ℕ)
+        → IsLife start (record c { stage = Synced }) s core (commits.BodySynced phase room)
+        → s'.failed ≡ s.failed → opened_change next ≡ synced_change phase → IsOpenedOn s' next → IsUnderWay s (synced_change phase) size
+        → EveryImage s'.log.disk (HoldsEither s (synced_change phase))
+        → IsLife start (record c { stage = Opened }) s' core (commits.GateWritten next room)
+    open_ok room phase next size f failed change on way images =
+        goes Synced Opened (commits.BodySynced phase room) (commits.GateWritten next room) f (table ∙ f.table) (seq ∙ f.seq)
+        (still_flying Synced Opened (synced_change phase) (opened_change next) change f.under_way.0, on) (failed ∙ f.healthy)
+        (either (synced_change phase) size f.table f.seq way f.under_way.0.commands images)
+
+    -- the life after a failed call on the gate
+    pub unsure : (before : Stage) (commit : Commit) (change : Change) (size : ℕ) → IsLife start (record c { stage = before }) s core commit
+        → s.table ≡ folded start c.settled → s.seq ≡ length c.settled → IsUnderWay s change size → commands_of change.decisions ≡ c.flying
+        → EveryImage s'.log.disk (HoldsEither s change)
+        → IsLife start (record c { stage = Unsure }) s' core commits.Failed
+    unsure before commit change size f table_is seq_is way commands images =
+        goes before Unsure commit commits.Failed f (table ∙ table_is) (seq ∙ seq_is) (inr refl) tt (either change size table_is seq_is way commands images)
+
+  -- the last device call
+  pub made_durable : (room : Room) (phase : GateWritten) (size : ℕ) (durable : Durable)
+      → IsLife start (record c { stage = Opened }) s core (commits.GateWritten phase room) → s'.table ≡ (opened_change phase).table
+      → s'.seq ≡ (opened_change phase).seq → s'.failed ≡ s.failed → decisions_of durable ≡ (opened_change phase).decisions → IsUnderWay s (opened_change phase) size
+      → IsSettled s' → EveryImage s'.log.disk (HoldsTable (opened_change phase).table (opened_change phase).seq)
+      → IsLife start (record c { stage = IsDurable }) s' core (commits.Durable durable)
+  made_durable room phase size durable f table seq failed decisions way settled images =
+      let change = opened_change phase in
+      let commands = f.under_way.0.commands in
+      goes Opened IsDurable (commits.GateWritten phase room) (commits.Durable durable) f
+      (table ∙ table_ahead laws start c.settled c.flying s change size f.table f.seq way commands)
+      (seq ∙ seq_ahead laws start c.settled c.flying s change size f.table f.seq way commands) (
         refl,
         (
           ap effects_in decisions
@@ -189,20 +160,42 @@ made_durable laws start c s s' core room phase size durable f table seq failed d
               ∙ (ap (effects_of s.table) commands ∙ ap (λ t. effects_of t c.flying) f.table)),
           settled,
         ),
-      );
-      healthy = failed ∙ f.healthy;
-      survives = λ image p. (c.settled ++ c.flying, refl, holds_ahead laws start c.settled c.flying s change size f.table f.seq way commands image (images image p));
-    }
+      ) (failed ∙ f.healthy)
+      (λ image p. (c.settled ++ c.flying, refl, holds_ahead laws start c.settled c.flying s change size f.table f.seq way commands image (images image p)))
 
--- the answer to a call that succeeded, and to one that failed
-module _ (start : TableState) (c : Course) (s : StoreState) (core : CoreState) (commit : Commit) (st : Stage) (is : c.stage ≡ st) where
-  pub succeeds : (a : Answer) → a ≡ answers.Called → AnswersCall st answers.Called → IsLife start (record c { stage = succeeded st }) s core commit
-      → AnswersCall c.stage a × IsLife start (after start c steps.Call a) s core commit
-  succeeds a called right life =
-      subst (λ a. AnswersCall c.stage a × IsLife start (after start c steps.Call a) s core commit) (sym called)
-      (at_stage (λ k. AnswersCall k.stage answers.Called × IsLife start (record k { stage = succeeded k.stage }) s core commit) c st is (right, life))
+-- The answer to a call that succeeded, and to one that failed, in the world as it is then.
+module _ (start : TableState) (c : Course) (s now : StoreState) (core core' : CoreState) (commit commit' : Commit) (failures : ℕ) (outlook : Outlook)
+    (store_is : now ≡ s) (core_is : core' ≡ core) (commit_is : commit' ≡ commit) (st : Stage) (is : c.stage ≡ st) where
+  pub succeeds : (a : Answer) → a ≡ answers.Called → (MaySucceed c.outlook → AnswersCall st c.outlook answers.Called)
+      → MaySucceed c.outlook × IsSight c.failures (passed c.outlook) failures outlook
+      → IsLife start (record c { stage = succeeded st }) s core commit
+      → AnswersCall c.stage c.outlook a
+      × (IsLife start (after start c steps.Call a) now core' commit'
+      × IsSight (after start c steps.Call a).failures (after start c steps.Call a).outlook failures outlook)
+  succeeds a called right sight life =
+      subst (λ a. AnswersCall c.stage c.outlook a × (IsLife start (after start c steps.Call a) now core' commit'
+      × IsSight (after start c steps.Call a).failures (after start c steps.Call a).outlook failures outlook)) (sym called) (
+        subst (λ st. AnswersCall st c.outlook answers.Called) (sym is) (right sight.0),
+        (
+          same_life start (record c { stage = succeeded c.stage }) c.failures (passed c.outlook) now core' commit'
+              (subst (λ st. IsLife start (record c { stage = succeeded st }) now core' commit') (sym is)
+              (moved start (record c { stage = succeeded st }) s now core core' commit commit' store_is core_is commit_is life)),
+          sight.1,
+        ),
+      )
 
-  pub fails : (e : Refusal) → AnswersCall st (answers.Refused e) → IsLife start (record c { stage = failed st }) s core commit
-      → AnswersCall c.stage (answers.Refused e) × IsLife start (record c { stage = failed c.stage }) s core commit
-  fails e right life =
-      at_stage (λ k. AnswersCall k.stage (answers.Refused e) × IsLife start (record k { stage = failed k.stage }) s core commit) c st is (right, life)
+  pub fails : (e : Refusal) → (MayFail c.outlook → AnswersCall st c.outlook (answers.Refused e))
+      → MayFail c.outlook × IsSight (c.failures + 1) (used_up c.outlook) failures outlook
+      → IsLife start (record c { stage = failed st }) s core commit
+      → AnswersCall c.stage c.outlook (answers.Refused e)
+      × (IsLife start (after start c steps.Call (answers.Refused e)) now core' commit'
+      × IsSight (c.failures + 1) (used_up c.outlook) failures outlook)
+  fails e right sight life = (
+    subst (λ st. AnswersCall st c.outlook (answers.Refused e)) (sym is) (right sight.0),
+    (
+      same_life start (record c { stage = failed c.stage }) (c.failures + 1) (used_up c.outlook) now core' commit'
+          (subst (λ st. IsLife start (record c { stage = failed st }) now core' commit') (sym is)
+          (moved start (record c { stage = failed st }) s now core core' commit commit' store_is core_is commit_is life)),
+      sight.1,
+    ),
+  )

@@ -60,12 +60,16 @@ release_keeps laws start c (answers.Released n) = record {
 }
 release_keeps laws start c answer = record { emitted = refl; is_open = refl; once = λ h. h; complete = λ h. h; grown = ([], sym (append-nil c.left)) }
 
+fail_keeps : (start : TableState) (c : Course) (answer : Answer) → Keeps start c (after start c steps.Fail answer)
+fail_keeps start c answers.Armed = record { emitted = refl; is_open = refl; once = λ h. h; complete = λ h. h; grown = ([], sym (append-nil c.left)) }
+fail_keeps start c answer = record { emitted = refl; is_open = refl; once = λ h. h; complete = λ h. h; grown = ([], sym (append-nil c.left)) }
+
 pub step_keeps : (laws : RunLaws) (start : TableState) (c : Course) (step : Step) (answer : Answer) → IsOwn step → Keeps start c (after start c step answer)
 step_keeps laws start c (steps.Request moment command) answer own = request_keeps start c moment command answer
 step_keeps laws start c (steps.Take most) answer own = take_keeps start c most answer
 step_keeps laws start c steps.Call answer own = call_keeps start c answer
 step_keeps laws start c steps.Release answer own = release_keeps laws start c answer
-step_keeps laws start c steps.Fail answer own = record { emitted = refl; is_open = refl; once = λ h. h; complete = λ h. h; grown = ([], sym (append-nil c.left)) }
+step_keeps laws start c steps.Fail answer own = fail_keeps start c answer
 step_keeps laws start c steps.List answer own = record { emitted = refl; is_open = refl; once = λ h. h; complete = λ h. h; grown = ([], sym (append-nil c.left)) }
 step_keeps laws start c steps.Emit answer own = absurd own
 step_keeps laws start c (steps.Crash image) answer own = absurd own

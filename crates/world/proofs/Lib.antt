@@ -1,7 +1,8 @@
 pub mod Deciding
 pub mod Taking
 pub mod Calling
-pub mod Causes
+pub mod Known
+pub mod Telling
 pub mod Subsequences
 pub mod Opening
 pub mod Going

@@ -8,6 +8,7 @@ use Rattle.lw_types.specs.declared.refusal.Refusal.TheVariants.{OutOfStep}
 use Rattle.lw_types.specs.Refusal.{number_of}
 use Rattle.devices.specs.declared.command.Command.{Command}
 use Rattle.devices.specs.declared.effect.Effect.{Effect}
+use Rattle.disk.specs.Outlook.{Outlook}
 use Rattle.world.specs.Folding.{RunLaws}
 use Rattle.sessions.specs.Table.{TableState, effects_of}
 use Rattle.gateway_wire.specs.declared.emission.Emission.{Emission}
@@ -19,7 +20,7 @@ use Rattle.world.specs.declared.step.Step.TheVariants as steps
 use Rattle.world.specs.Course.{Course, Stage, decided, turned, after, course_of, beginning, effects_under_way}
 use Rattle.world.specs.Course.Stage.{Rest, Begun, Written, Synced, Opened, Durable, Stopped, Unsure}
 use Rattle.lw_types.specs.declared.refusal.Refusal.TheVariants as refusals
-use Rattle.world.specs.Answers.{AreRight, IsRight, AnswersOpen, AnswersClosed, AnswersTake, AnswersCall, AnswersRelease, now}
+use Rattle.world.specs.Answers.{AreRight, IsRight, AnswersOpen, AnswersClosed, AnswersTake, AnswersCall, AnswersRelease, Calls, now}
 use Rattle.world.specs.Follows.{IsOwn}
 use Rattle.world.proofs.Going.{step_keeps}
 use Rattle.world.specs.OneLife.{HasNoCrash, NoneGivenUp, NoneOutOfStep, emitted, IsOneLife}
@@ -54,16 +55,16 @@ take_quiet Stopped c most e h = apart e (answers.Refused refusals.Failed) refl h
 take_quiet Unsure c most e h = apart e (answers.Refused refusals.Failed) refl h
 take_quiet stage c most e h = apart e answers.Idle refl h
 
-calls_quiet : (e : Emission) → (answers.Emitted e ≡ answers.Called) ⊎ (answers.Emitted e ≡ answers.Refused refusals.DeviceFailed) → ⊥
-calls_quiet e (inl h) = apart e answers.Called refl h
-calls_quiet e (inr h) = apart e (answers.Refused refusals.DeviceFailed) refl h
+calls_quiet : (known : Outlook) (e : Emission) → Calls known (answers.Emitted e) → ⊥
+calls_quiet known e (inl h) = apart e answers.Called refl h.0
+calls_quiet known e (inr h) = apart e (answers.Refused refusals.DeviceFailed) refl h.0
 
-call_quiet : (stage : Stage) (e : Emission) → AnswersCall stage (answers.Emitted e) → ⊥
-call_quiet Begun e h = calls_quiet e h
-call_quiet Written e h = calls_quiet e h
-call_quiet Synced e h = calls_quiet e h
-call_quiet Opened e h = calls_quiet e h
-call_quiet stage e h = apart e answers.Idle refl h
+call_quiet : (stage : Stage) (known : Outlook) (e : Emission) → AnswersCall stage known (answers.Emitted e) → ⊥
+call_quiet Begun known e h = calls_quiet known e h
+call_quiet Written known e h = calls_quiet known e h
+call_quiet Synced known e h = calls_quiet known e h
+call_quiet Opened known e h = calls_quiet known e h
+call_quiet stage known e h = apart e answers.Idle refl h
 
 release_quiet : (stage : Stage) (start : TableState) (c : Course) (e : Emission) → AnswersRelease stage start c (answers.Emitted e) → ⊥
 release_quiet Durable start c e h = apart e (answers.Released (length (effects_under_way start c))) refl h
@@ -76,7 +77,7 @@ list_quiet e listed quiet (inr h) = apart e (answers.Refused refusals.OutOfMemor
 quiet : (start : TableState) (c : Course) (step : Step) (e : Emission) → IsOwn step → AnswersOpen start c step (answers.Emitted e) → ⊥
 quiet start c (steps.Request moment command) e own h = h
 quiet start c (steps.Take most) e own h = take_quiet c.stage c most e h
-quiet start c steps.Call e own h = call_quiet c.stage e h
+quiet start c steps.Call e own h = call_quiet c.stage c.outlook e h
 quiet start c steps.Fail e own h = apart e answers.Armed refl h
 quiet start c steps.Release e own h = release_quiet c.stage start c e h
 quiet start c steps.List e own h = list_quiet e (answers.Listed (now start c) (length (decided c))) refl h
@@ -198,6 +199,10 @@ release_given : (start : TableState) (c : Course) (answer : Answer) → (after s
 release_given start c (answers.Released n) = refl
 release_given start c answer = refl
 
+fail_given : (start : TableState) (c : Course) (answer : Answer) → (after start c steps.Fail answer).given_up ≡ c.given_up
+fail_given start c answers.Armed = refl
+fail_given start c answer = refl
+
 emit_given : (start : TableState) (c : Course) (answer : Answer) → (after start c steps.Emit answer).given_up ≡ c.given_up
 emit_given start c (answers.Emitted e) = refl
 emit_given start c answer = refl
@@ -219,7 +224,7 @@ given_stays : (start : TableState) (c : Course) (step : Step) (answer : Answer) 
 given_stays start c (steps.Request moment command) answer rest calm right up none = request_given start c moment command answer ∙ none
 given_stays start c (steps.Take most) answer rest calm right up none = take_given start c most answer rest right up none
 given_stays start c steps.Call answer rest calm right up none = call_given start c answer ∙ none
-given_stays start c steps.Fail answer rest calm right up none = none
+given_stays start c steps.Fail answer rest calm right up none = fail_given start c answer ∙ none
 given_stays start c steps.Release answer rest calm right up none = release_given start c answer ∙ none
 given_stays start c steps.List answer rest calm right up none = none
 given_stays start c steps.Emit answer rest calm right up none = emit_given start c answer ∙ none
@@ -266,8 +271,8 @@ in_step_on laws start c (s ∷ steps) (a ∷ told) right still up none is =
     (stays_open laws start c s a first.0 is))
 
 -- what a new world gave, when no step was a crash
-pub one_life : (laws : RunLaws) (start : TableState) (steps : List Step) (told : List Answer) → AreRight start beginning steps told → HasNoCrash steps
-    → IsOneLife start (course_of start beginning steps told) steps told
-one_life laws start steps told right still =
-    let lives = lives_on laws start beginning [] steps told right still (record { released = refl; emitted = refl; within = omega arith; is_open = refl }) in
-    record { released = lives.released; emitted = lives.emitted; in_step = λ up. in_step_on laws start beginning steps told right still up refl refl }
+pub one_life : (laws : RunLaws) (start : TableState) (failures : ℕ) (known : Outlook) (steps : List Step) (told : List Answer)
+    → AreRight start (beginning failures known) steps told → HasNoCrash steps → IsOneLife start (course_of start (beginning failures known) steps told) steps told
+one_life laws start failures known steps told right still =
+    let lives = lives_on laws start (beginning failures known) [] steps told right still (record { released = refl; emitted = refl; within = omega arith; is_open = refl }) in
+    record { released = lives.released; emitted = lives.emitted; in_step = λ up. in_step_on laws start (beginning failures known) steps told right still up refl refl }

@@ -1,8 +1,8 @@
 -- What a crash and an opening do to a course.
-use Rattle.std.proofs.Common.{◌≡◌, ◌≢◌, ◌∙◌, ◌⊎◌, inl, inr, ℕ, Bool, true, false, List, ◌++◌, length, take, MatchBool, sym, ap, subst, refl, arith, append_assoc}
-use Rattle.std.proofs.lemmas.List.{append-nil, take_at}
+use Rattle.std.proofs.Common.{◌≡◌, ◌+◌, ◌≢◌, ◌∙◌, ◌⊎◌, inl, inr, ℕ, Bool, true, false, List, ◌++◌, length, take, MatchBool, sym, ap, subst, refl, arith, append_assoc}
+use Rattle.std.proofs.lemmas.List.{append-nil, take_at, take_all}
 use Rattle.disk.specs.declared.sim.Image.{Image}
-use Rattle.disk.specs.State.{State, EveryImage, IsPermitted}
+use Rattle.disk.specs.State.{State, EveryImage, IsPermitted, NothingOpen}
 use Rattle.lw_types.specs.declared.refusal.Refusal.{Refusal}
 use Rattle.lw_types.specs.declared.refusal.Refusal.TheVariants.{OutOfMemory, DeviceFailed}
 use Rattle.lw_types.specs.Refusal.{number_of}
@@ -19,11 +19,12 @@ use Rattle.world.specs.declared.place.Place.TheVariants.{Open, Closed, Crashing}
 use Rattle.world.specs.declared.answer.Answer.{Answer}
 use Rattle.world.specs.declared.answer.Answer.TheVariants as answers
 use Rattle.world.specs.declared.step.Step.TheVariants as steps
-use Rattle.world.specs.Course.{Course, Stage, decided, reopened, after}
+use Rattle.world.specs.Device.{Device, IsSight, MaySucceed, MayFailSoon, passed_some, used_up}
+use Rattle.world.specs.Course.{Course, Stage, decided, reopened, closed, after}
 use Rattle.world.specs.Course.Stage.{Rest, Begun, Written, Synced, Opened, Durable, Stopped, Unsure}
 use Rattle.world.specs.Answers.{Leaves, MayLeave, AnswersCrash}
 use Rattle.world.specs.Sound.{HasDisk}
-use Rattle.world.specs.Follows.{FollowsPlace, IsLife, IsSubsequence, Survives}
+use Rattle.world.specs.Follows.{FollowsClosed, FollowsPlace, IsDisk, IsLife, IsSubsequence, Survives}
 use Rattle.world.proofs.Subsequences.{longer}
 
 -- the content is always permitted
@@ -48,6 +49,14 @@ kept_front c kept leaves =
       | inr is ↦ subst (λ k. take (length k) (decided c) ≡ k) (sym is)
           (ap (take (length (c.settled ++ c.flying))) (sym (append_assoc c.settled c.flying (c.given_up ++ c.untaken)))
           ∙ take_at (c.settled ++ c.flying) (c.given_up ++ c.untaken) (length (c.settled ++ c.flying)) refl)
+    ]
+
+-- all that is settled is part of it
+pub kept_settled : (c : Course) (kept : List Command) → Leaves c kept → take (length c.settled) kept ≡ c.settled
+kept_settled c kept leaves =
+    elim (either c.stage c.settled c.flying kept leaves) [
+      | inl is ↦ ap (take (length c.settled)) is ∙ take_all (length c.settled) c.settled (omega arith)
+      | inr is ↦ ap (take (length c.settled)) is ∙ take_at c.settled c.flying (length c.settled) refl
     ]
 
 -- it holds every command of which an effect has left
@@ -94,12 +103,23 @@ two_reasons OutOfMemory h = inl refl
 two_reasons DeviceFailed h = inr refl
 two_reasons e h = absurd (h (λ p. let n = ap number_of p in absurd (omega (arith, n))) (λ p. let n = ap number_of p in absurd (omega (arith, n))))
 
+-- and the store stays closed
+pub closes : {D : Type 0} (dev : Device D) (start : TableState) (c : Course) (e : Refusal) (disk : D)
+    → ((e ≡ OutOfMemory) × (MaySucceed c.outlook × IsSight c.failures (passed_some c.outlook) (dev.failures disk) (dev.outlook disk)))
+    ⊎ ((e ≡ DeviceFailed) × (MayFailSoon c.outlook × IsSight (c.failures + 1) (used_up c.outlook) (dev.failures disk) (dev.outlook disk)))
+    → NothingOpen (dev.state disk) → Survives start c (dev.state disk)
+    → AnswersCrash start c (answers.Refused e) × FollowsClosed dev start (closed c e) disk
+closes dev start c e disk (inl (is, (may, sight))) still survives =
+    (inl (is, may), subst (λ (k : Course). FollowsClosed dev start k disk) (ap (closed c) (sym is)) (refl, (still, survives, sight)))
+closes dev start c e disk (inr (is, (may, sight))) still survives =
+    (inr (is, may), subst (λ (k : Course). FollowsClosed dev start k disk) (ap (closed c) (sym is)) (refl, (still, survives, sight)))
+
 -- the disk that comes out of a world has what a crash may leave
-pub disk_survives : {D : Type 0} {g : _} (state : D → State) (start : TableState) (c : Course) (place : Place D g) (disk : D) → FollowsPlace state start c place
-    → HasDisk place disk → Survives start c (state disk)
-disk_survives state start c (Open life) disk f is = subst (λ d. Survives start c (state d)) (sym is) f.1.survives
-disk_survives state start c (Closed d) disk f is = subst (λ d. Survives start c (state d)) (sym is) f.1.1
-disk_survives state start c Crashing disk f is = absurd f
+pub disk_survives : {D : Type 0} {g : _} (dev : Device D) (start : TableState) (c : Course) (place : Place D g) (disk : D) → FollowsPlace dev start c place
+    → HasDisk place disk → Survives start c (dev.state disk) × IsDisk dev c disk
+disk_survives dev start c (Open life) disk f is = subst (λ d. Survives start c (dev.state d) × IsDisk dev c d) (sym is) (f.1.0.survives, f.1.1)
+disk_survives dev start c (Closed d) disk f is = subst (λ d. Survives start c (dev.state d) × IsDisk dev c d) (sym is) (f.1.1, f.1.2)
+disk_survives dev start c Crashing disk f is = absurd f
 
 -- after a crash the same holds of the disk
 pub crashed_survives : (start : TableState) (c : Course) (before now : State) → Survives start c before → IsPermitted before now.content
@@ -113,23 +133,18 @@ both_ways true X x = x
 both_ways false X x = x
 
 -- what a crash leaves of the effects
-pub crash_left : (start : TableState) (c : Course) (image : Image) (answer : Answer) → AnswersCrash start c answer
-    → (after start c (steps.Crash image) answer).left ≡ c.left
-crash_left start c image (answers.Opened devices seq) right = refl
-crash_left start c image (answers.Refused e) right = refl
-crash_left start c image answer right = absurd right
+pub record Crashes (start : TableState) (c next : Course) : Type 0 where
+  pub left : next.left ≡ c.left
+  pub emitted : next.emitted ≡ length c.left
+  pub once : IsSubsequence c.left (effects_of start c.settled) → IsSubsequence next.left (effects_of start next.settled)
 
-pub crash_emitted : (start : TableState) (c : Course) (image : Image) (answer : Answer) → AnswersCrash start c answer
-    → (after start c (steps.Crash image) answer).emitted ≡ length c.left
-crash_emitted start c image (answers.Opened devices seq) right = refl
-crash_emitted start c image (answers.Refused e) right = refl
-crash_emitted start c image answer right = absurd right
-
-pub crash_once : (laws : RunLaws) (start : TableState) (c : Course) (image : Image) (answer : Answer) → AnswersCrash start c answer
-    → IsSubsequence c.left (effects_of start c.settled)
-    → IsSubsequence (after start c (steps.Crash image) answer).left (effects_of start (after start c (steps.Crash image) answer).settled)
-crash_once laws start c image (answers.Opened devices seq) (kept, leaves, seq_is, count) once =
+pub crash_keeps : (laws : RunLaws) (start : TableState) (c : Course) (image : Image) (answer : Answer) → AnswersCrash start c answer
+    → Crashes start c (after start c (steps.Crash image) answer)
+crash_keeps laws start c image (answers.Opened devices seq) (may, (kept, leaves, seq_is, count)) =
     let front : kept ≡ take seq (decided c) = sym (ap (λ n. take n (decided c)) seq_is ∙ kept_front c kept leaves) in
-    subst (λ k. IsSubsequence c.left (effects_of start k)) front (kept_once laws start c c.left kept leaves once)
-crash_once laws start c image (answers.Refused e) right once = once
-crash_once laws start c image answer right once = absurd right
+    record { left = refl; emitted = refl; once = λ once. subst (λ k. IsSubsequence c.left (effects_of start k)) front (kept_once laws start c c.left kept leaves once) }
+crash_keeps laws start c image (answers.Refused e) (inl (is, may)) =
+    subst (λ e. Crashes start c (closed c e)) (sym is) (record { left = refl; emitted = refl; once = λ once. once })
+crash_keeps laws start c image (answers.Refused e) (inr (is, may)) =
+    subst (λ e. Crashes start c (closed c e)) (sym is) (record { left = refl; emitted = refl; once = λ once. once })
+crash_keeps laws start c image answer right = absurd right

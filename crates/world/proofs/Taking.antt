@@ -2,8 +2,9 @@
 use Rattle.std.proofs.Common.{◌≡◌, ◌≢◌, ◌∙◌, ◌+◌, ◌≤◌, ℕ, zero, suc, Bool, false, List, [], ◌∷◌, ◌++◌, length, take, drop, MatchBool, sym, ap, subst, refl, arith, append_assoc, length-append, take-append-drop}
 use Rattle.std.proofs.lemmas.List.{length-map, take-map, drop-map, append-nil}
 use Rattle.lw_types.specs.Refusal.{number_of}
-use Rattle.lw_types.specs.declared.refusal.Refusal.TheVariants.{OutOfMemory, OutOfStep}
+use Rattle.lw_types.specs.declared.refusal.Refusal.TheVariants.{OutOfMemory, OutOfStep, DeviceFailed}
 use Rattle.devices.specs.declared.command.Command.{Command}
+use Rattle.disk.specs.Outlook.{Outlook}
 use Rattle.sessions.specs.Table.{TableState, folded}
 use Rattle.sessions.specs.Decision.{ContinueAll, AreNumbered, IsLegalContinuation, applied_all, commands_of}
 use Rattle.sessions.specs.declared.decision.Decision.{Decision}
@@ -148,5 +149,23 @@ moved start c s s' core core' commit commit' store core_is commit_is f =
     subst (λ s. IsLife start c s core' commit') (sym store)
     (subst (λ k. IsLife start c s k commit') (sym core_is) (subst (λ m. IsLife start c s core m) (sym commit_is) f))
 
+-- a life knows nothing of the calls to come
+pub same_life : (start : TableState) (c : Course) (failures : ℕ) (outlook : Outlook) (s : StoreState) (core : CoreState) (commit : Commit) → IsLife start c s core commit
+    → IsLife start (record c { failures = failures; outlook = outlook }) s core commit
+same_life start c failures outlook s core commit f = record {
+  table = f.table;
+  seq = f.seq;
+  base = f.base;
+  number = f.number;
+  untaken = f.untaken;
+  made = f.made;
+  under_way = f.under_way;
+  healthy = f.healthy;
+  survives = f.survives;
+}
+
 pub no_memory : OutOfStep ≢ OutOfMemory
 no_memory h = let numbers = ap number_of h in absurd (omega (arith, numbers))
+
+pub device_memory : DeviceFailed ≡ OutOfMemory → ⊥
+device_memory h = let numbers = ap number_of h in absurd (omega (arith, numbers))

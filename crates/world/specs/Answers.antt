@@ -14,6 +14,8 @@ use Rattle.world.specs.declared.step.Step.{Step}
 use Rattle.world.specs.declared.step.Step.TheVariants as steps
 use Rattle.world.specs.declared.answer.Answer.{Answer}
 use Rattle.world.specs.declared.answer.Answer.TheVariants as answers
+use Rattle.disk.specs.Outlook.{Outlook}
+use Rattle.world.specs.Device.{MaySucceed, MayFail, MayFailSoon}
 use Rattle.world.specs.Course.{Course, Stage, decided, effects_under_way, after}
 use Rattle.world.specs.Course.Stage.{Rest, Begun, Written, Synced, Opened, Durable, Stopped, Unsure}
 
@@ -52,16 +54,16 @@ AnswersTake Stopped c most answer = answer ≡ answers.Refused refusals.Failed
 AnswersTake Unsure c most answer = answer ≡ answers.Refused refusals.Failed
 AnswersTake stage c most answer = answer ≡ answers.Idle
 
--- a device call succeeds or fails
-abbrev pub Calls : Answer → Type 0
-Calls answer = (answer ≡ answers.Called) ⊎ (answer ≡ answers.Refused refusals.DeviceFailed)
+-- a device call succeeds or fails, as it is known beforehand
+abbrev pub Calls : Outlook → Answer → Type 0
+Calls known answer = ((answer ≡ answers.Called) × MaySucceed known) ⊎ ((answer ≡ answers.Refused refusals.DeviceFailed) × MayFail known)
 
-abbrev pub AnswersCall : Stage → Answer → Type 0
-AnswersCall Begun answer = Calls answer
-AnswersCall Written answer = Calls answer
-AnswersCall Synced answer = Calls answer
-AnswersCall Opened answer = Calls answer
-AnswersCall stage answer = answer ≡ answers.Idle
+abbrev pub AnswersCall : Stage → Outlook → Answer → Type 0
+AnswersCall Begun known answer = Calls known answer
+AnswersCall Written known answer = Calls known answer
+AnswersCall Synced known answer = Calls known answer
+AnswersCall Opened known answer = Calls known answer
+AnswersCall stage known answer = answer ≡ answers.Idle
 
 abbrev pub AnswersRelease : Stage → TableState → Course → Answer → Type 0
 AnswersRelease Durable start c answer = answer ≡ answers.Released (length (effects_under_way start c))
@@ -89,18 +91,21 @@ MayLeave stage settled flying kept = kept ≡ settled
 abbrev pub Leaves : Course → List Command → Type 0
 Leaves c kept = MayLeave c.stage c.settled c.flying kept
 
--- the store was opened, with the table that such commands leave, or memory ran out, or the device failed
+-- The store was opened, with the table that such commands leave, or memory ran out, or the device failed. Its first
+-- call comes before memory is taken, so that one that is to fail is answered in each case.
 abbrev pub AnswersCrash : TableState → Course → Answer → Type 0
 AnswersCrash start c (answers.Opened devices seq) =
-    (kept : List Command) × Leaves c kept × (seq ≡ length kept) × (devices ≡ length (folded start kept).devices)
-AnswersCrash start c (answers.Refused e) = (e ≡ refusals.OutOfMemory) ⊎ (e ≡ refusals.DeviceFailed)
+    MaySucceed c.outlook
+    × ((kept : List Command) × Leaves c kept × (seq ≡ length kept) × (devices ≡ length (folded start kept).devices))
+AnswersCrash start c (answers.Refused e) =
+    ((e ≡ refusals.OutOfMemory) × MaySucceed c.outlook) ⊎ ((e ≡ refusals.DeviceFailed) × MayFailSoon c.outlook)
 AnswersCrash start c answer = ⊥
 
 -- while the store is open
 abbrev pub AnswersOpen : TableState → Course → Step → Answer → Type 0
 AnswersOpen start c (steps.Request moment command) answer = AnswersEvent start c command answer
 AnswersOpen start c (steps.Take most) answer = AnswersTake c.stage c most answer
-AnswersOpen start c steps.Call answer = AnswersCall c.stage answer
+AnswersOpen start c steps.Call answer = AnswersCall c.stage c.outlook answer
 AnswersOpen start c steps.Fail answer = answer ≡ answers.Armed
 AnswersOpen start c steps.Release answer = AnswersRelease c.stage start c answer
 AnswersOpen start c steps.Emit answer = AnswersEmit c answer

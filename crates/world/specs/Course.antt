@@ -2,10 +2,12 @@
 -- the steps and their answers alone tell it.
 use Rattle.std.specs.Prelude.{ℕ, ◌+◌, Bool, true, false, List, [], ◌∷◌, ◌++◌, length, take, drop, Option, Some, None}
 use Rattle.lw_types.specs.declared.refusal.Refusal.{Refusal}
-use Rattle.lw_types.specs.declared.refusal.Refusal.TheVariants.{OutOfStep}
+use Rattle.lw_types.specs.declared.refusal.Refusal.TheVariants.{OutOfMemory, OutOfStep}
 use Rattle.devices.specs.declared.command.Command.{Command}
 use Rattle.devices.specs.declared.effect.Effect.{Effect}
+use Rattle.disk.specs.Outlook.{Outlook}
 use Rattle.sessions.specs.Table.{TableState, folded, effects_of}
+use Rattle.world.specs.Device.{armed, passed, passed_some, used_up}
 use Rattle.world.specs.declared.step.Step.{Step}
 use Rattle.world.specs.declared.step.Step.TheVariants as steps
 use Rattle.world.specs.declared.answer.Answer.{Answer}
@@ -48,14 +50,17 @@ pub record Course : Type 0 where
   pub emitted : ℕ
   -- whether the store is open
   pub is_open : Bool
+  -- how many calls of the disk have failed, and what is known of the coming ones
+  pub failures : ℕ
+  pub outlook : Outlook
 
 -- the decided commands
 abbrev pub decided : Course → List Command
 decided c = c.settled ++ (c.flying ++ (c.given_up ++ c.untaken))
 
--- the course of a world that was just formatted
-abbrev pub beginning : Course
-beginning =
+-- the course of a world that was just formatted, on a disk of which this is known then
+abbrev pub beginning : ℕ → Outlook → Course
+beginning failures outlook =
     record {
       settled = [];
       flying = [];
@@ -66,6 +71,8 @@ beginning =
       left = [];
       emitted = 0;
       is_open = true;
+      failures = failures;
+      outlook = outlook;
     }
 
 -- a command was decided, unless it was refused
@@ -122,10 +129,13 @@ reopened c seq =
       made = 0;
       emitted = length c.left;
       is_open = true;
+      outlook = passed_some c.outlook;
     }
 
-abbrev pub closed : Course → Course
-closed c = record c { emitted = length c.left; is_open = false }
+-- or the store stays closed, for want of memory or since the device failed
+abbrev pub closed : Course → Refusal → Course
+closed c OutOfMemory = record c { emitted = length c.left; is_open = false; outlook = passed_some c.outlook }
+closed c e = record c { emitted = length c.left; is_open = false; failures = c.failures + 1; outlook = used_up c.outlook }
 
 -- the course after a step that was answered so; `start` is the table as it was formatted
 abbrev pub after : TableState → Course → Step → Answer → Course
@@ -133,12 +143,14 @@ after start c (steps.Request moment command) (answers.Turn turn) = turned c comm
 after start c (steps.Take most) (answers.Taken n) = begun c most
 after start c (steps.Take most) (answers.GivenUp n) = gave_up c most
 after start c (steps.Take most) (answers.Refused OutOfStep) = gave_up c most
-after start c steps.Call answers.Called = record c { stage = succeeded c.stage }
-after start c steps.Call (answers.Refused e) = record c { stage = failed c.stage }
+after start c steps.Call answers.Called = record c { stage = succeeded c.stage; outlook = passed c.outlook }
+after start c steps.Call (answers.Refused e) =
+    record c { stage = failed c.stage; failures = c.failures + 1; outlook = used_up c.outlook }
+after start c steps.Fail answers.Armed = record c { outlook = armed c.failures }
 after start c steps.Release (answers.Released n) = released start c
 after start c steps.Emit (answers.Emitted e) = record c { emitted = c.emitted + 1 }
 after start c (steps.Crash image) (answers.Opened devices seq) = reopened c seq
-after start c (steps.Crash image) (answers.Refused e) = closed c
+after start c (steps.Crash image) (answers.Refused e) = closed c e
 after start c step answer = c
 
 -- the course after these steps

@@ -9,7 +9,9 @@ use Rattle.flusher.specs.declared.released.Released.{Released}
 use Rattle.sessions.specs.Table.{TableState, folded, effects_of}
 use Rattle.sessions.specs.Decision.{commands_of, effects_in}
 use Rattle.store.specs.Image.{HoldsTable}
-use Rattle.store.specs.State.{StoreState, seen, IsSettled}
+use Rattle.store.specs.State.{StoreState, seen, disk_of, IsSettled}
+use Rattle.store.specs.declared.store.Store.{Store}
+use Rattle.world.specs.Device.{Device, IsSight, MaySucceed, passed_some}
 use Rattle.store.specs.Commit.{Change}
 use Rattle.store.specs.Phases.{IsBegunOn, IsWrittenOn, IsSyncedOn, IsOpenedOn, begun_change, written_change, synced_change, opened_change}
 use Rattle.flusher.specs.Released.{decisions_of, effects_of_all}
@@ -80,39 +82,49 @@ pub record IsLife (start : TableState) (c : Course) (s : StoreState) (core : Cor
   pub healthy : IsHealthy s commit
   pub survives : Survives start c s.log.disk
 
-abbrev pub FollowsLife : {D : Type 0} {g : _} → (D → State) → TableState → Course → Life D g → Type 0
-FollowsLife state start c life = IsLife start c (seen state life.store) life.core life.commit
+-- the disk has counted the failures of the course, and will answer as it is known there
+abbrev pub IsDisk : {D : Type 0} → Device D → Course → D → Type 0
+IsDisk dev c disk = IsSight c.failures c.outlook (dev.failures disk) (dev.outlook disk)
 
-abbrev pub FollowsPlace : {D : Type 0} {g : _} → (D → State) → TableState → Course → Place D g → Type 0
-FollowsPlace state start c (Open life) = (c.is_open ≡ true) × FollowsLife state start c life
-FollowsPlace state start c (Closed disk) = (c.is_open ≡ false) × (NothingOpen (state disk) × Survives start c (state disk))
-FollowsPlace state start c Crashing = ⊥
+abbrev pub FollowsLife : {D : Type 0} {g : _} → Device D → TableState → Course → Life D g → Type 0
+FollowsLife dev start c life =
+    IsLife start c (seen dev.state life.store) life.core life.commit × IsDisk dev c (disk_of life.store)
+
+-- the disk of a store that is closed
+abbrev pub FollowsClosed : {D : Type 0} → Device D → TableState → Course → D → Type 0
+FollowsClosed dev start c disk =
+    (c.is_open ≡ false) × (NothingOpen (dev.state disk) × Survives start c (dev.state disk) × IsDisk dev c disk)
+
+abbrev pub FollowsPlace : {D : Type 0} {g : _} → Device D → TableState → Course → Place D g → Type 0
+FollowsPlace dev start c (Open life) = (c.is_open ≡ true) × FollowsLife dev start c life
+FollowsPlace dev start c (Closed disk) = FollowsClosed dev start c disk
+FollowsPlace dev start c Crashing = ⊥
 
 -- The world is where its course is. What has left over all lives is part of the effects of commands that every
 -- crash leaves.
-pub record Follows {D : Type 0} {g : _} (state : D → State) (start : TableState) (c : Course) (world : World D g) : Type 0 where
-  pub place : FollowsPlace state start c world.place
+pub record Follows {D : Type 0} {g : _} (dev : Device D) (start : TableState) (c : Course) (world : World D g) : Type 0 where
+  pub place : FollowsPlace dev start c world.place
   pub left : effects_of_all world.released.items ≡ c.left
   pub emitted : world.emitted ≡ c.emitted
   pub once : IsSubsequence c.left (effects_of start c.settled)
 
 -- a step of a life whose store is open: whatever course it follows, the answer is right, and it goes on following
-abbrev pub MovesLife : {D : Type 0} {g : _} → (D → State) → Life D g → Step → Answer → Life D g → Type 0
-MovesLife state old step answer new =
-    (start : TableState) (c : Course) → FollowsLife state start c old
-    → AnswersOpen start c step answer × FollowsLife state start (after start c step answer) new
+abbrev pub MovesLife : {D : Type 0} {g : _} → Device D → Life D g → Step → Answer → Life D g → Type 0
+MovesLife dev old step answer new =
+    (start : TableState) (c : Course) → FollowsLife dev start c old
+    → AnswersOpen start c step answer × FollowsLife dev start (after start c step answer) new
 
 -- the same of a world
-abbrev pub Moves : {D : Type 0} {g : _} → (D → State) → World D g → Step → Answer → World D g → Type 0
-Moves state old step answer new =
-    (start : TableState) (c : Course) → Follows state start c old
-    → IsRight start c step answer × Follows state start (after start c step answer) new
+abbrev pub Moves : {D : Type 0} {g : _} → Device D → World D g → Step → Answer → World D g → Type 0
+Moves dev old step answer new =
+    (start : TableState) (c : Course) → Follows dev start c old
+    → IsRight start c step answer × Follows dev start (after start c step answer) new
 
 -- and of a run of steps
-abbrev pub Runs : {D : Type 0} {g : _} → (D → State) → World D g → List Step → List Answer → World D g → Type 0
-Runs state old steps answers new =
-    (start : TableState) (c : Course) → Follows state start c old
-    → AreRight start c steps answers × Follows state start (course_of start c steps answers) new
+abbrev pub Runs : {D : Type 0} {g : _} → Device D → World D g → List Step → List Answer → World D g → Type 0
+Runs dev old steps answers new =
+    (start : TableState) (c : Course) → Follows dev start c old
+    → AreRight start c steps answers × Follows dev start (course_of start c steps answers) new
 
 -- a step of a life alone
 abbrev pub IsOwn : Step → Type 0
@@ -121,9 +133,9 @@ IsOwn (steps.Crash image) = ⊥
 IsOwn step = Unit {0}
 
 -- what such a step released is what the course says
-abbrev pub Lets : {D : Type 0} {g : _} → (D → State) → Life D g → Step → Answer → List Released → List Released → Type 0
-Lets state life step answer old new =
-    (start : TableState) (c : Course) → FollowsLife state start c life
+abbrev pub Lets : {D : Type 0} {g : _} → Device D → Life D g → Step → Answer → List Released → List Released → Type 0
+Lets dev life step answer old new =
+    (start : TableState) (c : Course) → FollowsLife dev start c life
     → effects_of_all old ≡ c.left → effects_of_all new ≡ (after start c step answer).left
 
 -- a store with the table and the number of commands that a crash may leave
@@ -131,16 +143,19 @@ abbrev pub IsLeft : TableState → Course → TableState → ℕ → Type 0
 IsLeft start c table seq = (kept : List Command) × Leaves c kept × (table ≡ folded start kept) × (seq ≡ length kept)
 
 -- an opening answered so, and led here
-abbrev pub Opens : {D : Type 0} {g : _} → (D → State) → TableState → Course → Answer → Place D g → Type 0
-Opens state start c answer place =
-    AnswersCrash start c answer × ((image : Image) → FollowsPlace state start (after start c (steps.Crash image) answer) place)
+abbrev pub Opens : {D : Type 0} {g : _} → Device D → TableState → Course → Answer → Place D g → Type 0
+Opens dev start c answer place =
+    AnswersCrash start c answer × ((image : Image) → FollowsPlace dev start (after start c (steps.Crash image) answer) place)
 
 -- the same of a disk after a crash
-abbrev pub Reopens : {D : Type 0} {g : _} → (D → State) → State → Answer → Place D g → Type 0
-Reopens state disk answer place =
-    (start : TableState) (c : Course) → NothingOpen disk → Survives start c disk → Opens state start c answer place
+abbrev pub Reopens : {D : Type 0} {g : _} → Device D → D → Answer → Place D g → Type 0
+Reopens dev disk answer place =
+    (start : TableState) (c : Course) → NothingOpen (dev.state disk) → Survives start c (dev.state disk) → IsDisk dev c disk
+    → Opens dev start c answer place
 
 -- and of a store that was opened
-abbrev pub Begins : {D : Type 0} {g : _} → (D → State) → StoreState → Answer → Place D g → Type 0
-Begins state store answer place =
-    (start : TableState) (c : Course) → IsLeft start c store.table store.seq → Opens state start c answer place
+abbrev pub Begins : {D : Type 0} {g : _} → Device D → Store D g → Answer → Place D g → Type 0
+Begins dev store answer place =
+    (start : TableState) (c : Course) → IsLeft start c (seen dev.state store).table (seen dev.state store).seq → MaySucceed c.outlook
+    → IsSight c.failures (passed_some c.outlook) (dev.failures (disk_of store)) (dev.outlook (disk_of store))
+    → Opens dev start c answer place

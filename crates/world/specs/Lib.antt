@@ -1,5 +1,6 @@
 pub mod Sound
-pub mod Cause
+pub mod Tells
+pub mod Device
 pub mod Course
 pub mod Answers
 pub mod Follows

@@ -2,14 +2,23 @@
 //! laws.
 ghost use Rattle.std.specs.Prelude.{◌≡◌, List, length, take};
 ghost use Rattle.devices.specs.declared.command.Command.{Command};
+ghost use Rattle.devices.specs.declared.effect.Effect.{Effect};
+ghost use Rattle.sessions.specs.Table.{TableState, effects_of};
 ghost use Rattle.world.specs.Answers.{Leaves};
 ghost use Rattle.world.specs.Course.{Course, decided};
 ghost use Rattle.world.specs.Folding.{RunLaws};
+ghost use Rattle.world.specs.Follows.{IsSubsequence};
 
-/// What a crash leaves is a beginning of the decided commands.
+/// What a crash leaves is a beginning of the decided commands, and holds all that is settled. So it has every
+/// command of which an effect has left.
 pub fn what_a_crash_leaves()
-    ensures { (c : Course) (kept : List Command) → Leaves c kept → take (length kept) (decided c) ≡ kept }
-{}
+    ensures beginning { (c : Course) (kept : List Command) → Leaves c kept → take (length kept) (decided c) ≡ kept }
+    ensures settled { (c : Course) (kept : List Command) → Leaves c kept → take (length c.settled) kept ≡ c.settled }
+    ensures left { (start : TableState) (c : Course) (left : List Effect) (kept : List Command) → Leaves c kept
+        → IsSubsequence left (effects_of start c.settled) → IsSubsequence left (effects_of start kept) }
+{
+    of_runs();
+}
 
 /// What holds of every run of commands, and of the decisions that carry it out.
 pub(crate) fn of_runs()

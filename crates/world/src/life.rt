@@ -22,13 +22,13 @@ pub(crate) struct Life<D: Sim> {
 impl<D: Sim> Life<D> {
     ghost use Rattle.std.specs.Prelude.{◌≢◌, ◌<◌, ◌^◌, ℕ, [], IfOk, IfErr, MatchResult};
     ghost use Rattle.lw_types.specs.declared.refusal.Refusal.TheVariants.{OutOfMemory};
-    ghost use Rattle.disk.specs.Outlook.Outlook.{FailsAfter};
     ghost use Rattle.session_core.specs.State.{opened};
     ghost use Rattle.store.specs.State.{seen, disk_of, IsRoomy};
     ghost use Rattle.world.specs.declared.commit.Commit.TheVariants as commits;
     ghost use Rattle.world.specs.declared.step.Step.TheVariants as steps;
     ghost use Rattle.world.specs.declared.answer.Answer.TheVariants as answers;
-    ghost use Rattle.world.specs.Cause.{IsCause, IsForetold};
+    ghost use Rattle.world.specs.Device.{device};
+    ghost use Rattle.world.specs.Tells.{TellsRoom, TakeTellsRoom};
     ghost use Rattle.world.specs.Follows.{IsOwn, MovesLife, Lets};
     ghost use Rattle.world.specs.Sound.{IsSoundLife, HasRoom};
 
@@ -63,12 +63,9 @@ impl<D: Sim> Life<D> {
         requires room { HasRoom self.old.commit (length released.old.items) (vec_capacity released.old) }
         ensures sound { IsSoundLife D.state self.new }
         ensures room { HasRoom self.new.commit (length released.new.items) (vec_capacity released.new) }
-        ensures course { MovesLife D.state self.old step.now result self.new }
-        ensures full { result ≡ answers.Full → ¬ (IsRoomy (seen D.state self.old.store)) }
-        ensures cause { IsCause (D.failures (disk_of self.old.store)) result (D.failures (disk_of self.new.store)) }
-        ensures foretold { IsForetold (D.outlook (disk_of self.old.store)) step.now result
-            (D.outlook (disk_of self.new.store)) }
-        ensures left { Lets D.state self.old step.now result released.old.items released.new.items }
+        ensures course { MovesLife (device D.state D.failures D.outlook) self.old step.now result self.new }
+        ensures room_told { TellsRoom (seen D.state self.old.store) step.now result }
+        ensures left { Lets (device D.state D.failures D.outlook) self.old step.now result released.old.items released.new.items }
     {
         match step {
             Step::Request { moment, command } => self.request(*moment, command),
@@ -86,11 +83,7 @@ impl<D: Sim> Life<D> {
         requires { IsSoundLife D.state self.old }
         ensures sound { IsSoundLife D.state self.new }
         ensures commit { self.new.commit ≡ self.old.commit }
-        ensures course { MovesLife D.state self.old (steps.Request moment command.now) result self.new }
-        ensures full { result ≢ answers.Full }
-        ensures cause { IsCause (D.failures (disk_of self.old.store)) result (D.failures (disk_of self.new.store)) }
-        ensures foretold { IsForetold (D.outlook (disk_of self.old.store)) (steps.Request moment command.now) result
-            (D.outlook (disk_of self.new.store)) }
+        ensures course { MovesLife (device D.state D.failures D.outlook) self.old (steps.Request moment command.now) result self.new }
     {
         laws::of_runs();
         Answer::Turn(self.core.decide(moment, copy_of(command)))
@@ -104,11 +97,8 @@ impl<D: Sim> Life<D> {
         ensures sound { IsSoundLife D.state self.new }
         ensures room { HasRoom self.new.commit (length released.new.items) (vec_capacity released.new) }
         ensures released { released.new.items ≡ released.old.items }
-        ensures full { result ≡ answers.Full → ¬ (IsRoomy (seen D.state self.old.store)) }
-        ensures course { MovesLife D.state self.old (steps.Take most) result self.new }
-        ensures cause { IsCause (D.failures (disk_of self.old.store)) result (D.failures (disk_of self.new.store)) }
-        ensures foretold { IsForetold (D.outlook (disk_of self.old.store)) (steps.Take most) result
-            (D.outlook (disk_of self.new.store)) }
+        ensures room_told { TakeTellsRoom (seen D.state self.old.store) result }
+        ensures course { MovesLife (device D.state D.failures D.outlook) self.old (steps.Take most) result self.new }
     {
         match &self.commit {
             Commit::Failed => return Answer::Refused(Refusal::Failed),
@@ -141,13 +131,10 @@ impl<D: Sim> Life<D> {
         ensures sound { IsSoundLife D.state self.new }
         ensures room { HasRoom self.new.commit (length released.new.items) (vec_capacity released.new) }
         ensures released { released.new.items ≡ released.old.items }
-        ensures full { IfOk result (λ answer. answer ≢ answers.Full) }
+        ensures room_told { IfOk result (TakeTellsRoom (seen D.state self.old.store)) }
         ensures course { MatchResult result
-            (λ answer. MovesLife D.state self.old (steps.Take most) answer self.new)
+            (λ answer. MovesLife (device D.state D.failures D.outlook) self.old (steps.Take most) answer self.new)
             (λ e. (e ≡ OutOfMemory) × (self.new ≡ self.old)) }
-        ensures cause { IfOk result (λ answer. IsCause (D.failures (disk_of self.old.store)) answer (D.failures (disk_of self.new.store))) }
-        ensures foretold { IfOk result (λ answer. IsForetold (D.outlook (disk_of self.old.store)) (steps.Take most) answer
-            (D.outlook (disk_of self.new.store))) }
     {
         laws::of_runs();
         let room = Room::new(alloc)?;
@@ -178,11 +165,7 @@ impl<D: Sim> Life<D> {
         requires { IsSoundLife D.state self.old }
         ensures sound { IsSoundLife D.state self.new }
         ensures room { (there fit : ℕ) → HasRoom self.old.commit there fit → HasRoom self.new.commit there fit }
-        ensures course { MovesLife D.state self.old steps.Call result self.new }
-        ensures full { result ≢ answers.Full }
-        ensures cause { IsCause (D.failures (disk_of self.old.store)) result (D.failures (disk_of self.new.store)) }
-        ensures foretold { IsForetold (D.outlook (disk_of self.old.store)) steps.Call result
-            (D.outlook (disk_of self.new.store)) }
+        ensures course { MovesLife (device D.state D.failures D.outlook) self.old steps.Call result self.new }
     {
         laws::of_runs();
         match mem::replace(&mut self.commit, Commit::Failed) {
@@ -225,13 +208,7 @@ impl<D: Sim> Life<D> {
         requires { IsSoundLife D.state self.old }
         ensures sound { IsSoundLife D.state self.new }
         ensures commit { self.new.commit ≡ self.old.commit }
-        ensures course { MovesLife D.state self.old steps.Fail result self.new }
-        ensures full { result ≢ answers.Full }
-        ensures armed { D.failures (disk_of self.old.store) + 1 < 2 ^ 64
-            → D.outlook (disk_of self.new.store) ≡ FailsAfter 0 }
-        ensures cause { IsCause (D.failures (disk_of self.old.store)) result (D.failures (disk_of self.new.store)) }
-        ensures foretold { IsForetold (D.outlook (disk_of self.old.store)) steps.Fail result
-            (D.outlook (disk_of self.new.store)) }
+        ensures course { MovesLife (device D.state D.failures D.outlook) self.old steps.Fail result self.new }
     {
         self.store.arm(1);
         Answer::Armed
@@ -243,12 +220,8 @@ impl<D: Sim> Life<D> {
         requires room { HasRoom self.old.commit (length released.old.items) (vec_capacity released.old) }
         ensures sound { IsSoundLife D.state self.new }
         ensures room { HasRoom self.new.commit (length released.new.items) (vec_capacity released.new) }
-        ensures course { MovesLife D.state self.old steps.Release result self.new }
-        ensures full { result ≢ answers.Full }
-        ensures cause { IsCause (D.failures (disk_of self.old.store)) result (D.failures (disk_of self.new.store)) }
-        ensures foretold { IsForetold (D.outlook (disk_of self.old.store)) steps.Release result
-            (D.outlook (disk_of self.new.store)) }
-        ensures left { Lets D.state self.old steps.Release result released.old.items released.new.items }
+        ensures course { MovesLife (device D.state D.failures D.outlook) self.old steps.Release result self.new }
+        ensures left { Lets (device D.state D.failures D.outlook) self.old steps.Release result released.old.items released.new.items }
     {
         match mem::replace(&mut self.commit, Commit::Idle) {
             Commit::Durable(durable) => {
@@ -266,11 +239,7 @@ impl<D: Sim> Life<D> {
 
     /// The table as it is now.
     pub(crate) fn list(&self) -> Answer
-        ensures course { MovesLife D.state self.now steps.List result self.now }
-        ensures full { result ≢ answers.Full }
-        ensures cause { IsCause (D.failures (disk_of self.now.store)) result (D.failures (disk_of self.now.store)) }
-        ensures foretold { IsForetold (D.outlook (disk_of self.now.store)) steps.List result
-            (D.outlook (disk_of self.now.store)) }
+        ensures { MovesLife (device D.state D.failures D.outlook) self.now steps.List result self.now }
     {
         laws::of_runs();
         match self.core.now().copy() {

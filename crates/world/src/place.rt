@@ -17,24 +17,17 @@ pub(crate) enum Place<D: Sim> {
 }
 
 impl<D: Sim> Place<D> {
-    ghost use Rattle.std.specs.Prelude.{◌≡◌, ◌≢◌, ℕ, false};
-    ghost use Rattle.disk.specs.declared.sim.Image.{Image};
+    ghost use Rattle.std.specs.Prelude.{◌≡◌, ℕ, false};
     ghost use Rattle.store.specs.State.{seen, disk_of, IsSettled};
-    ghost use Rattle.world.specs.declared.answer.Answer.TheVariants as answers;
-    ghost use Rattle.world.specs.declared.step.Step.TheVariants as steps;
-    ghost use Rattle.world.specs.Cause.{IsCause, IsForetold, failures_at, outlook_at};
+    ghost use Rattle.world.specs.Device.{device};
     ghost use Rattle.world.specs.Follows.{Reopens, Begins};
     ghost use Rattle.world.specs.Sound.{IsSomewhere, HasDisk, IsSoundPlace};
 
     /// The store on a disk that crashed is opened, and a life begins with it.
     pub(crate) fn reopen(alloc: Global, disk: D) -> (Self, Answer)
         ensures sound { (there fit : ℕ) → IsSoundPlace D.state result.0 there fit }
-        ensures course { Reopens D.state (D.state disk) result.1 result.0 }
-        ensures full { result.1 ≢ answers.Full }
+        ensures course { Reopens (device D.state D.failures D.outlook) disk result.1 result.0 }
         ensures same { (now : D) → HasDisk result.0 now → (D.state now).content ≡ (D.state disk).content }
-        ensures cause { IsCause (D.failures disk) result.1 (failures_at D.failures result.0) }
-        ensures foretold { (image : Image) → IsForetold (D.outlook disk) (steps.Crash image) result.1
-            (outlook_at D.outlook result.0) }
     {
         disk::laws::settled_disk_keeps_its_content();
         match store::open_back(alloc, disk) {
@@ -47,12 +40,8 @@ impl<D: Sim> Place<D> {
     fn begin(alloc: Global, store: Store<D>) -> (Self, Answer)
         ensures sound { (there fit : ℕ) → IsSoundPlace D.state result.0 there fit }
         ensures course { (seen D.state store).failed ≡ false → IsSettled (seen D.state store)
-            → Begins D.state (seen D.state store) result.1 result.0 }
-        ensures full { result.1 ≢ answers.Full }
+            → Begins (device D.state D.failures D.outlook) store result.1 result.0 }
         ensures same { (now : D) → HasDisk result.0 now → now ≡ disk_of store }
-        ensures cause { IsCause (D.failures (disk_of store)) result.1 (failures_at D.failures result.0) }
-        ensures foretold { (image : Image) → IsForetold (D.outlook (disk_of store)) (steps.Crash image) result.1
-            (outlook_at D.outlook result.0) }
     {
         store::laws::a_settled_store_is_on_its_disk();
         let devices = store.table().devices().len();

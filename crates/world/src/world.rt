@@ -25,25 +25,22 @@ impl<D: Sim + Drop> World<D> {
     ghost use Rattle.std.specs.Prelude.{◌≢◌, IfOk, IfErr, MatchResult, length};
     ghost use Rattle.lw_types.specs.declared.refusal.Refusal.TheVariants.{DeviceFailed};
     ghost use Rattle.disk.specs.Outlook.Outlook.{AllSucceed};
-    ghost use Rattle.disk.specs.declared.sim.Image.{Image};
-    ghost use Rattle.sessions.specs.Table.{empty_table};
+    ghost use Rattle.sessions.specs.Table.{TableState, empty_table, effects_of};
     ghost use Rattle.store.specs.Faults.{IsFormatRefusal};
-    ghost use Rattle.world.specs.declared.answer.Answer.TheVariants as answers;
     ghost use Rattle.world.specs.declared.step.Step.TheVariants as steps;
-    ghost use Rattle.world.specs.Cause.{IsCause, IsForetold, IsFull, CrashesTo, failures_at, outlook_at};
-    ghost use Rattle.world.specs.Course.{beginning};
-    ghost use Rattle.world.specs.Follows.{Follows, Moves};
+    ghost use Rattle.world.specs.Device.{device, passed_some};
+    ghost use Rattle.world.specs.Tells.{PlaceTellsRoom, CrashesTo, LeavesImage};
+    ghost use Rattle.world.specs.Course.{Course, beginning};
+    ghost use Rattle.world.specs.Follows.{Follows, Moves, Survives, IsSubsequence, IsDisk};
     ghost use Rattle.world.specs.Sound.{IsSound, HasDisk};
 
     /// A world with a new store on this disk. Refused as [`store::format`] is, and with `OutOfMemory`.
     pub fn format(alloc: Global, disk: D, net_id: NetId, slots: u64) -> Result<Self, Refusal>
         ensures sound { IfOk result (IsSound D.state) }
-        ensures course { IfOk result (Follows D.state (empty_table net_id slots) beginning) }
-        ensures failures { IfOk result (λ world. failures_at D.failures world.place ≡ D.failures disk) }
+        ensures course { IfOk result (Follows (device D.state D.failures D.outlook) (empty_table net_id slots)
+            (beginning (D.failures disk) (passed_some (D.outlook disk)))) }
+        ensures unarmed { D.outlook disk ≡ AllSucceed → IfErr result (λ e. e ≢ DeviceFailed) }
         ensures refused { IfErr result (IsFormatRefusal slots (length (D.state disk).content)) }
-        ensures unarmed { D.outlook disk ≡ AllSucceed → MatchResult result
-            (λ world. outlook_at D.outlook world.place ≡ AllSucceed)
-            (λ e. e ≢ DeviceFailed) }
     {
         let store = store::format(alloc, disk, net_id, slots)?;
         store::laws::a_settled_store_is_on_its_disk();
@@ -61,13 +58,9 @@ impl<D: Sim + Drop> World<D> {
     pub(crate) fn step(&mut self, alloc: Global, step: &Step) -> Answer
         requires { IsSound D.state self.old }
         ensures sound { IsSound D.state self.new }
-        ensures course { Moves D.state self.old step.now result self.new }
-        ensures full { result ≡ answers.Full → IsFull D.state self.old.place }
-        ensures crashed { (image : Image) → step.now ≡ steps.Crash image
-            → CrashesTo D.state image self.old.place self.new.place }
-        ensures cause { IsCause (failures_at D.failures self.old.place) result (failures_at D.failures self.new.place) }
-        ensures foretold { IsForetold (outlook_at D.outlook self.old.place) step.now result
-            (outlook_at D.outlook self.new.place) }
+        ensures course { Moves (device D.state D.failures D.outlook) self.old step.now result self.new }
+        ensures room_told { PlaceTellsRoom D.state self.old.place step.now result }
+        ensures crashed { LeavesImage D.state self.old.place step.now self.new.place }
     {
         laws::of_runs();
         match step {
@@ -84,11 +77,7 @@ impl<D: Sim + Drop> World<D> {
     fn emit(&mut self, alloc: Global) -> Answer
         requires { IsSound D.state self.old }
         ensures sound { IsSound D.state self.new }
-        ensures course { Moves D.state self.old steps.Emit result self.new }
-        ensures full { result ≢ answers.Full }
-        ensures cause { IsCause (failures_at D.failures self.old.place) result (failures_at D.failures self.new.place) }
-        ensures foretold { IsForetold (outlook_at D.outlook self.old.place) steps.Emit result
-            (outlook_at D.outlook self.new.place) }
+        ensures course { Moves (device D.state D.failures D.outlook) self.old steps.Emit result self.new }
     {
         match self.released.get(self.emitted) {
             None => Answer::Idle,
@@ -107,12 +96,8 @@ impl<D: Sim + Drop> World<D> {
     fn crash(&mut self, alloc: Global, image: &Image) -> Answer
         requires { IsSound D.state self.old }
         ensures sound { IsSound D.state self.new }
-        ensures course { Moves D.state self.old (steps.Crash image.now) result self.new }
-        ensures full { result ≢ answers.Full }
+        ensures course { Moves (device D.state D.failures D.outlook) self.old (steps.Crash image.now) result self.new }
         ensures crashed { CrashesTo D.state image.now self.old.place self.new.place }
-        ensures cause { IsCause (failures_at D.failures self.old.place) result (failures_at D.failures self.new.place) }
-        ensures foretold { IsForetold (outlook_at D.outlook self.old.place) (steps.Crash image.now) result
-            (outlook_at D.outlook self.new.place) }
     {
         laws::of_runs();
         self.emitted = self.released.len();
@@ -137,10 +122,14 @@ impl<D: Sim + Drop> World<D> {
         }
     }
 
-    /// Ends the world: what is under way is lost, and the disk comes back.
+    /// Ends the world: what is under way is lost, and the disk comes back. Whatever a crash leaves of it
+    /// holds the fold of a beginning of the decided commands, with every one of which an effect has left.
     pub fn close(self) -> D
         requires { IsSound D.state self }
-        ensures { HasDisk self.place result }
+        ensures disk { HasDisk self.place result }
+        ensures course { (start : TableState) (c : Course) → Follows (device D.state D.failures D.outlook) start c self
+            → Survives start c (D.state result) × IsSubsequence c.left (effects_of start c.settled)
+            × IsDisk (device D.state D.failures D.outlook) c result }
     {
         let World {
             place,

@@ -1,6 +1,9 @@
-//! Tests of the public calls of `world`, beside a plain model whose contract is the definition.
+//! Tests of the public calls of `world`, beside a plain model whose contract is the definition, and of
+//! `headline`.
 #![tactic(auto)]
 
+#[cfg(test)]
+mod headline_tests;
 #[cfg(test)]
 mod model;
 #[cfg(test)]

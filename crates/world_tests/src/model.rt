@@ -1,6 +1,7 @@
 // The world told plainly: whole lists of commands, and the table made anew from all of them each time
 // that one is wanted.
 ghost use Rattle.std.specs.Prelude.{◌≡◌, ◌++◌, ℕ, true, IfOk};
+ghost use Rattle.disk.specs.Outlook.Outlook.{AllSucceed};
 ghost use Rattle.sessions.specs.Table.{empty_table, folded, effects_of, step, stepped, step_effects};
 ghost use Rattle.world.specs.declared.step.Step.TheVariants as steps;
 ghost use Rattle.world.specs.Answers.{Leaves, wanted};
@@ -45,15 +46,17 @@ pub(crate) struct Plain {
     left: Vec<Effect>,
     emitted: usize,
     is_open: bool,
-    // Whether the next device call fails.
+    // Whether the next device call fails, and how many have failed.
     armed: bool,
+    failures: u64,
     // Whether the gate of the batch under way is open on the disk, as written and as synced.
     gate_written: bool,
     gate_synced: bool,
 }
 
 impl Model for Plain {
-    ghost use Rattle.std.specs.Prelude.{[]};
+    ghost use Rattle.std.specs.Prelude.{[], if◌then◌else◌};
+    ghost use Rattle.disk.specs.Outlook.Outlook.{AllSucceed, FailsAfter};
     ghost use Rattle.sessions.specs.Table.{empty_table};
     ghost use Rattle.world_tests.specs.declared.model.Stage.TheVariants as variants;
     ghost use Rattle.world.specs.Course.Stage.{Rest, Begun, Written, Synced, Opened, Durable, Stopped, Unsure};
@@ -82,6 +85,8 @@ impl Model for Plain {
         left = m.left.items;
         emitted = m.emitted;
         is_open = m.is_open;
+        failures = m.failures;
+        outlook = if m.armed then FailsAfter 0 else AllSucceed;
       };
     } };
 }
@@ -90,7 +95,7 @@ impl Plain {
     /// A world that was just formatted.
     pub(crate) fn new(alloc: Global, net_id: NetId, slots: Slots) -> Self
         ensures start { result.start ≡ empty_table net_id slots }
-        ensures course { result.course ≡ beginning }
+        ensures course { result.course ≡ beginning 0 AllSucceed }
     {
         Plain {
             net_id,
@@ -104,6 +109,7 @@ impl Plain {
             emitted: 0,
             is_open: true,
             armed: false,
+            failures: 0,
             gate_written: false,
             gate_synced: false,
         }
@@ -119,11 +125,8 @@ impl Plain {
             _ if !self.is_open => Ok(Answer::Idle),
             Step::Request { command, .. } => self.request(alloc, command),
             Step::Take(most) => self.take(*most),
-            Step::Call => Ok(self.call()),
-            Step::Fail => {
-                self.armed = true;
-                Ok(Answer::Armed)
-            }
+            Step::Call => self.call(),
+            Step::Fail => self.fail(),
             Step::Release => self.release(alloc),
             Step::List => self.list(alloc),
         }
@@ -183,25 +186,38 @@ impl Plain {
         Ok(Answer::Taken(count))
     }
 
-    fn call(&mut self) -> Answer
+    // The model ends where the disk would count no more failures.
+    fn fail(&mut self) -> Result<Answer, Refusal>
         requires { self.old.course.is_open ≡ true }
-        ensures { Goes self.old steps.Call result self.new }
+        ensures { IfOk result (λ answer. Goes self.old steps.Fail answer self.new) }
+    {
+        if self.failures < u64::MAX {
+            self.armed = true;
+            return Ok(Answer::Armed);
+        }
+        Err(Refusal::OutOfMemory)
+    }
+
+    fn call(&mut self) -> Result<Answer, Refusal>
+        requires { self.old.course.is_open ≡ true }
+        ensures { IfOk result (λ answer. Goes self.old steps.Call answer self.new) }
     {
         let (succeeded, failed) = match self.stage {
             Stage::Begun => (Stage::Written, Stage::Stopped),
             Stage::Written => (Stage::Synced, Stage::Stopped),
             Stage::Synced => (Stage::Opened, Stage::Unsure),
             Stage::Opened => (Stage::Durable, Stage::Unsure),
-            _ => return Answer::Idle,
+            _ => return Ok(Answer::Idle),
         };
         if self.armed {
+            self.failures = self.failures.checked_add(1).ok_or(Refusal::OutOfMemory)?;
             self.armed = false;
             self.stage = failed;
-            return Answer::Refused(Refusal::DeviceFailed);
+            return Ok(Answer::Refused(Refusal::DeviceFailed));
         }
         self.stage = succeeded;
         self.gate_written = succeeded == Stage::Opened;
-        Answer::Called
+        Ok(Answer::Called)
     }
 
     fn release(&mut self, alloc: Global) -> Result<Answer, Refusal>
@@ -255,6 +271,7 @@ impl Plain {
         self.gate_written = flew;
         self.gate_synced = flew;
         if self.armed {
+            self.failures = self.failures.checked_add(1).ok_or(Refusal::OutOfMemory)?;
             self.armed = false;
             self.is_open = false;
             return Ok(Answer::Refused(Refusal::DeviceFailed));

@@ -155,7 +155,7 @@ fn worlds_answer_as_their_model(rt: HostRuntime) -> Result<(), Fail> {
 
 // So many devices are brought, and all their decisions taken, committed and released, at most so many
 // at a time. Then there is a look at the table, and a crash.
-fn many(alloc: Global, devices: u64, most: Most) -> Result<Vec<Step>, Fail> {
+pub(crate) fn many(alloc: Global, devices: u64, most: Most) -> Result<Vec<Step>, Fail> {
     let mut steps = Vec::new(alloc);
     for dev_eui in 0..devices {
         steps.push(provision(dev_eui)?)?;

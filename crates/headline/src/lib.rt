@@ -1,0 +1,52 @@
+//! What may be concluded of whole runs, in the words of their lists of steps alone.
+#![tactic(auto)]
+
+ghost use Rattle.std.specs.Prelude.{IfOk};
+ghost use Rattle.sessions.specs.Table.{empty_table};
+ghost use Rattle.store.specs.State.{seen};
+ghost use Rattle.world.specs.Answers.{AreRight};
+ghost use Rattle.world.specs.Course.{beginning, course_of};
+ghost use Rattle.world.specs.Device.{passed_some};
+ghost use Rattle.headline.specs.Recovers.{Recovers};
+
+use disk::{Image, Sim};
+use lw_types::{NetId, Refusal};
+use std::alloc::Global;
+use store::Store;
+use world::{Answer, Step, World, run};
+
+/// Takes the steps on a world with a new store on this disk, crashes among them, lets the disk crash to this
+/// image at the end, and opens the store. With [`Image::Bytes`] each image that the disk permits can be asked
+/// for. Refused as [`World::format`], [`run`] and [`store::open`] are.
+///
+/// Where it isn't refused, each answer is the right one, and the store has the table and the number that a
+/// beginning of the decided commands leaves. That beginning holds every command of which an effect has left.
+pub fn crash_after<D: Sim + Drop>(
+    alloc: Global,
+    disk: D,
+    net_id: NetId,
+    slots: u64,
+    steps: &[Step],
+    image: &Image,
+) -> Result<(Vec<Answer>, Store<D>), Refusal>
+    ensures answers { IfOk result (λ found. AreRight (empty_table net_id slots)
+        (beginning (D.failures disk) (passed_some (D.outlook disk))) steps.now found.0.items) }
+    ensures recovers { IfOk result (λ found. Recovers (empty_table net_id slots)
+        (course_of (empty_table net_id slots) (beginning (D.failures disk) (passed_some (D.outlook disk)))
+        steps.now found.0.items) (seen D.state found.1).table (seen D.state found.1).seq) }
+{
+    world::laws::what_a_crash_leaves();
+    let mut world = World::format(alloc, disk, net_id, slots)?;
+    match run(&mut world, alloc, steps) {
+        Ok(answers) => {
+            let mut disk = world.close();
+            disk.crash(image);
+            let store = store::open(alloc, disk)?;
+            Ok((answers, store))
+        }
+        Err(refusal) => {
+            let _ = world.close();
+            Err(refusal)
+        }
+    }
+}

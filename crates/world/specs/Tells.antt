@@ -1,0 +1,58 @@
+-- What one step's answer tells of the disk: a full journal only where it is, and a crash leaves the image that it names.
+use Rattle.std.specs.Prelude.{◌≡◌, ◌≢◌, ◌<◌, ℕ, List, [], ◌∷◌}
+use Rattle.lw_types.specs.declared.refusal.Refusal.{Refusal}
+use Rattle.lw_types.specs.declared.refusal.Refusal.TheVariants as refusals
+use Rattle.disk.specs.declared.sim.Image.{Image}
+use Rattle.disk.specs.Crash.{IsCrashed}
+use Rattle.disk.specs.State.{State}
+use Rattle.store.specs.State.{StoreState, disk_of, seen, IsRoomy}
+use Rattle.world.specs.Sound.{HasDisk}
+use Rattle.world.specs.declared.place.Place.{Place}
+use Rattle.world.specs.declared.place.Place.TheVariants.{Open, Closed, Crashing}
+use Rattle.world.specs.declared.answer.Answer.{Answer}
+use Rattle.world.specs.declared.answer.Answer.TheVariants as answers
+use Rattle.world.specs.declared.step.Step.{Step}
+use Rattle.world.specs.declared.step.Step.TheVariants as steps
+
+-- A batch is taken only where the journal has room for the largest one, and full is answered only where it hasn't.
+abbrev pub RefusalTellsRoom : StoreState → Refusal → Type 0
+RefusalTellsRoom s refusals.OutOfStep = IsRoomy s
+RefusalTellsRoom s refusals.OutOfMemory = IsRoomy s
+RefusalTellsRoom s e = Unit {0}
+
+abbrev pub TakeTellsRoom : StoreState → Answer → Type 0
+TakeTellsRoom s answers.Full = ¬ (IsRoomy s)
+TakeTellsRoom s (answers.Taken n) = IsRoomy s
+TakeTellsRoom s (answers.GivenUp n) = IsRoomy s
+TakeTellsRoom s (answers.Refused e) = RefusalTellsRoom s e
+TakeTellsRoom s answer = Unit {0}
+
+abbrev pub TellsRoom : StoreState → Step → Answer → Type 0
+TellsRoom s (steps.Take most) answer = TakeTellsRoom s answer
+TellsRoom s step answer = Unit {0}
+
+abbrev pub PlaceTellsRoom : {D : Type 0} {g : _} → (D → State) → Place D g → Step → Answer → Type 0
+PlaceTellsRoom state (Open life) step answer = TellsRoom (seen state life.store) step answer
+PlaceTellsRoom state (Closed disk) step answer = Unit {0}
+PlaceTellsRoom state Crashing step answer = Unit {0}
+
+-- the disk of a world has crashed to this image
+abbrev pub CrashesTo : {D : Type 0} {g : _} → (D → State) → Image → Place D g → Place D g → Type 0
+CrashesTo {D} state image old new =
+    (before now : D) → HasDisk old before → HasDisk new now → IsCrashed image (state before) (state now).content
+
+-- a crash leaves the image that it names
+abbrev pub LeavesImage : {D : Type 0} {g : _} → (D → State) → Place D g → Step → Place D g → Type 0
+LeavesImage state old (steps.Crash image) new = CrashesTo state image old new
+LeavesImage state old step new = Unit {0}
+
+-- what the answer to one step tells of the disk
+abbrev pub TellsFirst : {D : Type 0} {g : _} → (D → State) → Place D g → Step → List Answer → Place D g → Type 0
+TellsFirst state old step (answer ∷ []) new = PlaceTellsRoom state old step answer × LeavesImage state old step new
+TellsFirst state old step told new = Unit {0}
+
+-- the same of a run of one step
+abbrev pub TellsAlone : {D : Type 0} {g : _} → (D → State) → Place D g → List Step → List Answer → Place D g → Type 0
+TellsAlone state old [] told new = new ≡ old
+TellsAlone state old (step ∷ []) told new = TellsFirst state old step told new
+TellsAlone state old (step ∷ next ∷ rest) told new = Unit {0}
