@@ -1,7 +1,7 @@
-// Joins by hand, the request's MIC by `join_mic`: which nonces are granted, and the first fault of several.
+// Joins by hand, the request's MIC by `join_mic`: which nonces are granted.
 use frame_crypt::join_mic;
 use join_server::{JoinAsk, JoinRequest, JoinState, RxDelay, answer};
-use lw_types::{DevAddr, Eui, JoinNonce, Key, NetId, Refusal};
+use lw_types::{DevAddr, Eui, JoinNonce, Key, NetId};
 use std::process::Abort;
 use std::test::Fail;
 
@@ -66,29 +66,4 @@ fn nonces_grow(rt: HostRuntime) -> Result<(), Fail> {
     grants(&rt, None, Some(8191), 0, 8192)?;
     grants(&rt, Some(0), Some(8192), 1, 8193)?;
     grants(&rt, Some(7), Some(16_777_214), 65_535, 16_777_215)
-}
-
-fn refuses(
-    rt: &impl Abort,
-    state: JoinState,
-    request: JoinRequest,
-    refusal: Refusal,
-) -> Result<(), Fail> {
-    assert_eq!(rt; answer(&state, &ask(request)?), Err(refusal));
-    Ok(())
-}
-
-// Each join here has the faults of those below it too, so that the first one is answered.
-#[test]
-fn the_first_fault_is_answered(rt: HostRuntime) -> Result<(), Fail> {
-    let spent = state(Some(9), Some(16_777_215))?;
-    let mut forged = request(9);
-    forged[22] ^= 1;
-    let mut elsewhere = forged;
-    elsewhere[1] ^= 1;
-    refuses(&rt, spent, elsewhere, Refusal::WrongJoinEui)?;
-    refuses(&rt, spent, forged, Refusal::BadMic)?;
-    refuses(&rt, spent, request(9), Refusal::DevNonceUsed)?;
-    refuses(&rt, spent, request(8), Refusal::DevNonceUsed)?;
-    refuses(&rt, spent, request(10), Refusal::JoinNonceSpent)
 }
