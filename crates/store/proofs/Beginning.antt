@@ -7,6 +7,7 @@ use Rattle.sessions.specs.Decision.{FitAll, applied_all}
 use Rattle.sessions.specs.declared.decision.Decision.{Decision}
 use Rattle.store_layout.specs.Entries.{Entry, AreEntries, Replay, entries, entries_of, put_all}
 use Rattle.store.specs.declared.phases.Begun.{Begun}
+use Rattle.store.specs.Commit.{table_after}
 use Rattle.store.specs.Image.{IsBatchOn, Says}
 use Rattle.store.specs.Phases.{IsBegunOn, begun_change}
 use Rattle.store.specs.State.{IsSettled, StoreState}
@@ -25,8 +26,8 @@ some_decisions (d ∷ ds) some = omega arith
 
 pub begun_on : EntryLaws → {b : BatchValue} (s : StoreState) (begun : Begun) (ds : List Decision) → IsBegun begun.phase b → IsSettled s
     → FitAll s.table ds → AreEntries (entries_of ds) → ds ≢ [] → length ds ≤ 64 → b.entries ≡ entries (entries_of ds) → b.entry_count ≡ length ds
-    → b.last_sequence ≡ s.seq + length ds → (begun_change begun).table ≡ applied_all s.table ds → (begun_change begun).seq ≡ b.last_sequence → IsBegunOn s begun
-begun_on laws {b} s begun ds bytes settled fit each some few spelled count last table seq =
+    → b.last_sequence ≡ s.seq + length ds → (begun_change begun).decisions ≡ ds → (begun_change begun).seq ≡ b.last_sequence → IsBegunOn s begun
+begun_on laws {b} s begun ds bytes settled fit each some few spelled count last decisions seq =
     let t = s.table in
     let es = entries_of ds in
     let long = some_decisions ds some in
@@ -34,7 +35,7 @@ begun_on laws {b} s begun ds bytes settled fit each some few spelled count last 
     subst (λ n. Replay t b.entries n es) (sym count) (subst (λ (l : List ℕ). Replay t l (length ds) es) (sym spelled) (laws.replay t ds fit each)) in
     let is : IsBatchOn t s.seq b es =
     record { replay = replay; some = omega arith; few = omega arith; number = last ∙ ap (λ n. s.seq + n) (sym count) } in
-    let put : (begun_change begun).table ≡ put_all t es = table ∙ sym (laws.table t ds) in
+    let put : table_after s (begun_change begun) ≡ put_all t es = ap (applied_all t) decisions ∙ sym (laws.table t ds) in
     record {
       contents = settled.contents;
       batch = b;
@@ -43,8 +44,8 @@ begun_on laws {b} s begun ds bytes settled fit each some few spelled count last 
         slots = ap (λ (x : TableState). x.slots) put ∙ laws.slots t es;
         before = settled.says;
         after =
-            subst (Says (with_batch settled.contents b) (begun_change begun).table) (sym seq)
-            (says_more settled.contents t s.seq b es (begun_change begun).table settled.says is (laws.net_id t es) (laws.slots t es) put);
+            subst (Says (with_batch settled.contents b) (table_after s (begun_change begun))) (sym seq)
+            (says_more settled.contents t s.seq b es (table_after s (begun_change begun)) settled.says is (laws.net_id t es) (laws.slots t es) put);
       };
       rest = settled.rest;
       bytes = bytes;

@@ -1,5 +1,5 @@
 -- The bytes of a store that is being made.
-use Rattle.std.proofs.Common.{◌≡◌, ◌<◌, ◌≤◌, ◌+◌, ◌-◌, ◌∙◌, ℕ, List, [], ◌∷◌, ◌++◌, Result, Ok, Err, OnOk, false, length, take, drop, get_or, sym, ap, refl, arith, inl, inr, ◌⊎◌, ◌≢◌, append_assoc, length-append, length-drop}
+use Rattle.std.proofs.Common.{◌≡◌, ◌<◌, ◌≤◌, ◌+◌, ◌-◌, ◌∙◌, ℕ, List, [], ◌∷◌, ◌++◌, Result, Ok, Err, OnOk, false, length, take, drop, get_or, sym, ap, refl, arith, inl, inr, ◌≢◌, append_assoc, length-append, length-drop}
 use Rattle.std.proofs.lemmas.List.{drop-drop, drop_at, drop-take, take_at, take-take, length-take-le, get_or-take, get_or-drop}
 use Rattle.std.specs.List.{slice_range}
 use Rattle.disk.specs.State.{IsPermitted, IsTorn, NothingOpen, Opens, State, written}

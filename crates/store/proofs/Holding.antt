@@ -7,7 +7,7 @@ use Rattle.gate_log.specs.Layout.{BatchValue, Contents, Holds, header_bytes, ope
 use Rattle.gate_log.specs.Phases.{HoldsEither as LogHoldsEither}
 use Rattle.sessions.specs.Table.{TableState}
 use Rattle.store_layout.specs.Superblock.{disk_len}
-use Rattle.store.specs.Commit.{Change}
+use Rattle.store.specs.Commit.{Change, table_after}
 use Rattle.lw_types.specs.declared.refusal.Refusal.{Refusal}
 use Rattle.lw_types.specs.declared.refusal.Refusal.TheVariants.{NotFormatted, Damaged, WrongVersion, WrongSize}
 use Rattle.std.proofs.Common.{◌↔◌, ◌≢◌, get_or}
@@ -20,7 +20,7 @@ module _ (s : StoreState) (change : Change) (c : Contents) (b : BatchValue) (jou
   pub held : Holds s.log.area c image → HoldsTable s.table s.seq image
   held holds = record { contents = c; in_area = subst (λ (a : Area). Holds a c image) journals.area holds; says = journals.before }
 
-  pub held_with : Holds s.log.area (with_batch c b) image → HoldsTable change.table change.seq image
+  pub held_with : Holds s.log.area (with_batch c b) image → HoldsTable (table_after s change) change.seq image
   held_with holds = record {
     contents = with_batch c b;
     in_area = subst (λ (a : Area). Holds a (with_batch c b) image) (journals.area ∙ ap area_a (sym journals.slots)) holds;

@@ -93,31 +93,15 @@ pub fn format_back<D: Disk>(
     if disk.len() != superblock.disk_len() {
         return Err((disk, Refusal::WrongSize));
     }
-    let (table, spare) = match two_tables(alloc, net_id, slots) {
-        Ok(tables) => tables,
+    let table = match Table::new(alloc, net_id, slots) {
+        Ok(table) => table,
         Err(refusal) => return Err((disk, refusal)),
     };
     let mut disk = disk;
     match write_empty(&mut disk, &superblock) {
-        Ok(next) => Ok(Store::new(
-            Log::new(disk, first_area(&superblock), next),
-            table,
-            spare,
-            0,
-        )),
+        Ok(next) => Ok(Store::new(Log::new(disk, first_area(&superblock), next), table, 0)),
         Err(_) => Err((disk, Refusal::DeviceFailed)),
     }
-}
-
-// An empty table, twice.
-fn two_tables(alloc: Global, net_id: NetId, slots: Slots) -> Result<(Table, Table), Refusal>
-    ensures { MatchResult result
-        (λ tables. (tables.0 ≡ empty_table net_id slots) × (tables.1 ≡ empty_table net_id slots))
-        (λ e. e ≡ OutOfMemory) }
-{
-    let table = Table::new(alloc, net_id, slots)?;
-    let spare = Table::new(alloc, net_id, slots)?;
-    Ok((table, spare))
 }
 
 // Writes a store without devices, and gives the place of the first batch's gate. The superblock's gate

@@ -8,12 +8,9 @@ use sessions::Table;
 #[derive(Drop)]
 pub(crate) struct Found {
     pub(crate) table: Table,
-    /// The same table once more.
-    pub(crate) spare: Table,
     pub(crate) seq: u64,
     pub(crate) area: Area,
     /// The place of the next batch's gate.
     pub(crate) next: u64,
-    pub ghost level: { spare ≡ table },
     pub ghost room: { next < area.end },
 }

@@ -95,11 +95,10 @@ impl Found {
     {
         let Found {
             table,
-            spare,
             seq,
             area,
             next,
         } = self;
-        Store::new(opening.into_log(area, next), table, spare, seq)
+        Store::new(opening.into_log(area, next), table, seq)
     }
 }

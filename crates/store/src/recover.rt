@@ -41,10 +41,8 @@ pub(crate) fn read_store<D: Disk>(alloc: Global, opening: &mut Opening<D>) -> Re
     let front = read_front(opening)?;
     let recovered = recover(alloc, opening, front)?;
     let (table, seq) = restore(alloc, &front.superblock, &recovered)?;
-    let spare = table.copy()?;
     Ok(Found {
         table,
-        spare,
         seq,
         area: first_area(&front.superblock),
         next: recovered.next,

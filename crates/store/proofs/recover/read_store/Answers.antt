@@ -69,11 +69,3 @@ returns-in_err-table-clause-memory g c honest =
     let f = c.in_ok-front in
     good_front (g.D.Disk.state (opened c.args.opening.now)).content f.front.superblock.net_id f.front.superblock.slots (f.ensures.store honest) (f.ensures.only honest) f.ensures.long f.front.header
     (f.ensures.header honest) f.ensures.usable)
-
-pub returns-in_err-spare-clause-memory : goal.returns-in_err-spare-clause-memory
-returns-in_err-spare-clause-memory g c honest =
-    let p = err_from_is_err_and c.from_residual-in_err-spare.result c.from_residual-in_err-spare.ensures.1 in
-    rw (p.1, p.2) (λ memory.
-    let f = c.in_ok-front in
-    good_front (g.D.Disk.state (opened c.args.opening.now)).content f.front.superblock.net_id f.front.superblock.slots (f.ensures.store honest) (f.ensures.only honest) f.ensures.long f.front.header
-    (f.ensures.header honest) f.ensures.usable)

@@ -1,5 +1,5 @@
 use Rattle.std.proofs.Common.{◌≡◌, ◌∙◌, ◌+◌, length, sym, ap, subst, refl}
-use Rattle.sessions.specs.Decision.{FitAll, applied_all}
+use Rattle.sessions.specs.Decision.{FitAll}
 use Rattle.store.specs.State.{seen}
 use Rattle.store.proofs.Beginning.{EntryLaws, begun_on}
 use Rattle.store.proofs.store.Store.begin.Goals as goal
@@ -8,7 +8,7 @@ pub returns-clause-begun : goal.returns-clause-begun
 returns-clause-begun g c settled =
     let s = seen g.D.Disk.state c.args.self.now in
     let commit = c.in_ok-commit.commit in
-    let answer = c.in_ok-commit.ensures.answer in
+    let answer = c.in_ok-commit.ensures in
     let laws : EntryLaws =
     record { replay = c.decisions_replay.ensures.replay; table = c.decisions_replay.ensures.table; net_id = c.records_keep_the_network.ensures.net_id; slots = c.records_keep_the_network.ensures.slots } in
     let batch : commit.batch ≡ c.args.batch = answer.1.0 in
@@ -19,6 +19,6 @@ returns-clause-begun g c settled =
     c.len-count.ensures.few
     (c.deref.ensures.value ∙ c.in_ok-entries.ensures.0)
     c.len-count.ensures.len
-    (answer.1.1.1 ∙ ap (λ ds. s.seq + length ds) (sym batch))
-    (answer.1.1.0 ∙ ap (applied_all s.table) (sym batch))
+    (answer.1.1 ∙ ap (λ ds. s.seq + length ds) (sym batch))
+    refl
     refl
