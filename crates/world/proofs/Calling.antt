@@ -1,5 +1,5 @@
 -- What a device call does to a commit, and to a course.
-use Rattle.std.proofs.Common.{◌≡◌, ◌+◌, ◌∙◌, ◌⊎◌, inl, inr, ℕ, List, [], ◌++◌, length, sym, ap, subst, refl, arith, length-append}
+use Rattle.std.proofs.Common.{◌≡◌, ◌+◌, ◌∙◌, ◌⊎◌, inl, inr, ℕ, List, [], ◌++◌, Result, Err, MatchResult, length, sym, ap, subst, refl, arith, length-append}
 use Rattle.std.proofs.lemmas.List.{length-map}
 use Rattle.lw_types.specs.declared.refusal.Refusal.TheVariants as refusals
 use Rattle.devices.specs.declared.command.Command.{Command}
@@ -8,16 +8,17 @@ use Rattle.sessions.specs.Table.{TableState, folded}
 use Rattle.sessions.specs.Decision.{FitAll, commands_of}
 use Rattle.sessions.specs.declared.decision.Decision.{Decision}
 use Rattle.session_core.specs.State.{CoreState}
-use Rattle.store.specs.Commit.{Change, IsUnderWay}
+use Rattle.store.specs.Commit.{Change, IsUnderWay, table_after}
 use Rattle.store.specs.Image.{HoldsTable}
 use Rattle.store.specs.Phases.{HoldsEither}
 use Rattle.store.specs.State.{StoreState}
+use Rattle.flusher.specs.declared.durable.Durable.{Durable as Done}
 use Rattle.world.specs.declared.commit.Commit.{Commit}
 use Rattle.world.specs.declared.commit.Commit.TheVariants as commits
 use Rattle.world.specs.declared.answer.Answer.TheVariants as answers
 use Rattle.world.specs.Folding.{RunLaws}
 use Rattle.world.specs.Course.{Origin, Course, Flight, Stage, flying, moved_on, succeeded, failed, table_from, number_from}
-use Rattle.world.specs.Course.Stage.{Opened, Durable, Unsure}
+use Rattle.world.specs.Course.Stage.{Durable}
 use Rattle.world.specs.Answers.{AnswersCall, MayLeave}
 use Rattle.world.specs.Commits.{GoesTo, HasCall, IsOn, decisions_in, flight, flights_in, stored}
 use Rattle.world.specs.Follows.{HasFailed, IsAt, IsHealthy, IsLife}
@@ -41,15 +42,15 @@ stays s s' flights alone leaves table seq images = record {
 
 -- the table and the number of a change are those of its commands
 module _ (laws : RunLaws) (s s' : StoreState) (change : Change) (size : ℕ) (way : IsUnderWay s change size) where
-  ahead : change.table ≡ folded s.table (commands_of change.decisions)
-  ahead = way.table ∙ sym (laws.folding s.table change.decisions way.legal.continues.fit)
+  ahead : table_after s change ≡ folded s.table (commands_of change.decisions)
+  ahead = sym (laws.folding s.table change.decisions way.legal.continues.fit)
 
   ahead_seq : change.seq ≡ s.seq + length (commands_of change.decisions)
   ahead_seq = way.seq ∙ ap (λ n. s.seq + n) (sym (length-map change.decisions (λ (d : Decision). d.command)))
 
-  holds_ahead : (image : List ℕ) → HoldsTable change.table change.seq image
+  holds_ahead : (image : List ℕ) → HoldsTable (table_after s change) change.seq image
       → HoldsTable (folded s.table (commands_of change.decisions)) (s.seq + length (commands_of change.decisions)) image
-  holds_ahead image holds = held change.table _ change.seq _ image ahead ahead_seq holds
+  holds_ahead image holds = held (table_after s change) _ change.seq _ image ahead ahead_seq holds
 
   -- a call after which a crash leaves the batch or not
   pub doubts : (stage : Stage) → stored [] (flight stage change.decisions) ≡ []
@@ -66,13 +67,23 @@ module _ (laws : RunLaws) (s s' : StoreState) (change : Change) (size : ℕ) (wa
   }
 
   -- the call that makes it durable
-  pub lasts : s'.table ≡ change.table → s'.seq ≡ change.seq → EveryImage s'.log.disk (HoldsTable change.table change.seq)
+  pub lasts : s'.table ≡ table_after s change → s'.seq ≡ change.seq → EveryImage s'.log.disk (HoldsTable (table_after s change) change.seq)
       → GoesTo (flight Durable change.decisions) s s'
   lasts table seq images = record {
     table = table ∙ ahead;
     seq = seq ∙ ahead_seq;
     images = λ image p. (commands_of change.decisions, refl, holds_ahead image (images image p));
   }
+
+pub has_call : (commit : Commit) → (commit ≡ commits.Idle → ⊥) → (commit ≡ commits.Failed → ⊥) → ((durable : Done) → commit ≡ commits.Durable durable → ⊥) → HasCall commit
+has_call commits.Idle idle failed durable = idle refl
+has_call commits.Failed idle failed durable = failed refl
+has_call (commits.Durable d) idle failed durable = durable d refl
+has_call commit idle failed durable = tt
+
+-- what holds of a refusal
+pub on_refusal : {T E : Type 0} (r : Result T E) (e : E) (X Y : Type 0) → r ≡ Err e → Y → MatchResult r (λ _. X) (λ _. Y)
+on_refusal r e X Y is y = subst (λ r. MatchResult r (λ _. X) (λ _. Y)) (sym is) y
 
 -- a commit with a call to make has one batch under way, which isn't durable
 record IsCallable (commit : Commit) : Type 0 where
@@ -135,25 +146,25 @@ module _ (laws : RunLaws) (origin : Origin) (c : Course) (s s' : StoreState) (co
       → IsLife origin (record c { flights = moved_on move c.flights }) s' core next
   goes_on move next goes at healthy =
       subst (λ fl. IsLife origin (record c { flights = moved_on move fl }) s' core next) (sym flights_are) (
-        let flights = moved_on move (flights_in commit) in
-        let stored_is = sym (stored_from c.settled flights) in
-        let flying_is : flying c.flights ≡ flying flights = ap flying flights_are ∙ sym (flying_moved move (flights_in commit)) in
-        record {
-          table = goes.table ∙ (folded_of (stored [] flights) ∙ ap (table_from origin) stored_is);
-          seq = goes.seq ∙ (ahead_of (stored [] flights) ∙ ap (number_from origin) stored_is);
-          base = f.base ∙ ap (λ l. table_from origin (c.settled ++ (l ++ c.given_up))) flying_is;
-          number = f.number ∙ ap (λ l. number_from origin (c.settled ++ (l ++ c.given_up))) flying_is;
-          untaken = f.untaken;
-          made = f.made;
-          under_way = at;
-          healthy = healthy;
-          survives = λ image p.
-              let found = goes.images image p in (
-                c.settled ++ found.0,
-                leaves_from c.settled flights found.0 found.1,
-                held _ _ _ _ image (folded_of found.0) (ahead_of found.0) found.2,
-              );
-        }
+      let flights = moved_on move (flights_in commit) in
+      let stored_is = sym (stored_from c.settled flights) in
+      let flying_is : flying c.flights ≡ flying flights = ap flying flights_are ∙ sym (flying_moved move (flights_in commit)) in
+      record {
+        table = goes.table ∙ (folded_of (stored [] flights) ∙ ap (table_from origin) stored_is);
+        seq = goes.seq ∙ (ahead_of (stored [] flights) ∙ ap (number_from origin) stored_is);
+        base = f.base ∙ ap (λ l. table_from origin (c.settled ++ (l ++ c.given_up))) flying_is;
+        number = f.number ∙ ap (λ l. number_from origin (c.settled ++ (l ++ c.given_up))) flying_is;
+        untaken = f.untaken;
+        made = f.made;
+        under_way = at;
+        healthy = healthy;
+        survives = λ image p.
+            let found = goes.images image p in (
+              c.settled ++ found.0,
+              leaves_from c.settled flights found.0 found.1,
+              held _ _ _ _ image (folded_of found.0) (ahead_of found.0) found.2,
+            );
+      }
       )
 
   -- a call that succeeded

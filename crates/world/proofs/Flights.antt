@@ -1,5 +1,5 @@
 -- What the batches under way leave.
-use Rattle.std.proofs.Common.{◌≡◌, ◌∙◌, ◌⊎◌, inl, inr, List, [], ◌∷◌, ◌++◌, length, take, sym, ap, subst, refl, append_assoc}
+use Rattle.std.proofs.Common.{◌≡◌, ◌∙◌, inl, inr, List, [], ◌∷◌, ◌++◌, length, take, sym, ap, subst, refl, append_assoc}
 use Rattle.std.proofs.lemmas.List.{append-nil, take_at}
 use Rattle.devices.specs.declared.command.Command.{Command}
 use Rattle.devices.specs.declared.effect.Effect.{Effect}
@@ -59,33 +59,33 @@ pub record Beginning (settled flying kept : List Command) : Type 0 where
   pub kept_is : kept ≡ settled ++ more
   pub flying_is : flying ≡ more ++ rest
 
+by_case : (stage : Stage) (X Y Z P : Type 0) → (X → P) → (Y → P) → (Z → P) → ByStage stage X Y Z → P
+by_case Durable X Y Z P f g h x = f x
+by_case Opened X Y Z P f g h x = g x
+by_case Unsure X Y Z P f g h x = g x
+by_case stage X Y Z P f g h x = h x
+
+without : (settled first others kept : List Command) → kept ≡ settled → Beginning settled (first ++ others) kept
+without settled first others kept is = record { more = []; rest = first ++ others; kept_is = is ∙ sym (append-nil settled); flying_is = refl }
+
+behind : (settled first others kept : List Command) → Beginning (settled ++ first) others kept → Beginning settled (first ++ others) kept
+behind settled first others kept found = record {
+  more = first ++ found.more;
+  rest = found.rest;
+  kept_is = found.kept_is ∙ append_assoc settled first found.more;
+  flying_is = ap (λ l. first ++ l) found.flying_is ∙ sym (append_assoc first found.more found.rest);
+}
+
 begins : (settled : List Command) (flights : List Flight) (kept : List Command) → MayLeave settled flights kept → Beginning settled (flying flights) kept
 begins settled [] kept is = record { more = []; rest = []; kept_is = is ∙ sym (append-nil settled); flying_is = refl }
-begins settled (flight ∷ flights) kept h = at flight.stage h
-  where
-    gone : kept ≡ settled → Beginning settled (flight.commands ++ flying flights) kept
-    gone is = record { more = []; rest = flight.commands ++ flying flights; kept_is = is ∙ sym (append-nil settled); flying_is = refl }
-
-    there : MayLeave (settled ++ flight.commands) flights kept → Beginning settled (flight.commands ++ flying flights) kept
-    there h =
-        let found = begins (settled ++ flight.commands) flights kept h in
-        record {
-          more = flight.commands ++ found.more;
-          rest = found.rest;
-          kept_is = found.kept_is ∙ append_assoc settled flight.commands found.more;
-          flying_is = ap (λ l. flight.commands ++ l) found.flying_is ∙ sym (append_assoc flight.commands found.more found.rest);
-        }
-
-    doubtful : (kept ≡ settled) ⊎ (kept ≡ settled ++ flight.commands) → Beginning settled (flight.commands ++ flying flights) kept
-    doubtful (inl is) = gone is
-    doubtful (inr is) = record { more = flight.commands; rest = flying flights; kept_is = is; flying_is = refl }
-
-    at : (stage : Stage) → ByStage stage (MayLeave (settled ++ flight.commands) flights kept) ((kept ≡ settled) ⊎ (kept ≡ settled ++ flight.commands)) (kept ≡ settled)
-        → Beginning settled (flight.commands ++ flying flights) kept
-    at Durable h = there h
-    at Opened h = doubtful h
-    at Unsure h = doubtful h
-    at stage h = gone h
+begins settled (flight ∷ flights) kept h =
+    by_case flight.stage _ _ _ (Beginning settled (flight.commands ++ flying flights) kept)
+    (λ there. behind settled flight.commands (flying flights) kept (begins (settled ++ flight.commands) flights kept there))
+    (λ doubtful. elim doubtful [
+      | inl is ↦ without settled flight.commands (flying flights) kept is
+      | inr is ↦ record { more = flight.commands; rest = flying flights; kept_is = is; flying_is = refl }
+    ])
+    (without settled flight.commands (flying flights) kept) h
 
 -- what a crash leaves is a beginning of the decided commands
 pub kept_front : (c : Course) (kept : List Command) → Leaves c kept → take (length kept) (decided c) ≡ kept

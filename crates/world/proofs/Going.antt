@@ -1,5 +1,5 @@
 -- What the steps of a life leave of the rest of a course.
-use Rattle.std.proofs.Common.{◌≡◌, ◌∙◌, ℕ, true, false, MatchBool, List, [], ◌∷◌, ◌++◌, Option, Some, None, Result, Ok, Err, sym, ap, subst, refl, append_assoc}
+use Rattle.std.proofs.Common.{◌≡◌, ◌∙◌, ℕ, true, false, MatchBool, List, [], ◌∷◌, ◌++◌, Result, Ok, Err, sym, ap, subst, refl, append_assoc}
 use Rattle.std.proofs.lemmas.List.{append-nil}
 use Rattle.lw_types.specs.declared.refusal.Refusal.{Refusal}
 use Rattle.lw_types.specs.declared.refusal.Refusal.TheVariants.{OutOfStep}

@@ -7,14 +7,11 @@ use Rattle.lw_types.specs.Refusal.{number_of}
 use Rattle.disk.specs.declared.sim.Image.{Image}
 use Rattle.disk.specs.Outlook.{Outlook, IsArmed, IsForeseen}
 use Rattle.disk.specs.Outlook.Outlook.{Unknown, AllSucceed, FailsAfter}
-use Rattle.store.specs.State.{disk_of}
 use Rattle.world.specs.declared.answer.Answer.{Answer}
 use Rattle.world.specs.declared.answer.Answer.TheVariants as answers
-use Rattle.world.specs.declared.life.Life.{Life}
-use Rattle.world.specs.declared.place.Place.TheVariants.{Open}
 use Rattle.world.specs.declared.step.Step.{Step}
 use Rattle.world.specs.declared.step.Step.TheVariants as steps
-use Rattle.world.specs.Calls.{Calls, AreCalls, Foretells, ForetellsAt, IsForetold, IsKnown, IsNoFailure, MaySucceed, MayFail, MayFailSoon, armed, passed, passed_some, fell, called}
+use Rattle.world.specs.Calls.{Calls, AreCalls, IsForetold, IsKnown, IsNoFailure, MaySucceed, MayFail, MayFailSoon, armed, passed, passed_some, fell, called}
 
 no_true : true ≡ false → ⊥
 no_true h = cc
@@ -126,13 +123,6 @@ opening_told calls failures failures' before after image DeviceFailed are known 
 opening_told calls failures failures' before after image e are known counted all first armed =
     opening_passed calls failures failures' before after are (counted.1 (λ is. let n = ap number_of is in absurd (omega (arith, n)))) (λ is. (all is).1)
     (λ is. let n = ap number_of (first is).0 in absurd (omega (arith, n)))
-
--- a step of an open store
-pub at_open : {D : Type 0} {g : _} (failures : D → ℕ) (outlook : D → Outlook) (old new : Life D g) (step : Step) (answer : Answer)
-    → Foretells failures outlook (disk_of old.store) step answer (disk_of new.store) → ForetellsAt failures outlook (Open old) step answer (Open new)
-at_open failures outlook old new step answer told calls are =
-    let found = told calls (are (disk_of old.store) refl) in
-    (found.0, λ disk is. subst (λ d. AreCalls (called calls step answer) (failures d) (outlook d)) (sym is) found.1)
 
 -- a step that finds nothing to do
 pub idle_told : (calls : Calls) (step : Step) → ((image : Image) → step ≡ steps.Crash image → ⊥)

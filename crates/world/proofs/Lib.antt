@@ -3,6 +3,8 @@ pub mod Flights
 pub mod Calling
 pub mod Deciding
 pub mod Going
+pub mod Releasing
+pub mod Emitting
 pub mod Known
 pub mod Taking
 pub mod Opening

@@ -1,5 +1,5 @@
 -- One life, step by step.
-use Rattle.std.proofs.Common.{◌≡◌, ◌≢◌, ◌∙◌, ◌≤◌, ◌⊎◌, inl, inr, ℕ, true, MatchBool, List, [], ◌∷◌, ◌++◌, slice_get, Option, Some, None, Result, Ok, Err, length, take, drop, map, sym, ap, subst, refl, arith, append_assoc, length-append}
+use Rattle.std.proofs.Common.{◌≡◌, ◌≢◌, ◌∙◌, ◌+◌, ◌≤◌, ◌⊎◌, inl, inr, ℕ, true, MatchBool, List, [], ◌∷◌, ◌++◌, slice_get, Option, Some, None, Result, Ok, Err, length, take, drop, map, sym, ap, subst, refl, arith, append_assoc, length-append}
 use Rattle.std.specs.Option.{MatchOption}
 use Rattle.std.proofs.lemmas.List.{append-nil, drop_all, drop-append-le, length-take-le, map-append, take_all, take-append-le, take_more}
 use Rattle.std.proofs.lemmas.Option.{slice_get_within, get_or_from_slice_get}
@@ -18,7 +18,7 @@ use Rattle.world.specs.declared.answer.Answer.TheVariants as answers
 use Rattle.world.specs.declared.step.Step.{Step}
 use Rattle.world.specs.declared.step.Step.TheVariants as steps
 use Rattle.world.specs.Course.{Origin, Course, Flight, Stage, decided, admit, went, wanted, released, gone_through, after, course_of, beginning, table_from, number_from, effects_from}
-use Rattle.world.specs.Course.Stage.{Begun, Written, Synced, Opened, Durable, Stopped, Unsure}
+use Rattle.world.specs.Course.Stage.{Durable, Stopped, Unsure}
 use Rattle.world.specs.Answers.{AreRight, IsRight, AnswersOpen, AnswersClosed, AnswersTake, AnswersCall, AnswersRelease, TakesBehind, Calls, Releases}
 use Rattle.world.specs.Follows.{IsOwn}
 use Rattle.world.specs.OneLife.{HasNoCrash, NoneGivenUp, NoneOutOfStep, emitted, IsOneLife}

@@ -1,8 +1,8 @@
 -- What a crash and an opening do to a course.
-use Rattle.std.proofs.Common.{◌≡◌, ◌+◌, ◌-◌, ◌≢◌, ◌∙◌, ◌⊎◌, inl, inr, ℕ, Bool, true, false, List, ◌++◌, length, take, MatchBool, sym, ap, subst, refl, arith}
+use Rattle.std.proofs.Common.{◌≡◌, ◌-◌, ◌≢◌, ◌∙◌, ◌⊎◌, inl, inr, ℕ, Bool, true, false, List, length, take, MatchBool, sym, ap, subst, refl, arith}
 use Rattle.std.proofs.lemmas.List.{append-nil}
 use Rattle.disk.specs.declared.sim.Image.{Image}
-use Rattle.disk.specs.State.{State, EveryImage, IsPermitted, NothingOpen}
+use Rattle.disk.specs.State.{State, EveryImage, IsPermitted}
 use Rattle.lw_types.specs.declared.refusal.Refusal.{Refusal}
 use Rattle.lw_types.specs.declared.refusal.Refusal.TheVariants.{OutOfMemory, DeviceFailed}
 use Rattle.lw_types.specs.Refusal.{number_of}
@@ -17,7 +17,7 @@ use Rattle.world.specs.declared.place.Place.TheVariants.{Open, Closed, Crashing}
 use Rattle.world.specs.declared.answer.Answer.{Answer}
 use Rattle.world.specs.declared.answer.Answer.TheVariants as answers
 use Rattle.world.specs.declared.step.Step.TheVariants as steps
-use Rattle.world.specs.Course.{Origin, Course, decided, reopened, closed, after, table_from, number_from, effects_from}
+use Rattle.world.specs.Course.{Origin, Course, decided, reopened, after, table_from, number_from, effects_from}
 use Rattle.world.specs.Answers.{Leaves, AnswersCrash}
 use Rattle.world.specs.Sound.{HasDisk}
 use Rattle.world.specs.Follows.{FollowsPlace, IsLife, IsSubsequence, Survives}

@@ -2,6 +2,7 @@
 use Rattle.std.proofs.Common.{◌≡◌, ◌≢◌, ◌∙◌, ◌+◌, ◌≤◌, inr, ℕ, zero, suc, Bool, false, List, [], ◌∷◌, ◌++◌, length, take, drop, MatchBool, sym, ap, subst, refl, arith, append_assoc, length-append, take-append-drop}
 use Rattle.std.proofs.lemmas.List.{length-map, take-map, drop-map, append-nil}
 use Rattle.lw_types.specs.Refusal.{number_of}
+use Rattle.lw_types.specs.declared.refusal.Refusal.{Refusal}
 use Rattle.lw_types.specs.declared.refusal.Refusal.TheVariants.{OutOfMemory, OutOfStep, DeviceFailed}
 use Rattle.devices.specs.declared.command.Command.{Command}
 use Rattle.sessions.specs.Table.{folded}
@@ -181,9 +182,11 @@ module _ (laws : RunLaws) (origin : Origin) (c : Course) (s : StoreState) (core 
       )
 
   -- or is lost for want of memory
-  pub loses : (n : ℕ) → n ≡ length (take most core.log)
+  pub loses : (n : ℕ) → IsLegalContinuation s.table s.seq (take most core.log) → n ≡ length (take most core.log)
       → AnswersTake c.flights c most (answers.GivenUp n) × IsLife origin (gave_up c most) s (taken_from core most) commits.Idle
-  loses n is = (answers_so (answers.GivenUp n) (waiting, counted n is), gave)
+  loses n legal is =
+      let none = none_lost laws origin c s core lawful most resting (take most core.log) refl legal in
+      (answers_so (answers.GivenUp n) (waiting, (none, counted n is)), gave)
 
   -- or is out of step
   pub strays : 1 ≤ most → ¬ (IsLegalContinuation s.table s.seq (take most core.log))
@@ -199,6 +202,10 @@ pub moved : (origin : Origin) (c : Course) (s s' : StoreState) (core core' : Cor
 moved origin c s s' core core' commit commit' store core_is commit_is f =
     subst (λ s. IsLife origin c s core' commit') (sym store)
     (subst (λ k. IsLife origin c s k commit') (sym core_is) (subst (λ m. IsLife origin c s core m) (sym commit_is) f))
+
+pub only_memory : (e : Refusal) → (e ≢ OutOfMemory → e ≡ OutOfStep) → e ≢ OutOfStep → e ≡ OutOfMemory
+only_memory OutOfMemory step other = refl
+only_memory e step other = absurd (other (step (λ is. let n = ap number_of is in absurd (omega (arith, n)))))
 
 pub no_memory : OutOfStep ≢ OutOfMemory
 no_memory h = let numbers = ap number_of h in absurd (omega (arith, numbers))

@@ -2,7 +2,6 @@
 use Rattle.std.specs.Prelude.{◌≡◌, ◌≢◌, ◌⊎◌, ℕ, List, [], ◌∷◌, ◌++◌, length, take, slice_get, MatchBool}
 use Rattle.std.specs.Option.{MatchOption}
 use Rattle.lw_types.specs.Answer.{Answers}
-use Rattle.lw_types.specs.declared.refusal.Refusal.{Refusal}
 use Rattle.lw_types.specs.declared.refusal.Refusal.TheVariants as refusals
 use Rattle.devices.specs.declared.command.Command.{Command}
 use Rattle.sessions.specs.Table.{effects_of}
@@ -14,7 +13,7 @@ use Rattle.world.specs.declared.step.Step.TheVariants as steps
 use Rattle.world.specs.declared.answer.Answer.{Answer}
 use Rattle.world.specs.declared.answer.Answer.TheVariants as answers
 use Rattle.world.specs.Course.{Origin, Course, Flight, Stage, decided, table_from, number_from, wanted, admit, gone_through, after}
-use Rattle.world.specs.Course.Stage.{Begun, Written, Synced, Opened, Durable, Stopped, Unsure}
+use Rattle.world.specs.Course.Stage.{Opened, Durable, Stopped, Unsure}
 
 -- the turn of one command: it counts the decisions of this life, and the command is decided, or refused exactly as it
 -- has to be
@@ -27,12 +26,12 @@ abbrev pub AnswersEvent : Origin → Course → Command → Answer → Type 0
 AnswersEvent origin c command (answers.Turn turn) = IsTurn origin c command turn
 AnswersEvent origin c command answer = ⊥
 
--- nothing is taken where nothing waits; a batch begins behind no lost one, and is out of step behind one alone
+-- nothing is taken where nothing waits; a batch begins or is lost behind no lost one, and is out of step behind one alone
 abbrev pub Takes : Course → ℕ → Answer → Type 0
 Takes c most answers.Idle = c.untaken ≡ []
 Takes c most answers.Full = c.untaken ≢ []
 Takes c most (answers.Taken n) = (c.untaken ≢ []) × ((c.given_up ≡ []) × (n ≡ length (take most c.untaken)))
-Takes c most (answers.GivenUp n) = (c.untaken ≢ []) × (n ≡ length (take most c.untaken))
+Takes c most (answers.GivenUp n) = (c.untaken ≢ []) × ((c.given_up ≡ []) × (n ≡ length (take most c.untaken)))
 Takes c most (answers.Refused e) = (c.untaken ≢ []) × ((e ≡ refusals.OutOfMemory) ⊎ ((e ≡ refusals.OutOfStep) × (c.given_up ≢ [])))
 Takes c most answer = ⊥
 

@@ -1,5 +1,5 @@
 -- What a commit is, and what one device call of it does.
-use Rattle.std.specs.Prelude.{◌≡◌, ◌+◌, ℕ, List, [], ◌∷◌, ◌++◌, length}
+use Rattle.std.specs.Prelude.{◌≡◌, ◌+◌, List, [], ◌∷◌, ◌++◌, length}
 use Rattle.devices.specs.declared.command.Command.{Command}
 use Rattle.disk.specs.State.{EveryImage}
 use Rattle.sessions.specs.Table.{folded}

@@ -1,7 +1,6 @@
 -- What a world is at a place of its course.
 use Rattle.std.specs.Prelude.{◌≡◌, ◌+◌, ◌⊎◌, ℕ, true, false, List, [], ◌∷◌, ◌++◌, length}
 use Rattle.devices.specs.declared.command.Command.{Command}
-use Rattle.devices.specs.declared.effect.Effect.{Effect}
 use Rattle.session_core.specs.State.{CoreState}
 use Rattle.disk.specs.declared.sim.Image.{Image}
 use Rattle.disk.specs.State.{State, NothingOpen, EveryImage}

@@ -46,7 +46,10 @@ impl Commit {
         match self {
             Commit::Begun(phase, room) => Ok(Commit::Written(phase.write(store)?, room)),
             Commit::Written(phase, room) => Ok(Commit::BodySynced(phase.sync(store)?, room)),
-            Commit::BodySynced(phase, room) => Ok(Commit::GateWritten(phase.open_gate(store)?, room)),
+            Commit::BodySynced(phase, room) => Ok(Commit::GateWritten(
+                phase.open_gate(store)?,
+                room,
+            )),
             Commit::GateWritten(phase, room) => {
                 Ok(Commit::Durable(Durable::new(phase.sync(store)?, room)))
             }

@@ -151,8 +151,10 @@ impl<D: Sim> Life<D> {
                 self.set(Commit::Begun(begun, room));
                 Ok(Answer::Taken(count))
             }
-            Err(Refusal::OutOfStep) => Ok(Answer::Refused(Refusal::OutOfStep)),
-            Err(_) => Ok(Answer::GivenUp(count)),
+            Err(refusal) => match refusal {
+                Refusal::OutOfStep => Ok(Answer::Refused(refusal)),
+                _ => Ok(Answer::GivenUp(count)),
+            },
         }
     }
 
@@ -209,6 +211,7 @@ impl<D: Sim> Life<D> {
         ensures calls { Foretells D.failures D.outlook (disk_of self.old.store) steps.Release result (disk_of self.new.store) }
         ensures left { Lets D.state self.old steps.Release result released.old.items released.new.items }
     {
+        laws::of_runs();
         match mem::replace(&mut self.commit, Commit::Idle) {
             Commit::Durable(durable) => {
                 let effects = durable.release();

@@ -1,5 +1,5 @@
 use Rattle.std.proofs.Common.{sym}
-use Rattle.world.specs.Calls.{passed_some}
+use Rattle.world.specs.Calls.{Calls, passed_some}
 use Rattle.world.specs.Course.{beginning, course_of, formatted, table_from, number_from}
 use Rattle.headline.proofs.crash_after.Goals as goal
 
@@ -10,7 +10,7 @@ returns-in_ok-store-in-Ok-clause-answers g c =
 
 pub returns-in_ok-store-in-Ok-clause-calls : goal.returns-in_ok-store-in-Ok-clause-calls
 returns-in_ok-store-in-Ok-clause-calls g c =
-    let calls = record { failed = g.D.Disk.failures c.args.disk; coming = passed_some (g.D.Disk.outlook c.args.disk) } in
+    let calls : Calls = record { failed = g.D.Disk.failures c.args.disk; coming = passed_some (g.D.Disk.outlook c.args.disk) } in
     (c.in-Ok.ensures.calls calls c.in_ok-world.ensures.calls).0
 
 pub returns-in_ok-store-in-Ok-clause-recovers : goal.returns-in_ok-store-in-Ok-clause-recovers

@@ -56,3 +56,12 @@ returns-clause-one_life g c origin f still =
     let past : length steps ≤ at = omega (arith, c.loop-step-test.false) in
     let runs = subst (λ ss. Runs g.D.Disk.state c.args.world.now ss told c.loop-step.world) (take_all at steps past) c.loop-step.invariant.1.0 in
     one_life c.of_runs.ensures origin steps told (runs origin (beginning origin) f).0 still
+
+pub returns-clause-calls : goal.returns-clause-calls
+returns-clause-calls g c =
+    let steps = c.args.steps.now in
+    let told = c.loop-step.answers.items in
+    let at = c.loop-step.step-index in
+    let past : length steps ≤ at = omega (arith, c.loop-step-test.false) in
+    subst (λ ss. ForetellsAll g.D.Disk.failures g.D.Disk.outlook c.args.world.now.place ss told c.loop-step.world.place) (take_all at steps past)
+    c.loop-step.invariant.1.1.0

@@ -1,13 +1,17 @@
-use Rattle.std.proofs.Common.{rules, ◌≢◌, ◌∙◌, List, length, ap, subst, sym}
+use Rattle.std.proofs.Common.{rules, ◌≢◌, ◌∙◌, List, Err, length, ap, subst, sym}
 use Rattle.lw_types.specs.declared.refusal.Refusal.TheVariants.{OutOfMemory}
 use Rattle.sessions.specs.Decision.{IsLegalContinuation}
 use Rattle.sessions.specs.declared.decision.Decision.{Decision}
 use Rattle.session_core.specs.Events.{taken_from}
 use Rattle.store.specs.State.{seen}
 use Rattle.world.specs.declared.commit.Commit.TheVariants as commits
-use Rattle.world.specs.Course.{begun, gave_up}
+use Rattle.world.specs.declared.answer.Answer.TheVariants as answers
+use Rattle.world.specs.declared.step.Step.TheVariants as steps
+use Rattle.world.specs.Answers.{AnswersTake}
+use Rattle.world.specs.Calls.{AreCalls}
+use Rattle.world.specs.Course.{after, begun, gave_up}
 use Rattle.world.specs.Follows.{IsLife}
-use Rattle.world.proofs.Taking.{when_healthy, takes, loses, strays, moved, no_memory}
+use Rattle.world.proofs.Taking.{when_healthy, takes, loses, strays, moved, no_memory, only_memory}
 use Rattle.world.proofs.life.Life.begin.Goals as goal
 
 pub returns-in-Ok-clause-course : goal.returns-in-Ok-clause-course
@@ -28,34 +32,47 @@ returns-in-Ok-clause-course g c origin course f =
           (ap (seen g.D.Disk.state) c.set.ensures.store ∙ c.in-Ok.ensures.same) (c.set.ensures.core ∙ took.1) c.set.ensures.commit found.1,
     )
 
-pub returns-in-Err-OutOfStep-clause-course : goal.returns-in-Err-OutOfStep-clause-course
-returns-in-Err-OutOfStep-clause-course g c origin course f =
+pub returns-in-OutOfStep-clause-course : goal.returns-in-OutOfStep-clause-course
+returns-in-OutOfStep-clause-course g c origin course f =
     let life = c.args.self.now in
     let s = seen g.D.Disk.state life.store in
     let most = c.args.most in
     let idle = subst (λ k. IsLife origin course s life.core k) c.requires.idle f in
     let took = c.in_ok-batch.ensures.taken in
-    let illegal = (when_healthy s.failed _ _ idle.healthy c.in-Err-OutOfStep.ensures.answer
-    (subst (λ e. e ≢ OutOfMemory) (sym c.in-Err-OutOfStep.field-0-is) no_memory)).1 in
+    let illegal = (when_healthy s.failed _ _ idle.healthy c.in-Err.ensures.answer (subst (λ e. e ≢ OutOfMemory) (sym c.in-OutOfStep.is) no_memory)).1 in
     let found =
     strays c.of_runs.ensures origin course s life.core c.take.ensures.lawful most idle c.requires.some c.take.ensures.asked
-    (λ legal. illegal (subst (IsLegalContinuation s.table s.seq) (sym took.0) legal)) in (
+    (λ legal. illegal (subst (IsLegalContinuation s.table s.seq) (sym took.0) legal)) in
+    subst (λ e. AnswersTake course.flights course most (answers.Refused e)
+    × IsLife origin (after origin course (steps.Take most) (answers.Refused e)) (seen g.D.Disk.state c.begin.new.self) c.take.new.self life.commit)
+    (sym c.in-OutOfStep.is) (
       found.0,
       moved origin (gave_up course most) s (seen g.D.Disk.state c.begin.new.self) (taken_from life.core most) c.take.new.self commits.Idle life.commit
-          c.in-Err-OutOfStep.ensures.same took.1 c.requires.idle found.1,
+          c.in-Err.ensures.same took.1 c.requires.idle found.1,
     )
 
-pub returns-clause-course : goal.returns-clause-course
-returns-clause-course g c origin course f =
+pub returns : goal.returns
+returns g c =
     let life = c.args.self.now in
     let s = seen g.D.Disk.state life.store in
     let most = c.args.most in
-    let idle = subst (λ k. IsLife origin course s life.core k) c.requires.idle f in
     let took = c.in_ok-batch.ensures.taken in
-    let found =
-    loses c.of_runs.ensures origin course s life.core c.take.ensures.lawful most idle c.requires.some c.len-count.result
-    (c.len-count.ensures.len ∙ ap (λ (ds : List Decision). length ds) took.0) in (
-      found.0,
-      moved origin (gave_up course most) s (seen g.D.Disk.state c.begin.new.self) (taken_from life.core most) c.take.new.self commits.Idle life.commit
-          c.begin.ensures.same took.1 c.requires.idle found.1,
-    )
+    record {
+      sound = search rules;
+      room = search rules;
+      released = search rules;
+      room_told = c.requires.roomy;
+      course = λ origin course f.
+          let idle = subst (λ k. IsLife origin course s life.core k) c.requires.idle f in
+          let memory =
+          only_memory c.in-Err.refusal (λ other. (when_healthy s.failed _ _ idle.healthy c.in-Err.ensures.answer other).0) c.in_default.not-OutOfStep in
+          let legal = subst (IsLegalContinuation s.table s.seq) took.0 (c.begin.ensures.memory (c.in-Err.is ∙ ap Err memory)) in
+          let found =
+          loses c.of_runs.ensures origin course s life.core c.take.ensures.lawful most idle c.requires.some c.len-count.result legal
+          (c.len-count.ensures.len ∙ ap (λ (ds : List Decision). length ds) took.0) in (
+            found.0,
+            moved origin (gave_up course most) s (seen g.D.Disk.state c.begin.new.self) (taken_from life.core most) c.take.new.self commits.Idle life.commit
+                c.begin.ensures.same took.1 c.requires.idle found.1,
+          );
+      calls = λ calls are. (tt, subst (λ d. AreCalls calls (g.D.Disk.failures d) (g.D.Disk.outlook d)) (sym c.begin.ensures.disk) are);
+    }

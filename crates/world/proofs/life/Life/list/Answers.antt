@@ -1,6 +1,6 @@
 use Rattle.std.proofs.Common.{◌∙◌, inl, ap}
 use Rattle.store.specs.State.{seen}
-use Rattle.world.specs.Course.{decided, number_from, table_from}
+use Rattle.world.specs.Course.{decided, table_from}
 use Rattle.world.specs.declared.answer.Answer.TheVariants as answers
 use Rattle.world.proofs.Deciding.{now_is, last}
 use Rattle.world.proofs.life.Life.list.Goals as goal

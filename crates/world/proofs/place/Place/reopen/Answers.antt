@@ -1,5 +1,4 @@
-use Rattle.std.proofs.Common.{◌≡◌, ◌≢◌, ◌∙◌, List, Ok, length, inl, inr, refl, ap, subst, sym}
-use Rattle.lw_types.specs.declared.refusal.Refusal.TheVariants.{DeviceFailed}
+use Rattle.std.proofs.Common.{◌∙◌, List, refl, ap, subst, sym}
 use Rattle.devices.specs.declared.command.Command.{Command}
 use Rattle.store.specs.Image.{HoldsTable}
 use Rattle.store.specs.State.{disk_of}

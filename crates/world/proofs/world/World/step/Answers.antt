@@ -1,15 +1,16 @@
-use Rattle.std.proofs.Common.{◌∙◌, subst, sym}
-use Rattle.world.specs.Calls.{ForetellsAt}
+use Rattle.std.proofs.Common.{◌∙◌, refl, subst, sym}
+use Rattle.world.specs.Calls.{AreCalls, AreCallsAt, ForetellsAt, called}
 use Rattle.world.specs.Follows.{FollowsPlace}
 use Rattle.world.specs.Tells.{PlaceTellsRoom}
 use Rattle.world.proofs.Going.{step_keeps, right_open, is_own}
-use Rattle.world.proofs.Known.{at_open}
 use Rattle.world.proofs.Telling.{no_image}
 use Rattle.world.proofs.world.World.step.Goals as goal
 
 pub returns-in-Open : goal.returns-in-Open
 returns-in-Open g c =
     let state = g.D.Disk.state in
+    let failures = g.D.Disk.failures in
+    let outlook = g.D.Disk.outlook in
     let step = c.args.step.now in
     let answer = c.step.result in
     let own = is_own step c.in_default.not-Emit c.in_default.not-Crash in
@@ -27,9 +28,15 @@ returns-in-Open g c =
               once = kept.once f.once;
             },
           );
-      calls =
-          subst (λ p. ForetellsAt g.D.Disk.failures g.D.Disk.outlook p step answer _) (sym c.in-Open.is)
-          (at_open g.D.Disk.failures g.D.Disk.outlook _ _ step answer c.step.ensures.calls);
+      calls = λ calls are.
+          let here = subst (AreCallsAt failures outlook calls) c.in-Open.is are in
+          let told = c.step.ensures.calls calls (here _ refl) in
+          (told.0, λ disk is. subst (λ d. AreCalls (called calls step answer) (failures d) (outlook d)) (sym is) told.1);
       room_told = subst (λ p. PlaceTellsRoom state p step answer) (sym c.in-Open.is) c.step.ensures.room_told;
       crashed = no_image state c.args.self.now.place _ step own;
     }
+
+pub returns-in-Crash-clause-calls : goal.returns-in-Crash-clause-calls
+returns-in-Crash-clause-calls g c =
+    subst (λ step. ForetellsAt g.D.Disk.failures g.D.Disk.outlook c.args.self.now.place step c.crash.result c.crash.new.self.place) (sym c.in-Crash.is)
+    c.crash.ensures.calls
