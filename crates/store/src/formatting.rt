@@ -20,7 +20,7 @@ use gate_log::{CLOSED, Log, OPEN, close_area, format_area, laws};
 use lw_types::{NetId, Refusal};
 use sessions::{Slots, Table};
 use std::alloc::Global;
-use store_layout::Superblock;
+use store_layout::{RecordVersion, Superblock};
 
 /// The length in bytes of the disk of a store with so many slots.
 pub fn disk_len(slots: Slots) -> u64
@@ -86,6 +86,7 @@ pub fn format_back<D: Disk>(
         (λ e. EveryImage (D.state e.0) (IsFormatImage net_id slots (D.state disk).content)) }
 {
     disk::laws::settled_disk_keeps_its_content();
+    laws::what_is_held_has_its_header();
     let Some(slots) = Slots::new(slots) else {
         return Err((disk, Refusal::Damaged));
     };
@@ -99,7 +100,12 @@ pub fn format_back<D: Disk>(
     };
     let mut disk = disk;
     match write_empty(&mut disk, &superblock) {
-        Ok(next) => Ok(Store::new(Log::new(disk, first_area(&superblock), next), table, 0)),
+        Ok(next) => Ok(Store::new(
+            Log::new(disk, first_area(&superblock), next),
+            table,
+            0,
+            RecordVersion::V1,
+        )),
         Err(_) => Err((disk, Refusal::DeviceFailed)),
     }
 }
@@ -125,6 +131,7 @@ fn write_empty<D: Disk>(disk: &mut D, superblock: &Superblock) -> Result<u64, di
     ensures unarmed { D.outlook disk.old ≡ AllSucceed → IsTrue (is_ok result) × (D.outlook disk.new ≡ AllSucceed) }
 {
     laws::contents_stay_where_others_change();
+    laws::what_is_held_has_its_header();
     shut(disk)?;
     let next = write_closed(disk, superblock)?;
     disk.sync()?;
