@@ -45,8 +45,8 @@ durable_decisions durable = durable.batch
 pub record Journals (s : StoreState) (change : Change) (c : Contents) (b : BatchValue) : Type 0 where
   pub area : s.log.area ≡ area_a s.table.slots
   pub slots : (table_after s change).slots ≡ s.table.slots
-  pub before : Says c s.table s.seq
-  pub after : Says (with_batch c b) (table_after s change) change.seq
+  pub before : Says s.version s.log.area c s.table s.seq
+  pub after : Says s.version s.log.area (with_batch c b) (table_after s change) change.seq
 
 -- an image holds the table and number from before the change, or those that it leaves
 abbrev pub HoldsEither : StoreState → Change → List ℕ → Type 0

@@ -41,10 +41,9 @@ impl<D: Disk> Store<D> {
             return Err(Refusal::Failed);
         }
         let commit = self.commit_of(alloc, batch)?;
-        let entries = batch_entries(alloc, &commit.batch)?;
-        laws::entries_are_short();
+        let entries = batch_entries(alloc, self.version, &commit.batch)?;
         laws::decisions_replay();
-        laws::records_keep_the_network();
+        laws::entries_keep_the_network();
         let count = commit.batch.len() as u16;
         let phase = gate_log::Begun::new(alloc, commit.last, count, &entries)?;
         Ok(Begun { phase, commit })

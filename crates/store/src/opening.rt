@@ -96,9 +96,10 @@ impl Found {
         let Found {
             table,
             seq,
+            version,
             area,
             next,
         } = self;
-        Store::new(opening.into_log(area, next), table, seq)
+        Store::new(opening.into_log(area, next), table, seq, version)
     }
 }

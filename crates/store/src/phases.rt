@@ -59,6 +59,7 @@ impl Begun {
         ensures seq { (seen D.state store.new).seq ≡ (seen D.state store.old).seq }
         ensures call { IsOneCall D.failures D.outlook store.old store.new result }
     {
+        gate_log::laws::what_is_held_has_its_header();
         let Begun { phase, commit } = self;
         match phase.write(&mut store.log) {
             Ok(phase) => Ok(Written { phase, commit }),
@@ -90,6 +91,7 @@ impl Written {
         ensures seq { (seen D.state store.new).seq ≡ (seen D.state store.old).seq }
         ensures call { IsOneCall D.failures D.outlook store.old store.new result }
     {
+        gate_log::laws::what_is_held_has_its_header();
         let Written { phase, commit } = self;
         match phase.sync(&mut store.log) {
             Ok(phase) => Ok(BodySynced { phase, commit }),
@@ -121,6 +123,7 @@ impl BodySynced {
         ensures seq { (seen D.state store.new).seq ≡ (seen D.state store.old).seq }
         ensures call { IsOneCall D.failures D.outlook store.old store.new result }
     {
+        gate_log::laws::what_is_held_has_its_header();
         let BodySynced { phase, commit } = self;
         match phase.open_gate(&mut store.log) {
             Ok(phase) => Ok(GateWritten { phase, commit }),
@@ -158,6 +161,7 @@ impl GateWritten {
             (λ _. (seen D.state store.new).seq ≡ (seen D.state store.old).seq) }
         ensures call { IsOneCall D.failures D.outlook store.old store.new result }
     {
+        gate_log::laws::what_is_held_has_its_header();
         let GateWritten { phase, commit } = self;
         match phase.sync(&mut store.log) {
             Ok(durable) => {

@@ -7,6 +7,7 @@ use disk::{Disk, Sim};
 use gate_log::Log;
 use lw_types::Refusal;
 use sessions::Table;
+use store_layout::RecordVersion;
 
 /// The bytes of the journal that the largest batch takes, with its gate and the next one.
 pub const LARGEST_BATCH: u64 = 275_536;
@@ -18,22 +19,24 @@ pub struct Store<D: Disk> {
     pub(crate) log: Log<D>,
     pub(crate) table: Table,
     pub(crate) seq: u64,
+    pub(crate) version: RecordVersion,
     pub(crate) failed: bool,
 }
 
 impl<D: Disk> Store<D> {
     ghost use Rattle.store.specs.State.{seen, disk_of, IsRoomy};
 
-    /// The store of a table and the number of its last decision.
-    pub(crate) fn new(log: Log<D>, table: Table, seq: u64) -> Self
+    /// The store of a table and the number of its last decision, in an area with records of a version.
+    pub(crate) fn new(log: Log<D>, table: Table, seq: u64, version: RecordVersion) -> Self
         ensures store { seen D.state result
-            ≡ record { log = seen_log D.state log; table = table; seq = seq; failed = false } }
+            ≡ record { log = seen_log D.state log; table = table; seq = seq; version = version; failed = false } }
         ensures disk { disk_of result ≡ disk_of_log log }
     {
         Store {
             log,
             table,
             seq,
+            version,
             failed: false,
         }
     }

@@ -10,14 +10,14 @@ returns-clause-begun g c settled =
     let commit = c.in_ok-commit.commit in
     let answer = c.in_ok-commit.ensures in
     let laws : EntryLaws =
-    record { replay = c.decisions_replay.ensures.replay; table = c.decisions_replay.ensures.table; net_id = c.records_keep_the_network.ensures.net_id; slots = c.records_keep_the_network.ensures.slots } in
+    record { replay = c.decisions_replay.ensures.replay; net_id = c.entries_keep_the_network.ensures.net_id; slots = c.entries_keep_the_network.ensures.slots } in
     let batch : commit.batch ≡ c.args.batch = answer.1.0 in
     begun_on laws s (record { phase = c.in_ok-phase.phase; commit = commit }) commit.batch c.in_ok-phase.ensures.begun settled
     (subst (FitAll s.table) (sym batch) answer.0.continues.fit)
-    c.in_ok-entries.ensures.1
+    c.in_ok-entries.ensures.entries.1
     (λ none. answer.0.some (sym batch ∙ none))
     c.len-count.ensures.few
-    (c.deref.ensures.value ∙ c.in_ok-entries.ensures.0)
+    (c.deref.ensures.value ∙ c.in_ok-entries.ensures.entries.0)
     c.len-count.ensures.len
     (answer.1.1 ∙ ap (λ ds. s.seq + length ds) (sym batch))
     refl
