@@ -4,6 +4,7 @@ ghost use Rattle.lw_types.specs.declared.refusal.Refusal.TheVariants.{DeviceFail
 ghost use Rattle.disk.specs.Outlook.{HasCause};
 ghost use Rattle.disk.specs.Outlook.Outlook.{AllSucceed};
 ghost use Rattle.disk.specs.State.{EveryImage, IsTorn, NothingOpen, written};
+ghost use Rattle.gate_log.specs.declared.layout.TheConstants.{RECORDS_AT};
 ghost use Rattle.gate_log.specs.Layout.{Holds, IsClosedArea, fresh_header};
 ghost use Rattle.gate_log.specs.Recover.{contents_in};
 ghost use Rattle.sessions.specs.Table.{empty_table};
@@ -125,7 +126,7 @@ fn write_empty<D: Disk>(disk: &mut D, superblock: &Superblock) -> Result<u64, di
     ensures images { D.honest → NothingOpen (D.state disk.old) → EveryImage (D.state disk.new)
         (IsFormatImage superblock.now.net_id superblock.now.slots (D.state disk.old).content) }
     ensures in_range { OnOk result ((superblock.now.net_id < 64) × IsSlots superblock.now.slots) }
-    ensures next { IfOk result (λ next. next ≡ (area_a superblock.now.slots).start + 30) }
+    ensures next { IfOk result (λ next. next ≡ (area_a superblock.now.slots).start + RECORDS_AT) }
     ensures same_length { length (D.state disk.new).content ≡ length (D.state disk.old).content }
     ensures cause { HasCause (D.failures disk.old) (D.failures disk.new) result }
     ensures unarmed { D.outlook disk.old ≡ AllSucceed → IsTrue (is_ok result) × (D.outlook disk.new ≡ AllSucceed) }
@@ -185,7 +186,7 @@ fn write_closed<D: Disk>(disk: &mut D, superblock: &Superblock) -> Result<u64, d
         ≡ superblock_body superblock.now.net_id superblock.now.slots) }
     ensures shut { D.honest → IsShut (D.state disk.old) → IsShut (D.state disk.new) }
     ensures in_range { (superblock.now.net_id < 64) × IsSlots superblock.now.slots }
-    ensures next { IfOk result (λ next. next ≡ (area_a superblock.now.slots).start + 30) }
+    ensures next { IfOk result (λ next. next ≡ (area_a superblock.now.slots).start + RECORDS_AT) }
     ensures same_length { length (D.state disk.new).content ≡ length (D.state disk.old).content }
     ensures cause { HasCause (D.failures disk.old) (D.failures disk.new) result }
     ensures unarmed { D.outlook disk.old ≡ AllSucceed → IsTrue (is_ok result) × (D.outlook disk.new ≡ AllSucceed) }

@@ -1,6 +1,7 @@
 // Reads what the disk of a store holds.
 ghost use Rattle.std.specs.Prelude.{◌≡◌, ◌≢◌, ◌<◌, ◌≤◌, ◌+◌, ◌⊎◌, ℕ, length, take, IfOk, IfErr, MatchResult};
 ghost use Rattle.lw_types.specs.declared.refusal.Refusal.TheVariants.{Damaged, DeviceFailed, OutOfMemory, WrongVersion};
+ghost use Rattle.gate_log.specs.declared.layout.TheConstants.{EMPTY_AREA_LEN};
 ghost use Rattle.gate_log.specs.Layout.{Contents, Holds};
 ghost use Rattle.gate_log.specs.Opening.{opened};
 ghost use Rattle.gate_log.specs.Recover.{OnlyReads, IsHeaderAt};
@@ -163,7 +164,7 @@ fn read_live<D: Disk>(opening: &mut Opening<D>, superblock: &Superblock) -> Resu
 
 // The version of the records behind a header, where that is of use.
 fn usable_version(header: Header, area: Area) -> Result<RecordVersion, Refusal>
-    requires { area.start + 31 ≤ area.end }
+    requires { area.start + EMPTY_AREA_LEN ≤ area.end }
     ensures { MatchResult result
         (λ version. (header.version ≡ version_byte version) × IsUsable area header)
         (λ e. ((¬ (IsKnown header.version)) × (e ≡ WrongVersion))
