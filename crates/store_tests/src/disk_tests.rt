@@ -1,5 +1,8 @@
+ghost use Rattle.std.specs.Prelude.{◌<◌};
+
 use disk::{DeviceFailed, Disk, Image, MemDisk, Sim};
 use std::alloc::{AllocError, Global};
+use std::process::Abort;
 use std::test::Fail;
 
 // A disk of the bytes 1 to 8, of which 3 to 5 are synced as 30, 40, 50, and 4 to 6 then written as 41, 51, 61.
@@ -11,24 +14,22 @@ fn written(alloc: Global) -> Result<MemDisk, Fail> {
     Ok(disk)
 }
 
-fn crashed(alloc: Global, image: Image) -> Result<Vec<u8>, Fail> {
+// These bytes are what a crash leaves.
+fn leaves(rt: &impl Abort, alloc: Global, image: &Image, wanted: [u8; 8]) -> Result<(), Fail> {
     let mut disk = written(alloc)?;
-    disk.crash(&image);
-    Ok(disk.content().to_vec(alloc)?)
+    disk.crash(image);
+    assert_eq!(rt; disk.content(), wanted.as_slice());
+    Ok(())
 }
 
 #[test]
 fn a_crash_leaves_its_image(rt: HostRuntime) -> Result<(), Fail> {
     let alloc = rt.alloc();
-    let old = crashed(alloc, Image::Old)?;
-    assert_eq!(rt; old.as_slice(), [1, 2, 30, 40, 50, 6, 7, 8].as_slice());
-    let new = crashed(alloc, Image::New)?;
-    assert_eq!(rt; new.as_slice(), [1, 2, 30, 41, 51, 61, 7, 8].as_slice());
-    let fill = crashed(alloc, Image::Fill(9))?;
-    assert_eq!(rt; fill.as_slice(), [1, 2, 30, 9, 9, 9, 7, 8].as_slice());
-    let bytes = crashed(alloc, Image::Bytes([0, 0, 0, 99, 0].to_vec(alloc)?))?;
-    assert_eq!(rt; bytes.as_slice(), [1, 2, 30, 99, 0, 61, 7, 8].as_slice());
-    Ok(())
+    let bytes = Image::Bytes([0, 0, 0, 99, 0].to_vec(alloc)?);
+    leaves(&rt, alloc, &Image::Old, [1, 2, 30, 40, 50, 6, 7, 8])?;
+    leaves(&rt, alloc, &Image::New, [1, 2, 30, 41, 51, 61, 7, 8])?;
+    leaves(&rt, alloc, &Image::Fill(9), [1, 2, 30, 9, 9, 9, 7, 8])?;
+    leaves(&rt, alloc, &bytes, [1, 2, 30, 99, 0, 61, 7, 8])
 }
 
 #[test]
@@ -51,25 +52,35 @@ fn the_bytes_are_read(rt: HostRuntime) -> Result<(), Fail> {
     Ok(())
 }
 
+// Which of a read, a write of the first byte and two syncs fail where the nth call does, and the first byte after them.
+fn failing(rt: &impl Abort, alloc: Global, n: u64) -> Result<([bool; 4], u8), Fail>
+    requires { 0 < n }
+{
+    let mut disk = written(alloc)?;
+    assert_eq!(rt; disk.len(), 8);
+    disk.arm(9);
+    disk.arm(n);
+    disk.crash(&Image::New);
+    let mut buffer = [0; 1];
+    let failed = [
+        disk.read_at(0, &mut buffer) == Err(DeviceFailed),
+        disk.write_at(0, &[11]) == Err(DeviceFailed),
+        disk.sync() == Err(DeviceFailed),
+        disk.sync() == Err(DeviceFailed),
+    ];
+    Ok((failed, disk.content()[0]))
+}
+
+// A write that fails leaves the bytes as they were.
 #[test]
 fn the_call_that_was_armed_fails(rt: HostRuntime) -> Result<(), Fail> {
     let alloc = rt.alloc();
-    for n in 1..=3 {
-        let mut disk = written(alloc)?;
-        assert_eq!(rt; disk.len(), 8);
-        disk.arm(9);
-        disk.arm(n);
-        disk.crash(&Image::New);
-        let mut buffer = [0; 1];
-        let failed = [
-            disk.read_at(0, &mut buffer) == Err(DeviceFailed),
-            disk.write_at(0, &[11]) == Err(DeviceFailed),
-            disk.sync() == Err(DeviceFailed),
-            disk.sync() == Err(DeviceFailed),
-        ];
-        assert_eq!(rt; failed, [n == 1, n == 2, n == 3, false]);
-        // A write that fails leaves the bytes as they were.
-        assert_eq!(rt; disk.content()[0], if n == 2 { 1 } else { 11 });
+    for (n, wanted) in [
+        (1, ([true, false, false, false], 11)),
+        (2, ([false, true, false, false], 1)),
+        (3, ([false, false, true, false], 11)),
+    ] {
+        assert_eq!(rt; failing(&rt, alloc, n)?, wanted, "call {n}");
     }
     Ok(())
 }

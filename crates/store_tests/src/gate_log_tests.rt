@@ -121,6 +121,13 @@ fn crashed(rt: &impl Abort, alloc: Global, n: u64, image: &Image) -> Result<MemD
     Ok(disk)
 }
 
+// How many batches that leaves, which are numbered from 1 on.
+fn left(rt: &impl Abort, alloc: Global, n: u64, image: &Image) -> Result<usize, Fail> {
+    let (numbers, _) = recovered_in(alloc, crashed(rt, alloc, n, image)?, AREA)?;
+    assert!(rt; [1, 2].starts_with(&numbers));
+    Ok(numbers.len())
+}
+
 // Each call of a commit fails in turn, and each image of a crash holds the first batch, the second once its gate
 // is written or may be, and both once the commit is done.
 #[test]
@@ -138,10 +145,7 @@ fn a_crash_leaves_a_beginning_of_the_batches(rt: HostRuntime) -> Result<(), Fail
             (Image::New, new),
             (Image::Fill(0xA5), fill),
         ] {
-            let disk = crashed(&rt, alloc, n, &image)?;
-            let (numbers, _) = recovered_in(alloc, disk, AREA)?;
-            let wanted: &[u64] = if want == 1 { &[1] } else { &[1, 2] };
-            assert_eq!(rt; numbers.as_slice(), wanted, "call {n}, {image:?}");
+            assert_eq!(rt; left(&rt, alloc, n, &image)?, want, "call {n}, {image:?}");
         }
     }
     Ok(())
@@ -179,6 +183,17 @@ fn changed(rt: &impl Abort, alloc: Global, at: usize, byte: u8) -> Result<MemDis
     Ok(MemDisk::new(alloc, bytes)?)
 }
 
+// What is wrong with that disk's area.
+fn damage(
+    rt: &impl Abort,
+    alloc: Global,
+    at: usize,
+    byte: u8,
+) -> Result<Option<RecoverError>, Fail> {
+    let mut opening = opening(changed(rt, alloc, at, byte)?)?;
+    Ok(recover(alloc, &mut opening, AREA).err())
+}
+
 #[test]
 fn a_damaged_area_is_refused(rt: HostRuntime) -> Result<(), Fail> {
     let alloc = rt.alloc();
@@ -196,9 +211,7 @@ fn a_damaged_area_is_refused(rt: HostRuntime) -> Result<(), Fail> {
         // The batch's gate, behind which nothing counts.
         (34, 0, None),
     ] {
-        let mut opening = opening(changed(&rt, alloc, at, byte)?)?;
-        let damage = recover(alloc, &mut opening, AREA).err();
-        assert_eq!(rt; damage, want, "{at} is {byte}");
+        assert_eq!(rt; damage(&rt, alloc, at, byte)?, want, "{at} is {byte}");
     }
     Ok(())
 }

@@ -4,6 +4,7 @@ use crate::store_tests::{FRONT, LEN, found, provision, with_one_device};
 use devices::Device;
 use disk::{MemDisk, Sim};
 use lw_types::{Eui, Refusal};
+use sessions::Table;
 use std::alloc::Global;
 use std::process::Abort;
 use std::test::Fail;
@@ -175,28 +176,59 @@ fn the_records_of_a_checkpoint_are_found(rt: HostRuntime) -> Result<(), Fail> {
     Ok(())
 }
 
-// A batch of more than 12,000 bytes puts records at a slot in use and at new ones, and the next gives a slot to
-// another device.
+// The entries of busy devices of DevEUIs 1 to 3 at the slots from 0 on.
+fn busy_entries(alloc: Global) -> Result<Vec<u8>, Fail> {
+    let mut bytes = Vec::new(alloc);
+    for slot in 0..3 {
+        let device = busy_device(alloc, u64::from(slot) + 1)?;
+        put_entry(alloc, RecordVersion::V1, slot, &device, &mut bytes)?;
+    }
+    Ok(bytes)
+}
+
+// A store with an idle device, a batch of more than 12,000 bytes that puts records at its slot and at new ones, and a
+// batch that gives the second slot to another device.
+fn replaced(alloc: Global) -> Result<MemDisk, Fail> {
+    let first = entries(alloc, &[(0, &idle_device(alloc, 1)?)])?;
+    let mut bytes = checkpoint(alloc, 1, &first)?;
+    add_batch(&mut bytes, 10, 3, &busy_entries(alloc)?)?;
+    let other = entries(alloc, &[(1, &idle_device(alloc, 9)?)])?;
+    add_batch(&mut bytes, 11, 1, &other)?;
+    disk_of(alloc, bytes)
+}
+
 #[test]
 fn records_are_put_at_slots_in_use(rt: HostRuntime) -> Result<(), Fail> {
     let alloc = rt.alloc();
-    let idle = idle_device(alloc, 1)?;
-    let (first, second, third) = (
-        busy_device(alloc, 1)?,
-        busy_device(alloc, 2)?,
-        busy_device(alloc, 3)?,
-    );
-    let mut bytes = checkpoint(alloc, 1, &entries(alloc, &[(0, &idle)])?)?;
-    let body = entries(alloc, &[(0, &first), (1, &second), (2, &third)])?;
-    assert_eq!(rt; body.len(), 3 * 4_039);
-    add_batch(&mut bytes, 10, 3, &body)?;
-    let other = idle_device(alloc, 9)?;
-    add_batch(&mut bytes, 11, 1, &entries(alloc, &[(1, &other)])?)?;
-    let store = open(alloc, disk_of(alloc, bytes)?)?;
+    let store = open(alloc, replaced(alloc)?)?;
     assert_eq!(rt; store.seq(), 11);
-    assert_eq!(rt; store.table().devices(), [first, other, third].as_slice());
     assert_eq!(rt; store.table().slot_of(Eui(2)), None);
+    has_devices(&rt, alloc, store.table())
+}
+
+// The first device is busy, the second is the other one, and the third is busy.
+fn has_devices(rt: &impl Abort, alloc: Global, table: &Table) -> Result<(), Fail> {
+    let wanted = [
+        busy_device(alloc, 1)?,
+        idle_device(alloc, 9)?,
+        busy_device(alloc, 3)?,
+    ];
+    assert_eq!(rt; table.devices(), wanted.as_slice());
     Ok(())
+}
+
+#[test]
+fn a_busy_device_has_a_long_entry(rt: HostRuntime) -> Result<(), Fail> {
+    assert_eq!(rt; busy_entries(rt.alloc())?.len(), 3 * 4_039);
+    Ok(())
+}
+
+// The refusal of a checkpoint with a device of DevEUI 1 at slot 0, and this one at this slot.
+fn refused_beside(alloc: Global, slot: u16, dev_eui: u64) -> Result<Option<Refusal>, Fail> {
+    let (first, second) = (idle_device(alloc, 1)?, idle_device(alloc, dev_eui)?);
+    let records = entries(alloc, &[(0, &first), (slot, &second)])?;
+    let disk = disk_of(alloc, checkpoint(alloc, 2, &records)?)?;
+    Ok(open(alloc, disk).err())
 }
 
 // Entries that may not be put: a DevEUI in two slots, a slot passed over, one more record than slots.
@@ -204,14 +236,8 @@ fn records_are_put_at_slots_in_use(rt: HostRuntime) -> Result<(), Fail> {
 fn records_that_may_not_stand_are_refused(rt: HostRuntime) -> Result<(), Fail> {
     let alloc = rt.alloc();
     for (slot, dev_eui) in [(1, 1), (2, 2), (8, 9)] {
-        let (first, second) = (idle_device(alloc, 1)?, idle_device(alloc, dev_eui)?);
-        let records = entries(alloc, &[(0, &first), (slot, &second)])?;
-        let disk = disk_of(alloc, checkpoint(alloc, 2, &records)?)?;
-        assert_eq!(rt;
-            open(alloc, disk).err(),
-            Some(Refusal::Damaged),
-            "slot {slot}"
-        );
+        let refused = refused_beside(alloc, slot, dev_eui)?;
+        assert_eq!(rt; refused, Some(Refusal::Damaged), "slot {slot}");
     }
     Ok(())
 }

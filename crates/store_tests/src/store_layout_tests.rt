@@ -76,16 +76,24 @@ fn entries(alloc: Global, count: u64) -> Result<Vec<u8>, Fail> {
     Ok(batch_entries(alloc, RecordVersion::V1, &batch)?)
 }
 
+// The length of that many entries, how many devices they bring, and the slot of the last one.
+fn replayed(alloc: Global, count: u32) -> Result<(usize, usize, Option<u16>), Fail> {
+    let bytes = entries(alloc, u64::from(count))?;
+    let mut opened = table(alloc, 64)?;
+    replay(alloc, RecordVersion::V1, &mut opened, &bytes, count)?;
+    let slot = opened.slot_of(Eui(u64::from(count)));
+    Ok((bytes.len(), opened.devices().len(), slot))
+}
+
 #[test]
 fn what_a_batch_writes_replays(rt: HostRuntime) -> Result<(), Fail> {
     let alloc = rt.alloc();
-    for count in [1, 5, 64] {
-        let bytes = entries(alloc, count)?;
-        assert_eq!(rt; bytes.len() as u64, 55 * count);
-        let mut opened = table(alloc, 64)?;
-        replay(alloc, RecordVersion::V1, &mut opened, &bytes, count as u32)?;
-        assert_eq!(rt; opened.devices().len() as u64, count);
-        assert_eq!(rt; opened.slot_of(Eui(count)), Some(count as u16 - 1));
+    for (count, wanted) in [
+        (1, (55, 1, Some(0))),
+        (5, (275, 5, Some(4))),
+        (64, (3520, 64, Some(63))),
+    ] {
+        assert_eq!(rt; replayed(alloc, count)?, wanted, "{count} entries");
     }
     Ok(())
 }

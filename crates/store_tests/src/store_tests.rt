@@ -4,7 +4,7 @@ ghost use Rattle.store.specs.State.{seen, IsRoomy};
 use crate::devices_under_test::{net_id, provisionings, slots};
 use disk::{Disk, Image, MemDisk, Sim};
 use lw_types::{Eui, Refusal};
-use sessions::Batch;
+use sessions::{Batch, Table};
 use std::alloc::Global;
 use std::process::Abort;
 use std::test::Fail;
@@ -341,6 +341,26 @@ fn a_batch_continues_the_table(rt: HostRuntime) -> Result<(), Fail> {
     has_three(&rt, &store);
     has_three(&rt, &open(alloc, store.close())?);
     Ok(())
+}
+
+// Two decisions that were made of one table, numbered on: the second was not made of what the first leaves.
+fn both_of_one_table(alloc: Global, table: &Table) -> Result<Batch, Fail> {
+    let mut batch = provisionings(alloc, table, 1, 1)?;
+    let mut other = provisionings(alloc, table, 2, 1)?.into_vec();
+    let decision = other.pop().ok_or("no decision")?;
+    if batch.len() < Batch::MOST {
+        batch.push(decision);
+    }
+    Ok(batch)
+}
+
+#[test]
+fn a_batch_continues_itself(rt: HostRuntime) -> Result<(), Fail> {
+    let alloc = rt.alloc();
+    let mut store = with_one_device(&rt, alloc)?;
+    let batch = both_of_one_table(alloc, store.table())?;
+    assert_eq!(rt; batch.len(), 2);
+    is_out_of_step(&rt, alloc, &mut store, batch)
 }
 
 fn has_three(rt: &impl Abort, store: &Store<MemDisk>) {
