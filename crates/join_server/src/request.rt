@@ -5,7 +5,7 @@ ghost use Rattle.frame_crypt.specs.Joins.{join_mic};
 ghost use Rattle.join_server.specs.Request.{IsRequest, dev_eui_of, dev_nonce_of, join_eui_of, message_of, mic_of};
 
 use frame_crypt::join_mic;
-use lw_types::{Eui, Key};
+use lw_types::{Eui, FromText, HexArray, Key};
 use std::marker::Model;
 
 /// The 23 bytes of a Join-Request: MHDR, which is 0, JoinEUI, DevEUI, DevNonce and MIC (TS001-1.0.4 §6.2.5).
@@ -80,5 +80,20 @@ impl JoinRequest {
     {
         let (message, mic) = self.bytes.split_at(19);
         mic == join_mic(key, message).as_slice()
+    }
+}
+
+/// The text has two digits for each byte, and MHDR comes first.
+impl FromText for JoinRequest {
+    ghost use Rattle.lw_types.specs.Hex.{IsBytes, hex_text};
+    ghost use Rattle.join_server.specs.Request.{IsRequest};
+
+    ghost is_value = { λ bytes. IsRequest bytes × IsBytes bytes };
+
+    ghost text_of = { hex_text };
+
+    fn from_text(text: &str) -> Option<Self> {
+        let HexArray(bytes) = HexArray::from_text(text)?;
+        JoinRequest::new(bytes)
     }
 }

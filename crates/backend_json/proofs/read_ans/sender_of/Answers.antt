@@ -1,0 +1,7 @@
+use Rattle.std.proofs.Common.{rules, ◌≡◌, sym, ap, subst, ◌∙◌}
+use Rattle.backend_json.proofs.Equal.{inside, behind, at_front, no_value, refused, same_text}
+use Rattle.backend_json.proofs.read_ans.sender_of.Goals as goal
+
+pub returns-in_err-number-clause-only : goal.returns-in_err-number-clause-only
+returns-in_err-number-clause-only c sender transaction s t h =
+    elim (c.in_err-number.ensures transaction _ (behind c.in_ok-sender.ensures.found h)) [ ]
