@@ -64,3 +64,12 @@ pub same_value : {A : Type 0} {x y : A} → Some x ≡ Some y → x ≡ y
 same_value {A} {x} {y} e =
     let same : x ≡ x = (λ i. x) in
     subst (λ (r : Option A). MatchOption r (Unit {0}) (λ z. x ≡ z)) e same
+
+key : Members → List ℕ
+key no_members = []
+key (member k d ms) = k
+
+-- the names of the first members
+pub key_at_front : {ms ns : Members} {k l : List ℕ} {d e : Data} → member k d ms ≡ member l e ns → k ≡ l
+unfolding key
+key_at_front e = ap key e

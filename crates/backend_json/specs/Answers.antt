@@ -1,6 +1,6 @@
 -- The answers of a join server, as the values that JSON texts are read as. The members stand in the byte order of their
 -- names, and there are no others.
-use Rattle.std.specs.Prelude.{◌≡◌, ◌<◌, ◌^◌, ℕ, List, [], ◌∷◌, length, Some, codes, Result, Ok, Err, IfOk}
+use Rattle.std.specs.Prelude.{◌≡◌, ◌<◌, ◌^◌, ℕ, List, [], length, Some, codes, Result, Ok, Err, IfOk}
 use Rattle.serde_json.specs.Data.{Data, Members, number, string, object, member, no_members, unsigned}
 use Rattle.serde_json.specs.Read.{read}
 use Rattle.lw_types.specs.Hex.{IsBytes, eui_text, hex_text, key_text, net_id_text}

@@ -52,9 +52,19 @@ fn put_device(
         (with_member (codes "DevAddr") (string (dev_addr_text ask.now.dev_addr))
         (with_member (codes "DLSettings") (string (hex_text (ask.now.dl_settings ∷ []))) (members_view members.old.entries)))))) }
 {
-    put_text(members, alloc, "DLSettings", HexArray([ask.dl_settings]).to_string(alloc)?)?;
+    put_text(
+        members,
+        alloc,
+        "DLSettings",
+        HexArray([ask.dl_settings]).to_string(alloc)?,
+    )?;
     put_text(members, alloc, "DevAddr", ask.dev_addr.to_string(alloc)?)?;
-    put_text(members, alloc, "DevEUI", ask.request.dev_eui().to_string(alloc)?)?;
+    put_text(
+        members,
+        alloc,
+        "DevEUI",
+        ask.request.dev_eui().to_string(alloc)?,
+    )?;
     put_word(members, alloc, "MACVersion", "1.0.4")?;
     put_word(members, alloc, "MessageType", "JoinReq")
 }
@@ -73,9 +83,19 @@ fn put_network(
         (with_member (codes "ProtocolVersion") (string (codes "1.0"))
         (with_member (codes "PHYPayload") (string (hex_text ask.now.request)) (members_view members.old.entries))))))) }
 {
-    put_text(members, alloc, "PHYPayload", HexArray(ask.request.bytes()).to_string(alloc)?)?;
+    put_text(
+        members,
+        alloc,
+        "PHYPayload",
+        HexArray(ask.request.bytes()).to_string(alloc)?,
+    )?;
     put_word(members, alloc, "ProtocolVersion", "1.0")?;
-    put_text(members, alloc, "ReceiverID", ask.request.join_eui().to_string(alloc)?)?;
+    put_text(
+        members,
+        alloc,
+        "ReceiverID",
+        ask.request.join_eui().to_string(alloc)?,
+    )?;
     put_number(members, alloc, "RxDelay", ask.rx_delay.get())?;
     put_text(members, alloc, "SenderID", ask.net_id.to_string(alloc)?)?;
     put_number(members, alloc, "TransactionID", u64::from(ask.transaction))

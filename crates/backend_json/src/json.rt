@@ -44,7 +44,12 @@ pub(crate) fn put_word(
     ensures { OnOk result (members_view members.new.entries
         ≡ with_member name.now (string word.now) (members_view members.old.entries)) }
 {
-    put(members, alloc, name, Value::String(String::from_str(alloc, word)?))
+    put(
+        members,
+        alloc,
+        name,
+        Value::String(String::from_str(alloc, word)?),
+    )
 }
 
 /// Puts a number under a name.

@@ -65,7 +65,11 @@ impl<'a> Rest<'a> {
             ((others : Members) → members_view self.old.members ≢ member name.now (string text.now) others)
             (λ _. members_view self.old.members ≡ member name.now (string text.now) (members_view self.new.members)) }
     {
-        if self.any_text(name)? == text { Some(()) } else { None }
+        if self.any_text(name)? == text {
+            Some(())
+        } else {
+            None
+        }
     }
 
     /// The next member, where it has this name and is a whole number below 2^64.

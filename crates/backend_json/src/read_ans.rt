@@ -141,7 +141,7 @@ fn success_of(rest: &mut Rest<'_>) -> Option<()>
     ensures { MatchOption result
         ((others : Members) → members_view rest.old.members ≢ member (codes "Result") (outcome (codes "Success") []) others)
         (λ _. members_view rest.old.members
-            ≡ member (codes "Result") (outcome (codes "Success") []) (members_view rest.new.members)) }
+        ≡ member (codes "Result") (outcome (codes "Success") []) (members_view rest.new.members)) }
 {
     let mut inner = rest.object("Result")?;
     inner.text("Description", "")?;
@@ -153,9 +153,9 @@ fn success_of(rest: &mut Rest<'_>) -> Option<()>
 fn cause_of(rest: &mut Rest<'_>) -> Option<Cause>
     ensures { MatchOption result
         ((cause : Cause) (others : Members) → members_view rest.old.members
-            ≢ member (codes "Result") (outcome (code_of cause) (description_of cause)) others)
+        ≢ member (codes "Result") (outcome (code_of cause) (description_of cause)) others)
         (λ cause. members_view rest.old.members
-            ≡ member (codes "Result") (outcome (code_of cause) (description_of cause)) (members_view rest.new.members)) }
+        ≡ member (codes "Result") (outcome (code_of cause) (description_of cause)) (members_view rest.new.members)) }
 {
     let mut inner = rest.object("Result")?;
     let cause = Cause::described(inner.any_text("Description")?)?;

@@ -86,9 +86,24 @@ fn put_accepted(
         (with_member (codes "NwkSKey") (aes_key accepted.now.nwk_skey)
         (with_member (codes "AppSKey") (aes_key accepted.now.app_skey) (members_view members.old.entries)))) }
 {
-    put(members, alloc, "AppSKey", key_value(alloc, &accepted.app_skey)?)?;
-    put(members, alloc, "NwkSKey", key_value(alloc, &accepted.nwk_skey)?)?;
-    put_text(members, alloc, "PHYPayload", HexArray(accepted.accept).to_string(alloc)?)
+    put(
+        members,
+        alloc,
+        "AppSKey",
+        key_value(alloc, &accepted.app_skey)?,
+    )?;
+    put(
+        members,
+        alloc,
+        "NwkSKey",
+        key_value(alloc, &accepted.nwk_skey)?,
+    )?;
+    put_text(
+        members,
+        alloc,
+        "PHYPayload",
+        HexArray(accepted.accept).to_string(alloc)?,
+    )
 }
 
 #[tactic(auto, unfolding(lw_types::specs::Hex::key_text))]
@@ -96,7 +111,12 @@ fn key_value(alloc: Global, key: &Key) -> Result<Value, AllocError>
     ensures { IfOk result (λ value. view value ≡ aes_key key.now) }
 {
     let mut members = Map::new(alloc);
-    put_text(&mut members, alloc, "AESKey", HexArray(key.0).to_string(alloc)?)?;
+    put_text(
+        &mut members,
+        alloc,
+        "AESKey",
+        HexArray(key.0).to_string(alloc)?,
+    )?;
     Ok(Value::Object(members))
 }
 

@@ -1,4 +1,4 @@
-use Rattle.std.proofs.Common.{rules, ◌≡◌, ℕ, List, codes, sym, ap, ◌∙◌}
+use Rattle.std.proofs.Common.{◌≡◌, ℕ, List, codes, sym, ap, ◌∙◌}
 use Rattle.serde_json.specs.Data.{member, no_members, string}
 use Rattle.backend_json.specs.declared.join_ans.Cause.{Cause}
 use Rattle.backend_json.proofs.Equal.{inside, behind, at_front, no_value, refused, same_text, same_value}

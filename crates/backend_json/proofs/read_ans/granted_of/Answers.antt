@@ -1,6 +1,6 @@
-use Rattle.std.proofs.Common.{rules, ◌≡◌, sym, ap, subst, ◌∙◌}
-use Rattle.backend_json.proofs.Equal.{inside, behind, at_front, no_value, refused, same_text}
-use Rattle.std.specs.Prelude.{Result, Ok, Err, IfOk}
+use Rattle.std.proofs.Common.{rules, ◌≡◌, sym, subst, ◌∙◌}
+use Rattle.backend_json.proofs.Equal.{inside, behind, no_value, refused}
+use Rattle.std.specs.Prelude.{IfOk}
 use Rattle.serde_json.specs.Data.{object}
 use Rattle.serde_json.specs.View.{view}
 use Rattle.backend_json.specs.Answers.{AreKeys, closing, opening, outcome_of}
@@ -61,11 +61,12 @@ returns-in_err-receiver c =
     no_value (c.in_err-receiver.ensures.only ans.receiver _ is.receiver r4))
 
 pub returns : goal.returns
-returns c =
-    (record {
-       receiver = search rules;
-       sender = search rules;
-       result = record { app_skey = c.in_ok-app_skey.ensures.found.0; nwk_skey = c.in_ok-nwk_skey.ensures.found.0; accept = c.in_ok-accept.ensures.found.0; };
-       transaction = search rules;
-     },
-     search rules)
+returns c = (
+  record {
+    receiver = search rules;
+    sender = search rules;
+    result = record { app_skey = c.in_ok-app_skey.ensures.found.0; nwk_skey = c.in_ok-nwk_skey.ensures.found.0; accept = c.in_ok-accept.ensures.found.0 };
+    transaction = search rules;
+  },
+  search rules,
+)

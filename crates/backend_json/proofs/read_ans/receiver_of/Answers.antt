@@ -1,5 +1,3 @@
-use Rattle.std.proofs.Common.{rules, ◌≡◌, sym, ap, subst, ◌∙◌}
-use Rattle.backend_json.proofs.Equal.{inside, behind, at_front, no_value, refused, same_text}
 use Rattle.backend_json.proofs.read_ans.receiver_of.Goals as goal
 
 pub returns-in_err-text-clause-only : goal.returns-in_err-text-clause-only

@@ -1,6 +1,5 @@
-use Rattle.std.proofs.Common.{rules, ◌≡◌, sym, ap, subst, ◌∙◌}
-use Rattle.backend_json.proofs.Equal.{inside, behind, behind_two, at_front, no_value, refused, same_text}
-use Rattle.std.specs.Prelude.{Result, Ok, Err}
+use Rattle.std.proofs.Common.{◌≡◌, sym, subst, ◌∙◌}
+use Rattle.backend_json.proofs.Equal.{inside, behind, behind_two, no_value, refused}
 use Rattle.serde_json.specs.Data.{object}
 use Rattle.serde_json.specs.View.{view}
 use Rattle.backend_json.specs.Answers.{closing, opening, outcome_of}

@@ -1,5 +1,4 @@
-use Rattle.std.proofs.Common.{rules, ◌≡◌, sym, ap, subst, ◌∙◌}
-use Rattle.backend_json.proofs.Equal.{inside, behind, at_front, no_value, refused, same_text}
+use Rattle.backend_json.proofs.Equal.{behind}
 use Rattle.backend_json.proofs.read_ans.sender_of.Goals as goal
 
 pub returns-in_err-number-clause-only : goal.returns-in_err-number-clause-only

@@ -1,5 +1,4 @@
-use Rattle.std.proofs.Common.{rules, ◌≡◌, sym, ap, subst, ◌∙◌}
-use Rattle.backend_json.proofs.Equal.{inside, behind, at_front, no_value, refused, same_text}
+use Rattle.backend_json.proofs.Equal.{inside, behind, at_front, refused}
 use Rattle.backend_json.proofs.read_ans.success_of.Goals as goal
 
 pub returns-in_err-text : goal.returns-in_err-text
