@@ -1,11 +1,15 @@
 -- AES-128 (FIPS 197). A block, a state and a key are lists of 16 bytes, a word and a column are lists of 4.
 use Rattle.std.specs.Prelude.{◌≡◌, ℕ, zero, suc, ◌<◌, ◌+◌, ◌*◌, ◌%◌, ◌^◌, List, [], ◌∷◌, ◌++◌, length, map, take, drop, slice_index, slice_index_or, All}
-use Rattle.std.specs.Int.{w8, rotate_left}
+use Rattle.std.specs.Int.{w8, w128, rotate_left, to_be_bytes}
 use Rattle.aes128.specs.Field.{◌⊕◌, power, inverse, word_product}
 
 -- 16 bytes
 abbrev pub IsBlock : List ℕ → Type 0
 IsBlock block = (length block ≡ 16) × All (λ byte. byte < 2 ^ 8) block
+
+-- the block of a number of 128 bits, its highest byte first
+abbrev pub block_of : ℕ → List ℕ
+block_of number = to_be_bytes w128 number
 
 -- the sums of the bytes of two lists, place by place, as far as both go
 abbrev pub xor : List ℕ → List ℕ → List ℕ

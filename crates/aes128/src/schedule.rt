@@ -82,32 +82,3 @@ fn next_round_key(key: &[u8; 16], constant: u8) -> [u8; 16]
     let fourth = sum(column_at(key, 3), third);
     joined(first, second, third, fourth)
 }
-
-#[cfg(test)]
-mod tests {
-    use super::*;
-
-    // A key, and the keys of its first and last round: FIPS 197 appendices A.1 and C.1.
-    const EXPANSIONS: [(u128, u128, u128); 2] = [
-        (
-            0x2b7e151628aed2a6abf7158809cf4f3c,
-            0xa0fafe1788542cb123a339392a6c7605,
-            0xd014f9a8c9ee2589e13f0cc8b6630ca6,
-        ),
-        (
-            0x000102030405060708090a0b0c0d0e0f,
-            0xd6aa74fdd2af72fadaa678f1d6ab76fe,
-            0x13111d7fe3944a17f307a78b4d2b30c5,
-        ),
-    ];
-
-    #[test]
-    fn the_key_expansions_of_the_standard(rt: HostRuntime) {
-        for (key, first, last) in EXPANSIONS {
-            let schedule = KeySchedule::new(&Key(key.to_be_bytes()));
-            assert_eq!(rt; schedule.round_keys[0], key.to_be_bytes());
-            assert_eq!(rt; schedule.round_keys[1], first.to_be_bytes());
-            assert_eq!(rt; schedule.round_keys[10], last.to_be_bytes());
-        }
-    }
-}

@@ -86,23 +86,3 @@ fn doubled(block: [u8; 16]) -> [u8; 16]
         ((number << 1) ^ 0x87).to_be_bytes()
     }
 }
-
-#[cfg(test)]
-mod tests {
-    use super::*;
-
-    // RFC 4493 §4, subkey generation.
-    #[test]
-    fn the_subkeys_of_the_rfc(rt: HostRuntime) {
-        let sealed_zeros = 0x7df76b0c1ab899b33e42f047b91b546f_u128.to_be_bytes();
-        let first = doubled(sealed_zeros);
-        assert_eq!(rt;
-            first,
-            0xfbeed618357133667c85e08f7236a8de_u128.to_be_bytes()
-        );
-        assert_eq!(rt;
-            doubled(first),
-            0xf7ddac306ae266ccf90bc11ee46d513b_u128.to_be_bytes()
-        );
-    }
-}

@@ -1,9 +1,11 @@
-use crate::fixtures::{DEVICE, application, brought, current, item, name, provisioning, session};
-use devices::{
-    Activation, Application, Downlink, Effect, Effects, Heard, Hearing, ItemQueue, MacQueue, Mark,
-    NextDown, Port, Report, RxDelay, Tag, Windows,
+use crate::fixtures::{
+    DEVICE, application, brought, current, empty_downlink, item, items, name, session,
 };
-use lw_types::{Eui, JoinNonce, PhyPayload, Reception};
+use devices::{
+    Activation, Application, CurrentSession, Device, Effect, Effects, Heard, Hearing, ItemQueue, MacQueue,
+    Mark, NextDown, Port, Report, RxDelay, Session, Tag,
+};
+use lw_types::{Eui, JoinNonce, PhyPayload, Reception, read_hex};
 use mac_commands::are_queueable;
 use std::alloc::Global;
 use std::test::Fail;
@@ -30,44 +32,57 @@ fn ranges_have_their_ends(rt: HostRuntime) {
     assert!(rt; NextDown::new((1 << 32) + 1).is_none());
 }
 
+// Whether a device may have these bytes for a MAC queue.
+fn may_wait(alloc: Global, hex: &str) -> Result<bool, Fail> {
+    Ok(MacQueue::new(read_hex(alloc, hex)?).is_ok())
+}
+
 #[test]
 fn a_mac_queue_is_whole_commands_that_may_be_queued(rt: HostRuntime) -> Result<(), Fail> {
-    let alloc = rt.alloc();
-    let cases: [(&[u8], bool); 8] = [
-        (&[], true),
-        (&[0x03, 0x50, 0x07, 0x00, 0x01], true),
-        (&[0x06, 0x04, 0x0F, 0x06], true),
-        (&[0x03, 0x50, 0x07, 0x00], false),
-        (&[0x04], false),
-        (&[0x02], false),
-        (&[0x06, 0x0D], false),
-        (&[0x05, 0x00, 0x00, 0x00, 0x00], false),
-    ];
-    for (bytes, whole) in cases {
-        let queue = MacQueue::new(bytes.to_vec(alloc)?);
-        assert_eq!(rt; queue.is_ok(), whole, "{bytes:?}");
+    for (hex, may) in [
+        ("", true),
+        ("0350070001", true),
+        ("06040F06", true),
+        ("03500700", false),
+        ("04", false),
+        ("02", false),
+        ("060D", false),
+        ("0500000000", false),
+    ] {
+        assert_eq!(rt; may_wait(rt.alloc(), hex)?, may, "{hex}");
     }
-    let full = MacQueue::new(vec![in alloc; 0x06; 64]?);
-    assert!(rt; full.is_ok_and(|queue| queue.as_slice().len() == 64));
+    Ok(())
+}
+
+// The length of a MAC queue of so many commands of one byte; `None` where they are too many.
+fn queue_len(alloc: Global, count: usize) -> Result<Option<usize>, Fail> {
+    match MacQueue::new(vec![in alloc; 0x06; count]?) {
+        Ok(queue) => Ok(Some(queue.as_slice().len())),
+        Err(_) => Ok(None),
+    }
+}
+
+#[test]
+fn a_mac_queue_has_64_bytes(rt: HostRuntime) -> Result<(), Fail> {
+    assert_eq!(rt; queue_len(rt.alloc(), 64)?, Some(64));
+    assert_eq!(rt; queue_len(rt.alloc(), 65)?, None);
+    Ok(())
+}
+
+#[test]
+fn a_mac_queue_is_made_of_a_slice(rt: HostRuntime) -> Result<(), Fail> {
     let bytes = [0x06, 0x04, 0x0F];
     assert!(rt; are_queueable(&bytes));
-    let copy = MacQueue::from_slice(alloc, &bytes)?;
+    let copy = MacQueue::from_slice(rt.alloc(), &bytes)?;
     assert_eq!(rt; copy.as_slice(), bytes.as_slice());
-    assert!(rt; MacQueue::new(vec![in alloc; 0x06; 65]?).is_err());
     Ok(())
 }
 
 #[test]
 fn sixteen_items_wait(rt: HostRuntime) -> Result<(), Fail> {
-    let alloc = rt.alloc();
-    let mut items = Vec::new(alloc);
-    for tag in 0..16 {
-        items.push(item(alloc, tag, 242)?).ok().ok_or("memory")?;
-    }
-    let queue = ItemQueue::new(items.clone()?).ok().ok_or("sixteen")?;
-    assert_eq!(rt; queue.as_slice().len(), 16);
-    items.push(item(alloc, 16, 0)?).ok().ok_or("memory")?;
-    assert!(rt; ItemQueue::new(items).is_err());
+    let queue = ItemQueue::new(items(rt.alloc(), 16, 242)?.clone()?);
+    assert!(rt; queue.is_ok_and(|queue| queue.as_slice().len() == 16));
+    assert!(rt; ItemQueue::new(items(rt.alloc(), 17, 242)?).is_err());
     Ok(())
 }
 
@@ -89,47 +104,88 @@ fn items_wait_in_order(rt: HostRuntime) -> Result<(), Fail> {
     Ok(())
 }
 
+// The session of this JoinNonce, in use.
+fn in_use(number: Option<u32>) -> Result<Option<CurrentSession>, Fail> {
+    match number {
+        None => Ok(None),
+        Some(number) => Ok(Some(current(number, 5)?)),
+    }
+}
+
+// The session of this JoinNonce, not in use yet.
+fn waiting(number: Option<u32>) -> Result<Option<Session>, Fail> {
+    match number {
+        None => Ok(None),
+        Some(number) => Ok(Some(session(number)?)),
+    }
+}
+
+// What was granted last, and sessions of these JoinNonces.
+fn activation(
+    granted: u32,
+    current: Option<u32>,
+    pending: Option<u32>,
+) -> Result<Option<Activation>, Fail> {
+    let (current, pending) = (in_use(current)?, waiting(pending)?);
+    Ok(Activation::new(JoinNonce::new(granted), current, pending))
+}
+
+// Nothing was granted where the first number is 0.
 #[test]
 fn sessions_are_in_order(rt: HostRuntime) -> Result<(), Fail> {
-    let granted = JoinNonce::new(2);
-    let cases = [
-        (None, None, None, true),
-        (granted, Some(current(1, 5)?), Some(session(2)?), true),
-        (granted, Some(current(2, 5)?), None, true),
-        (granted, Some(current(2, 5)?), Some(session(2)?), false),
-        (granted, Some(current(3, 5)?), None, false),
-        (granted, None, Some(session(3)?), false),
-        (None, None, Some(session(1)?), false),
-        (None, Some(current(1, 5)?), None, false),
-    ];
-    for (granted, current, pending, in_order) in cases {
-        let activation = Activation::new(granted, current, pending);
+    for (granted, current, pending, in_order) in [
+        (0, None, None, true),
+        (2, Some(1), Some(2), true),
+        (2, Some(2), None, true),
+        (2, Some(2), Some(2), false),
+        (2, Some(3), None, false),
+        (2, None, Some(3), false),
+        (0, None, Some(1), false),
+        (0, Some(1), None, false),
+    ] {
         assert_eq!(rt;
-            activation.is_some(),
+            activation(granted, current, pending)?.is_some(),
             in_order,
-            "{granted:?} {current:?} {pending:?}"
+            "{granted} {current:?} {pending:?}"
         );
     }
-    let activation = Activation::new(granted, Some(current(1, 5)?), Some(session(2)?)).ok_or(
-        "in order",
-    )?;
-    assert_eq!(rt; activation.granted(), granted);
-    assert_eq!(rt; activation.current(), Some(current(1, 5)?));
-    assert_eq!(rt; activation.pending(), Some(session(2)?));
     Ok(())
 }
 
 #[test]
-fn a_device_is_copied_whole(rt: HostRuntime) -> Result<(), Fail> {
-    let alloc = rt.alloc();
-    let mut device = brought(alloc, DEVICE)?;
+fn an_activation_has_its_parts(rt: HostRuntime) -> Result<(), Fail> {
+    let activation = activation(2, Some(1), Some(2))?.ok_or("in order")?;
+    assert_eq!(rt; activation.granted(), JoinNonce::new(2));
+    assert_eq!(rt; activation.current(), in_use(Some(1))?);
+    assert_eq!(rt; activation.pending(), waiting(Some(2))?);
+    Ok(())
+}
+
+#[test]
+fn a_new_device_has_empty_queues(rt: HostRuntime) -> Result<(), Fail> {
+    let device = brought(rt.alloc(), DEVICE)?;
     assert_eq!(rt; device.dev_eui, DEVICE);
     assert!(rt; device.items.as_slice().is_empty());
     assert!(rt; device.mac_queue.as_slice().is_empty());
+    Ok(())
+}
+
+fn is_as_its_copy(device: &Device) -> Result<bool, Fail> {
     let copy = device.copy()?;
-    assert!(rt; copy.same_as(&device));
+    Ok(copy.same_as(device))
+}
+
+#[test]
+fn a_device_is_copied_whole(rt: HostRuntime) -> Result<(), Fail> {
+    assert!(rt; is_as_its_copy(&brought(rt.alloc(), DEVICE)?)?);
+    Ok(())
+}
+
+#[test]
+fn a_device_with_another_tag_is_another(rt: HostRuntime) -> Result<(), Fail> {
+    let mut device = brought(rt.alloc(), DEVICE)?;
     device.awaited = Some(Tag(1));
-    assert!(rt; !copy.same_as(&device));
+    assert!(rt; !device.same_as(&brought(rt.alloc(), DEVICE)?));
     Ok(())
 }
 
@@ -140,7 +196,7 @@ fn effects_leave_in_order(rt: HostRuntime) -> Result<(), Fail> {
     for slot in [4, 5, 6, 7] {
         assert!(rt; effects.as_slice().len() < Effects::MOST);
         effects.push(Effect::Report {
-            application: provisioning(DEVICE)?.application,
+            application: application()?,
             dev_eui: DEVICE,
             report: Report::Provisioned { slot },
         })?;
@@ -159,39 +215,35 @@ fn effects_leave_in_order(rt: HostRuntime) -> Result<(), Fail> {
     Ok(())
 }
 
-fn downlink(alloc: Global) -> Result<Downlink, Fail> {
-    Ok(Downlink {
-        gateway: Eui(0xB1),
-        stamp: 1,
-        frequency: 868_500_000,
-        data_rate: 2,
-        delay: RxDelay::new(5).ok_or("delay")?,
-        windows: Windows::Rx1OrRx2,
-        frame: PhyPayload::empty(alloc),
-    })
-}
-
 #[test]
-fn effects_have_their_marks(rt: HostRuntime) -> Result<(), Fail> {
+fn a_downlink_has_its_mark(rt: HostRuntime) -> Result<(), Fail> {
     let session = name(7)?;
-    let downlink = downlink(rt.alloc())?;
-    let accept = Effect::Accept {
-        session,
-        downlink: downlink.clone()?,
-    };
-    assert_eq!(rt; accept.mark(), Some(Mark::Granted { session }));
     let down = Effect::Down {
         session,
         counter: 9,
-        downlink,
+        downlink: empty_downlink(rt.alloc())?,
     };
-    assert_eq!(rt;
-        down.mark(),
-        Some(Mark::Sent {
-            session,
-            counter: 9
-        })
-    );
+    let mark = Mark::Sent {
+        session,
+        counter: 9,
+    };
+    assert_eq!(rt; down.mark(), Some(mark));
+    Ok(())
+}
+
+#[test]
+fn an_accept_has_its_mark(rt: HostRuntime) -> Result<(), Fail> {
+    let session = name(7)?;
+    let accept = Effect::Accept {
+        session,
+        downlink: empty_downlink(rt.alloc())?,
+    };
+    assert_eq!(rt; accept.mark(), Some(Mark::Granted { session }));
+    Ok(())
+}
+
+#[test]
+fn a_report_has_no_mark(rt: HostRuntime) -> Result<(), Fail> {
     let report = Effect::Report {
         application: application()?,
         dev_eui: DEVICE,
@@ -201,45 +253,63 @@ fn effects_have_their_marks(rt: HostRuntime) -> Result<(), Fail> {
     Ok(())
 }
 
+// How a gateway heard a frame.
+fn hearing(gateway: u64, frequency: u32, data_rate: u8) -> Hearing {
+    Hearing {
+        reception: Reception {
+            gateway: Eui(gateway),
+            frequency,
+            data_rate,
+            snr: -20,
+            rssi: -95,
+        },
+        stamp: 7,
+    }
+}
+
 // So many copies, each of a gateway of its own.
 fn hearings(alloc: Global, count: u64) -> Result<Vec<Hearing>, Fail> {
     let mut hearings = Vec::new(alloc);
     for gateway in 0..count {
-        let reception = Reception {
-            gateway: Eui(gateway),
-            frequency: 868_500_000,
-            data_rate: 5,
-            snr: -20,
-            rssi: -95,
-        };
-        let hearing = Hearing {
-            reception,
-            stamp: 7,
-        };
+        let hearing = hearing(gateway, 868_500_000, 5);
         hearings.push(hearing).ok().ok_or("memory")?;
     }
     Ok(hearings)
 }
 
+// A frame that so many gateways heard.
+fn heard(alloc: Global, count: u64) -> Result<Option<Heard>, Fail> {
+    let frame = PhyPayload::from_slice(alloc, &[0x40; 12])?;
+    Ok(Heard::new(frame, hearings(alloc, count)?))
+}
+
 #[test]
 fn from_1_to_32_gateways_hear_a_frame(rt: HostRuntime) -> Result<(), Fail> {
-    let alloc = rt.alloc();
     for (count, may) in [(0, false), (1, true), (32, true), (33, false)] {
-        let frame = PhyPayload::from_slice(alloc, &[0x40; 12])?;
-        let heard = Heard::new(frame, hearings(alloc, count)?);
-        assert_eq!(rt; heard.is_some(), may, "{count}");
-        let Some(heard) = heard else {
-            continue;
-        };
-        assert_eq!(rt; heard.phy_payload(), [0x40; 12].as_slice());
-        assert!(rt; heard.hearings() == hearings(alloc, count)?.as_slice());
+        assert_eq!(rt; heard(rt.alloc(), count)?.is_some(), may, "{count}");
     }
     Ok(())
 }
 
 #[test]
+fn what_was_heard_is_kept(rt: HostRuntime) -> Result<(), Fail> {
+    for count in [1, 32] {
+        let heard = heard(rt.alloc(), count)?.ok_or("at most 32")?;
+        assert_eq!(rt; heard.phy_payload(), [0x40; 12].as_slice());
+        assert!(rt; heard.hearings() == hearings(rt.alloc(), count)?.as_slice());
+    }
+    Ok(())
+}
+
+// Whether a frame that gateways 0 and 1 heard may also be heard so.
+fn may_be_heard(alloc: Global, last: Hearing) -> Result<bool, Fail> {
+    let mut hearings = hearings(alloc, 2)?;
+    hearings.push(last).ok().ok_or("memory")?;
+    Ok(Heard::new(PhyPayload::empty(alloc), hearings).is_some())
+}
+
+#[test]
 fn copies_are_of_different_gateways_on_channels(rt: HostRuntime) -> Result<(), Fail> {
-    let alloc = rt.alloc();
     for (frequency, data_rate, gateway, may) in [
         (868_100_000, 0, 9, true),
         (868_300_000, 5, 9, true),
@@ -247,13 +317,12 @@ fn copies_are_of_different_gateways_on_channels(rt: HostRuntime) -> Result<(), F
         (868_100_000, 6, 9, false),
         (868_100_000, 0, 1, false),
     ] {
-        let mut hearings = hearings(alloc, 3)?;
-        let last = hearings.last_mut().ok_or("three")?;
-        last.reception.frequency = frequency;
-        last.reception.data_rate = data_rate;
-        last.reception.gateway = Eui(gateway);
-        let heard = Heard::new(PhyPayload::empty(alloc), hearings);
-        assert_eq!(rt; heard.is_some(), may, "{frequency} {data_rate} {gateway}");
+        let last = hearing(gateway, frequency, data_rate);
+        assert_eq!(rt;
+            may_be_heard(rt.alloc(), last)?,
+            may,
+            "{frequency} {data_rate} {gateway}"
+        );
     }
     Ok(())
 }

@@ -1,13 +1,15 @@
 // Values that several tests are about.
 use devices::{
-    Application, CurrentSession, Device, Item, NextDown, Payload, Port, Provisioning, Rx1Offset,
-    RxDelay, Session, SessionName, Tag,
+    Application, CurrentSession, Device, Downlink, Item, NextDown, Payload, Port, Provisioning,
+    Rx1Offset, RxDelay, Session, SessionName, Tag, Windows,
 };
-use lw_types::{Eui, JoinNonce, Key};
+use lw_types::{Eui, JoinNonce, Key, PhyPayload};
 use std::alloc::Global;
 use std::test::Fail;
 
 pub const DEVICE: Eui = Eui(0x1112_1314_1516_1718);
+
+pub const GATEWAY: Eui = Eui(0xB1);
 
 pub const JOIN_EUI: Eui = Eui(0x0102_0304_0506_0708);
 
@@ -73,4 +75,26 @@ pub fn item(alloc: Global, tag: u32, len: usize) -> Result<Item, Fail> {
         confirmed: true,
         payload: payload.ok().ok_or("at most 242 bytes")?,
     })
+}
+
+// A downlink of no bytes, five seconds later.
+pub fn empty_downlink(alloc: Global) -> Result<Downlink, Fail> {
+    Ok(Downlink {
+        gateway: GATEWAY,
+        stamp: 1,
+        frequency: 868_500_000,
+        data_rate: 2,
+        delay: RxDelay::new(5).ok_or("delay")?,
+        windows: Windows::Rx1OrRx2,
+        frame: PhyPayload::empty(alloc),
+    })
+}
+
+// So many items of this length, tagged from 0 on.
+pub fn items(alloc: Global, count: u32, len: usize) -> Result<Vec<Item>, Fail> {
+    let mut items = Vec::new(alloc);
+    for tag in 0..count {
+        items.push(item(alloc, tag, len)?).ok().ok_or("memory")?;
+    }
+    Ok(items)
 }

@@ -1,5 +1,6 @@
 use crate::fixtures::{
-    DEVICE, JOIN_EUI, KEY, application, brought, current, item, name, nonce, provisioning,
+    DEVICE, GATEWAY, JOIN_EUI, KEY, application, brought, current, empty_downlink, items, name,
+    nonce, provisioning,
 };
 use devices::{
     Activation, Application, Command, Copies, Device, Downlink, Effect, ItemQueue, Mark, Payload,
@@ -9,24 +10,33 @@ use gateway_wire::{
     Emission, Request, app_line, gateway_bytes, list_text, next_ranged, next_value, read_line,
     read_request,
 };
-use lw_types::{Eui, NetId, PhyPayload, Reception, Refusal, Words, read_hex};
+use lw_types::{Eui, NetId, PhyPayload, Reception, Refusal, Words, read_hex, write_hex};
 use sessions::{Slots, Table};
 use std::alloc::Global;
 use std::process::Abort;
 use std::test::Fail;
 
-const GATEWAY: Eui = Eui(0xB1);
-
 fn payload(alloc: Global, hex: &str) -> Result<Payload, Fail> {
     Ok(Payload::new(read_hex(alloc, hex)?).ok().ok_or("payload")?)
 }
 
-fn downlink(
-    alloc: Global,
-    data_rate: u8,
-    windows: Windows,
-    frame: Vec<u8>,
-) -> Result<Effect, Fail> {
+// The bytes of a text, and so many of A5 behind them.
+fn followed(alloc: Global, hex: &str, count: usize) -> Result<Vec<u8>, Fail> {
+    let mut bytes = read_hex(alloc, hex)?;
+    bytes.extend_from_slice(vec![in alloc; 0xA5; count]?.as_slice())?;
+    Ok(bytes)
+}
+
+fn frame(alloc: Global, hex: &str, count: usize) -> Result<PhyPayload, Fail> {
+    Ok(
+        PhyPayload::new(followed(alloc, hex, count)?)
+            .ok()
+            .ok_or("frame")?,
+    )
+}
+
+// A frame in a downlink, one second later.
+fn downlink(data_rate: u8, windows: Windows, frame: PhyPayload) -> Result<Effect, Fail> {
     Ok(Effect::Down {
         session: name(1)?,
         counter: 0,
@@ -37,7 +47,7 @@ fn downlink(
             data_rate,
             delay: RxDelay::new(1).ok_or("delay")?,
             windows,
-            frame: PhyPayload::new(frame).ok().ok_or("frame")?,
+            frame,
         },
     })
 }
@@ -50,41 +60,69 @@ fn report(report: Report) -> Result<Effect, Fail> {
     })
 }
 
+// These bytes, for the gateway.
+fn is_frame(rt: &impl Abort, emission: &Emission, bytes: &[u8]) {
+    match emission {
+        Emission::Gateway { gateway, frame } => {
+            assert_eq!(rt; *gateway, GATEWAY);
+            assert_eq!(rt; frame.as_slice(), bytes);
+        }
+        Emission::Application { .. } => assert!(rt; false),
+    }
+}
+
 // The effect leaves as these bytes for its gateway, and as nothing for an application.
 fn is_sent(rt: &impl Abort, alloc: Global, effect: &Effect, bytes: &[u8]) -> Result<(), Fail> {
     let frame = gateway_bytes(alloc, effect)?.ok_or("for a gateway")?;
     assert_eq!(rt; frame.as_slice(), bytes);
     assert!(rt; app_line(alloc, effect)?.is_none());
-    match Emission::of(alloc, effect)? {
-        Emission::Gateway { gateway, frame } => {
-            assert_eq!(rt; gateway, GATEWAY);
-            assert_eq!(rt; frame.as_slice(), bytes);
-        }
-        Emission::Application { .. } => assert!(rt; false),
-    }
+    is_frame(rt, &Emission::of(alloc, effect)?, bytes);
     Ok(())
 }
 
-#[test]
-fn a_downlink_is_a_frame_of_the_wire(rt: HostRuntime) -> Result<(), Fail> {
-    let alloc = rt.alloc();
-    let frame = read_hex(alloc, "6001000054300000AABBCCDD")?;
-    let text = "00201100000000000000B10000C35033BE27A00001026001000054300000AABBCCDD";
-    let bytes = read_hex(alloc, text)?;
-    let effect = downlink(alloc, 0, Windows::Rx1OrRx2, frame)?;
-    is_sent(&rt, alloc, &effect, bytes.as_slice())
+// This frame leaves as these bytes, both followed by so many of A5.
+fn sends(
+    rt: &impl Abort,
+    alloc: Global,
+    data_rate: u8,
+    windows: Windows,
+    hex: &str,
+    wire: &str,
+    count: usize,
+) -> Result<(), Fail> {
+    let effect = downlink(data_rate, windows, frame(alloc, hex, count)?)?;
+    is_sent(rt, alloc, &effect, followed(alloc, wire, count)?.as_slice())
 }
 
+// The shortest one, a long one, and the longest.
 #[test]
-fn a_long_downlink_is_one_too(rt: HostRuntime) -> Result<(), Fail> {
-    let alloc = rt.alloc();
-    let mut frame = read_hex(alloc, "600100005400010007")?;
-    frame.extend_from_slice(&[0x5A; 104])?;
-    let text = "00851100000000000000B10000C35033BE27A0050100600100005400010007";
-    let mut bytes = read_hex(alloc, text)?;
-    bytes.extend_from_slice(&[0x5A; 104])?;
-    let effect = downlink(alloc, 5, Windows::Rx1, frame)?;
-    is_sent(&rt, alloc, &effect, bytes.as_slice())
+fn downlinks_are_frames_of_the_wire(rt: HostRuntime) -> Result<(), Fail> {
+    for (data_rate, windows, hex, wire, count) in [
+        (
+            0,
+            Windows::Rx1OrRx2,
+            "6001000054300000AABBCCDD",
+            "00201100000000000000B10000C35033BE27A00001026001000054300000AABBCCDD",
+            0,
+        ),
+        (
+            5,
+            Windows::Rx1,
+            "600100005400010007",
+            "00851100000000000000B10000C35033BE27A0050100600100005400010007",
+            104,
+        ),
+        (
+            0,
+            Windows::Rx1OrRx2,
+            "",
+            "01131100000000000000B10000C35033BE27A0000102",
+            255,
+        ),
+    ] {
+        sends(&rt, rt.alloc(), data_rate, windows, hex, wire, count)?;
+    }
+    Ok(())
 }
 
 #[test]
@@ -92,20 +130,21 @@ fn an_accept_goes_to_its_gateway(rt: HostRuntime) -> Result<(), Fail> {
     let alloc = rt.alloc();
     let accept = Effect::Accept {
         session: name(1)?,
-        downlink: Downlink {
-            gateway: GATEWAY,
-            stamp: 1,
-            frequency: 868_500_000,
-            data_rate: 2,
-            delay: RxDelay::new(5).ok_or("delay")?,
-            windows: Windows::Rx1OrRx2,
-            frame: PhyPayload::empty(alloc),
-        },
+        downlink: empty_downlink(alloc)?,
     };
-    let frame = gateway_bytes(alloc, &accept)?.ok_or("for a gateway")?;
     let bytes = read_hex(alloc, "00141100000000000000B10000000133C44220020506")?;
-    assert_eq!(rt; frame.as_slice(), bytes.as_slice());
-    Ok(())
+    is_sent(&rt, alloc, &accept, bytes.as_slice())
+}
+
+// These words, for application 3.
+fn is_line(rt: &impl Abort, emission: &Emission, text: &str) {
+    match emission {
+        Emission::Application { application, line } => {
+            assert_eq!(rt; application.get(), 3);
+            assert_eq!(rt; line.as_str(), text);
+        }
+        Emission::Gateway { .. } => assert!(rt; false),
+    }
 }
 
 // The effect leaves as this line for its application, and as nothing for a gateway.
@@ -113,28 +152,18 @@ fn is_told(rt: &impl Abort, alloc: Global, effect: &Effect, text: &str) -> Resul
     let line = app_line(alloc, effect)?.ok_or("for an application")?;
     assert_eq!(rt; line.as_str(), text);
     assert!(rt; gateway_bytes(alloc, effect)?.is_none());
-    match Emission::of(alloc, effect)? {
-        Emission::Application {
-            application: to,
-            line,
-        } => {
-            assert_eq!(rt; to, application()?);
-            assert_eq!(rt; line.as_str(), text);
-        }
-        Emission::Gateway { .. } => assert!(rt; false),
-    }
+    is_line(rt, &Emission::of(alloc, effect)?, text);
     Ok(())
 }
 
-#[test]
-fn a_payload_is_told_with_its_reception(rt: HostRuntime) -> Result<(), Fail> {
-    let alloc = rt.alloc();
-    let forward = Effect::Forward {
+// A payload of the last session that there may be, at its last counter.
+fn forward(payload: Payload) -> Result<Effect, Fail> {
+    Ok(Effect::Forward {
         application: application()?,
         session: name(16_777_215)?,
         counter: 4_294_967_295,
         port: Port::new(223).ok_or("port")?,
-        payload: payload(alloc, "00FF")?,
+        payload,
         copies: Copies::new(32).ok_or("copies")?,
         best: Reception {
             gateway: GATEWAY,
@@ -143,66 +172,88 @@ fn a_payload_is_told_with_its_reception(rt: HostRuntime) -> Result<(), Fail> {
             snr: -20,
             rssi: -95,
         },
-    };
-    let mark = Mark::Forwarded {
-        session: name(16_777_215)?,
-        counter: 4_294_967_295,
-    };
-    assert_eq!(rt; forward.mark(), Some(mark));
+    })
+}
+
+#[test]
+fn a_payload_is_told_with_its_reception(rt: HostRuntime) -> Result<(), Fail> {
+    let alloc = rt.alloc();
+    let forward = forward(payload(alloc, "00FF")?)?;
     let text =
         "up 1112131415161718 16777215 4294967295 223 00FF 32 00000000000000B1 868100000 5 -20 -95";
     is_told(&rt, alloc, &forward, text)
 }
 
 #[test]
-fn reports_are_told_in_lines(rt: HostRuntime) -> Result<(), Fail> {
-    let join_nonce = nonce(1)?;
-    for (told, text) in [
-        (
-            Report::Provisioned { slot: 0 },
-            "provisioned 1112131415161718 0",
-        ),
-        (Report::Queued { tag: Tag(9) }, "queued 1112131415161718 9"),
-        (
-            Report::Acked {
-                tag: Tag(4_294_967_295),
-            },
-            "acked 1112131415161718 4294967295",
-        ),
-        (Report::Lost { tag: Tag(0) }, "lost 1112131415161718 0"),
-        (Report::Spent { join_nonce }, "spent 1112131415161718 1"),
-    ] {
-        is_told(&rt, rt.alloc(), &report(told)?, text)?;
-    }
+fn a_forward_has_its_mark(rt: HostRuntime) -> Result<(), Fail> {
+    let mark = Mark::Forwarded {
+        session: name(16_777_215)?,
+        counter: 4_294_967_295,
+    };
+    assert_eq!(rt; forward(payload(rt.alloc(), "")?)?.mark(), Some(mark));
     Ok(())
+}
+
+fn is_reported(rt: &impl Abort, alloc: Global, told: Report, text: &str) -> Result<(), Fail> {
+    is_told(rt, alloc, &report(told)?, text)
+}
+
+#[test]
+fn reports_are_told_in_lines(rt: HostRuntime) -> Result<(), Fail> {
+    let (slot, join_nonce) = (0, nonce(1)?);
+    let spent = Report::Spent { join_nonce };
+    is_reported(&rt, rt.alloc(), spent, "spent 1112131415161718 1")?;
+    let brought = Report::Provisioned { slot };
+    is_reported(&rt, rt.alloc(), brought, "provisioned 1112131415161718 0")
+}
+
+#[test]
+fn items_are_told_by_their_tags(rt: HostRuntime) -> Result<(), Fail> {
+    let queued = Report::Queued { tag: Tag(9) };
+    is_reported(&rt, rt.alloc(), queued, "queued 1112131415161718 9")?;
+    let tag = Tag(4_294_967_295);
+    let text = "acked 1112131415161718 4294967295";
+    is_reported(&rt, rt.alloc(), Report::Acked { tag }, text)?;
+    let lost = Report::Lost { tag: Tag(0) };
+    is_reported(&rt, rt.alloc(), lost, "lost 1112131415161718 0")
+}
+
+#[test]
+fn queued_commands_are_told_as_byte_texts(rt: HostRuntime) -> Result<(), Fail> {
+    let commands = payload(rt.alloc(), "06")?;
+    let queued = Report::MacQueued { commands };
+    is_reported(&rt, rt.alloc(), queued, "macqueued 1112131415161718 06")
+}
+
+// The report that these commands were sent.
+fn sent(commands: Payload) -> Result<Report, Fail> {
+    Ok(Report::Mac {
+        join_nonce: nonce(1)?,
+        commands,
+    })
 }
 
 #[test]
 fn commands_are_told_as_byte_texts(rt: HostRuntime) -> Result<(), Fail> {
-    let alloc = rt.alloc();
-    let commands = payload(alloc, "06")?;
-    let queued = report(Report::MacQueued { commands })?;
-    is_told(&rt, alloc, &queued, "macqueued 1112131415161718 06")?;
     for (hex, text) in [
         ("0307", "mac 1112131415161718 1 0307"),
         ("", "mac 1112131415161718 1 -"),
     ] {
-        let sent = report(Report::Mac {
-            join_nonce: nonce(1)?,
-            commands: payload(alloc, hex)?,
-        })?;
-        is_told(&rt, alloc, &sent, text)?;
+        let sent = sent(payload(rt.alloc(), hex)?)?;
+        is_reported(&rt, rt.alloc(), sent, text)?;
     }
     Ok(())
 }
 
+fn provisioned(alloc: Global, slot: u16) -> Result<Emission, Fail> {
+    Ok(Emission::of(alloc, &report(Report::Provisioned { slot })?)?)
+}
+
 #[test]
 fn an_emission_is_copied_whole(rt: HostRuntime) -> Result<(), Fail> {
-    let alloc = rt.alloc();
-    let emission = Emission::of(alloc, &report(Report::Provisioned { slot: 7 })?)?;
+    let emission = provisioned(rt.alloc(), 7)?;
     assert!(rt; emission.clone()? == emission);
-    let other = Emission::of(alloc, &report(Report::Provisioned { slot: 8 })?)?;
-    assert!(rt; emission != other);
+    assert!(rt; emission != provisioned(rt.alloc(), 8)?);
     Ok(())
 }
 
@@ -216,22 +267,30 @@ fn provision() -> Result<Request, Fail> {
     })
 }
 
+const FIELDS: &str = "1112131415161718 0102030405060708 2B7E151628AED2A6ABF7158809CF4F3C 5 15";
+
 #[test]
-fn a_provisioning_is_asked_for(rt: HostRuntime) -> Result<(), Fail> {
-    let alloc = rt.alloc();
-    let fields = "1112131415161718 0102030405060708 2B7E151628AED2A6ABF7158809CF4F3C 5 15";
-    let line = format!(in alloc; "provision {fields}")?;
-    let request = read_line(alloc, line.as_str())?;
-    assert!(rt; request == provision()?);
-    let request = read_request(alloc, "provision", Words::of(fields))?;
+fn a_provisioning_is_read_of_its_line(rt: HostRuntime) -> Result<(), Fail> {
+    let line = format!(in rt.alloc(); "provision {FIELDS}")?;
+    assert!(rt; read_line(rt.alloc(), line.as_str())? == provision()?);
+    Ok(())
+}
+
+#[test]
+fn a_provisioning_is_read_of_its_words(rt: HostRuntime) -> Result<(), Fail> {
+    let request = read_request(rt.alloc(), "provision", Words::of(FIELDS))?;
     assert!(rt; request.clone()? == provision()?);
-    let command = request.into_command(application()?);
+    Ok(())
+}
+
+#[test]
+fn a_provisioning_is_a_command(rt: HostRuntime) -> Result<(), Fail> {
     let asked = Provisioning {
         rx1_offset: Rx1Offset::new(5).ok_or("offset")?,
         rx_delay: RxDelay::new(15).ok_or("delay")?,
         ..provisioning(DEVICE)?
     };
-    assert!(rt; command == Command::Provision(asked));
+    assert!(rt; provision()?.into_command(application()?) == Command::Provision(asked));
     Ok(())
 }
 
@@ -281,14 +340,13 @@ fn words_are_values(rt: HostRuntime) {
 
 // A device with a session in use and one item.
 fn busy(alloc: Global) -> Result<Device, Fail> {
-    let mut device = brought(alloc, Eui(0xAB))?;
-    device.activation = Activation::new(Some(nonce(5)?), Some(current(3, 70)?), None).ok_or(
-        "in order",
-    )?;
-    device.items = ItemQueue::new(vec![in alloc; item(alloc, 9, 1)?]?)
-        .ok()
-        .ok_or("one item")?;
-    Ok(device)
+    let activation = Activation::new(Some(nonce(5)?), Some(current(3, 70)?), None);
+    let items = ItemQueue::new(items(alloc, 1, 1)?);
+    Ok(Device {
+        activation: activation.ok_or("in order")?,
+        items: items.ok().ok_or("one item")?,
+        ..brought(alloc, Eui(0xAB))?
+    })
 }
 
 fn is_listed(
@@ -317,32 +375,41 @@ fn devices_are_listed_by_slot(rt: HostRuntime) -> Result<(), Fail> {
     is_listed(&rt, alloc, &table, u64::MAX, two)
 }
 
-// A text of 242 bytes of A5, behind these words.
-fn with_a5(alloc: Global, words: &str) -> Result<String, Fail> {
-    let mut text = String::from_str(alloc, words)?;
-    for _ in 0..242 {
-        text.push_str("A5")?;
-    }
-    Ok(text)
+// 242 bytes of A5.
+fn long_payload(alloc: Global) -> Result<Payload, Fail> {
+    Ok(Payload::from_slice(alloc, &[0xA5; 242])?)
+}
+
+// Their text between these words.
+fn long_text(alloc: Global, front: &str, back: &str) -> Result<String, Fail> {
+    let hex = write_hex(alloc, &[0xA5; 242])?;
+    Ok(format!(in alloc; "{front} {hex}{back}")?)
 }
 
 #[test]
-fn the_longest_texts_are_told(rt: HostRuntime) -> Result<(), Fail> {
-    let alloc = rt.alloc();
-    let commands = Payload::from_slice(alloc, &[0xA5; 242])?;
-    let sent = report(Report::Mac {
-        join_nonce: nonce(1)?,
-        commands,
-    })?;
-    let text = with_a5(alloc, "mac 1112131415161718 1 ")?;
-    is_told(&rt, alloc, &sent, text.as_str())
+fn the_longest_commands_are_told(rt: HostRuntime) -> Result<(), Fail> {
+    let text = long_text(rt.alloc(), "mac 1112131415161718 1", "")?;
+    let sent = sent(long_payload(rt.alloc())?)?;
+    is_reported(&rt, rt.alloc(), sent, text.as_str())
 }
 
 #[test]
-fn the_longest_frame_is_sent(rt: HostRuntime) -> Result<(), Fail> {
-    let alloc = rt.alloc();
-    let effect = downlink(alloc, 0, Windows::Rx1OrRx2, vec![in alloc; 0xA5; 255]?)?;
-    let mut bytes = read_hex(alloc, "01131100000000000000B10000C35033BE27A0000102")?;
-    bytes.extend_from_slice(&[0xA5; 255])?;
-    is_sent(&rt, alloc, &effect, bytes.as_slice())
+fn the_longest_queue_is_told(rt: HostRuntime) -> Result<(), Fail> {
+    let text = long_text(rt.alloc(), "macqueued 1112131415161718", "")?;
+    let commands = long_payload(rt.alloc())?;
+    is_reported(
+        &rt,
+        rt.alloc(),
+        Report::MacQueued { commands },
+        text.as_str(),
+    )
+}
+
+#[test]
+fn the_longest_payload_is_told(rt: HostRuntime) -> Result<(), Fail> {
+    let front = "up 1112131415161718 16777215 4294967295 223";
+    let back = " 32 00000000000000B1 868100000 5 -20 -95";
+    let text = long_text(rt.alloc(), front, back)?;
+    let forward = forward(long_payload(rt.alloc())?)?;
+    is_told(&rt, rt.alloc(), &forward, text.as_str())
 }

@@ -2,6 +2,7 @@ use lw_types::{
     ByteField, DevAddr, Eui, FrameCopy, FromText, JoinNonce, Key, LONGEST_FRAME, LONGEST_PAYLOAD,
     NetId, Payload, Ranged, Reception, Refusal, Words, read_field, read_hex, write_hex,
 };
+use std::alloc::Global;
 use std::process::Abort;
 use std::test::Fail;
 
@@ -27,37 +28,51 @@ fn refusals_have_numbers_and_messages(rt: HostRuntime) -> Result<(), Fail> {
     Ok(())
 }
 
+// The bytes have this text as hex, and are read of it.
+fn has_hex(rt: &impl Abort, alloc: Global, bytes: &[u8], text: &str) -> Result<(), Fail> {
+    assert_eq!(rt; write_hex(alloc, bytes)?.as_str(), text);
+    assert_eq!(rt; read_hex(alloc, text)?.as_slice(), bytes);
+    Ok(())
+}
+
 #[test]
 fn bytes_are_upper_case_hex(rt: HostRuntime) -> Result<(), Fail> {
-    let alloc = rt.alloc();
-    let text = write_hex(alloc, &[0, 0x5A, 0xFF])?;
-    assert_eq!(rt; text.as_str(), "005AFF");
-    let bytes = read_hex(alloc, "005AFF")?;
-    assert_eq!(rt; bytes.as_slice(), [0, 0x5A, 0xFF].as_slice());
-    let nothing = read_hex(alloc, "")?;
-    assert!(rt; nothing.is_empty());
+    has_hex(&rt, rt.alloc(), &[0, 0x5A, 0xFF], "005AFF")?;
+    has_hex(&rt, rt.alloc(), &[], "")
+}
+
+#[test]
+fn other_texts_are_no_hex(rt: HostRuntime) {
     for bad in ["5a", "5", "5G", "-", " 5A", "5A\n"] {
         assert!(rt;
-            matches!(read_hex(alloc, bad), Err(Refusal::BadMessage)),
+            matches!(read_hex(rt.alloc(), bad), Err(Refusal::BadMessage)),
             "{bad}"
         );
     }
+}
+
+// The bytes have this text in a line, and are read of it.
+fn has_field(rt: &impl Abort, alloc: Global, bytes: &[u8], text: &str) -> Result<(), Fail> {
+    assert_eq!(rt; ByteField(bytes).to_string(alloc)?.as_str(), text);
+    assert_eq!(rt; read_field(alloc, text)?.as_slice(), bytes);
     Ok(())
 }
 
 #[test]
 fn no_bytes_are_a_dash_in_a_line(rt: HostRuntime) -> Result<(), Fail> {
-    let alloc = rt.alloc();
-    let shown = ByteField(&[]).to_string(alloc)?;
-    assert_eq!(rt; shown.as_str(), "-");
-    let shown = ByteField(&[0x40]).to_string(alloc)?;
-    assert_eq!(rt; shown.as_str(), "40");
-    let nothing = read_field(alloc, "-")?;
-    assert!(rt; nothing.is_empty());
-    let bytes = read_field(alloc, "40")?;
-    assert_eq!(rt; bytes.as_slice(), [0x40].as_slice());
-    assert!(rt; matches!(read_field(alloc, ""), Err(Refusal::BadMessage)));
+    has_field(&rt, rt.alloc(), &[], "-")?;
+    has_field(&rt, rt.alloc(), &[0x40], "40")?;
+    assert!(rt; matches!(read_field(rt.alloc(), ""), Err(Refusal::BadMessage)));
     Ok(())
+}
+
+#[test]
+fn long_texts_are_read_again(rt: HostRuntime) -> Result<(), Fail> {
+    let bytes = vec![in rt.alloc(); 0xA5; LONGEST_PAYLOAD]?;
+    let text = write_hex(rt.alloc(), bytes.as_slice())?;
+    assert_eq!(rt; text.len(), 2 * LONGEST_PAYLOAD);
+    has_hex(&rt, rt.alloc(), bytes.as_slice(), text.as_str())?;
+    has_field(&rt, rt.alloc(), bytes.as_slice(), text.as_str())
 }
 
 fn reads<T: FromText + PartialEq + Drop>(rt: &impl Abort, text: &str, value: T) {
@@ -135,17 +150,24 @@ fn no_key_is_shown_by_debug(rt: HostRuntime) -> Result<(), Fail> {
 }
 
 #[test]
-fn bytes_are_bounded(rt: HostRuntime) -> Result<(), Fail> {
-    let alloc = rt.alloc();
-    let content = [0xA5; LONGEST_PAYLOAD + 1];
+fn bytes_are_kept(rt: HostRuntime) -> Result<(), Fail> {
     for len in [0, 1, LONGEST_PAYLOAD] {
-        let bytes = Payload::from_slice(alloc, &content[..len])?;
+        let content = vec![in rt.alloc(); 0xA5; len]?;
+        assert!(rt; len <= LONGEST_PAYLOAD);
+        let bytes = Payload::from_slice(rt.alloc(), content.as_slice())?;
         assert_eq!(rt; bytes.len(), len);
         assert_eq!(rt; bytes.is_empty(), len == 0);
-        assert_eq!(rt; bytes.as_slice(), &content[..len]);
-        assert_eq!(rt; bytes.into_vec().len(), len);
+        assert_eq!(rt; bytes.into_vec(), content);
     }
-    assert!(rt; Payload::new(content.to_vec(alloc)?).is_err());
+    Ok(())
+}
+
+#[test]
+fn bytes_are_bounded(rt: HostRuntime) -> Result<(), Fail> {
+    for (len, may) in [(LONGEST_PAYLOAD, true), (LONGEST_PAYLOAD + 1, false)] {
+        let bytes = Payload::new(vec![in rt.alloc(); 0xA5; len]?);
+        assert_eq!(rt; bytes.is_ok(), may, "{len}");
+    }
     Ok(())
 }
 
@@ -155,6 +177,10 @@ fn ranges_have_their_ends(rt: HostRuntime) {
         assert_eq!(rt; Ranged::<3, 5>::new(value).is_some(), is_in, "{value}");
     }
     assert!(rt; Ranged::<3, 5>::new(4).is_some_and(|number| number.get() == 4));
+}
+
+#[test]
+fn join_nonces_have_24_bits(rt: HostRuntime) {
     for (value, is_in) in [
         (0, false),
         (1, true),
@@ -177,24 +203,36 @@ fn words_are_parted_by_one_space(rt: HostRuntime) {
     assert!(rt; words.next().is_none());
 }
 
+const RECEPTION: Reception = Reception {
+    gateway: Eui(0xB1),
+    frequency: 868_100_000,
+    data_rate: 5,
+    snr: -20,
+    rssi: -95,
+};
+
+// A copy of a frame of so many bytes, copied once more.
+fn copied(alloc: Global, len: usize) -> Result<FrameCopy, Refusal> {
+    let bytes = vec![in alloc; 0x40; len]?;
+    Ok(FrameCopy::new(alloc, RECEPTION, 50_000, bytes.as_slice())?.copy()?)
+}
+
 #[test]
-fn copies_have_at_most_255_bytes(rt: HostRuntime) -> Result<(), Fail> {
-    let reception = Reception {
-        gateway: Eui(0xB1),
-        frequency: 868_100_000,
-        data_rate: 5,
-        snr: -20,
-        rssi: -95,
-    };
-    let alloc = rt.alloc();
-    let bytes = [0x40; LONGEST_FRAME + 1];
+fn copies_are_whole(rt: HostRuntime) -> Result<(), Fail> {
     for len in [0, 17, LONGEST_FRAME] {
-        let copy = FrameCopy::new(alloc, reception, 50_000, &bytes[..len])?.copy()?;
-        assert_eq!(rt; copy.reception, reception);
+        let copy = copied(rt.alloc(), len)?;
+        assert_eq!(rt; copy.reception, RECEPTION);
         assert_eq!(rt; copy.stamp, 50_000);
-        assert_eq!(rt; copy.phy_payload.as_slice(), &bytes[..len]);
+        assert_eq!(rt;
+            copy.phy_payload.into_vec(),
+            vec![in rt.alloc(); 0x40; len]?
+        );
     }
-    let long = FrameCopy::new(alloc, reception, 50_000, &bytes);
-    assert!(rt; matches!(long, Err(Refusal::FrameTooLong)));
     Ok(())
+}
+
+#[test]
+fn copies_have_at_most_255_bytes(rt: HostRuntime) {
+    let long = copied(rt.alloc(), LONGEST_FRAME + 1);
+    assert!(rt; matches!(long, Err(Refusal::FrameTooLong)));
 }

@@ -4,6 +4,7 @@ use mac_commands::{
     fit15,
 };
 use std::alloc::Global;
+use std::process::Abort;
 use std::test::Fail;
 
 // Each command of TS001-1.0.4 §5, with the length of its payload in an uplink and in a downlink.
@@ -49,22 +50,49 @@ fn read(alloc: Global, direction: Direction, bytes: &[u8]) -> Result<Decoded, Re
 }
 
 #[test]
-fn reading_stops_where_no_known_command_begins(rt: HostRuntime) -> Result<(), Fail> {
+fn reading_stops_at_the_end(rt: HostRuntime) -> Result<(), Fail> {
     let alloc = rt.alloc();
-    let known = Decoded {
-        commands: vec![in alloc;
-            command(alloc, Cid::LinkCheck, &[])?,
-            command(alloc, Cid::LinkAdr, &[0x07])?,
-            command(alloc, Cid::DeviceTime, &[])?,
-        ]?,
-        stop: 4,
-    };
-    assert_eq!(rt; decode_up(alloc, &[0x02, 0x03, 0x07, 0x0D])?, known);
-    let before = Decoded {
-        commands: vec![in alloc; command(alloc, Cid::LinkCheck, &[])?]?,
-        stop: 1,
-    };
-    assert_eq!(rt; decode_up(alloc, &[0x02, 0x0B, 0x02])?, before);
+    let commands = vec![in alloc;
+        command(alloc, Cid::LinkCheck, &[])?,
+        command(alloc, Cid::LinkAdr, &[0x07])?,
+        command(alloc, Cid::DeviceTime, &[])?,
+    ]?;
+    let wanted = Decoded { commands, stop: 4 };
+    assert_eq!(rt; decode_up(alloc, &[0x02, 0x03, 0x07, 0x0D])?, wanted);
+    Ok(())
+}
+
+#[test]
+fn reading_stops_where_no_known_command_begins(rt: HostRuntime) -> Result<(), Fail> {
+    let commands = vec![in rt.alloc(); command(rt.alloc(), Cid::LinkCheck, &[])?]?;
+    let wanted = Decoded { commands, stop: 1 };
+    assert_eq!(rt; decode_up(rt.alloc(), &[0x02, 0x0B, 0x02])?, wanted);
+    Ok(())
+}
+
+// The bytes are read as this one command.
+fn is_read_whole(
+    rt: &impl Abort,
+    alloc: Global,
+    direction: Direction,
+    bytes: &[u8],
+    wanted: MacCommand,
+) -> Result<(), Fail> {
+    let found = read(alloc, direction, bytes)?;
+    assert_eq!(rt; found.stop, bytes.len(), "{bytes:?}");
+    assert_eq!(rt; found.commands, vec![in alloc; wanted]?, "{bytes:?}");
+    Ok(())
+}
+
+// Without the last of them none is read.
+fn is_cut_off(
+    rt: &impl Abort,
+    alloc: Global,
+    direction: Direction,
+    bytes: &[u8],
+) -> Result<(), Fail> {
+    let (_, cut) = bytes.split_last().ok_or("an identifier")?;
+    assert_eq!(rt; read(alloc, direction, cut)?.stop, 0, "{bytes:?}, cut");
     Ok(())
 }
 
@@ -73,34 +101,30 @@ fn each_command_is_read_whole_both_ways(rt: HostRuntime) -> Result<(), Fail> {
     let alloc = rt.alloc();
     for (number, cid, up, down) in TABLE {
         for (direction, len) in [(Direction::Up, up), (Direction::Down, down)] {
-            let mut bytes = spelled(alloc, number, len)?;
-            let wanted = Decoded {
-                commands: vec![in alloc; command(alloc, cid, payload(len)?)?]?,
-                stop: bytes.len(),
-            };
-            let found = read(alloc, direction, bytes.as_slice())?;
-            assert_eq!(rt; found, wanted, "{cid:?} {direction:?}");
-            bytes.pop();
-            let cut = read(alloc, direction, bytes.as_slice())?;
-            assert_eq!(rt; cut.stop, 0, "{cid:?} {direction:?}, cut");
+            let bytes = spelled(alloc, number, len)?;
+            let wanted = command(alloc, cid, payload(len)?)?;
+            is_read_whole(&rt, alloc, direction, bytes.as_slice(), wanted)?;
+            is_cut_off(&rt, alloc, direction, bytes.as_slice())?;
         }
     }
     Ok(())
 }
 
+// What is written of one command behind AA.
+fn written(alloc: Global, cid: Cid, len: u8) -> Result<Vec<u8>, Fail> {
+    let commands = vec![in alloc; command(alloc, cid, payload(len)?)?]?;
+    let mut out = Vec::from_slice(alloc, &[0xAA])?;
+    encode_down(alloc, commands.as_slice(), &mut out)?;
+    Ok(out)
+}
+
 #[test]
 fn downlinks_are_written_behind_what_is_there(rt: HostRuntime) -> Result<(), Fail> {
-    let alloc = rt.alloc();
     for (number, cid, _, down) in TABLE {
-        let commands = [command(alloc, cid, payload(down)?)?];
-        let mut out = Vec::from_slice(alloc, &[0xAA])?;
-        encode_down(alloc, &commands, &mut out)?;
-        assert_eq!(rt; out.first(), Some(&0xAA));
-        assert_eq!(rt;
-            &out[1..],
-            spelled(alloc, number, down)?.as_slice(),
-            "{cid:?}"
-        );
+        let out = written(rt.alloc(), cid, down)?;
+        let bytes = spelled(rt.alloc(), number, down)?;
+        let behind = out.as_slice().strip_prefix(&[0xAA]);
+        assert_eq!(rt; behind, Some(bytes.as_slice()), "{cid:?}");
     }
     Ok(())
 }
@@ -111,19 +135,18 @@ fn ten_numbers_are_known(rt: HostRuntime) {
         let known = TABLE.iter().any(|row| row.0 == number);
         assert_eq!(rt; Cid::from_number(number).is_some(), known, "{number}");
     }
+}
+
+#[test]
+fn each_command_has_its_row(rt: HostRuntime) {
     for (number, cid, up, down) in TABLE {
+        let lens = (
+            cid.payload_len(Direction::Up),
+            cid.payload_len(Direction::Down),
+        );
         assert_eq!(rt; Cid::from_number(number), Some(cid));
         assert_eq!(rt; cid.number(), number, "{cid:?}");
-        assert_eq!(rt;
-            cid.payload_len(Direction::Up),
-            usize::from(up),
-            "{cid:?} up"
-        );
-        assert_eq!(rt;
-            cid.payload_len(Direction::Down),
-            usize::from(down),
-            "{cid:?} down"
-        );
+        assert_eq!(rt; lens, (usize::from(up), usize::from(down)), "{cid:?}");
     }
 }
 
@@ -160,15 +183,25 @@ fn requests(alloc: Global, len: usize) -> Result<Vec<u8>, Fail> {
     Ok(bytes)
 }
 
+// How many commands are read, and where reading stops.
+fn counted(alloc: Global, direction: Direction, bytes: &[u8]) -> Result<(usize, usize), Fail> {
+    let found = read(alloc, direction, bytes)?;
+    Ok((found.commands.len(), found.stop))
+}
+
 #[test]
 fn many_commands_are_read(rt: HostRuntime) -> Result<(), Fail> {
     let alloc = rt.alloc();
-    let found = decode_down(alloc, requests(alloc, 242)?.as_slice())?;
-    assert_eq!(rt; found.stop, 240);
-    assert_eq!(rt; found.commands.len(), 48);
-    let found = decode_up(alloc, &[0x02; 242])?;
-    assert_eq!(rt; found.stop, 242);
-    assert_eq!(rt; found.commands.len(), 242);
+    let bytes = requests(alloc, 242)?;
+    assert_eq!(rt;
+        counted(alloc, Direction::Down, bytes.as_slice())?,
+        (48, 240)
+    );
+    let bytes = vec![in alloc; 0x02; 242]?;
+    assert_eq!(rt;
+        counted(alloc, Direction::Up, bytes.as_slice())?,
+        (242, 242)
+    );
     Ok(())
 }
 
@@ -180,7 +213,12 @@ fn many_commands_are_written(rt: HostRuntime) -> Result<(), Fail> {
     let mut out = Vec::new(alloc);
     encode_down(alloc, found.commands.as_slice(), &mut out)?;
     assert_eq!(rt; out, bytes);
-    assert_eq!(rt; fit15(out.as_slice(), 242), 240);
+    Ok(())
+}
+
+#[test]
+fn many_commands_fit_a_wide_room(rt: HostRuntime) -> Result<(), Fail> {
+    assert_eq!(rt; fit15(requests(rt.alloc(), 240)?.as_slice(), 242), 240);
     Ok(())
 }
 
@@ -193,8 +231,14 @@ fn queues_are_whole_commands_of_three_kinds(rt: HostRuntime) -> Result<(), Fail>
         let bytes = spelled(alloc, cid.number(), down)?;
         assert_eq!(rt; are_queueable(bytes.as_slice()), may, "{cid:?}");
     }
-    assert!(rt; are_queueable(requests(alloc, 60)?.as_slice()));
-    assert!(rt; !are_queueable(requests(alloc, 61)?.as_slice()));
-    assert!(rt; are_queueable(&[]));
+    Ok(())
+}
+
+#[test]
+fn queues_end_with_a_command(rt: HostRuntime) -> Result<(), Fail> {
+    for (len, whole) in [(0, true), (60, true), (61, false)] {
+        let bytes = requests(rt.alloc(), len)?;
+        assert_eq!(rt; are_queueable(bytes.as_slice()), whole, "{len}");
+    }
     Ok(())
 }

@@ -2,7 +2,7 @@
 use lw_types::{DevAddr, Eui, Refusal, read_hex};
 use phy_payload::{
     Contents, Control, DataFrame, FOpts, FrmPayload, JoinAccept, JoinRequest, Message, Mic, Phy,
-    decode, encode,
+    decode, encode, encode_message,
 };
 use std::alloc::Global;
 use std::process::Abort;
@@ -56,15 +56,18 @@ fn refuses(rt: &impl Abort, alloc: Global, bytes: &[u8], refusal: Refusal, case:
     }
 }
 
+// What is written of a frame.
+fn written(alloc: Global, frame: &Phy) -> Result<Vec<u8>, Fail> {
+    let mut out = Vec::new(alloc);
+    encode(alloc, frame, &mut out)?;
+    Ok(out)
+}
+
 // These bytes are this frame: each is made of the other.
 fn spells(rt: &impl Abort, alloc: Global, text: &str, frame: &Phy) -> Result<(), Fail> {
     let bytes = read_hex(alloc, text)?;
     assert_eq!(rt; decode(alloc, bytes.as_slice())?, *frame, "{text}");
-    let mut out = Vec::new(alloc);
-    out.push(7)?;
-    encode(alloc, frame, &mut out)?;
-    assert_eq!(rt; out[0], 7);
-    assert_eq!(rt; &out[1..], bytes.as_slice(), "{text}");
+    assert_eq!(rt; written(alloc, frame)?, bytes, "{text}");
     Ok(())
 }
 
@@ -254,13 +257,17 @@ fn what_is_no_frame_is_refused(rt: HostRuntime) -> Result<(), Fail> {
     Ok(())
 }
 
-// Bytes that are a frame with zeros behind the MHDR are none with one of bits 4 to 0 set.
-fn low_bits_are_0(rt: &impl Abort, alloc: Global, mhdr: u8, len: usize) -> Result<(), Fail> {
+// Zeros behind the MHDR are a frame.
+fn is_frame(rt: &impl Abort, alloc: Global, mhdr: u8, len: usize) -> Result<(), Fail> {
     let whole = zeros(alloc, mhdr, len)?;
     let frame = decode(alloc, whole.as_slice())?;
-    let mut out = Vec::new(alloc);
-    encode(alloc, &frame, &mut out)?;
-    assert_eq!(rt; out, whole);
+    assert_eq!(rt; written(alloc, &frame)?, whole);
+    Ok(())
+}
+
+// They are none with one of bits 4 to 0 set.
+fn low_bits_are_0(rt: &impl Abort, alloc: Global, mhdr: u8, len: usize) -> Result<(), Fail> {
+    is_frame(rt, alloc, mhdr, len)?;
     for bit in [1u8, 2, 4, 8, 16] {
         let bytes = zeros(alloc, mhdr | bit, len)?;
         refuses(rt, alloc, bytes.as_slice(), Refusal::Malformed, "low bits");
@@ -306,9 +313,14 @@ fn payload_len(alloc: Global, len: usize) -> Result<Option<usize>, Fail> {
 
 #[test]
 fn data_frames_have_12_to_255_bytes(rt: HostRuntime) -> Result<(), Fail> {
-    assert_eq!(rt; payload_len(rt.alloc(), 12)?, None);
-    assert_eq!(rt; payload_len(rt.alloc(), 13)?, Some(0));
-    assert_eq!(rt; payload_len(rt.alloc(), 255)?, Some(242));
+    for (len, payload) in [(12, None), (13, Some(0)), (255, Some(242))] {
+        assert_eq!(rt; payload_len(rt.alloc(), len)?, payload, "{len}");
+    }
+    Ok(())
+}
+
+#[test]
+fn no_frame_has_256_bytes(rt: HostRuntime) -> Result<(), Fail> {
     for mhdr in [0x00, 0x20, 0x40, 0x60, 0x80, 0xA0, 0xC0, 0xE0] {
         let bytes = zeros(rt.alloc(), mhdr, 256)?;
         refuses(
@@ -319,6 +331,11 @@ fn data_frames_have_12_to_255_bytes(rt: HostRuntime) -> Result<(), Fail> {
             "256 bytes",
         );
     }
+    Ok(())
+}
+
+#[test]
+fn a_frame_of_another_type_may_have_255_bytes(rt: HostRuntime) -> Result<(), Fail> {
     for mhdr in [0xC0, 0xE0] {
         let bytes = zeros(rt.alloc(), mhdr, 255)?;
         refuses(
@@ -372,38 +389,78 @@ fn parts_have_their_lengths(rt: HostRuntime) -> Result<(), Fail> {
     Ok(())
 }
 
-// A data frame of these lengths is written in so many bytes, and read again.
-fn is_read_again(
-    rt: &impl Abort,
+// A data frame with so many bytes of FOpts and, where there is a port, of payload.
+fn data_frame(
     alloc: Global,
     f_opts: usize,
     port: Option<u8>,
     payload: usize,
-    len: usize,
-) -> Result<(), Fail> {
-    let bytes = [0xA5; 242];
-    let f_opts = bytes.get(..f_opts).ok_or("at most 15")?;
-    let payload = bytes.get(..payload).ok_or("at most 242")?;
-    let frame = Phy::DataFrame(DataFrame {
+) -> Result<DataFrame, Fail> {
+    let f_opts = vec![in alloc; 0xA5; f_opts]?;
+    let payload = vec![in alloc; 0xA5; payload]?;
+    let contents = contents(alloc, f_opts.as_slice(), port, payload.as_slice());
+    Ok(DataFrame {
         confirmed: true,
         dev_addr: DevAddr(0x5400_0001),
         control: UPLINK,
         f_cnt: 0xA5A5,
-        contents: contents(alloc, f_opts, port, payload).ok_or("at most 242 together")?,
+        contents: contents.ok_or("at most 242 together")?,
         mic: Mic([0xAA, 0xBB, 0xCC, 0xDD]),
-    });
-    let mut out = Vec::new(alloc);
-    encode(alloc, &frame, &mut out)?;
-    assert_eq!(rt; decode(alloc, out.as_slice())?, frame);
-    assert_eq!(rt; out.len(), len);
+    })
+}
+
+// The frame is written in so many bytes, and read again.
+fn is_read_again(rt: &impl Abort, alloc: Global, frame: &Phy, len: usize) -> Result<(), Fail> {
+    let bytes = written(alloc, frame)?;
+    assert_eq!(rt; bytes.len(), len);
+    assert_eq!(rt; decode(alloc, bytes.as_slice())?, *frame);
     Ok(())
 }
 
 #[test]
 fn each_length_of_f_opts_is_read_again(rt: HostRuntime) -> Result<(), Fail> {
     for len in 0usize..16 {
-        is_read_again(&rt, rt.alloc(), len, None, 0, 12 + len)?;
-        is_read_again(&rt, rt.alloc(), len, Some(9), 242 - len, 255)?;
+        let frame = Phy::DataFrame(data_frame(rt.alloc(), len, None, 0)?);
+        is_read_again(&rt, rt.alloc(), &frame, 12 + len)?;
     }
     Ok(())
+}
+
+#[test]
+fn each_length_of_f_opts_is_read_again_with_a_payload(rt: HostRuntime) -> Result<(), Fail> {
+    for len in 0usize..16 {
+        let frame = Phy::DataFrame(data_frame(rt.alloc(), len, Some(9), 242 - len)?);
+        is_read_again(&rt, rt.alloc(), &frame, 255)?;
+    }
+    Ok(())
+}
+
+#[test]
+fn frames_are_written_behind_what_is_there(rt: HostRuntime) -> Result<(), Fail> {
+    let frame = Phy::DataFrame(data_frame(rt.alloc(), 0, None, 0)?);
+    let mut out = Vec::from_slice(rt.alloc(), &[7])?;
+    encode(rt.alloc(), &frame, &mut out)?;
+    assert_eq!(rt; out.len(), 13);
+    assert_eq!(rt; out.first(), Some(&7));
+    Ok(())
+}
+
+// The message of a data frame of so many bytes has four fewer.
+fn has_a_message(
+    rt: &impl Abort,
+    alloc: Global,
+    frame: &DataFrame,
+    len: usize,
+) -> Result<(), Fail> {
+    let mut message = Vec::new(alloc);
+    encode_message(alloc, frame, &mut message)?;
+    assert_eq!(rt; message.len() + 4, len);
+    Ok(())
+}
+
+#[test]
+fn a_mic_is_made_of_the_bytes_before_it(rt: HostRuntime) -> Result<(), Fail> {
+    let alloc = rt.alloc();
+    has_a_message(&rt, alloc, &data_frame(alloc, 0, None, 0)?, 12)?;
+    has_a_message(&rt, alloc, &data_frame(alloc, 15, Some(9), 227)?, 255)
 }

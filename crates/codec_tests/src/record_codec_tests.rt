@@ -1,4 +1,4 @@
-use crate::fixtures::{DEVICE, brought, current, item, session};
+use crate::fixtures::{DEVICE, brought, current, item, items, session};
 use devices::{Activation, Device, Item, ItemQueue, MacQueue, Tag};
 use lw_types::{JoinNonce, Refusal};
 use record_codec::{read_device, write_device};
@@ -19,20 +19,26 @@ const BROUGHT: [u8; 50] = [
     0, 0, // empty queues
 ];
 
+// Both sessions, the second one pending.
+fn both_sessions() -> Result<Activation, Fail> {
+    let current = current(0x01_0203, u32::MAX)?;
+    let pending = session(0x01_0204)?;
+    let activation = Activation::new(JoinNonce::new(0x01_0204), Some(current), Some(pending));
+    Ok(activation.ok_or("in order")?)
+}
+
 // A device with both sessions, a tag awaited, a DevNonce of 0, and these queues.
 fn busy(alloc: Global, mac_queue: Vec<u8>, items: Vec<Item>) -> Result<Device, Fail> {
-    let mut device = brought(alloc, DEVICE)?;
-    device.last_dev_nonce = Some(0);
-    device.activation = Activation::new(
-        JoinNonce::new(0x01_0204),
-        Some(current(0x01_0203, u32::MAX)?),
-        Some(session(0x01_0204)?),
-    )
-    .ok_or("in order")?;
-    device.awaited = Some(Tag(0));
-    device.mac_queue = MacQueue::new(mac_queue).ok().ok_or("whole commands")?;
-    device.items = ItemQueue::new(items).ok().ok_or("at most 16 items")?;
-    Ok(device)
+    let mac_queue = MacQueue::new(mac_queue).ok().ok_or("whole commands")?;
+    let items = ItemQueue::new(items).ok().ok_or("at most 16 items")?;
+    Ok(Device {
+        last_dev_nonce: Some(0),
+        activation: both_sessions()?,
+        awaited: Some(Tag(0)),
+        mac_queue,
+        items,
+        ..brought(alloc, DEVICE)?
+    })
 }
 
 // The record of the device, which has so many bytes, and is read as the device.
@@ -54,20 +60,25 @@ fn a_new_device_has_50_bytes(rt: HostRuntime) -> Result<(), Fail> {
 
 #[test]
 fn a_record_is_written_behind_what_is_there(rt: HostRuntime) -> Result<(), Fail> {
-    let device = brought(rt.alloc(), DEVICE)?;
     let mut out = Vec::from_slice(rt.alloc(), &[9])?;
-    write_device(rt.alloc(), &device, &mut out)?;
+    write_device(rt.alloc(), &brought(rt.alloc(), DEVICE)?, &mut out)?;
     assert_eq!(rt; out.len(), 51);
-    assert_eq!(rt; (out[0], &out[1..]), (9, BROUGHT.as_slice()));
+    assert_eq!(rt; out.first(), Some(&9));
+    assert!(rt; out.as_slice().ends_with(&BROUGHT));
     Ok(())
+}
+
+fn with_a_pending_session(alloc: Global) -> Result<Device, Fail> {
+    let activation = Activation::new(JoinNonce::new(1), None, Some(session(1)?));
+    Ok(Device {
+        activation: activation.ok_or("the grants are in order")?,
+        ..brought(alloc, DEVICE)?
+    })
 }
 
 #[test]
 fn a_pending_session_takes_35_bytes_more(rt: HostRuntime) -> Result<(), Fail> {
-    let mut device = brought(rt.alloc(), DEVICE)?;
-    device.activation = Activation::new(JoinNonce::new(1), None, Some(session(1)?)).ok_or(
-        "the grants are in order",
-    )?;
+    let device = with_a_pending_session(rt.alloc())?;
     let _ = record_of(&rt, rt.alloc(), &device, 85)?;
     Ok(())
 }
@@ -84,11 +95,7 @@ fn a_busy_device_is_read_back(rt: HostRuntime) -> Result<(), Fail> {
 #[test]
 fn the_largest_record_has_4180_bytes(rt: HostRuntime) -> Result<(), Fail> {
     let alloc = rt.alloc();
-    let mut items = Vec::new(alloc);
-    for tag in 0..16 {
-        items.push(item(alloc, tag, 242)?).ok().ok_or("memory")?;
-    }
-    let device = busy(alloc, vec![in alloc; 6; 64]?, items)?;
+    let device = busy(alloc, vec![in alloc; 6; 64]?, items(alloc, 16, 242)?)?;
     let _ = record_of(&rt, alloc, &device, 4180)?;
     Ok(())
 }

@@ -1,4 +1,5 @@
 use aes_cmac::cmac;
+use aes128::encrypt;
 use lw_types::Key;
 
 // RFC 4493 §4.
@@ -30,4 +31,28 @@ fn the_examples_of_the_rfc_in_any_two_pieces(rt: HostRuntime) {
             assert_eq!(rt; mac_of_pieces, mac.to_be_bytes());
         }
     }
+}
+
+// The encryption of a block masked with a subkey.
+fn masked(block: u128, subkey: u128) -> [u8; 16] {
+    let mut block = (block ^ subkey).to_be_bytes();
+    encrypt(&KEY, &mut block);
+    block
+}
+
+// RFC 4493 §4, subkey generation: a whole last block is masked with K1, and a padded one with K2.
+#[test]
+fn the_subkeys_of_the_rfc(rt: HostRuntime) {
+    let sealed_zeros = 0x7df76b0c1ab899b33e42f047b91b546f_u128;
+    assert_eq!(rt; masked(0, 0), sealed_zeros.to_be_bytes());
+    let whole = 0x6bc1bee22e409f96e93d7e117393172a;
+    assert_eq!(rt;
+        cmac(&KEY, &[&MESSAGE[..16]]),
+        masked(whole, 0xfbeed618357133667c85e08f7236a8de)
+    );
+    let padding = 0x80000000000000000000000000000000;
+    assert_eq!(rt;
+        cmac(&KEY, &[]),
+        masked(padding, 0xf7ddac306ae266ccf90bc11ee46d513b)
+    );
 }

@@ -4,7 +4,7 @@ use Rattle.std.specs.Int.{to_be_bytes, w16, w32, w64}
 use Rattle.gate_log.specs.declared.layout.Area.{Area}
 use Rattle.gate_log.specs.declared.layout.Header.{Header}
 use Rattle.gate_log.specs.declared.layout.BatchHead.{BatchHead}
-use Rattle.gate_log.specs.declared.layout.TheConstants.{OPEN}
+use Rattle.gate_log.specs.declared.layout.TheConstants.{EMPTY_AREA_LEN, OPEN}
 
 -- a batch: its head's numbers, and its entries as bytes
 pub record BatchValue : Type 0 where
@@ -59,7 +59,7 @@ pub record IsHeader (h : Header) : Type 0 where
 
 -- the records that a header speaks of fit the area, with the gate behind them
 abbrev pub HasRoomFor : Area → Header → Type 0
-HasRoomFor area h = area.start + 31 + h.records_len ≤ area.end
+HasRoomFor area h = area.start + EMPTY_AREA_LEN + h.records_len ≤ area.end
 
 pub record IsHead (h : BatchHead) : Type 0 where
   pub entries_len : h.entries_len < 2 ^ 32

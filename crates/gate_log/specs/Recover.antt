@@ -7,7 +7,7 @@ use Rattle.gate_log.specs.declared.error.RecoverError.{RecoverError}
 use Rattle.gate_log.specs.declared.error.RecoverError.TheVariants.{Device, OutOfMemory, Damaged}
 use Rattle.gate_log.specs.declared.layout.Area.{Area}
 use Rattle.gate_log.specs.declared.layout.Header.{Header}
-use Rattle.gate_log.specs.declared.layout.TheConstants.{OPEN}
+use Rattle.gate_log.specs.declared.layout.TheConstants.{ENTRIES_AT, OPEN, RECORDS_AT}
 use Rattle.gate_log.specs.Layout.{BatchValue, Contents, AreHeads, IsHead, IsHeader, body, head_of, header_bytes, open_batches}
 
 -- calls of a disk that only read, up to the first that failed, and whether one did
@@ -31,20 +31,20 @@ has_device_error (Err e) = is_device_error e
 
 -- an open gate with a header behind it
 pub record IsHeaderAt (disk : List ℕ) (at : ℕ) (h : Header) : Type 0 where
-  pub bytes : drop at disk ≡ OPEN ∷ (header_bytes h ++ drop (at + 30) disk)
+  pub bytes : drop at disk ≡ OPEN ∷ (header_bytes h ++ drop (at + RECORDS_AT) disk)
   pub header : IsHeader h
 
 -- an open gate with a batch behind it, and room for the next gate before the end
 pub record IsBatchAt (disk : List ℕ) (end at : ℕ) (b : BatchValue) : Type 0 where
-  pub bytes : drop at disk ≡ OPEN ∷ (body b ++ drop (at + 15 + length b.entries) disk)
+  pub bytes : drop at disk ≡ OPEN ∷ (body b ++ drop (at + ENTRIES_AT + length b.entries) disk)
   pub head : IsHead (head_of b)
-  pub fits : at + 15 + length b.entries < end
+  pub fits : at + ENTRIES_AT + length b.entries < end
 
 -- an open gate, and no batch that fits behind it
 pub record NoBatchAt (disk : List ℕ) (end at : ℕ) : Type 0 where
   pub opened : slice_index disk at ≡ OPEN
   pub none : (b : BatchValue) (rest : List ℕ) → IsHead (head_of b) → drop at disk ≡ OPEN ∷ (body b ++ rest)
-      → end ≤ at + 15 + length b.entries
+      → end ≤ at + ENTRIES_AT + length b.entries
 
 -- batches from a position on, and behind them a closed gate before the end
 pub record AreBatchesAt (disk : List ℕ) (end at : ℕ) (batches : List BatchValue) : Type 0 where

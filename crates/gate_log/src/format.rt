@@ -5,20 +5,20 @@ ghost use Rattle.disk.specs.Outlook.{IsForeseen, HasCause};
 ghost use Rattle.gate_log.specs.Layout.{Holds, IsClosedArea, fresh_header};
 ghost use Rattle.gate_log.specs.Recover.{contents_in};
 
-use crate::layout::{Area, CLOSED, Header, OPEN};
+use crate::layout::{Area, CLOSED, EMPTY_AREA_LEN, Header, OPEN, RECORDS_AT};
 use disk::{DeviceFailed, Disk};
 
 /// Writes an area with an open gate, generation 1, sequence number 0, no records and no batches, and gives the
 /// place of the first batch's gate.
 pub fn format_area<D: Disk>(disk: &mut D, area: Area, version: u8) -> Result<u64, DeviceFailed>
-    requires room { area.start + 31 ≤ area.end }
+    requires room { area.start + EMPTY_AREA_LEN ≤ area.end }
     requires within { area.end ≤ length (D.state disk.old).content }
     ensures formatted { D.honest
         → OnOk result (Holds area
         (contents_in area (D.state disk.old).content (fresh_header version) [] [])
         (D.state disk.new).content) }
-    ensures next { IfOk result (λ next. next ≡ area.start + 30) }
-    ensures opens { D.honest → Opens area.start 31 (D.state disk.old) (D.state disk.new) }
+    ensures next { IfOk result (λ next. next ≡ area.start + RECORDS_AT) }
+    ensures opens { D.honest → Opens area.start EMPTY_AREA_LEN (D.state disk.old) (D.state disk.new) }
     ensures same_length { length (D.state disk.new).content ≡ length (D.state disk.old).content }
     ensures cause { HasCause (D.failures disk.old) (D.failures disk.new) result }
     ensures foreseen { IsForeseen (D.outlook disk.old) (is_ok result) (D.outlook disk.new) }
@@ -30,11 +30,11 @@ pub fn format_area<D: Disk>(disk: &mut D, area: Area, version: u8) -> Result<u64
         record_count: 0,
         records_len: 0,
     };
-    let mut bytes = [CLOSED; 31];
+    let mut bytes = [CLOSED; EMPTY_AREA_LEN as usize];
     bytes[0] = OPEN;
-    bytes[1..30].copy_from_slice(&header.to_bytes());
+    bytes[1..RECORDS_AT as usize].copy_from_slice(&header.to_bytes());
     disk.write_at(area.start, &bytes)?;
-    Ok(area.start + 30)
+    Ok(area.start + RECORDS_AT)
 }
 
 /// Writes the closed gate of an area.

@@ -8,6 +8,16 @@ pub const OPEN: u8 = 0xA5;
 /// The gate that is written where one is to be closed.
 pub const CLOSED: u8 = 0;
 
+/// How far behind an area's front its records begin: behind its gate and its header.
+pub const RECORDS_AT: u64 = 30;
+
+/// The length in bytes of an area with no records and no batches: its gate, its header and the gate
+/// of a batch.
+pub const EMPTY_AREA_LEN: u64 = 31;
+
+/// How far behind a batch's gate its entries begin: behind the gate and the batch's head.
+pub const ENTRIES_AT: u64 = 15;
+
 /// Where an area begins and ends on its disk, in bytes from the front.
 #[derive(Clone, Copy, Debug, PartialEq, Eq)]
 pub struct Area {
@@ -37,22 +47,25 @@ pub struct BatchHead {
 }
 
 impl Header {
+    /// The length in bytes.
+    pub(crate) const LEN: usize = 29;
+
     ghost use Rattle.gate_log.specs.Layout.{HasRoomFor, IsHeader, header_bytes};
 
     /// Whether the area has room for the records, and for the gate behind them.
     pub fn fits(&self, area: Area) -> bool
-        requires { area.start + 31 ≤ area.end }
+        requires { area.start + EMPTY_AREA_LEN ≤ area.end }
         ensures { IsTrue result ↔ HasRoomFor area self.now }
     {
-        self.records_len <= area.end - area.start - 31
+        self.records_len <= area.end - area.start - EMPTY_AREA_LEN
     }
 
     /// The bytes of this header.
     #[tactic(auto, unfolding(crate::specs::Layout::header_bytes))]
-    pub(crate) fn to_bytes(self) -> [u8; 29]
+    pub(crate) fn to_bytes(self) -> [u8; Self::LEN]
         ensures { result ≡ header_bytes self }
     {
-        let mut bytes = [self.version; 29];
+        let mut bytes = [self.version; Self::LEN];
         bytes[1..9].copy_from_slice(&self.generation.to_be_bytes());
         bytes[9..17].copy_from_slice(&self.sequence.to_be_bytes());
         bytes[17..21].copy_from_slice(&self.record_count.to_be_bytes());
@@ -62,7 +75,7 @@ impl Header {
 
     /// The header that these bytes spell.
     pub(crate) fn from_bytes(bytes: &[u8]) -> Header
-        requires { length bytes.now ≡ 29 }
+        requires { length bytes.now ≡ Header.LEN }
         ensures spelled { header_bytes result ≡ bytes.now }
         ensures in_range { IsHeader result }
     {
@@ -77,11 +90,14 @@ impl Header {
 }
 
 impl BatchHead {
+    /// The length in bytes.
+    pub(crate) const LEN: usize = 14;
+
     ghost use Rattle.gate_log.specs.Layout.{IsHead, head_bytes};
 
     /// The head that these bytes spell.
     pub(crate) fn from_bytes(bytes: &[u8]) -> BatchHead
-        requires { length bytes.now ≡ 14 }
+        requires { length bytes.now ≡ BatchHead.LEN }
         ensures spelled { head_bytes result ≡ bytes.now }
         ensures in_range { IsHead result }
     {

@@ -17,7 +17,7 @@ mod recover;
 pub use batch::Batch;
 pub use error::RecoverError;
 pub use format::{close_area, format_area};
-pub use layout::{Area, CLOSED, Header, OPEN};
+pub use layout::{Area, CLOSED, EMPTY_AREA_LEN, ENTRIES_AT, Header, OPEN, RECORDS_AT};
 pub use log::Log;
 pub use opening::Opening;
 pub use phases::{Begun, BodySynced, Durable, GateWritten, Written};

@@ -6,7 +6,7 @@ ghost use Rattle.gate_log.specs.Layout.{Contents, HasRoomFor, Holds, IsClosedAre
 ghost use Rattle.gate_log.specs.Recover.{OnlyReads, has_device_error, IsHeaderAt};
 
 use crate::error::RecoverError;
-use crate::layout::{Area, Header};
+use crate::layout::{Area, Header, RECORDS_AT};
 use crate::log::Log;
 use crate::reading::read_header;
 use crate::recover::{Recovered, recover_area};
@@ -66,7 +66,7 @@ impl<D: Disk> Opening<D> {
 
     /// The header of an area whose gate is open.
     pub fn header(&mut self, area: Area) -> Result<Option<Header>, DeviceFailed>
-        requires { area.start + 30 ≤ length (D.state (opened self.old)).content }
+        requires { area.start + RECORDS_AT ≤ length (D.state (opened self.old)).content }
         ensures header { D.honest → IfOk result
             (λ header. MatchOption header
             (IsClosedArea area (D.state (opened self.old)).content)

@@ -5,7 +5,7 @@ ghost use Rattle.gate_log.specs.Layout.{Contents, BatchValue, Holds, with_batch}
 ghost use Rattle.gate_log.specs.Log.{seen, disk_of, IsAtRest, IsOneCall};
 ghost use Rattle.gate_log.specs.Phases.{bytes_of, written_size, synced_size, opened_size, HoldsEither, IsBegun, IsWritten, IsBodySynced, IsGateWritten};
 
-use crate::layout::{CLOSED, OPEN};
+use crate::layout::{CLOSED, ENTRIES_AT, OPEN};
 use crate::log::Log;
 use disk::{DeviceFailed, Disk};
 use std::alloc::{AllocError, Global};
@@ -53,9 +53,9 @@ impl Begun {
               entry_count = entry_count;
               entries = entries.now;
             })) }
-        ensures size { IfOk result (λ begun. length (bytes_of begun) ≡ 15 + length entries.now) }
+        ensures size { IfOk result (λ begun. length (bytes_of begun) ≡ ENTRIES_AT + length entries.now) }
     {
-        let mut bytes = Vec::with_capacity(alloc, entries.len() + 15)?;
+        let mut bytes = Vec::with_capacity(alloc, entries.len() + ENTRIES_AT as usize)?;
         bytes.extend_from_slice(&(entries.len() as u32).to_be_bytes())?;
         bytes.extend_from_slice(&last_sequence.to_be_bytes())?;
         bytes.extend_from_slice(&entry_count.to_be_bytes())?;

@@ -5,7 +5,7 @@ ghost use Rattle.gate_log.specs.Recover.{OnlyReads, has_device_error, IsHeaderAt
 
 use crate::batch::Batch;
 use crate::error::RecoverError;
-use crate::layout::{BatchHead, Header, OPEN};
+use crate::layout::{BatchHead, ENTRIES_AT, Header, OPEN, RECORDS_AT};
 use disk::{DeviceFailed, Disk};
 use std::alloc::Global;
 
@@ -25,14 +25,14 @@ fn is_open<D: Disk>(disk: &mut D, at: u64) -> Result<bool, DeviceFailed>
 /// The header behind the gate at a position, where that is open.
 #[tactic(auto, using(crate::proofs::ReadsOn::armed_call))]
 pub fn read_header<D: Disk>(disk: &mut D, at: u64) -> Result<Option<Header>, DeviceFailed>
-    requires { at + 30 ≤ length (D.state disk.old).content }
+    requires { at + RECORDS_AT ≤ length (D.state disk.old).content }
     ensures header { D.honest → IfOk result
         (λ header. MatchOption header
         (slice_index (D.state disk.old).content at ≢ OPEN)
         (IsHeaderAt (D.state disk.old).content at)) }
     ensures reads { OnlyReads D.honest D.state D.failures D.outlook disk.old disk.new (is_err result) }
 {
-    let mut bytes = [0; 30];
+    let mut bytes = [0; RECORDS_AT as usize];
     disk.read_at(at, &mut bytes)?;
     if bytes[0] != OPEN {
         return Ok(None);
@@ -43,13 +43,13 @@ pub fn read_header<D: Disk>(disk: &mut D, at: u64) -> Result<Option<Header>, Dev
 /// The head of a batch at a position.
 #[tactic(auto, using(crate::proofs::ReadsOn::armed_call))]
 fn read_head<D: Disk>(disk: &mut D, at: u64) -> Result<BatchHead, DeviceFailed>
-    requires { at + 14 ≤ length (D.state disk.old).content }
+    requires { at + BatchHead.LEN ≤ length (D.state disk.old).content }
     ensures head { D.honest
-        → IfOk result (λ head. head_bytes head ≡ take 14 (drop at (D.state disk.old).content)) }
+        → IfOk result (λ head. head_bytes head ≡ take BatchHead.LEN (drop at (D.state disk.old).content)) }
     ensures in_range { IfOk result IsHead }
     ensures reads { OnlyReads D.honest D.state D.failures D.outlook disk.old disk.new (is_err result) }
 {
-    let mut bytes = [0; 14];
+    let mut bytes = [0; BatchHead::LEN];
     disk.read_at(at, &mut bytes)?;
     Ok(BatchHead::from_bytes(&bytes))
 }
@@ -89,7 +89,7 @@ fn read_batch<D: Disk>(
         (slice_index (D.state disk.old).content at ≢ OPEN)
         (IsBatchAt (D.state disk.old).content end at)) }
     ensures fits { IfOk result (λ batch. MatchOption batch (Unit {0})
-        (λ b. at + 15 + length b.entries < end)) }
+        (λ b. at + ENTRIES_AT + length b.entries < end)) }
     ensures damaged { D.honest → result ≡ Err RecoverError.Damaged
         → NoBatchAt (D.state disk.old).content end at }
     ensures reads { OnlyReads D.honest D.state D.failures D.outlook disk.old disk.new
@@ -98,14 +98,15 @@ fn read_batch<D: Disk>(
     if !is_open(disk, at)? {
         return Ok(None);
     }
-    if end - at < 16 {
+    // Behind the entries stands the next gate.
+    if end - at <= ENTRIES_AT {
         return Err(RecoverError::Damaged);
     }
     let head = read_head(disk, at + 1)?;
-    if end - at - 16 < u64::from(head.entries_len) {
+    if end - at - ENTRIES_AT <= u64::from(head.entries_len) {
         return Err(RecoverError::Damaged);
     }
-    let entries = read_bytes(disk, alloc, at + 15, head.entries_len as usize)?;
+    let entries = read_bytes(disk, alloc, at + ENTRIES_AT, head.entries_len as usize)?;
     Ok(Some(Batch::new(head.last_sequence, head.entry_count, entries)))
 }
 
@@ -130,7 +131,7 @@ pub fn read_batches<D: Disk>(
     let mut batches = Vec::new(alloc);
     let mut at = first;
     while let Some(batch) = read_batch(disk, alloc, end, at)? {
-        at += 15 + batch.entries().len() as u64;
+        at += ENTRIES_AT + batch.entries().len() as u64;
         batches.push(batch)?;
     }
     Ok((batches, at))

@@ -6,7 +6,7 @@ ghost use Rattle.gate_log.specs.Recovered.{IsRecovered};
 
 use crate::batch::Batch;
 use crate::error::RecoverError;
-use crate::layout::{Area, Header};
+use crate::layout::{Area, Header, RECORDS_AT};
 use crate::reading::{read_batches, read_bytes};
 use disk::Disk;
 use std::alloc::Global;
@@ -40,7 +40,7 @@ pub fn recover_area<D: Disk>(
     ensures reads { OnlyReads D.honest D.state D.failures D.outlook disk.old disk.new
         (has_device_error result) }
 {
-    let start = area.start + 30;
+    let start = area.start + RECORDS_AT;
     let records = read_bytes(disk, alloc, start, header.records_len as usize)?;
     let (batches, next) = read_batches(disk, alloc, area.end, start + header.records_len)?;
     Ok(Recovered {

@@ -1,4 +1,8 @@
 // A script from its input to its output.
+ghost use Rattle.std.specs.Prelude.{IfOk};
+ghost use Rattle.disk.specs.MemDisk.{state_of};
+ghost use Rattle.world.specs.Sound.{IsSound};
+
 use crate::answers::write_refusal;
 use crate::{Format, Outcome, Plan, Row, write_outcome};
 use disk::MemDisk;
@@ -55,10 +59,9 @@ fn outcome_of(alloc: Global, input: &[u8]) -> Outcome {
 
 // Formats a disk in memory and takes the steps on it.
 fn play(alloc: Global, format: Format, steps: &[Step], rows: Vec<Row>) -> Result<Outcome, Refusal> {
-    let slots = u64::from(format.slots);
-    let disk_len = disk_len(Slots::new(slots).ok_or(Refusal::Damaged)?);
-    let disk = MemDisk::new(alloc, vec![in alloc; 0; disk_len as usize]?)?;
-    let mut world = World::format(alloc, disk, format.net_id, slots)?;
+    let slots = Slots::new(u64::from(format.slots)).ok_or(Refusal::Damaged)?;
+    let disk_len = disk_len(slots);
+    let mut world = new_world(alloc, format, disk_len)?;
     let answers = run(&mut world, alloc, steps);
     let _ = world.close();
     Ok(Outcome::Played {
@@ -66,4 +69,12 @@ fn play(alloc: Global, format: Format, steps: &[Step], rows: Vec<Row>) -> Result
         rows,
         answers: answers?,
     })
+}
+
+// A world on a new disk in memory of so many bytes.
+fn new_world(alloc: Global, format: Format, disk_len: u64) -> Result<World<MemDisk>, Refusal>
+    ensures { IfOk result (IsSound state_of) }
+{
+    let disk = MemDisk::new(alloc, vec![in alloc; 0; disk_len as usize]?)?;
+    World::format(alloc, disk, format.net_id, u64::from(format.slots))
 }

@@ -20,10 +20,14 @@ pub struct Format {
 /// The format that a first line asks for; `None` for any other line.
 pub fn read_format(line: &[u8]) -> Option<Format> {
     let mut words = Words::of(str::from_utf8(line).ok()?);
-    match words.next()? {
-        "format" => {}
-        _ => return None,
+    match words.next() {
+        Some("format") => format(words),
+        _ => None,
     }
+}
+
+// A network and how many slots.
+fn format(mut words: Words<'_>) -> Option<Format> {
     let net_id = next_value(&mut words)?;
     let slots = next_value(&mut words)?;
     match words.next() {

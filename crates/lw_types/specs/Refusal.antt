@@ -1,5 +1,5 @@
--- The numbers by which the outside names refusals.
-use Rattle.std.specs.Prelude.{ℕ}
+-- The numbers and the words by which the outside names refusals.
+use Rattle.std.specs.Prelude.{ℕ, List, codes}
 use Rattle.lw_types.specs.declared.refusal.Refusal.{Refusal}
 use Rattle.lw_types.specs.declared.refusal.Refusal.TheVariants.{Malformed, NotServed, UnknownDevAddr, BadMic, CounterGap, Repeat, UnknownDevEui, WrongJoinEui, DevNonceUsed, JoinNonceSpent, MacBoth, QueueFull, MacQueueFull, TooLong, BadPort, DevEuiTaken, TableFull, BadMac, WindowsFull, SameGateway, CopiesFull, Backlog, UnknownChannel, OutOfMemory, DeviceFailed, Failed, OutOfStep, NotFormatted, Damaged, WrongVersion, WrongSize, FrameTooLong, BadMessage, CutShort}
 
@@ -39,3 +39,40 @@ number_of WrongSize = 46
 number_of FrameTooLong = 50
 number_of BadMessage = 51
 number_of CutShort = 52
+
+-- the words of each refusal
+unfoldable pub words_of : Refusal → List ℕ
+words_of Malformed = codes "the frame is not in the grammar"
+words_of NotServed = codes "frames of this type are not served here"
+words_of UnknownDevAddr = codes "no session has this DevAddr"
+words_of BadMic = codes "the MIC fits no session"
+words_of CounterGap = codes "the frame counter is too far ahead of the last one"
+words_of Repeat = codes "a repeat of an unconfirmed uplink"
+words_of UnknownDevEui = codes "the application has no device with this DevEUI"
+words_of WrongJoinEui = codes "the device has another JoinEUI"
+words_of DevNonceUsed = codes "the DevNonce is not above the last accepted one"
+words_of JoinNonceSpent = codes "the device was granted every JoinNonce"
+words_of MacBoth = codes "MAC commands in FOpts and on port 0 together"
+words_of QueueFull = codes "the device's queue has 16 items"
+words_of MacQueueFull = codes "the device's MAC queue has no room for these commands"
+words_of TooLong = codes "the payload is above 242 bytes"
+words_of BadPort = codes "the port is not from 1 to 223"
+words_of DevEuiTaken = codes "a device has this DevEUI already"
+words_of TableFull = codes "every slot of the table is taken"
+words_of BadMac = codes "these are not whole MAC commands that can be queued"
+words_of WindowsFull = codes "1,024 windows are open"
+words_of SameGateway = codes "the window has a copy of this gateway"
+words_of CopiesFull = codes "the window has 32 copies"
+words_of Backlog = codes "too many decisions wait to be committed"
+words_of UnknownChannel = codes "the frequency or the data rate is not a channel's"
+words_of OutOfMemory = codes "out of memory"
+words_of DeviceFailed = codes "the device failed in this call"
+words_of Failed = codes "an earlier call of this store failed: open it again"
+words_of OutOfStep = codes "the batch does not continue the durable state"
+words_of NotFormatted = codes "this is no formatted store"
+words_of Damaged = codes "the store is damaged"
+words_of WrongVersion = codes "the store has another version"
+words_of WrongSize = codes "the disk has another length than the store"
+words_of FrameTooLong = codes "the frame is too long"
+words_of BadMessage = codes "the message is not in the format"
+words_of CutShort = codes "the input ends inside a frame"

@@ -2,83 +2,50 @@
 ghost use Rattle.std.specs.Prelude.{◌≡◌};
 
 use std::alloc::{AllocError, AllocFailed};
-use thiserror::Error;
+use std::error::Error;
+use std::fmt;
 
 /// Why a call was refused. `number` gives the number that texts and answers carry.
-#[derive(Clone, Copy, Debug, PartialEq, Eq, Error)]
+#[derive(Clone, Copy, Debug, PartialEq, Eq)]
 pub enum Refusal {
-    #[error("the frame is not in the grammar")]
     Malformed,
-    #[error("frames of this type are not served here")]
     NotServed,
-    #[error("no session has this DevAddr")]
     UnknownDevAddr,
-    #[error("the MIC fits no session")]
     BadMic,
-    #[error("the frame counter is too far ahead of the last one")]
     CounterGap,
-    #[error("a repeat of an unconfirmed uplink")]
     Repeat,
-    #[error("the application has no device with this DevEUI")]
     UnknownDevEui,
-    #[error("the device has another JoinEUI")]
     WrongJoinEui,
-    #[error("the DevNonce is not above the last accepted one")]
     DevNonceUsed,
-    #[error("the device was granted every JoinNonce")]
     JoinNonceSpent,
-    #[error("MAC commands in FOpts and on port 0 together")]
     MacBoth,
-    #[error("the device's queue has 16 items")]
     QueueFull,
-    #[error("the device's MAC queue has no room for these commands")]
     MacQueueFull,
-    #[error("the payload is above 242 bytes")]
     TooLong,
-    #[error("the port is not from 1 to 223")]
     BadPort,
-    #[error("a device has this DevEUI already")]
     DevEuiTaken,
-    #[error("every slot of the table is taken")]
     TableFull,
-    #[error("these are not whole MAC commands that can be queued")]
     BadMac,
-    #[error("1,024 windows are open")]
     WindowsFull,
-    #[error("the window has a copy of this gateway")]
     SameGateway,
-    #[error("the window has 32 copies")]
     CopiesFull,
-    #[error("too many decisions wait to be committed")]
     Backlog,
-    #[error("the frequency or the data rate is not a channel's")]
     UnknownChannel,
-    #[error("out of memory")]
     OutOfMemory,
-    #[error("the device failed in this call")]
     DeviceFailed,
-    #[error("an earlier call of this store failed: open it again")]
     Failed,
-    #[error("the batch does not continue the durable state")]
     OutOfStep,
-    #[error("this is no formatted store")]
     NotFormatted,
-    #[error("the store is damaged")]
     Damaged,
-    #[error("the store has another version")]
     WrongVersion,
-    #[error("the disk has another length than the store")]
     WrongSize,
-    #[error("the frame is too long")]
     FrameTooLong,
-    #[error("the message is not in the format")]
     BadMessage,
-    #[error("the input ends inside a frame")]
     CutShort,
 }
 
 impl Refusal {
-    ghost use Rattle.lw_types.specs.Refusal.{number_of};
+    ghost use Rattle.lw_types.specs.Refusal.{number_of, words_of};
 
     /// The number of this refusal. 1 to 24 are of a command, which then leaves every device as it was:
     /// the windows that were due are closed all the same, the effective time moves on to the command's
@@ -124,7 +91,64 @@ impl Refusal {
             Refusal::CutShort => 52,
         }
     }
+
+    /// What this refusal says to a reader.
+    #[tactic(auto, unfolding(crate::specs::Refusal::words_of))]
+    pub fn words(self) -> &'static str
+        ensures { result.now ≡ words_of self }
+    {
+        match self {
+            Refusal::Malformed => "the frame is not in the grammar",
+            Refusal::NotServed => "frames of this type are not served here",
+            Refusal::UnknownDevAddr => "no session has this DevAddr",
+            Refusal::BadMic => "the MIC fits no session",
+            Refusal::CounterGap => "the frame counter is too far ahead of the last one",
+            Refusal::Repeat => "a repeat of an unconfirmed uplink",
+            Refusal::UnknownDevEui => "the application has no device with this DevEUI",
+            Refusal::WrongJoinEui => "the device has another JoinEUI",
+            Refusal::DevNonceUsed => "the DevNonce is not above the last accepted one",
+            Refusal::JoinNonceSpent => "the device was granted every JoinNonce",
+            Refusal::MacBoth => "MAC commands in FOpts and on port 0 together",
+            Refusal::QueueFull => "the device's queue has 16 items",
+            Refusal::MacQueueFull => "the device's MAC queue has no room for these commands",
+            Refusal::TooLong => "the payload is above 242 bytes",
+            Refusal::BadPort => "the port is not from 1 to 223",
+            Refusal::DevEuiTaken => "a device has this DevEUI already",
+            Refusal::TableFull => "every slot of the table is taken",
+            Refusal::BadMac => "these are not whole MAC commands that can be queued",
+            Refusal::WindowsFull => "1,024 windows are open",
+            Refusal::SameGateway => "the window has a copy of this gateway",
+            Refusal::CopiesFull => "the window has 32 copies",
+            Refusal::Backlog => "too many decisions wait to be committed",
+            Refusal::UnknownChannel => "the frequency or the data rate is not a channel's",
+            Refusal::OutOfMemory => "out of memory",
+            Refusal::DeviceFailed => "the device failed in this call",
+            Refusal::Failed => "an earlier call of this store failed: open it again",
+            Refusal::OutOfStep => "the batch does not continue the durable state",
+            Refusal::NotFormatted => "this is no formatted store",
+            Refusal::Damaged => "the store is damaged",
+            Refusal::WrongVersion => "the store has another version",
+            Refusal::WrongSize => "the disk has another length than the store",
+            Refusal::FrameTooLong => "the frame is too long",
+            Refusal::BadMessage => "the message is not in the format",
+            Refusal::CutShort => "the input ends inside a frame",
+        }
+    }
 }
+
+/// Shows the refusal in words.
+impl fmt::Display for Refusal {
+    ghost use Rattle.std.specs.Prelude.{Some};
+    ghost use Rattle.lw_types.specs.Refusal.{words_of};
+
+    ghost output = { λ refusal. Some (words_of refusal) };
+
+    fn fmt<W: fmt::Write>(&self, f: &mut fmt::Formatter<W>) -> fmt::Result {
+        f.write_str(self.words())
+    }
+}
+
+impl Error for Refusal {}
 
 impl From<AllocError> for Refusal {
     ghost use Rattle.std.specs.Prelude.{◌≡◌};

@@ -1,4 +1,4 @@
--- The channels and data rates of EU868 (RP002-1.0.4 §2.5): DR 0 to 5 are SF12 to SF7 at 125 kHz.
+-- The channels and data rates of EU868 (RP002-1.0.4, EU863-870): DR 0 to 5 are SF12 to SF7 at 125 kHz.
 use Rattle.std.specs.Prelude.{◌≡◌, ◌+◌, ◌*◌, ℕ, List, [], ◌∷◌, slice_index, pos, ℤ, ◌+ℤ◌, ◌≤ℤ◌, neg_ℤ}
 use Rattle.std.specs.Prelude.{◌<ℤ◌}
 

@@ -1,4 +1,4 @@
-//! The channels and data rates of EU868 (RP002-1.0.4 §2.5), for class A devices with the three channels
+//! The channels and data rates of EU868 (RP002-1.0.4, EU863-870), for class A devices with the three channels
 //! that they have from the start. No call takes memory.
 #![tactic(auto)]
 

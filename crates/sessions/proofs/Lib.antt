@@ -1,3 +1,4 @@
 pub mod Runs
 pub mod CopyState
 pub mod Slots
+pub mod Placing

@@ -73,7 +73,7 @@ impl Table {
 }
 
 // Whether what a slot has is this record, or nothing.
-fn is_record(before: &Option<Device>, found: Option<&Device>) -> bool
+pub(crate) fn is_record(before: &Option<Device>, found: Option<&Device>) -> bool
     ensures { IsTrue result ↔ (before.now ≡ option_copied found.entry) }
 {
     match (before, found) {

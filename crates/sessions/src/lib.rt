@@ -9,6 +9,7 @@ mod continuation;
 mod decide;
 mod decision;
 pub mod laws;
+mod overlay;
 mod records;
 mod table;
 

@@ -1,5 +1,5 @@
 -- The bytes of a store that is being made.
-use Rattle.std.proofs.Common.{◌≡◌, ◌<◌, ◌≤◌, ◌+◌, ◌-◌, ◌∙◌, ℕ, List, [], ◌∷◌, ◌++◌, Result, Ok, Err, OnOk, false, length, take, drop, get_or, sym, ap, refl, arith, inl, inr, ◌⊎◌, ◌≢◌, append_assoc, length-append, length-drop}
+use Rattle.std.proofs.Common.{◌≡◌, ◌<◌, ◌≤◌, ◌+◌, ◌-◌, ◌∙◌, ℕ, List, [], ◌∷◌, ◌++◌, Result, Ok, Err, OnOk, false, length, take, drop, get_or, sym, ap, refl, arith, inl, inr, ◌≢◌, append_assoc, length-append, length-drop}
 use Rattle.std.proofs.lemmas.List.{drop-drop, drop_at, drop-take, take_at, take-take, length-take-le, get_or-take, get_or-drop}
 use Rattle.std.specs.List.{slice_range}
 use Rattle.disk.specs.State.{IsPermitted, IsTorn, NothingOpen, Opens, State, written}
@@ -15,6 +15,8 @@ use Rattle.store.specs.Formatting.{IsFormatImage, IsShut}
 use Rattle.store.specs.Image.{area_a, area_b}
 use Rattle.store.specs.declared.areas.TheConstants.{RECORD_VERSION}
 use Rattle.store.specs.State.{IsSettled}
+use Rattle.store_layout.specs.declared.version.RecordVersion.TheVariants.{V1}
+use Rattle.store.proofs.Holding.{HeaderLaw}
 
 pub OnOk-map : {T E : Type 0} {P Q : Type 0} (r : Result T E) → (P → Q) → OnOk r P → OnOk r Q
 OnOk-map (Ok x) f p = f p
@@ -60,34 +62,35 @@ pub opened_range : (c4 c5 : List ℕ) (end : ℕ) → c5 ≡ written c4 0 (OPEN 
 opened_range c4 c5 end is = ap (λ (l : List ℕ). slice_range l 32 end) is ∙ ap (take (end - 32)) (drop-drop 31 1 c4)
 
 -- a disk with a superblock and an area without records or batches is at rest
-pub settled_empty : (net_id slots : ℕ) (state : State) → net_id < 64 → (1 ≤ slots) × (slots ≤ 4096) → NothingOpen state → length state.content ≡ disk_len slots
+pub settled_empty : HeaderLaw → (net_id slots : ℕ) (state : State) → net_id < 64 → (1 ≤ slots) × (slots ≤ 4096) → NothingOpen state → length state.content ≡ disk_len slots
     → Holds (area_a slots) (contents_in (area_a slots) state.content (fresh_header RECORD_VERSION) [] []) state.content → take 32 state.content ≡ superblock net_id slots
     → IsSettled (record {
       log = record { disk = state; area = area_a slots; next = (area_a slots).start + 30 };
       table = empty_table net_id slots;
       seq = 0;
+      version = V1;
       failed = false;
     })
 unfolding header_bytes
-settled_empty net_id slots state net range settled long holds front =
+settled_empty law net_id slots state net range settled long holds front =
     let c = contents_in (area_a slots) state.content (fresh_header RECORD_VERSION) [] [] in
     let size : length (take 32 state.content) ≡ 32 = ap length front in
     let spelled = length-append (take 32 state.content) (OPEN ∷ (header_bytes (fresh_header RECORD_VERSION) ++ ([] ++ []))) in
     let behind = length-drop (32 + area_len slots) state.content in
     record {
       contents = c;
-      area = refl;
+      live = record { place = refl; at = law (area_a slots) state.content c holds };
       rest = record { settled = settled; holds = holds; next = omega (arith, spelled, size) };
       says = record {
         net_id = net;
         slots = range;
-        front = front;
-        behind = omega (arith, behind, long);
-        version = refl;
+        front = take-take 32 32 state.content (omega arith) ∙ front;
+        size = omega (arith, behind, long);
+        of_version = refl;
         generation = omega arith;
         journal = record {
           base = empty_table net_id slots;
-          checkpoint = record { entries = []; replay = record { spelled = refl; number = refl; each = tt; can = tt }; table = refl; own_slots = refl };
+          checkpoint = record { entries = []; replay = record { spelled = refl; number = refl; each = tt; leads = refl }; own_slots = refl };
           batches = (refl, refl);
         };
       };
@@ -114,12 +117,12 @@ opened_image old [] torn some is = absurd (omega (arith, torn.same_length))
 opened_image old (x ∷ image) torn some is = (λ i. is i ∷ torn.after i)
 
 -- a torn gate in front of a store without devices
-pub formatted_image : (net_id slots : ℕ) (old image : List ℕ) → net_id < 64 → (1 ≤ slots) × (slots ≤ 4096) → length old ≡ disk_len slots
+pub formatted_image : HeaderLaw → (net_id slots : ℕ) (old image : List ℕ) → net_id < 64 → (1 ≤ slots) × (slots ≤ 4096) → length old ≡ disk_len slots
     → ((area : Area) (old new : List ℕ) (c : Contents) → Holds area c old → length new ≡ length old → slice_range new area.start area.end ≡ slice_range old area.start area.end
     → Holds area (contents_in area new c.header c.records c.batches) new)
     → Holds (area_a slots) (contents_in (area_a slots) old (fresh_header RECORD_VERSION) [] []) old → drop 1 (take 32 old) ≡ superblock_body net_id slots
     → IsTorn 0 1 old image → (before : List ℕ) → IsFormatImage net_id slots before image
-formatted_image net_id slots old image net range long outside holds body torn before =
+formatted_image law net_id slots old image net range long outside holds body torn before =
     elim (cases_eq (get_or image 0 0) OPEN) [
       | inl is ↦
           let same = opened_image old image torn (omega (arith, long)) is in
@@ -127,8 +130,8 @@ formatted_image net_id slots old image net range long outside holds body torn be
           let state : State = record { content = image; synced = image; is_open = λ i. false } in
           let held = outside (area_a slots) old image (contents_in (area_a slots) old (fresh_header RECORD_VERSION) [] []) holds size (opened_range old image (32 + area_len slots) same) in
           let front = opened_front old image same ∙ ap (λ (l : List ℕ). OPEN ∷ l) body in
-          let settled = settled_empty net_id slots state net range (λ i. refl) (size ∙ long) held front in
-          inr (inl (record { contents = settled.contents; in_area = settled.rest.holds; says = settled.says }))
+          let settled = settled_empty law net_id slots state net range (λ i. refl) (size ∙ long) held front in
+          inr (inl (record { version = V1; area = area_a slots; contents = settled.contents; live = settled.live; in_area = settled.rest.holds; says = settled.says }))
       | inr other ↦ inl other
     ]
 

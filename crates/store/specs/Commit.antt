@@ -1,4 +1,4 @@
--- What a commit changes.
+-- What a commit changes, and what it may follow.
 use Rattle.std.specs.Prelude.{◌≡◌, ◌<◌, ℕ, ◌+◌, List, length}
 use Rattle.sessions.specs.Table.{TableState}
 use Rattle.sessions.specs.Decision.{IsLegalContinuation, applied_all}
@@ -6,18 +6,35 @@ use Rattle.sessions.specs.declared.decision.Decision.{Decision}
 use Rattle.store.specs.declared.commit.Commit.{Commit}
 use Rattle.store.specs.State.{StoreState}
 
--- decisions, and the table and the number that they leave
+-- decisions, and the number of the last of them
 pub record Change : Type 0 where
   pub decisions : List Decision
-  pub table : TableState
   pub seq : ℕ
 
 abbrev pub change_of : Commit → Change
-change_of commit = record { decisions = commit.batch; table = commit.table; seq = commit.last }
+change_of commit = record { decisions = commit.batch; seq = commit.last }
 
--- the change is on its way in this store: it is a legal continuation, and so many bytes fit behind the next gate
-pub record IsUnderWay (s : StoreState) (change : Change) (size : ℕ) : Type 0 where
-  pub legal : IsLegalContinuation s.table s.seq change.decisions
-  pub table : change.table ≡ applied_all s.table change.decisions
-  pub seq : change.seq ≡ s.seq + length change.decisions
-  pub room : s.log.next + size < s.log.area.end
+-- where a journal goes on: a table and the number of its last decision, the place of the next batch's gate, and the end
+-- of the area
+pub record Tip : Type 0 where
+  pub table : TableState
+  pub seq : ℕ
+  pub next : ℕ
+  pub end : ℕ
+
+abbrev pub tip_of : StoreState → Tip
+tip_of s = record { table = s.table; seq = s.seq; next = s.log.next; end = s.log.area.end }
+
+-- the change may follow: it is a legal continuation, and so many bytes fit behind the next gate
+pub record MayFollow (tip : Tip) (change : Change) (size : ℕ) : Type 0 where
+  pub legal : IsLegalContinuation tip.table tip.seq change.decisions
+  pub seq : change.seq ≡ tip.seq + length change.decisions
+  pub room : tip.next + size < tip.end
+
+-- the change is on its way in this store
+abbrev pub IsUnderWay : StoreState → Change → ℕ → Type 0
+IsUnderWay s change size = MayFollow (tip_of s) change size
+
+-- the table that the change leaves in this store
+abbrev pub table_after : StoreState → Change → TableState
+table_after s change = applied_all s.table change.decisions

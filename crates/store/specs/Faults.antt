@@ -5,13 +5,14 @@ use Rattle.lw_types.specs.declared.refusal.Refusal.TheVariants.{NotFormatted, Da
 use Rattle.gate_log.specs.declared.layout.Area.{Area}
 use Rattle.gate_log.specs.declared.layout.Header.{Header}
 use Rattle.gate_log.specs.declared.layout.TheConstants.{OPEN}
-use Rattle.gate_log.specs.Layout.{HasRoomFor, IsClosedArea}
-use Rattle.gate_log.specs.Recover.{IsHeaderAt}
+use Rattle.gate_log.specs.Layout.{HasRoomFor}
 use Rattle.sessions.specs.Table.{TableState}
 use Rattle.store_layout.specs.Superblock.{superblock, disk_len}
 use Rattle.store_layout.specs.declared.superblock.TheConstants.Superblock.{LEN}
-use Rattle.store.specs.declared.areas.TheConstants.{LAST_GENERATION, RECORD_VERSION}
-use Rattle.store.specs.Image.{HoldsTable, area_a}
+use Rattle.store_layout.specs.declared.version.RecordVersion.{RecordVersion}
+use Rattle.store_layout.specs.Entries.{version_byte}
+use Rattle.store.specs.declared.areas.TheConstants.{LAST_GENERATION}
+use Rattle.store.specs.Image.{HoldsTable, IsLive, NoneLive}
 
 -- the gate of a store is open, and its name is there
 abbrev pub IsNamed : List ℕ → Type 0
@@ -41,40 +42,45 @@ FrontFault image e =
     ⊎ ((LEN ≤ length image)
     × (SuperblockFault (take LEN image) e ⊎ ((net_id slots : ℕ) × IsStoreOf image net_id slots × (length image ≢ disk_len slots) × (e ≡ WrongSize))))
 
--- a header of the version that is read, of a generation that may be, and with records that fit the area
+-- a version of records that is read
+abbrev pub IsKnown : ℕ → Type 0
+IsKnown byte = (version : RecordVersion) × (byte ≡ version_byte version)
+
+-- a header of a version that is read, of a generation that may be, and with records that fit the area
 pub record IsUsable (area : Area) (h : Header) : Type 0 where
-  pub version : h.version ≡ RECORD_VERSION
+  pub version : IsKnown h.version
   pub generation : h.generation ≤ LAST_GENERATION
   pub room : HasRoomFor area h
 
--- the superblock, the length and the header of the area are in order
+-- the superblock, the length and the header of the live area are in order
 pub record HasGoodFront (image : List ℕ) : Type 0 where
   pub net_id : ℕ
   pub slots : ℕ
+  pub area : Area
   pub header : Header
   pub store : IsStoreOf image net_id slots
   pub long : length image ≡ disk_len slots
-  pub at : IsHeaderAt image (area_a slots).start header
-  pub usable : IsUsable (area_a slots) header
+  pub live : IsLive image slots area header
+  pub usable : IsUsable area header
 
--- what is wrong with the gate or the header in front of an area
-abbrev pub HeaderFault : List ℕ → Area → Refusal → Type 0
-HeaderFault image area e =
-    (IsClosedArea area image × (e ≡ Damaged))
-    ⊎ ((h : Header) × IsHeaderAt image area.start h
-    × (((h.version ≢ RECORD_VERSION) × (e ≡ WrongVersion)) ⊎ ((h.version ≡ RECORD_VERSION) × ((¬ (IsUsable area h)) × (e ≡ Damaged)))))
+-- what is wrong with the gates or the live area's header
+abbrev pub HeaderFault : List ℕ → ℕ → Refusal → Type 0
+HeaderFault image slots e =
+    (NoneLive image slots × (e ≡ Damaged))
+    ⊎ ((area : Area) × (h : Header) × IsLive image slots area h
+    × (((¬ (IsKnown h.version)) × (e ≡ WrongVersion)) ⊎ (IsKnown h.version × ((¬ (IsUsable area h)) × (e ≡ Damaged)))))
 
--- what is wrong with an area
-abbrev pub AreaFault : List ℕ → Area → Refusal → Type 0
-AreaFault image area e =
-    (IsClosedArea area image × (e ≡ Damaged))
-    ⊎ ((h : Header) × IsHeaderAt image area.start h
-    × (((h.version ≢ RECORD_VERSION) × (e ≡ WrongVersion)) ⊎ ((h.version ≡ RECORD_VERSION) × (e ≡ Damaged))))
+-- what is wrong with the areas
+abbrev pub AreaFault : List ℕ → ℕ → Refusal → Type 0
+AreaFault image slots e =
+    (NoneLive image slots × (e ≡ Damaged))
+    ⊎ ((area : Area) × (h : Header) × IsLive image slots area h
+    × (((¬ (IsKnown h.version)) × (e ≡ WrongVersion)) ⊎ (IsKnown h.version × (e ≡ Damaged))))
 
 -- what is wrong with an image that holds no table
 pub record IsFault (image : List ℕ) (e : Refusal) : Type 0 where
   pub none : (t : TableState) (seq : ℕ) → ¬ (HoldsTable t seq image)
-  pub first : FrontFault image e ⊎ ((net_id slots : ℕ) × IsStoreOf image net_id slots × (length image ≡ disk_len slots) × AreaFault image (area_a slots) e)
+  pub first : FrontFault image e ⊎ ((net_id slots : ℕ) × IsStoreOf image net_id slots × (length image ≡ disk_len slots) × AreaFault image slots e)
 
 -- a store has this many slots
 abbrev pub IsSlots : ℕ → Type 0

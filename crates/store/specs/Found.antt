@@ -6,15 +6,15 @@ use Rattle.gate_log.specs.Layout.{Contents, Holds, spelling}
 use Rattle.sessions.specs.Table.{TableState}
 use Rattle.std.specs.Prelude.{◌==◌}
 use Rattle.store.specs.declared.found.Found.{Found}
-use Rattle.store.specs.Image.{HoldsTable, Says, area_a}
+use Rattle.store.specs.Image.{HoldsTable, IsLive, Says}
 
 -- the disk holds the table and number that were found, and no others
 pub record IsFound (image : List ℕ) (found : Found) : Type 0 where
   pub contents : Contents
-  pub area : found.area ≡ area_a found.table.slots
-  pub holds : Holds (area_a found.table.slots) contents image
+  pub live : IsLive image found.table.slots found.area contents.header
+  pub holds : Holds found.area contents image
   pub next : found.next ≡ length (spelling contents)
-  pub says : Says contents found.table found.seq
+  pub says : Says found.version found.area contents found.table found.seq
   pub only : (t : TableState) (seq : ℕ) → HoldsTable t seq image → (t ≡ found.table) × (seq ≡ found.seq)
 
 -- whether the device failed

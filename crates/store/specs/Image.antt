@@ -1,14 +1,17 @@
 -- What the disk of a store says: a table and the number of its last decision.
-use Rattle.std.specs.Prelude.{◌≡◌, ◌<◌, ◌≤◌, ℕ, ◌+◌, List, [], ◌∷◌, length}
+use Rattle.std.specs.Prelude.{◌≡◌, ◌<◌, ◌≤◌, ℕ, ◌+◌, List, [], ◌∷◌, length, take}
 use Rattle.gate_log.specs.declared.layout.Area.{Area}
 use Rattle.gate_log.specs.declared.layout.Header.{Header}
-use Rattle.gate_log.specs.Layout.{BatchValue, Contents, Holds}
+use Rattle.gate_log.specs.Layout.{BatchValue, Contents, Holds, IsClosedArea}
+use Rattle.gate_log.specs.Recover.{IsHeaderAt}
 use Rattle.sessions.specs.Table.{TableState, empty_table}
 use Rattle.sessions.specs.declared.batch.TheConstants.Batch.{MOST}
-use Rattle.store_layout.specs.Superblock.{area_len, superblock}
+use Rattle.store_layout.specs.Superblock.{area_len, disk_len, superblock}
 use Rattle.store_layout.specs.declared.superblock.TheConstants.Superblock.{LEN}
-use Rattle.store.specs.declared.areas.TheConstants.{LAST_GENERATION, RECORD_VERSION}
-use Rattle.store_layout.specs.Entries.{Entry, Replay, put_all}
+use Rattle.store_layout.specs.declared.entries.Entry.{Entry}
+use Rattle.store_layout.specs.declared.version.RecordVersion.{RecordVersion}
+use Rattle.store_layout.specs.Entries.{Replay, version_byte}
+use Rattle.store.specs.declared.areas.TheConstants.{LAST_GENERATION}
 
 -- the first area, behind the superblock
 abbrev pub area_a : ℕ → Area
@@ -18,43 +21,56 @@ area_a slots = record { start = LEN; end = LEN + area_len slots }
 abbrev pub area_b : ℕ → Area
 area_b slots = record { start = LEN + area_len slots; end = LEN + area_len slots + area_len slots }
 
+-- the live area of a store with so many slots, and its header: so far the first one, where it is open
+pub record IsLive (image : List ℕ) (slots : ℕ) (area : Area) (header : Header) : Type 0 where
+  pub place : area ≡ area_a slots
+  pub at : IsHeaderAt image area.start header
+
+-- no area is live
+abbrev pub NoneLive : List ℕ → ℕ → Type 0
+NoneLive image slots = IsClosedArea (area_a slots) image
+
 -- so many records, each of a slot of its own, that put this table together
-pub record IsCheckpoint (net_id slots : ℕ) (records : List ℕ) (count : ℕ) (t : TableState) : Type 0 where
+pub record IsCheckpoint (version : RecordVersion) (net_id slots : ℕ) (records : List ℕ) (count : ℕ) (t : TableState) : Type 0 where
   pub entries : List Entry
-  pub replay : Replay (empty_table net_id slots) records count entries
-  pub table : t ≡ put_all (empty_table net_id slots) entries
+  pub replay : Replay version (empty_table net_id slots) records count entries t
   pub own_slots : length t.devices ≡ count
 
--- a batch of 1 to 64 records that may be put on the table, numbered on from a number
-pub record IsBatchOn (t : TableState) (seq : ℕ) (b : BatchValue) (entries : List Entry) : Type 0 where
-  pub replay : Replay t b.entries b.entry_count entries
+-- a batch of 1 to 64 entries that lead from one table to another, numbered on from a number
+pub record IsBatchOn (version : RecordVersion) (t : TableState) (seq : ℕ) (b : BatchValue) (entries : List Entry) (u : TableState) : Type 0 where
+  pub replay : Replay version t b.entries b.entry_count entries u
   pub some : 1 ≤ b.entry_count
   pub few : b.entry_count ≤ MOST
   pub number : b.last_sequence ≡ seq + b.entry_count
 
 -- batches lead from one table and number to another
-abbrev pub Lead : TableState → ℕ → List BatchValue → TableState → ℕ → Type 0
-Lead t seq [] u n = (u ≡ t) × (n ≡ seq)
-Lead t seq (b ∷ batches) u n = (entries : List Entry) × IsBatchOn t seq b entries × Lead (put_all t entries) b.last_sequence batches u n
+abbrev pub Lead : RecordVersion → TableState → ℕ → List BatchValue → TableState → ℕ → Type 0
+Lead version t seq [] u n = (u ≡ t) × (n ≡ seq)
+Lead version t seq (b ∷ batches) u n =
+    (entries : List Entry) × (next : TableState) × IsBatchOn version t seq b entries next × Lead version next b.last_sequence batches u n
 
 -- the table and number that a checkpoint and the batches behind it lead to
-pub record Restores (net_id slots : ℕ) (header : Header) (records : List ℕ) (later : List BatchValue) (t : TableState) (seq : ℕ) : Type 0 where
+pub record Restores (version : RecordVersion) (net_id slots : ℕ) (header : Header) (records : List ℕ) (later : List BatchValue) (t : TableState) (seq : ℕ) : Type 0 where
   pub base : TableState
-  pub checkpoint : IsCheckpoint net_id slots records header.record_count base
-  pub batches : Lead base header.sequence later t seq
+  pub checkpoint : IsCheckpoint version net_id slots records header.record_count base
+  pub batches : Lead version base header.sequence later t seq
 
--- the contents are those of a store with this table and number: its superblock is in front, and its journal leads there
-pub record Says (c : Contents) (t : TableState) (seq : ℕ) : Type 0 where
+-- the contents of an area, with records of a version, are those of a store with this table and number: its superblock is
+-- in front of the disk, and its journal leads there
+pub record Says (version : RecordVersion) (area : Area) (c : Contents) (t : TableState) (seq : ℕ) : Type 0 where
   pub net_id : t.net_id < 64
   pub slots : (1 ≤ t.slots) × (t.slots ≤ 4096)
-  pub front : c.front ≡ superblock t.net_id t.slots
-  pub behind : length c.behind ≡ area_len t.slots
-  pub version : c.header.version ≡ RECORD_VERSION
+  pub front : take LEN c.front ≡ superblock t.net_id t.slots
+  pub size : area.end + length c.behind ≡ disk_len t.slots
+  pub of_version : c.header.version ≡ version_byte version
   pub generation : c.header.generation ≤ LAST_GENERATION
-  pub journal : Restores t.net_id t.slots c.header c.records c.batches t seq
+  pub journal : Restores version t.net_id t.slots c.header c.records c.batches t seq
 
--- the image of a disk holds a store with this table and number
+-- the image of a disk holds a store with this table and number: its live area says so
 pub record HoldsTable (t : TableState) (seq : ℕ) (image : List ℕ) : Type 0 where
+  pub version : RecordVersion
+  pub area : Area
   pub contents : Contents
-  pub in_area : Holds (area_a t.slots) contents image
-  pub says : Says contents t seq
+  pub live : IsLive image t.slots area contents.header
+  pub in_area : Holds area contents image
+  pub says : Says version area contents t seq

@@ -9,7 +9,7 @@ use Rattle.store.specs.declared.phases.Written.{Written}
 use Rattle.store.specs.declared.phases.BodySynced.{BodySynced}
 use Rattle.store.specs.declared.phases.GateWritten.{GateWritten}
 use Rattle.store.specs.declared.phases.Durable.{Durable}
-use Rattle.store.specs.Commit.{Change, change_of}
+use Rattle.store.specs.Commit.{Change, change_of, table_after}
 use Rattle.store.specs.Image.{HoldsTable, Says, area_a}
 use Rattle.store.specs.State.{StoreState}
 
@@ -44,13 +44,13 @@ durable_decisions durable = durable.batch
 -- the batch as the journal has it: without it the contents say the store's table and number, and with it the change's
 pub record Journals (s : StoreState) (change : Change) (c : Contents) (b : BatchValue) : Type 0 where
   pub area : s.log.area ≡ area_a s.table.slots
-  pub slots : change.table.slots ≡ s.table.slots
-  pub before : Says c s.table s.seq
-  pub after : Says (with_batch c b) change.table change.seq
+  pub slots : (table_after s change).slots ≡ s.table.slots
+  pub before : Says s.version s.log.area c s.table s.seq
+  pub after : Says s.version s.log.area (with_batch c b) (table_after s change) change.seq
 
 -- an image holds the table and number from before the change, or those that it leaves
 abbrev pub HoldsEither : StoreState → Change → List ℕ → Type 0
-HoldsEither s change image = HoldsTable s.table s.seq image ⊎ HoldsTable change.table change.seq image
+HoldsEither s change image = HoldsTable s.table s.seq image ⊎ HoldsTable (table_after s change) change.seq image
 
 -- nothing of the batch is written
 pub record IsBegunOn (s : StoreState) (begun : Begun) : Type 0 where

@@ -7,15 +7,18 @@ use Rattle.disk.specs.State.{State}
 use Rattle.gate_log.specs.Layout.{Contents}
 use Rattle.gate_log.specs.Log.{LogState, IsAtRest, seen as seen_log, disk_of as disk_of_log}
 use Rattle.sessions.specs.Table.{TableState}
+use Rattle.store_layout.specs.declared.version.RecordVersion.{RecordVersion}
 use Rattle.store.specs.declared.store.Store.{Store}
 use Rattle.store.specs.declared.store.TheConstants.{LARGEST_BATCH}
-use Rattle.store.specs.Image.{HoldsTable, Says, area_a}
+use Rattle.store.specs.Image.{HoldsTable, IsLive, Says}
 
 pub record StoreState : Type 0 where
   pub log : LogState
   -- the durable table, and the number of its last decision
   pub table : TableState
   pub seq : ℕ
+  -- the version of the live area's records
+  pub version : RecordVersion
   -- whether a call of the disk failed
   pub failed : Bool
 
@@ -23,7 +26,7 @@ abbrev pub disk_of : {D : Type 0} {g : _} → Store D g → D
 disk_of store = disk_of_log store.log
 
 abbrev pub seen : {D : Type 0} {g : _} → (D → State) → Store D g → StoreState
-seen state store = record { log = seen_log state store.log; table = store.table; seq = store.seq; failed = store.failed }
+seen state store = record { log = seen_log state store.log; table = store.table; seq = store.seq; version = store.version; failed = store.failed }
 
 -- the largest batch fits behind the next gate
 abbrev pub IsRoomy : StoreState → Type 0
@@ -32,9 +35,9 @@ IsRoomy s = s.log.next + LARGEST_BATCH ≤ s.log.area.end
 -- nothing is under way: the disk holds the store's table and number, and a crash changes nothing
 pub record IsSettled (s : StoreState) : Type 0 where
   pub contents : Contents
-  pub area : s.log.area ≡ area_a s.table.slots
+  pub live : IsLive s.log.disk.content s.table.slots s.log.area contents.header
   pub rest : IsAtRest s.log contents
-  pub says : Says contents s.table s.seq
+  pub says : Says s.version s.log.area contents s.table s.seq
 
 -- a store that was opened: it has what the disk held, and the disk holds nothing else
 pub record IsOpened (content : List ℕ) (s : StoreState) : Type 0 where

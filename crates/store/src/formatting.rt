@@ -4,6 +4,7 @@ ghost use Rattle.lw_types.specs.declared.refusal.Refusal.TheVariants.{DeviceFail
 ghost use Rattle.disk.specs.Outlook.{HasCause};
 ghost use Rattle.disk.specs.Outlook.Outlook.{AllSucceed};
 ghost use Rattle.disk.specs.State.{EveryImage, IsTorn, NothingOpen, written};
+ghost use Rattle.gate_log.specs.declared.layout.TheConstants.{RECORDS_AT};
 ghost use Rattle.gate_log.specs.Layout.{Holds, IsClosedArea, fresh_header};
 ghost use Rattle.gate_log.specs.Recover.{contents_in};
 ghost use Rattle.sessions.specs.Table.{empty_table};
@@ -20,7 +21,7 @@ use gate_log::{CLOSED, Log, OPEN, close_area, format_area, laws};
 use lw_types::{NetId, Refusal};
 use sessions::{Slots, Table};
 use std::alloc::Global;
-use store_layout::Superblock;
+use store_layout::{RecordVersion, Superblock};
 
 /// The length in bytes of the disk of a store with so many slots.
 pub fn disk_len(slots: Slots) -> u64
@@ -86,6 +87,7 @@ pub fn format_back<D: Disk>(
         (λ e. EveryImage (D.state e.0) (IsFormatImage net_id slots (D.state disk).content)) }
 {
     disk::laws::settled_disk_keeps_its_content();
+    laws::what_is_held_has_its_header();
     let Some(slots) = Slots::new(slots) else {
         return Err((disk, Refusal::Damaged));
     };
@@ -93,8 +95,8 @@ pub fn format_back<D: Disk>(
     if disk.len() != superblock.disk_len() {
         return Err((disk, Refusal::WrongSize));
     }
-    let (table, spare) = match two_tables(alloc, net_id, slots) {
-        Ok(tables) => tables,
+    let table = match Table::new(alloc, net_id, slots) {
+        Ok(table) => table,
         Err(refusal) => return Err((disk, refusal)),
     };
     let mut disk = disk;
@@ -102,22 +104,11 @@ pub fn format_back<D: Disk>(
         Ok(next) => Ok(Store::new(
             Log::new(disk, first_area(&superblock), next),
             table,
-            spare,
             0,
+            RecordVersion::V1,
         )),
         Err(_) => Err((disk, Refusal::DeviceFailed)),
     }
-}
-
-// An empty table, twice.
-fn two_tables(alloc: Global, net_id: NetId, slots: Slots) -> Result<(Table, Table), Refusal>
-    ensures { MatchResult result
-        (λ tables. (tables.0 ≡ empty_table net_id slots) × (tables.1 ≡ empty_table net_id slots))
-        (λ e. e ≡ OutOfMemory) }
-{
-    let table = Table::new(alloc, net_id, slots)?;
-    let spare = Table::new(alloc, net_id, slots)?;
-    Ok((table, spare))
 }
 
 // Writes a store without devices, and gives the place of the first batch's gate. The superblock's gate
@@ -135,12 +126,13 @@ fn write_empty<D: Disk>(disk: &mut D, superblock: &Superblock) -> Result<u64, di
     ensures images { D.honest → NothingOpen (D.state disk.old) → EveryImage (D.state disk.new)
         (IsFormatImage superblock.now.net_id superblock.now.slots (D.state disk.old).content) }
     ensures in_range { OnOk result ((superblock.now.net_id < 64) × IsSlots superblock.now.slots) }
-    ensures next { IfOk result (λ next. next ≡ (area_a superblock.now.slots).start + 30) }
+    ensures next { IfOk result (λ next. next ≡ (area_a superblock.now.slots).start + RECORDS_AT) }
     ensures same_length { length (D.state disk.new).content ≡ length (D.state disk.old).content }
     ensures cause { HasCause (D.failures disk.old) (D.failures disk.new) result }
     ensures unarmed { D.outlook disk.old ≡ AllSucceed → IsTrue (is_ok result) × (D.outlook disk.new ≡ AllSucceed) }
 {
     laws::contents_stay_where_others_change();
+    laws::what_is_held_has_its_header();
     shut(disk)?;
     let next = write_closed(disk, superblock)?;
     disk.sync()?;
@@ -194,7 +186,7 @@ fn write_closed<D: Disk>(disk: &mut D, superblock: &Superblock) -> Result<u64, d
         ≡ superblock_body superblock.now.net_id superblock.now.slots) }
     ensures shut { D.honest → IsShut (D.state disk.old) → IsShut (D.state disk.new) }
     ensures in_range { (superblock.now.net_id < 64) × IsSlots superblock.now.slots }
-    ensures next { IfOk result (λ next. next ≡ (area_a superblock.now.slots).start + 30) }
+    ensures next { IfOk result (λ next. next ≡ (area_a superblock.now.slots).start + RECORDS_AT) }
     ensures same_length { length (D.state disk.new).content ≡ length (D.state disk.old).content }
     ensures cause { HasCause (D.failures disk.old) (D.failures disk.new) result }
     ensures unarmed { D.outlook disk.old ≡ AllSucceed → IsTrue (is_ok result) × (D.outlook disk.new ≡ AllSucceed) }

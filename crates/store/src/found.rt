@@ -3,17 +3,16 @@ ghost use Rattle.std.specs.Prelude.{◌≡◌, ◌<◌};
 
 use gate_log::Area;
 use sessions::Table;
+use store_layout::RecordVersion;
 
 /// What the disk of a store holds.
 #[derive(Drop)]
 pub(crate) struct Found {
     pub(crate) table: Table,
-    /// The same table once more.
-    pub(crate) spare: Table,
     pub(crate) seq: u64,
+    pub(crate) version: RecordVersion,
     pub(crate) area: Area,
     /// The place of the next batch's gate.
     pub(crate) next: u64,
-    pub ghost level: { spare ≡ table },
     pub ghost room: { next < area.end },
 }

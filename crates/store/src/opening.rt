@@ -95,11 +95,11 @@ impl Found {
     {
         let Found {
             table,
-            spare,
             seq,
+            version,
             area,
             next,
         } = self;
-        Store::new(opening.into_log(area, next), table, spare, seq)
+        Store::new(opening.into_log(area, next), table, seq, version)
     }
 }

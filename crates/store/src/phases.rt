@@ -2,7 +2,7 @@
 ghost use Rattle.std.specs.Prelude.{◌≡◌, ◌<◌, ◌+◌, IfOk, OnOk, OnErr, MatchResult};
 ghost use Rattle.disk.specs.State.{EveryImage};
 ghost use Rattle.sessions.specs.Decision.{effects_in};
-ghost use Rattle.store.specs.Commit.{IsUnderWay};
+ghost use Rattle.store.specs.Commit.{IsUnderWay, table_after};
 ghost use Rattle.store.specs.Image.{HoldsTable};
 ghost use Rattle.store.specs.Phases.{HoldsEither, IsBegunOn, IsWrittenOn, IsSyncedOn, IsOpenedOn, begun_change, begun_size, written_change, written_size, synced_change, synced_size, opened_change, opened_size, durable_decisions};
 ghost use Rattle.store.specs.State.{seen, disk_of, IsSettled, IsOneCall};
@@ -59,6 +59,7 @@ impl Begun {
         ensures seq { (seen D.state store.new).seq ≡ (seen D.state store.old).seq }
         ensures call { IsOneCall D.failures D.outlook store.old store.new result }
     {
+        gate_log::laws::what_is_held_has_its_header();
         let Begun { phase, commit } = self;
         match phase.write(&mut store.log) {
             Ok(phase) => Ok(Written { phase, commit }),
@@ -90,6 +91,7 @@ impl Written {
         ensures seq { (seen D.state store.new).seq ≡ (seen D.state store.old).seq }
         ensures call { IsOneCall D.failures D.outlook store.old store.new result }
     {
+        gate_log::laws::what_is_held_has_its_header();
         let Written { phase, commit } = self;
         match phase.sync(&mut store.log) {
             Ok(phase) => Ok(BodySynced { phase, commit }),
@@ -121,6 +123,7 @@ impl BodySynced {
         ensures seq { (seen D.state store.new).seq ≡ (seen D.state store.old).seq }
         ensures call { IsOneCall D.failures D.outlook store.old store.new result }
     {
+        gate_log::laws::what_is_held_has_its_header();
         let BodySynced { phase, commit } = self;
         match phase.open_gate(&mut store.log) {
             Ok(phase) => Ok(GateWritten { phase, commit }),
@@ -145,19 +148,20 @@ impl GateWritten {
             → OnOk result (IsSettled (seen D.state store.new)) }
         ensures durable { D.honest → IsOpenedOn (seen D.state store.old) self
             → OnOk result (EveryImage (D.state (disk_of store.new))
-            (HoldsTable (opened_change self).table (opened_change self).seq)) }
+            (HoldsTable (table_after (seen D.state store.old) (opened_change self)) (opened_change self).seq)) }
         ensures images { D.honest → IsOpenedOn (seen D.state store.old) self
             → EveryImage (D.state (disk_of store.new))
             (HoldsEither (seen D.state store.old) (opened_change self)) }
         ensures batch { IfOk result (λ durable. durable_decisions durable ≡ (opened_change self).decisions) }
         ensures table { MatchResult result
-            (λ _. (seen D.state store.new).table ≡ (opened_change self).table)
+            (λ _. (seen D.state store.new).table ≡ table_after (seen D.state store.old) (opened_change self))
             (λ _. (seen D.state store.new).table ≡ (seen D.state store.old).table) }
         ensures seq { MatchResult result
             (λ _. (seen D.state store.new).seq ≡ (opened_change self).seq)
             (λ _. (seen D.state store.new).seq ≡ (seen D.state store.old).seq) }
         ensures call { IsOneCall D.failures D.outlook store.old store.new result }
     {
+        gate_log::laws::what_is_held_has_its_header();
         let GateWritten { phase, commit } = self;
         match phase.sync(&mut store.log) {
             Ok(durable) => {
@@ -188,7 +192,7 @@ impl Durable {
 impl<D: Disk> Store<D> {
     ghost use Rattle.std.specs.Prelude.{true};
     ghost use Rattle.lw_types.specs.declared.refusal.Refusal.TheVariants.{DeviceFailed};
-    ghost use Rattle.sessions.specs.Decision.{FitAll, applied_all};
+    ghost use Rattle.sessions.specs.Decision.{FitAll};
     ghost use Rattle.store.specs.Commit.{change_of};
 
     // A call of the disk failed.
@@ -201,12 +205,11 @@ impl<D: Disk> Store<D> {
         Refusal::DeviceFailed
     }
 
-    // Takes over the table and the number of a batch that is on the disk.
+    // Puts the records of a batch that is on the disk on the table, and takes over its number.
     fn adopt(&mut self, commit: Commit) -> Durable
         requires fit { FitAll (seen D.state self.old).table commit.batch }
-        requires table { commit.table ≡ applied_all (seen D.state self.old).table commit.batch }
         ensures store { seen D.state self.new ≡ record (seen D.state self.old) {
-          table = (change_of commit).table;
+          table = table_after (seen D.state self.old) (change_of commit);
           seq = (change_of commit).seq;
         } }
         ensures disk { disk_of self.new ≡ disk_of self.old }
@@ -215,12 +218,9 @@ impl<D: Disk> Store<D> {
         let Commit {
             batch,
             records,
-            table,
             last,
         } = commit;
-        let mut spare = std::mem::replace(&mut self.table, table);
-        spare.place_all(&batch, records);
-        self.spare = Some(spare);
+        self.table.place_all(&batch, records);
         self.seq = last;
         Durable { batch }
     }

@@ -1,29 +1,39 @@
 // Reads what the disk of a store holds.
 ghost use Rattle.std.specs.Prelude.{◌≡◌, ◌≢◌, ◌<◌, ◌≤◌, ◌+◌, ◌⊎◌, ℕ, length, take, IfOk, IfErr, MatchResult};
 ghost use Rattle.lw_types.specs.declared.refusal.Refusal.TheVariants.{Damaged, DeviceFailed, OutOfMemory, WrongVersion};
+ghost use Rattle.gate_log.specs.declared.layout.TheConstants.{EMPTY_AREA_LEN};
 ghost use Rattle.gate_log.specs.Layout.{Contents, Holds};
 ghost use Rattle.gate_log.specs.Opening.{opened};
 ghost use Rattle.gate_log.specs.Recover.{OnlyReads, IsHeaderAt};
 ghost use Rattle.gate_log.specs.Recovered.{IsRecovered};
+ghost use Rattle.store_layout.specs.Entries.{version_byte};
 ghost use Rattle.store_layout.specs.Superblock.{disk_len};
-ghost use Rattle.store.specs.Faults.{HasGoodFront, HeaderFault, IsFault, IsStoreOf, IsUsable};
+ghost use Rattle.store.specs.Faults.{HasGoodFront, HeaderFault, IsFault, IsKnown, IsStoreOf, IsUsable};
 ghost use Rattle.store.specs.Found.{IsFound, is_device_refusal};
-ghost use Rattle.store.specs.Image.{area_a};
+ghost use Rattle.store.specs.Image.{IsLive, area_a};
 
-use crate::areas::{LAST_GENERATION, RECORD_VERSION, first_area};
+use crate::areas::{LAST_GENERATION, first_area};
 use crate::found::Found;
 use crate::restore::restore;
 use disk::Disk;
 use gate_log::{Area, Header, Opening, RecoverError, Recovered};
 use lw_types::Refusal;
 use std::alloc::Global;
-use store_layout::{Superblock, laws};
+use store_layout::{RecordVersion, Superblock, laws};
 
-/// What stands in front of a store's disk.
+/// An area that counts, its header, and the version of its records.
+#[derive(Clone, Copy)]
+struct Live {
+    area: Area,
+    header: Header,
+    version: RecordVersion,
+}
+
+/// What stands in front of a store's disk, and the area that counts.
 #[derive(Clone, Copy)]
 struct Front {
     superblock: Superblock,
-    header: Header,
+    live: Live,
 }
 
 /// Reads the store on a disk.
@@ -37,21 +47,23 @@ pub(crate) fn read_store<D: Disk>(alloc: Global, opening: &mut Opening<D>) -> Re
     ensures reads { OnlyReads D.honest D.state D.failures D.outlook
         (opened opening.old) (opened opening.new) (is_device_refusal result) }
 {
-    laws::records_keep_the_network();
+    gate_log::laws::what_is_held_has_its_header();
+    gate_log::laws::a_place_has_one_header();
+    gate_log::laws::a_closed_area_holds_nothing();
+    laws::entries_keep_the_network();
     let front = read_front(opening)?;
     let recovered = recover(alloc, opening, front)?;
-    let (table, seq) = restore(alloc, &front.superblock, &recovered)?;
-    let spare = table.copy()?;
+    let (table, seq) = restore(alloc, &front.superblock, front.live.version, &recovered)?;
     Ok(Found {
         table,
-        spare,
         seq,
-        area: first_area(&front.superblock),
+        version: front.live.version,
+        area: front.live.area,
         next: recovered.next,
     })
 }
 
-// The superblock, and the header of the area that it speaks of. Takes no memory.
+// The superblock, and the area that counts. Takes no memory.
 fn read_front<D: Disk>(opening: &mut Opening<D>) -> Result<Front, Refusal>
     ensures store { D.honest → IfOk result
         (λ f. IsStoreOf (D.state (opened opening.old)).content f.superblock.net_id f.superblock.slots) }
@@ -60,9 +72,11 @@ fn read_front<D: Disk>(opening: &mut Opening<D>) -> Result<Front, Refusal>
         → (net_id ≡ f.superblock.net_id) × (slots ≡ f.superblock.slots)) }
     ensures long { IfOk result
         (λ f. length (D.state (opened opening.old)).content ≡ disk_len f.superblock.slots) }
-    ensures header { D.honest → IfOk result
-        (λ f. IsHeaderAt (D.state (opened opening.old)).content (area_a f.superblock.slots).start f.header) }
-    ensures usable { IfOk result (λ f. IsUsable (area_a f.superblock.slots) f.header) }
+    ensures area { IfOk result (λ f. f.live.area ≡ area_a f.superblock.slots) }
+    ensures live { D.honest → IfOk result
+        (λ f. IsLive (D.state (opened opening.old)).content f.superblock.slots f.live.area f.live.header) }
+    ensures version { IfOk result (λ f. f.live.header.version ≡ version_byte f.live.version) }
+    ensures usable { IfOk result (λ f. IsUsable f.live.area f.live.header) }
     ensures refused { D.honest → IfErr result (λ e. e ≢ DeviceFailed
         → IsFault (D.state (opened opening.old)).content e) }
     ensures memory { IfErr result (λ e. e ≢ OutOfMemory) }
@@ -73,8 +87,8 @@ fn read_front<D: Disk>(opening: &mut Opening<D>) -> Result<Front, Refusal>
     gate_log::laws::a_place_has_one_header();
     gate_log::laws::a_closed_area_holds_nothing();
     let superblock = read_superblock(opening)?;
-    let header = read_header(opening, first_area(&superblock))?;
-    Ok(Front { superblock, header })
+    let live = read_live(opening, &superblock)?;
+    Ok(Front { superblock, live })
 }
 
 // The superblock of a store whose disk has its length.
@@ -119,64 +133,74 @@ fn read_bytes<D: Disk>(opening: &mut Opening<D>) -> Result<[u8; 32], Refusal>
     }
 }
 
-// The header of an area, where it is open and of use.
-fn read_header<D: Disk>(opening: &mut Opening<D>, area: Area) -> Result<Header, Refusal>
-    requires room { area.start + 31 ≤ area.end }
-    requires within { area.end ≤ length (D.state (opened opening.old)).content }
-    ensures header { D.honest
-        → IfOk result (IsHeaderAt (D.state (opened opening.old)).content area.start) }
-    ensures usable { IfOk result (IsUsable area) }
+// The area that counts, where its header is of use.
+fn read_live<D: Disk>(opening: &mut Opening<D>, superblock: &Superblock) -> Result<Live, Refusal>
+    requires { length (D.state (opened opening.old)).content ≡ disk_len superblock.now.slots }
+    ensures area { IfOk result (λ live. live.area ≡ area_a superblock.now.slots) }
+    ensures live { D.honest → IfOk result
+        (λ live. IsLive (D.state (opened opening.old)).content superblock.now.slots live.area live.header) }
+    ensures version { IfOk result (λ live. live.header.version ≡ version_byte live.version) }
+    ensures usable { IfOk result (λ live. IsUsable live.area live.header) }
     ensures refused { D.honest → IfErr result (λ e. e ≢ DeviceFailed
-        → HeaderFault (D.state (opened opening.old)).content area e) }
+        → HeaderFault (D.state (opened opening.old)).content superblock.now.slots e) }
     ensures memory { IfErr result (λ e. e ≢ OutOfMemory) }
     ensures reads { OnlyReads D.honest D.state D.failures D.outlook
         (opened opening.old) (opened opening.new) (is_device_refusal result) }
 {
+    let area = first_area(superblock);
     match opening.header(area) {
-        Ok(Some(header)) => usable(header, area),
+        Ok(Some(header)) => {
+            let version = usable_version(header, area)?;
+            Ok(Live {
+                area,
+                header,
+                version,
+            })
+        }
         Ok(None) => Err(Refusal::Damaged),
         Err(_) => Err(Refusal::DeviceFailed),
     }
 }
 
-// The header, where it is of use.
-fn usable(header: Header, area: Area) -> Result<Header, Refusal>
-    requires { area.start + 31 ≤ area.end }
+// The version of the records behind a header, where that is of use.
+fn usable_version(header: Header, area: Area) -> Result<RecordVersion, Refusal>
+    requires { area.start + EMPTY_AREA_LEN ≤ area.end }
     ensures { MatchResult result
-        (λ h. (h ≡ header) × IsUsable area header)
-        (λ e. ((header.version ≢ RECORD_VERSION) × (e ≡ WrongVersion))
-        ⊎ ((header.version ≡ RECORD_VERSION) × ((¬ (IsUsable area header)) × (e ≡ Damaged)))) }
+        (λ version. (header.version ≡ version_byte version) × IsUsable area header)
+        (λ e. ((¬ (IsKnown header.version)) × (e ≡ WrongVersion))
+        ⊎ (IsKnown header.version × ((¬ (IsUsable area header)) × (e ≡ Damaged)))) }
 {
-    if header.version != RECORD_VERSION {
+    let Some(version) = RecordVersion::of(header.version) else {
         return Err(Refusal::WrongVersion);
-    }
+    };
     if header.generation > LAST_GENERATION || !header.fits(area) {
         return Err(Refusal::Damaged);
     }
-    Ok(header)
+    Ok(version)
 }
 
-// What the area holds.
+// What the live area holds.
 fn recover<D: Disk>(
     alloc: Global,
     opening: &mut Opening<D>,
     front: Front,
 ) -> Result<Recovered, Refusal>
     requires long { length (D.state (opened opening.old)).content ≡ disk_len front.superblock.slots }
-    requires usable { IsUsable (area_a front.superblock.slots) front.header }
+    requires area { front.live.area ≡ area_a front.superblock.slots }
+    requires usable { IsUsable front.live.area front.live.header }
     ensures recovered { D.honest
-        → IsHeaderAt (D.state (opened opening.old)).content (area_a front.superblock.slots).start front.header
-        → IfOk result (IsRecovered (area_a front.superblock.slots) (D.state (opened opening.old)).content) }
-    ensures header { IfOk result (λ recovered. recovered.header ≡ front.header) }
-    ensures next { IfOk result (λ recovered. recovered.next < (area_a front.superblock.slots).end) }
+        → IsHeaderAt (D.state (opened opening.old)).content front.live.area.start front.live.header
+        → IfOk result (IsRecovered front.live.area (D.state (opened opening.old)).content) }
+    ensures header { IfOk result (λ recovered. recovered.header ≡ front.live.header) }
+    ensures next { IfOk result (λ recovered. recovered.next < front.live.area.end) }
     ensures refused { D.honest
-        → IsHeaderAt (D.state (opened opening.old)).content (area_a front.superblock.slots).start front.header
+        → IsHeaderAt (D.state (opened opening.old)).content front.live.area.start front.live.header
         → IfErr result (λ e. e ≢ DeviceFailed → e ≢ OutOfMemory → (e ≡ Damaged)
-        × ((c : Contents) → ¬ Holds (area_a front.superblock.slots) c (D.state (opened opening.old)).content)) }
+        × ((c : Contents) → ¬ Holds front.live.area c (D.state (opened opening.old)).content)) }
     ensures reads { OnlyReads D.honest D.state D.failures D.outlook
         (opened opening.old) (opened opening.new) (is_device_refusal result) }
 {
-    match opening.recover(alloc, first_area(&front.superblock), front.header) {
+    match opening.recover(alloc, front.live.area, front.live.header) {
         Ok(recovered) => Ok(recovered),
         Err(RecoverError::Device) => Err(Refusal::DeviceFailed),
         Err(RecoverError::OutOfMemory) => Err(Refusal::OutOfMemory),

@@ -1,33 +1,46 @@
 // The table that a checkpoint and the batches behind it lead to.
-ghost use Rattle.std.specs.Prelude.{◌≡◌, ◌≢◌, ◌<◌, ◌≤◌, ◌↔◌, ◌^◌, ℕ, List, MatchResult};
+ghost use Rattle.std.specs.Prelude.{◌≡◌, ◌≢◌, ◌↔◌, ℕ, List, MatchResult};
 ghost use Rattle.lw_types.specs.declared.refusal.Refusal.TheVariants.{Damaged, OutOfMemory};
-ghost use Rattle.sessions.specs.Table.{TableState, empty_table, placed};
-ghost use Rattle.store_layout.specs.Entries.{Entry, put_all};
+ghost use Rattle.sessions.specs.Table.{TableState};
+ghost use Rattle.store_layout.specs.declared.entries.Entry.{Entry};
 ghost use Rattle.store.specs.Image.{IsBatchOn, IsCheckpoint, Lead, Restores};
 
 use gate_log::{Batch, Recovered};
 use lw_types::Refusal;
 use sessions::Table;
 use std::alloc::Global;
-use store_layout::{Superblock, laws, replay};
+use store_layout::{RecordVersion, Superblock, laws, replay};
 
 /// The table and the number that an area leads to. Refused with `Damaged` exactly where it leads to
 /// none, and with `OutOfMemory` for want of memory.
 pub(crate) fn restore(
     alloc: Global,
     superblock: &Superblock,
+    version: RecordVersion,
     recovered: &Recovered,
 ) -> Result<(Table, u64), Refusal>
     ensures { MatchResult result
         (λ r. (t : TableState) (seq : ℕ)
-        → Restores superblock.now.net_id superblock.now.slots recovered.now.header recovered.now.records.items recovered.now.batches.items t seq
+        → Restores version superblock.now.net_id superblock.now.slots recovered.now.header recovered.now.records.items recovered.now.batches.items t seq
         ↔ ((t ≡ r.0) × (seq ≡ r.1)))
         (λ e. e ≢ OutOfMemory → (e ≡ Damaged) × ((t : TableState) (seq : ℕ)
-        → ¬ Restores superblock.now.net_id superblock.now.slots recovered.now.header recovered.now.records.items recovered.now.batches.items t seq)) }
+        → ¬ Restores version superblock.now.net_id superblock.now.slots recovered.now.header recovered.now.records.items recovered.now.batches.items t seq)) }
 {
     let header = recovered.header;
-    let mut table = checkpoint(alloc, superblock, &recovered.records, header.record_count)?;
-    let seq = replay_batches(alloc, &mut table, header.sequence, &recovered.batches)?;
+    let mut table = checkpoint(
+        alloc,
+        superblock,
+        version,
+        &recovered.records,
+        header.record_count,
+    )?;
+    let seq = replay_batches(
+        alloc,
+        version,
+        &mut table,
+        header.sequence,
+        &recovered.batches,
+    )?;
     Ok((table, seq))
 }
 
@@ -35,48 +48,58 @@ pub(crate) fn restore(
 fn checkpoint(
     alloc: Global,
     superblock: &Superblock,
+    version: RecordVersion,
     records: &[u8],
     count: u32,
 ) -> Result<Table, Refusal>
     ensures { MatchResult result
-        (λ table. (t : TableState) → IsCheckpoint superblock.now.net_id superblock.now.slots records.now count t ↔ (t ≡ table))
+        (λ table. (t : TableState) → IsCheckpoint version superblock.now.net_id superblock.now.slots records.now count t ↔ (t ≡ table))
         (λ e. e ≢ OutOfMemory → (e ≡ Damaged) × ((t : TableState)
-        → ¬ IsCheckpoint superblock.now.net_id superblock.now.slots records.now count t)) }
+        → ¬ IsCheckpoint version superblock.now.net_id superblock.now.slots records.now count t)) }
 {
     laws::bytes_replay_in_one_way();
     let mut table = Table::new(alloc, superblock.net_id, superblock.slots)?;
-    replay(alloc, &mut table, records, count)?;
+    replay(alloc, version, &mut table, records, count)?;
     if table.devices().len() as u64 != u64::from(count) {
         return Err(Refusal::Damaged);
     }
     Ok(table)
 }
 
-// Puts the records of batches on a table, and gives the number of the last decision.
+// Puts the entries of batches on a table, and gives the number of the last decision.
 fn replay_batches(
     alloc: Global,
+    version: RecordVersion,
     table: &mut Table,
     seq: u64,
     batches: &[Batch],
 ) -> Result<u64, Refusal>
     ensures { MatchResult result
-        (λ last. (u : TableState) (n : ℕ) → Lead table.old seq batches.now u n ↔ ((u ≡ table.new) × (n ≡ last)))
-        (λ e. e ≢ OutOfMemory → (e ≡ Damaged) × ((u : TableState) (n : ℕ) → ¬ Lead table.old seq batches.now u n)) }
+        (λ last. (u : TableState) (n : ℕ) → Lead version table.old seq batches.now u n ↔ ((u ≡ table.new) × (n ≡ last)))
+        (λ e. e ≢ OutOfMemory → (e ≡ Damaged)
+        × ((u : TableState) (n : ℕ) → ¬ Lead version table.old seq batches.now u n)) }
 {
     let mut last = seq;
     for batch in batches {
-        replay_batch(alloc, table, last, batch)?;
+        replay_batch(alloc, version, table, last, batch)?;
         last = batch.last_sequence();
     }
     Ok(last)
 }
 
-// Puts the records of one batch on a table.
-fn replay_batch(alloc: Global, table: &mut Table, seq: u64, batch: &Batch) -> Result<(), Refusal>
+// Puts the entries of one batch on a table.
+fn replay_batch(
+    alloc: Global,
+    version: RecordVersion,
+    table: &mut Table,
+    seq: u64,
+    batch: &Batch,
+) -> Result<(), Refusal>
     ensures { MatchResult result
-        (λ _. (es : List Entry) × (IsBatchOn table.old seq batch.now es × ((table.new ≡ put_all table.old es)
-        × ((fs : List Entry) → IsBatchOn table.old seq batch.now fs → fs ≡ es))))
-        (λ e. e ≢ OutOfMemory → (e ≡ Damaged) × ((es : List Entry) → ¬ IsBatchOn table.old seq batch.now es)) }
+        (λ _. (es : List Entry) × IsBatchOn version table.old seq batch.now es table.new
+        × ((fs : List Entry) (u : TableState) → IsBatchOn version table.old seq batch.now fs u → u ≡ table.new))
+        (λ e. e ≢ OutOfMemory → (e ≡ Damaged)
+        × ((es : List Entry) (u : TableState) → ¬ IsBatchOn version table.old seq batch.now es u)) }
 {
     laws::bytes_replay_in_one_way();
     let count = u64::from(batch.entry_count());
@@ -88,6 +111,7 @@ fn replay_batch(alloc: Global, table: &mut Table, seq: u64, batch: &Batch) -> Re
     }
     replay(
         alloc,
+        version,
         table,
         batch.entries(),
         u32::from(batch.entry_count()),

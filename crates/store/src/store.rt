@@ -1,6 +1,5 @@
 // The store, and what it tells of itself.
 ghost use Rattle.std.specs.Prelude.{◌≡◌, ◌<◌, ◌+◌, ◌-◌, ◌^◌, ◌↔◌, IsTrue, false};
-ghost use Rattle.std.specs.Option.{ForSome};
 ghost use Rattle.disk.specs.Outlook.Outlook.{FailsAfter};
 ghost use Rattle.gate_log.specs.Log.{seen as seen_log, disk_of as disk_of_log};
 
@@ -8,6 +7,7 @@ use disk::{Disk, Sim};
 use gate_log::Log;
 use lw_types::Refusal;
 use sessions::Table;
+use store_layout::RecordVersion;
 
 /// The bytes of the journal that the largest batch takes, with its gate and the next one.
 pub const LARGEST_BATCH: u64 = 275_536;
@@ -18,28 +18,25 @@ pub const LARGEST_BATCH: u64 = 275_536;
 pub struct Store<D: Disk> {
     pub(crate) log: Log<D>,
     pub(crate) table: Table,
-    // The same table once more, on which the next batch is tried. A batch that is refused uses it up.
-    pub(crate) spare: Option<Table>,
     pub(crate) seq: u64,
+    pub(crate) version: RecordVersion,
     pub(crate) failed: bool,
-    ghost level: { ForSome spare (λ t. t ≡ table) },
 }
 
 impl<D: Disk> Store<D> {
     ghost use Rattle.store.specs.State.{seen, disk_of, IsRoomy};
 
-    /// The store of a table, twice, and of the number of its last decision.
-    pub(crate) fn new(log: Log<D>, table: Table, spare: Table, seq: u64) -> Self
-        requires { spare ≡ table }
+    /// The store of a table and the number of its last decision, in an area with records of a version.
+    pub(crate) fn new(log: Log<D>, table: Table, seq: u64, version: RecordVersion) -> Self
         ensures store { seen D.state result
-            ≡ record { log = seen_log D.state log; table = table; seq = seq; failed = false } }
+            ≡ record { log = seen_log D.state log; table = table; seq = seq; version = version; failed = false } }
         ensures disk { disk_of result ≡ disk_of_log log }
     {
         Store {
             log,
             table,
-            spare: Some(spare),
             seq,
+            version,
             failed: false,
         }
     }

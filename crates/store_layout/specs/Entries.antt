@@ -1,50 +1,71 @@
--- Entries: records under their slots, and what they make of a table one after another.
-use Rattle.std.specs.Prelude.{◌≡◌, ◌<◌, ◌^◌, ℕ, List, [], ◌∷◌, ◌++◌, length, map}
+-- Entries: what a store keeps of one device each, and what they make of a table one after another.
+use Rattle.std.specs.Prelude.{◌≡◌, ◌<◌, ◌^◌, ℕ, Bool, true, cond, ◌&&◌, ltb, leb, eqb, List, [], ◌∷◌, ◌++◌, length, map, Option, Some, None}
 use Rattle.std.specs.List.{flat_map, AllByRecursion}
+use Rattle.std.specs.Option.{option_and_then}
 use Rattle.std.specs.Int.{to_be_bytes, w16}
 use Rattle.devices.specs.declared.device.Device.{Device}
 use Rattle.record_codec.specs.DeviceRecord.{spelling, IsDevice}
-use Rattle.sessions.specs.Table.{TableState, CanPut, placed}
+use Rattle.sessions.specs.Table.{TableState, placed, slot_of}
 use Rattle.sessions.specs.declared.decision.Decision.{Decision}
+use Rattle.store_layout.specs.declared.entries.Entry.{Entry}
+use Rattle.store_layout.specs.declared.entries.Entry.TheVariants.{Whole}
+use Rattle.store_layout.specs.declared.version.RecordVersion.{RecordVersion}
+use Rattle.store_layout.specs.declared.version.RecordVersion.TheVariants.{V1}
 
--- a record under its slot
-abbrev pub Entry : Type 0
-Entry = ℕ × Device
+-- the byte of a version
+abbrev pub version_byte : RecordVersion → ℕ
+version_byte V1 = 1
 
--- the kind of a whole record, the slot, the length of the record, and the record
-abbrev pub entry : Entry → List ℕ
-entry e = 1 ∷ (to_be_bytes w16 e.0 ++ (to_be_bytes w16 (length (spelling e.1)) ++ spelling e.1))
+-- a device's record in a version
+abbrev pub record_in : RecordVersion → Device → List ℕ
+record_in V1 device = spelling device
 
-abbrev pub IsEntry : Entry → Type 0
-IsEntry e = (e.0 < 2 ^ 16) × IsDevice e.1
+abbrev pub IsRecordIn : RecordVersion → Device → Type 0
+IsRecordIn V1 device = IsDevice device
+
+-- the bytes of an entry: its kind, and of a whole record the slot, the length of the record, and the record
+abbrev pub entry : RecordVersion → Entry → List ℕ
+entry version (Whole slot device) =
+    1 ∷ (to_be_bytes w16 slot ++ (to_be_bytes w16 (length (record_in version device)) ++ record_in version device))
+
+abbrev pub IsEntry : RecordVersion → Entry → Type 0
+IsEntry version (Whole slot device) = (slot < 2 ^ 16) × IsRecordIn version device
 
 -- no entry stands at the front of these bytes
-abbrev pub Lacks : List ℕ → Type 0
-Lacks bytes = (e : Entry) (rest : List ℕ) → IsEntry e → bytes ≡ entry e ++ rest → ⊥
+abbrev pub Lacks : RecordVersion → List ℕ → Type 0
+Lacks version bytes = (e : Entry) (rest : List ℕ) → IsEntry version e → bytes ≡ entry version e ++ rest → ⊥
 
-abbrev pub AreEntries : List Entry → Type 0
-AreEntries es = AllByRecursion IsEntry es
+abbrev pub AreEntries : RecordVersion → List Entry → Type 0
+AreEntries version es = AllByRecursion (IsEntry version) es
 
-abbrev pub entries : List Entry → List ℕ
-entries es = flat_map entry es
+abbrev pub entries : RecordVersion → List Entry → List ℕ
+entries version es = flat_map (entry version) es
 
--- the table after these records are put at their slots, the first of them first
-abbrev pub put_all : TableState → List Entry → TableState
-put_all t [] = t
-put_all t (e ∷ es) = put_all (placed t e.0 e.1) es
+-- a DevEUI that stands nowhere, or at this slot
+abbrev pub is_own : ℕ → Option ℕ → Bool
+is_own slot None = true
+is_own slot (Some own) = eqb own slot
 
--- at each moment the next record may be put: its slot is in use or the next one, and no other slot has its DevEUI
-abbrev pub CanPutAll : TableState → List Entry → Type 0
-CanPutAll t [] = Unit {0}
-CanPutAll t (e ∷ es) = CanPut t e.0 e.1 × CanPutAll (placed t e.0 e.1) es
+-- whether a record may be put at a slot: it is in use or the next one, and no other slot has the record's DevEUI
+abbrev pub can_put : TableState → ℕ → Device → Bool
+can_put t slot device = leb slot (length t.devices) && (ltb slot t.slots && is_own slot (slot_of device.dev_eui.0 t.devices))
 
--- so many entries that spell these bytes and may be put on the table
-pub record Replay (t : TableState) (bytes : List ℕ) (count : ℕ) (es : List Entry) : Type 0 where
-  pub spelled : bytes ≡ entries es
+-- the table with an entry, if it may be put there
+abbrev pub put_one : TableState → Entry → Option TableState
+put_one t (Whole slot device) = cond (can_put t slot device) (Some (placed t slot device)) None
+
+-- the table after these entries, the first of them first, if each may be put where those before it lead
+abbrev pub put_all : TableState → List Entry → Option TableState
+put_all t [] = Some t
+put_all t (e ∷ es) = option_and_then (λ u. put_all u es) (put_one t e)
+
+-- so many entries that spell these bytes and lead from one table to another
+pub record Replay (version : RecordVersion) (t : TableState) (bytes : List ℕ) (count : ℕ) (es : List Entry) (u : TableState) : Type 0 where
+  pub spelled : bytes ≡ entries version es
   pub number : length es ≡ count
-  pub each : AreEntries es
-  pub can : CanPutAll t es
+  pub each : AreEntries version es
+  pub leads : put_all t es ≡ Some u
 
 -- the entries of decisions: the record that each leaves, under its slot
 abbrev pub entries_of : List Decision → List Entry
-entries_of ds = map (λ d. (d.slot, d.after)) ds
+entries_of ds = map (λ d. Whole d.slot d.after) ds

@@ -1,32 +1,59 @@
-// Entries: records under their slots, written and replayed.
-ghost use Rattle.std.specs.Prelude.{◌≡◌, ◌≢◌, ◌++◌, ◌⊎◌, ℕ, List, IfOk, IfErr, OnOk, OnErr, MatchResult, length, ◌<◌, ◌^◌, ◌∷◌};
+// Entries, written and replayed.
+ghost use Rattle.std.specs.Prelude.{◌≡◌, ◌≤◌, ◌*◌, ◌≢◌, ◌++◌, ℕ, List, IfOk, MatchResult, Some, None, length, ◌<◌, ◌^◌, ◌∷◌};
 ghost use Rattle.std.specs.Int.{to_be_bytes, w16};
 ghost use Rattle.lw_types.specs.declared.refusal.Refusal.TheVariants.{OutOfMemory, Damaged};
-ghost use Rattle.store_layout.specs.Entries.{Entry, AreEntries, IsEntry, Lacks, Replay, entries, entries_of, entry, put_all};
+ghost use Rattle.sessions.specs.Table.{TableState};
+ghost use Rattle.store_layout.specs.declared.entries.Entry.TheVariants.{Whole};
+ghost use Rattle.store_layout.specs.Entries.{AreEntries, IsEntry, Lacks, Replay, entries, entries_of, entry, put_one};
 
+use crate::version::RecordVersion;
 use devices::Device;
 use lw_types::Refusal;
-use record_codec::{laws, read_device, write_device};
+use record_codec::laws;
 use sessions::{Batch, Decision, Table};
 use std::alloc::{AllocError, Global};
 
 /// The kind of an entry that is a whole record.
 const WHOLE: u8 = 1;
 
-/// Appends the entry of a record at a slot. After an `Err`, which is want of memory, nothing was
+/// What a store keeps of one device, by its kind.
+#[derive(Drop)]
+pub enum Entry {
+    /// The whole record of the device at a slot.
+    Whole { slot: u16, device: Device },
+}
+
+impl Entry {
+    /// Puts the entry on a table. Refused with `Damaged` exactly where it may not be put there, and with
+    /// `OutOfMemory` for want of memory. A refusal changes nothing.
+    pub fn put_on(self, table: &mut Table) -> Result<(), Refusal>
+        ensures { MatchResult result
+            (λ _. put_one table.old self ≡ Some table.new)
+            (λ e. (table.new ≡ table.old)
+            × (e ≢ OutOfMemory → (e ≡ Damaged) × (put_one table.old self ≡ None))) }
+    {
+        match self {
+            Entry::Whole { slot, device } => table.put(slot, device),
+        }
+    }
+}
+
+/// Appends the entry of the record at a slot. After an `Err`, which is want of memory, nothing was
 /// appended.
 pub fn put_entry(
     alloc: Global,
+    version: RecordVersion,
     slot: u16,
     device: &Device,
     out: &mut Vec<u8>,
 ) -> Result<(), Refusal>
     ensures { MatchResult result
-        (λ _. (out.new.items ≡ out.old.items ++ entry (slot, device.now)) × IsEntry (slot, device.now))
+        (λ _. (out.new.items ≡ out.old.items ++ entry version (Whole slot device.now))
+        × IsEntry version (Whole slot device.now))
         (λ e. (e ≡ OutOfMemory) × (out.new.items ≡ out.old.items)) }
 {
     let mut record = Vec::new(alloc);
-    write_device(alloc, device, &mut record)?;
+    version.write(alloc, device, &mut record)?;
     laws::records_are_short();
     let bytes = whole_entry(alloc, slot, record.as_slice())?;
     out.extend_from_slice(bytes.as_slice())?;
@@ -47,23 +74,35 @@ fn whole_entry(alloc: Global, slot: u16, spelled: &[u8]) -> Result<Vec<u8>, Allo
 }
 
 /// The entries of a batch, one for each decision, in order.
-pub fn batch_entries(alloc: Global, batch: &Batch) -> Result<Vec<u8>, Refusal>
-    ensures { MatchResult result
-        (λ bytes. (bytes.items ≡ entries (entries_of batch.now)) × AreEntries (entries_of batch.now))
+pub fn batch_entries(
+    alloc: Global,
+    version: RecordVersion,
+    batch: &Batch,
+) -> Result<Vec<u8>, Refusal>
+    ensures entries { MatchResult result
+        (λ bytes. (bytes.items ≡ entries version (entries_of batch.now))
+        × AreEntries version (entries_of batch.now))
         (λ e. e ≡ OutOfMemory) }
+    ensures short { IfOk result (λ bytes. length bytes.items ≤ length batch.now * 4185) }
 {
+    crate::laws::entries_are_short();
+    crate::laws::decisions_replay();
     let mut bytes = Vec::new(alloc);
     for decision in batch.as_slice() {
-        put_entry(alloc, decision.slot, &decision.after, &mut bytes)?;
+        put_entry(alloc, version, decision.slot, &decision.after, &mut bytes)?;
     }
     Ok(bytes)
 }
 
-// The slot and the record of the entry at the front of some bytes, and the bytes behind it.
-fn read_entry(alloc: Global, bytes: &[u8]) -> Result<(u16, Device, &[u8]), Refusal>
+// The entry at the front of some bytes, and the bytes behind it.
+fn read_entry(
+    alloc: Global,
+    version: RecordVersion,
+    bytes: &[u8],
+) -> Result<(Entry, &[u8]), Refusal>
     ensures { MatchResult result
-        (λ read. (bytes.now ≡ entry (read.0, read.1) ++ read.2.now) × IsEntry (read.0, read.1))
-        (λ e. (e ≢ OutOfMemory → (e ≡ Damaged) × Lacks bytes.now)) }
+        (λ read. (bytes.now ≡ entry version read.0 ++ read.1.now) × IsEntry version read.0)
+        (λ e. (e ≢ OutOfMemory → (e ≡ Damaged) × Lacks version bytes.now)) }
 {
     laws::records_are_short();
     let [WHOLE, s1, s0, l1, l0, rest @ ..] = bytes else {
@@ -75,24 +114,31 @@ fn read_entry(alloc: Global, bytes: &[u8]) -> Result<(u16, Device, &[u8]), Refus
         return Err(Refusal::Damaged);
     }
     let (record, behind) = rest.split_at(len);
-    let device = read_device(alloc, record)?;
-    Ok((slot, device, behind))
+    let device = version.read(alloc, record)?;
+    Ok((Entry::Whole { slot, device }, behind))
 }
 
 /// Puts so many entries on a table, which are all of the bytes. Refused with `Damaged` exactly where
 /// the bytes aren't so many entries, or one of them may not be put; with `OutOfMemory` for want of
 /// memory. After an `Err` the table has a beginning of the entries, and is of no use.
-pub fn replay(alloc: Global, table: &mut Table, bytes: &[u8], count: u32) -> Result<(), Refusal>
+pub fn replay(
+    alloc: Global,
+    version: RecordVersion,
+    table: &mut Table,
+    bytes: &[u8],
+    count: u32,
+) -> Result<(), Refusal>
     ensures { MatchResult result
-        (λ _. (es : List Entry) × Replay table.old bytes.now count es × (table.new ≡ put_all table.old es))
-        (λ e. e ≢ OutOfMemory → (e ≡ Damaged) × ((es : List Entry) → Replay table.old bytes.now count es → ⊥)) }
+        (λ _. (es : List Entry) × Replay version table.old bytes.now count es table.new)
+        (λ e. e ≢ OutOfMemory → (e ≡ Damaged)
+        × ((es : List Entry) (u : TableState) → Replay version table.old bytes.now count es u → ⊥)) }
 {
     laws::each_record_is_of_one_device();
     laws::records_are_short();
     let mut rest = bytes;
     for _i in 0..count {
-        let (slot, device, behind) = read_entry(alloc, rest)?;
-        table.put(slot, device)?;
+        let (entry, behind) = read_entry(alloc, version, rest)?;
+        entry.put_on(table)?;
         rest = behind;
     }
     if !rest.is_empty() {

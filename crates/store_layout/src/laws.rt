@@ -1,27 +1,31 @@
 //! What follows from the layout alone. The functions do nothing: their contracts are the laws.
-ghost use Rattle.std.specs.Prelude.{◌≡◌, ◌≤◌, ◌*◌, ℕ, List, length};
+ghost use Rattle.std.specs.Prelude.{◌≡◌, ◌≤◌, ◌*◌, ℕ, List, Some, length};
 ghost use Rattle.sessions.specs.Table.{TableState};
 ghost use Rattle.sessions.specs.Decision.{FitAll, applied_all};
 ghost use Rattle.sessions.specs.declared.decision.Decision.{Decision};
-ghost use Rattle.store_layout.specs.Entries.{Entry, AreEntries, Replay, entries, entries_of, put_all};
+ghost use Rattle.store_layout.specs.declared.entries.Entry.{Entry};
+ghost use Rattle.store_layout.specs.declared.version.RecordVersion.{RecordVersion};
+ghost use Rattle.store_layout.specs.Entries.{AreEntries, Replay, entries, entries_of, put_all};
 
 use record_codec::laws;
 
-/// The entries of decisions that were made of a table replay on it, and leave the table that the
+/// The entries of decisions that were made of a table replay on it, and lead to the table that the
 /// decisions leave.
 pub fn decisions_replay()
-    ensures replay { (t : TableState) (ds : List Decision) → FitAll t ds → AreEntries (entries_of ds)
-        → Replay t (entries (entries_of ds)) (length ds) (entries_of ds) }
-    ensures table { (t : TableState) (ds : List Decision) → put_all t (entries_of ds) ≡ applied_all t ds }
+    ensures replay { (version : RecordVersion) (t : TableState) (ds : List Decision) → FitAll t ds
+        → AreEntries version (entries_of ds)
+        → Replay version t (entries version (entries_of ds)) (length ds) (entries_of ds) (applied_all t ds) }
     ensures number { (ds : List Decision) → length (entries_of ds) ≡ length ds }
 {
     sessions::laws::decided_records_may_be_put();
 }
 
-/// Bytes are so many entries in one way at most.
+/// Bytes are so many entries in one way at most, and lead to one table.
 pub fn bytes_replay_in_one_way()
-    ensures { (t u : TableState) (bytes : List ℕ) (count : ℕ) (es fs : List Entry) → Replay t bytes count es
-        → Replay u bytes count fs → es ≡ fs }
+    ensures entries { (version : RecordVersion) (t t' u u' : TableState) (bytes : List ℕ) (count : ℕ) (es fs : List Entry)
+        → Replay version t bytes count es u → Replay version t' bytes count fs u' → es ≡ fs }
+    ensures table { (version : RecordVersion) (t u u' : TableState) (bytes : List ℕ) (count : ℕ) (es fs : List Entry)
+        → Replay version t bytes count es u → Replay version t bytes count fs u' → u ≡ u' }
 {
     laws::each_record_is_of_one_device();
     laws::records_are_short();
@@ -29,13 +33,14 @@ pub fn bytes_replay_in_one_way()
 
 /// An entry has at most 4,185 bytes.
 pub fn entries_are_short()
-    ensures { (es : List Entry) → AreEntries es → length (entries es) ≤ length es * 4185 }
+    ensures { (version : RecordVersion) (es : List Entry) → AreEntries version es
+        → length (entries version es) ≤ length es * 4185 }
 {
     laws::records_are_short();
 }
 
-/// Records that are put on a table leave its network and its number of slots.
-pub fn records_keep_the_network()
-    ensures net_id { (t : TableState) (es : List Entry) → (put_all t es).net_id ≡ t.net_id }
-    ensures slots { (t : TableState) (es : List Entry) → (put_all t es).slots ≡ t.slots }
+/// Entries that are put on a table leave its network and its number of slots.
+pub fn entries_keep_the_network()
+    ensures net_id { (t u : TableState) (es : List Entry) → put_all t es ≡ Some u → u.net_id ≡ t.net_id }
+    ensures slots { (t u : TableState) (es : List Entry) → put_all t es ≡ Some u → u.slots ≡ t.slots }
 {}

@@ -4,6 +4,8 @@
 mod entries;
 pub mod laws;
 mod superblock;
+mod version;
 
-pub use entries::{batch_entries, put_entry, replay};
+pub use entries::{Entry, batch_entries, put_entry, replay};
 pub use superblock::Superblock;
+pub use version::RecordVersion;

@@ -8,7 +8,7 @@ use std::alloc::Global;
 use std::process::Abort;
 use std::test::Fail;
 use store::{open, open_back};
-use store_layout::put_entry;
+use store_layout::{RecordVersion, put_entry};
 
 // The bytes of a store with one device.
 fn image(rt: &impl Abort, alloc: Global) -> Result<Vec<u8>, Fail> {
@@ -125,7 +125,7 @@ fn a_good_disk_is_kept(rt: HostRuntime) -> Result<(), Fail> {
 fn entries(alloc: Global, records: &[(u16, &Device)]) -> Result<Vec<u8>, Fail> {
     let mut bytes = Vec::new(alloc);
     for (slot, device) in records {
-        put_entry(alloc, *slot, device, &mut bytes)?;
+        put_entry(alloc, RecordVersion::V1, *slot, device, &mut bytes)?;
     }
     Ok(bytes)
 }

@@ -5,7 +5,7 @@ use sessions::Table;
 use std::alloc::Global;
 use std::process::Abort;
 use std::test::Fail;
-use store_layout::{Superblock, batch_entries, put_entry, replay};
+use store_layout::{RecordVersion, Superblock, batch_entries, put_entry, replay};
 
 fn table(alloc: Global, most: u64) -> Result<Table, Fail> {
     Ok(Table::new(alloc, net_id()?, slots(most)?)?)
@@ -58,7 +58,7 @@ fn an_entry_has_its_layout(rt: HostRuntime) -> Result<(), Fail> {
     let alloc = rt.alloc();
     let device = Device::provisioned(alloc, &provisioning(0x1112131415161718)?);
     let mut bytes = [7].to_vec(alloc)?;
-    put_entry(alloc, 0x0102, &device, &mut bytes)?;
+    put_entry(alloc, RecordVersion::V1, 0x0102, &device, &mut bytes)?;
     assert_eq!(rt; bytes.len(), 1 + 5 + 50);
     assert_eq!(rt;
         &bytes[..14],
@@ -73,7 +73,7 @@ fn an_entry_has_its_layout(rt: HostRuntime) -> Result<(), Fail> {
 // The entries of a batch of so many provisionings.
 fn entries(alloc: Global, count: u64) -> Result<Vec<u8>, Fail> {
     let batch = provisionings(alloc, &table(alloc, 64)?, 0, count)?;
-    Ok(batch_entries(alloc, &batch)?)
+    Ok(batch_entries(alloc, RecordVersion::V1, &batch)?)
 }
 
 #[test]
@@ -83,7 +83,7 @@ fn what_a_batch_writes_replays(rt: HostRuntime) -> Result<(), Fail> {
         let bytes = entries(alloc, count)?;
         assert_eq!(rt; bytes.len() as u64, 55 * count);
         let mut opened = table(alloc, 64)?;
-        replay(alloc, &mut opened, &bytes, count as u32)?;
+        replay(alloc, RecordVersion::V1, &mut opened, &bytes, count as u32)?;
         assert_eq!(rt; opened.devices().len() as u64, count);
         assert_eq!(rt; opened.slot_of(Eui(count)), Some(count as u16 - 1));
     }
@@ -99,7 +99,7 @@ fn is_damaged(
     count: u32,
 ) -> Result<(), Fail> {
     let mut other = table(alloc, most)?;
-    let answer = replay(alloc, &mut other, bytes, count);
+    let answer = replay(alloc, RecordVersion::V1, &mut other, bytes, count);
     assert_eq!(rt;
         answer,
         Err(Refusal::Damaged),

@@ -13,7 +13,7 @@ returns-then-end-at-clause-damaged g c honest is =
     let is_open : get_or disk c.args.at 0 ≡ OPEN = (c.in_ok-is_open.ensures.gate honest).0 c.if-not-branch.false in
     let spelled : head_bytes c.in_ok-head.head ≡ take 14 (drop (c.args.at + 1) disk) =
     c.in_ok-head.ensures.head honest ∙ ap (λ (l : List ℕ). take 14 (drop (c.args.at + 1) l)) same in
-    no_batch_at disk c.args.end c.args.at c.in_ok-head.head is_open spelled c.in_ok-head.ensures.in_range (omega (arith, c.from.ensures, c.if-end-at.true, c.if-end-at-lt16.false))
+    no_batch_at disk c.args.end c.args.at c.in_ok-head.head is_open spelled c.in_ok-head.ensures.in_range (omega (arith, c.from.ensures, c.if-end-at.true, c.if-end-at-le-ENTRIES_AT.false))
 
 pub returns-clause-batch : goal.returns-clause-batch
 returns-clause-batch g c honest =
@@ -28,5 +28,5 @@ returns-clause-batch g c honest =
     let read : entries ≡ take len (drop (c.args.at + 15) disk) =
     c.in_ok-entries.ensures.bytes honest ∙ ap (λ (l : List ℕ). take len (drop (c.args.at + 15) l)) same_2 in
     let batch = batch_at disk c.args.end c.args.at c.in_ok-head.head entries is_open spelled c.in_ok-head.ensures.in_range read c.in_ok-entries.ensures.len
-    (omega (arith, c.from.ensures, c.if-end-at.false, c.if-end-at-lt16.false)) c.requires.within in
+    (omega (arith, c.from.ensures, c.if-end-at.false, c.if-end-at-le-ENTRIES_AT.false)) c.requires.within in
     subst (IsBatchAt disk c.args.end c.args.at) (sym c.new.ensures) batch

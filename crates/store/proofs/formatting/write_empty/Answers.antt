@@ -1,4 +1,4 @@
-use Rattle.std.proofs.Common.{◌≡◌, ◌+◌, ◌∙◌, [], ◌∷◌, List, ℕ, length, sym, ap, subst}
+use Rattle.std.proofs.Common.{◌≡◌, ◌+◌, ◌∙◌, [], ◌∷◌, List, ℕ, length, ap, subst}
 use Rattle.disk.specs.State.{IsTorn, written}
 use Rattle.gate_log.specs.declared.layout.TheConstants.{OPEN}
 use Rattle.gate_log.specs.Layout.{fresh_header}
@@ -35,7 +35,7 @@ returns-in_err-open_front-clause-images g c honest nothing image permitted =
     let settled = c.in_ok-sync.ensures.settled honest in
     let torn : IsTorn 0 1 old image = subst (λ (l : List ℕ). IsTorn 0 1 l image) settled.content (c.open_front.ensures.images honest settled.nothing_open image permitted) in
     let long : length old ≡ disk_len s.slots = c.write_closed.ensures.same_length ∙ (c.shut.ensures.same_length ∙ c.requires) in
-    formatted_image s.net_id s.slots old image c.in_ok-next.ensures.in_range.0 c.in_ok-next.ensures.in_range.1 long c.contents_stay_where_others_change.ensures.holds
+    formatted_image c.what_is_held_has_its_header.ensures.header s.net_id s.slots old image c.in_ok-next.ensures.in_range.0 c.in_ok-next.ensures.in_range.1 long c.contents_stay_where_others_change.ensures.holds
     (c.in_ok-next.ensures.area honest) (c.in_ok-next.ensures.body honest) torn (g.D.Disk.state c.args.disk.now).content
 
 pub returns-clause-images : goal.returns-clause-images
@@ -45,5 +45,5 @@ returns-clause-images g c honest nothing image permitted =
     let settled = c.in_ok-sync.ensures.settled honest in
     let torn : IsTorn 0 1 old image = subst (λ (l : List ℕ). IsTorn 0 1 l image) settled.content (c.open_front.ensures.images honest settled.nothing_open image permitted) in
     let long : length old ≡ disk_len s.slots = c.write_closed.ensures.same_length ∙ (c.shut.ensures.same_length ∙ c.requires) in
-    formatted_image s.net_id s.slots old image c.in_ok-next.ensures.in_range.0 c.in_ok-next.ensures.in_range.1 long c.contents_stay_where_others_change.ensures.holds
+    formatted_image c.what_is_held_has_its_header.ensures.header s.net_id s.slots old image c.in_ok-next.ensures.in_range.0 c.in_ok-next.ensures.in_range.1 long c.contents_stay_where_others_change.ensures.holds
     (c.in_ok-next.ensures.area honest) (c.in_ok-next.ensures.body honest) torn (g.D.Disk.state c.args.disk.now).content

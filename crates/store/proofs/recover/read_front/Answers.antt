@@ -1,24 +1,21 @@
 use Rattle.std.proofs.Common.{List, ℕ, ap, subst}
 use Rattle.std.proofs.lemmas.Result.{err_from_is_err_and}
 use Rattle.disk.specs.State.{State}
-use Rattle.gate_log.specs.declared.layout.Area.{Area}
 use Rattle.gate_log.specs.Opening.{opened}
 use Rattle.store.specs.Faults.{HeaderFault}
-use Rattle.store.specs.Image.{area_a}
 use Rattle.store.proofs.Finding.{HeaderLaws, header_fault}
 use Rattle.store.proofs.recover.read_front.Goals as goal
 
-pub returns-in_err-header-clause-refused : goal.returns-in_err-header-clause-refused
-returns-in_err-header-clause-refused g c honest =
-    let p = err_from_is_err_and c.from_residual-in_err-header.result c.from_residual-in_err-header.ensures.1 in
+pub returns-in_err-live-clause-refused : goal.returns-in_err-live-clause-refused
+returns-in_err-live-clause-refused g c honest =
+    let p = err_from_is_err_and c.from_residual-in_err-live.result c.from_residual-in_err-live.ensures.1 in
     rw (p.1, p.2) (λ device.
     let s = c.in_ok-superblock in
     let content = (g.D.Disk.state (opened c.args.opening.now)).content in
     let same = ap (λ (x : State). x.content) (s.ensures.reads.same honest) in
-    let e = c.in_err-header.field-0.0 in
+    let e = c.in_err-live.field-0.0 in
     let slots = s.superblock.slots in
-    let laws : HeaderLaws = record { header = c.what_is_held_has_its_header.ensures.header; room = c.what_is_held_has_its_header.ensures.room; one = c.a_place_has_one_header.ensures } in
+    let laws : HeaderLaws =
+    record { room = c.what_is_held_has_its_header.ensures.room; one = c.a_place_has_one_header.ensures; closed = c.a_closed_area_holds_nothing.ensures } in
     header_fault content s.superblock.net_id slots (s.ensures.found honest) (s.ensures.only honest) s.ensures.length laws e
-    (λ held closed. c.a_closed_area_holds_nothing.ensures (area_a slots) content held closed)
-    (subst (λ (a : Area). HeaderFault content a e) c.first_area.ensures
-    (subst (λ (l : List ℕ). HeaderFault l c.first_area.result e) same (c.in_err-header.ensures.refused honest device))))
+    (subst (λ (l : List ℕ). HeaderFault l slots e) same (c.in_err-live.ensures.refused honest device)))

@@ -6,4 +6,4 @@ use Rattle.store.proofs.restore.replay_batches.Given as goal
 
 abbrev pub invariant-loop-batch : goal.invariant-loop-batch
 invariant-loop-batch l =
-    (u : TableState) (n : ℕ) → Lead l.fn.table l.fn.seq l.batches u n ↔ Lead l.table l.last (drop l.batch-index l.batches) u n
+    (u : TableState) (n : ℕ) → Lead l.version l.fn.table l.fn.seq l.batches u n ↔ Lead l.version l.table l.last (drop l.batch-index l.batches) u n

@@ -5,4 +5,4 @@ use Rattle.store_layout.proofs.entries.batch_entries.Given as goal
 
 abbrev pub invariant-loop-decision : goal.invariant-loop-decision
 invariant-loop-decision l =
-    (l.bytes.items ≡ entries (entries_of (take l.decision-index l.decision-items))) × AreEntries (entries_of (take l.decision-index l.decision-items))
+    (l.bytes.items ≡ entries l.version (entries_of (take l.decision-index l.decision-items))) × AreEntries l.version (entries_of (take l.decision-index l.decision-items))

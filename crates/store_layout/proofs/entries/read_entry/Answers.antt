@@ -2,7 +2,7 @@ use Rattle.std.proofs.Common.{◌≡◌, ◌≢◌, ◌∙◌, ◌⊎◌, inl, i
 use Rattle.std.proofs.lemmas.Result.{err_from_is_err_and}
 use Rattle.lw_types.specs.declared.refusal.Refusal.{Refusal}
 use Rattle.lw_types.specs.declared.refusal.Refusal.TheVariants.{OutOfMemory, Damaged}
-use Rattle.store_layout.proofs.EntryLaws.{record_cut}
+use Rattle.store_layout.proofs.EntryLaws.{no_record, short_in}
 use Rattle.store_layout.proofs.entries.read_entry.Goals as goal
 
 -- what isn't want of memory is damage
@@ -15,7 +15,6 @@ returns-in_err-device c =
     let p = err_from_is_err_and c.from_residual.result c.from_residual.ensures.1 in
     rw (p.1, p.2) (λ other. (
       damaged c.in_err-device.field-0.0 c.in_err-device.ensures.refused other,
-      λ e rest is_entry is. other (c.in_err-device.ensures.only e.1 is_entry.1
-          (record_cut c.args.bytes.now rest e c.split_at.result.0.now c.from-len.result (c.records_are_short.ensures.most e.1 is_entry.1) is
-          c.split_at.ensures.front (c.from-len.ensures ∙ c.from_be_bytes.ensures))),
+      no_record c.args.version c.args.bytes.now c.split_at.result.0.now c.from-len.result (short_in c.records_are_short.ensures.most c.args.version)
+          (λ device is_record is. other (c.in_err-device.ensures.only device is_record is)) c.split_at.ensures.front (c.from-len.ensures ∙ c.from_be_bytes.ensures),
     ))

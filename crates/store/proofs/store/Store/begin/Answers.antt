@@ -1,5 +1,5 @@
 use Rattle.std.proofs.Common.{◌≡◌, ◌∙◌, ◌+◌, length, sym, ap, subst, refl}
-use Rattle.sessions.specs.Decision.{FitAll, applied_all}
+use Rattle.sessions.specs.Decision.{FitAll}
 use Rattle.store.specs.State.{seen}
 use Rattle.store.proofs.Beginning.{EntryLaws, begun_on}
 use Rattle.store.proofs.store.Store.begin.Goals as goal
@@ -8,17 +8,17 @@ pub returns-clause-begun : goal.returns-clause-begun
 returns-clause-begun g c settled =
     let s = seen g.D.Disk.state c.args.self.now in
     let commit = c.in_ok-commit.commit in
-    let answer = c.in_ok-commit.ensures.answer in
+    let answer = c.in_ok-commit.ensures in
     let laws : EntryLaws =
-    record { replay = c.decisions_replay.ensures.replay; table = c.decisions_replay.ensures.table; net_id = c.records_keep_the_network.ensures.net_id; slots = c.records_keep_the_network.ensures.slots } in
+    record { replay = c.decisions_replay.ensures.replay; net_id = c.entries_keep_the_network.ensures.net_id; slots = c.entries_keep_the_network.ensures.slots } in
     let batch : commit.batch ≡ c.args.batch = answer.1.0 in
     begun_on laws s (record { phase = c.in_ok-phase.phase; commit = commit }) commit.batch c.in_ok-phase.ensures.begun settled
     (subst (FitAll s.table) (sym batch) answer.0.continues.fit)
-    c.in_ok-entries.ensures.1
+    c.in_ok-entries.ensures.entries.1
     (λ none. answer.0.some (sym batch ∙ none))
     c.len-count.ensures.few
-    (c.deref.ensures.value ∙ c.in_ok-entries.ensures.0)
+    (c.deref.ensures.value ∙ c.in_ok-entries.ensures.entries.0)
     c.len-count.ensures.len
-    (answer.1.1.1 ∙ ap (λ ds. s.seq + length ds) (sym batch))
-    (answer.1.1.0 ∙ ap (applied_all s.table) (sym batch))
+    (answer.1.1 ∙ ap (λ ds. s.seq + length ds) (sym batch))
+    refl
     refl

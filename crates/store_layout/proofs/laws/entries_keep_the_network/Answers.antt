@@ -1,5 +1,5 @@
 use Rattle.store_layout.proofs.Replays.{same-net, same-slots}
-use Rattle.store_layout.proofs.laws.records_keep_the_network.Goals as goal
+use Rattle.store_layout.proofs.laws.entries_keep_the_network.Goals as goal
 
 pub returns-clause-net_id : goal.returns-clause-net_id
 returns-clause-net_id c = same-net

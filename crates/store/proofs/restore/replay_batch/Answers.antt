@@ -1,0 +1,45 @@
+use Rattle.std.proofs.Common.{◌≡◌, ◌≢◌, ◌∙◌, ℕ, List, Result, Ok, Err, subst}
+use Rattle.std.proofs.Common.{arith}
+use Rattle.std.proofs.lemmas.Grind.{common_steps}
+use Rattle.std.specs.Result.{MatchResult}
+use Rattle.lw_types.specs.declared.refusal.Refusal.{Refusal}
+use Rattle.lw_types.specs.declared.refusal.Refusal.TheVariants.{Damaged, OutOfMemory}
+use Rattle.gate_log.specs.Layout.{BatchValue}
+use Rattle.sessions.specs.Table.{TableState}
+use Rattle.store_layout.specs.declared.entries.Entry.{Entry}
+use Rattle.store_layout.specs.declared.version.RecordVersion.{RecordVersion}
+use Rattle.store_layout.specs.Entries.{Replay}
+use Rattle.store.specs.Image.{IsBatchOn}
+use Rattle.store.proofs.restore.replay_batch.Goals as goal
+
+-- what replays is the batch, where its number and its count are in order
+replayed : {U : Type 0} (v : RecordVersion) (t now : TableState) (seq : ℕ) (b : BatchValue) (r : Result U Refusal)
+    → ((u u' : TableState) (es fs : List Entry) → Replay v t b.entries b.entry_count es u → Replay v t b.entries b.entry_count fs u' → u ≡ u')
+    → ((es : List Entry) (u : TableState) → Replay v t b.entries b.entry_count es u → IsBatchOn v t seq b es u)
+    → MatchResult r (λ _. (es : List Entry) × Replay v t b.entries b.entry_count es now)
+    (λ e. e ≢ OutOfMemory → (e ≡ Damaged) × ((es : List Entry) (u : TableState) → Replay v t b.entries b.entry_count es u → ⊥))
+    → MatchResult r
+    (λ _. (es : List Entry) × IsBatchOn v t seq b es now × ((fs : List Entry) (u : TableState) → IsBatchOn v t seq b fs u → u ≡ now))
+    (λ e. e ≢ OutOfMemory → (e ≡ Damaged) × ((es : List Entry) (u : TableState) → ¬ (IsBatchOn v t seq b es u)))
+replayed v t now seq b (Ok x) one is (es, put) = (es, is es now put, λ fs u other. one u now fs es other.replay put)
+replayed v t now seq b (Err e) one is refused = λ other. ((refused other).0, λ es u batch. (refused other).1 es u batch.replay)
+
+pub returns : goal.returns
+returns c =
+    let v = c.args.version in
+    let t = c.args.table.now in
+    let now = c.replay.new.table in
+    let b = c.args.batch.now in
+    let bytes : c.entries.result.now ≡ b.entries = c.entries.ensures in
+    let count : c.from.result ≡ b.entry_count = c.from.ensures ∙ c.entry_count-2.ensures in
+    let put_in = λ (l : List ℕ) (n : ℕ). MatchResult c.replay.result (λ _. (es : List Entry) × Replay v t l n es now)
+    (λ e. e ≢ OutOfMemory → (e ≡ Damaged) × ((es : List Entry) (u : TableState) → Replay v t l n es u → ⊥)) in
+    replayed v t now c.args.seq b c.replay.result
+    (λ u u' es fs one other. c.bytes_replay_in_one_way.ensures.table v t u u' b.entries b.entry_count es fs one other)
+    (λ es u put. record {
+      replay = put;
+      some = omega (arith, c.if-count-lt1.false, c.from-count.ensures, c.entry_count.ensures);
+      few = omega (arith, c.if-count.false, c.from-count.ensures, c.entry_count.ensures);
+      number = grind (arith, common_steps);
+    })
+    (subst (λ n. put_in b.entries n) count (subst (λ (l : List ℕ). put_in l c.from.result) bytes c.replay.ensures))
