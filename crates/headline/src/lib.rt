@@ -2,11 +2,10 @@
 #![tactic(auto)]
 
 ghost use Rattle.std.specs.Prelude.{IfOk};
-ghost use Rattle.sessions.specs.Table.{empty_table};
 ghost use Rattle.store.specs.State.{seen};
 ghost use Rattle.world.specs.Answers.{AreRight};
-ghost use Rattle.world.specs.Course.{beginning, course_of};
-ghost use Rattle.world.specs.Device.{passed_some};
+ghost use Rattle.world.specs.Calls.{AreForetold, passed_some};
+ghost use Rattle.world.specs.Course.{beginning, course_of, formatted};
 ghost use Rattle.headline.specs.Recovers.{Recovers};
 
 use disk::{Image, Sim};
@@ -19,8 +18,9 @@ use world::{Answer, Step, World, run};
 /// image at the end, and opens the store. With [`Image::Bytes`] each image that the disk permits can be asked
 /// for. Refused as [`World::format`], [`run`] and [`store::open`] are.
 ///
-/// Where it isn't refused, each answer is the right one, and the store has the table and the number that a
-/// beginning of the decided commands leaves. That beginning holds every command of which an effect has left.
+/// Where it isn't refused, each answer is the right one, a failed call of the disk comes where it is due, and the store
+/// has the table and the number that a beginning of the decided commands leaves. That beginning holds every command of
+/// which an effect has left.
 pub fn crash_after<D: Sim + Drop>(
     alloc: Global,
     disk: D,
@@ -29,11 +29,13 @@ pub fn crash_after<D: Sim + Drop>(
     steps: &[Step],
     image: &Image,
 ) -> Result<(Vec<Answer>, Store<D>), Refusal>
-    ensures answers { IfOk result (λ found. AreRight (empty_table net_id slots)
-        (beginning (D.failures disk) (passed_some (D.outlook disk))) steps.now found.0.items) }
-    ensures recovers { IfOk result (λ found. Recovers (empty_table net_id slots)
-        (course_of (empty_table net_id slots) (beginning (D.failures disk) (passed_some (D.outlook disk)))
-        steps.now found.0.items) (seen D.state found.1).table (seen D.state found.1).seq) }
+    ensures answers { IfOk result (λ found. AreRight (formatted net_id slots)
+        (beginning (formatted net_id slots)) steps.now found.0.items) }
+    ensures calls { IfOk result (λ found. AreForetold
+        (record { failed = D.failures disk; coming = passed_some (D.outlook disk) }) steps.now found.0.items) }
+    ensures recovers { IfOk result (λ found. Recovers (formatted net_id slots)
+        (course_of (formatted net_id slots) (beginning (formatted net_id slots)) steps.now found.0.items)
+        (seen D.state found.1).table (seen D.state found.1).seq) }
 {
     world::laws::what_a_crash_leaves();
     let mut world = World::format(alloc, disk, net_id, slots)?;

@@ -1,201 +1,190 @@
--- What a device call does to a course.
-use Rattle.std.proofs.Common.{◌≡◌, ◌+◌, ◌∙◌, ◌⊎◌, inl, inr, ℕ, List, ◌++◌, length, sym, ap, subst, refl, arith, length-append}
+-- What a device call does to a commit, and to a course.
+use Rattle.std.proofs.Common.{◌≡◌, ◌+◌, ◌∙◌, ◌⊎◌, inl, inr, ℕ, List, [], ◌++◌, Result, Err, MatchResult, length, sym, ap, subst, refl, arith, length-append}
 use Rattle.std.proofs.lemmas.List.{length-map}
-use Rattle.disk.specs.State.{IsPermitted, EveryImage}
+use Rattle.lw_types.specs.declared.refusal.Refusal.TheVariants as refusals
 use Rattle.devices.specs.declared.command.Command.{Command}
-use Rattle.sessions.specs.Table.{TableState, folded, effects_of}
-use Rattle.sessions.specs.Decision.{commands_of, effects_in}
+use Rattle.disk.specs.State.{EveryImage}
+use Rattle.sessions.specs.Table.{TableState, folded}
+use Rattle.sessions.specs.Decision.{FitAll, commands_of}
 use Rattle.sessions.specs.declared.decision.Decision.{Decision}
-use Rattle.world.specs.Folding.{RunLaws}
 use Rattle.session_core.specs.State.{CoreState}
-use Rattle.store.specs.declared.phases.Begun.{Begun}
-use Rattle.store.specs.declared.phases.Written.{Written}
-use Rattle.store.specs.declared.phases.BodySynced.{BodySynced}
-use Rattle.store.specs.declared.phases.GateWritten.{GateWritten}
-use Rattle.store.specs.Commit.{Change, IsUnderWay}
+use Rattle.store.specs.Commit.{Change, IsUnderWay, table_after}
 use Rattle.store.specs.Image.{HoldsTable}
-use Rattle.store.specs.Phases.{HoldsEither, IsWrittenOn, IsSyncedOn, IsOpenedOn, begun_change, written_change, synced_change, opened_change}
-use Rattle.store.specs.State.{StoreState, IsSettled}
-use Rattle.flusher.specs.declared.room.Room.{Room}
-use Rattle.flusher.specs.declared.durable.Durable.{Durable}
-use Rattle.flusher.specs.Released.{decisions_of}
+use Rattle.store.specs.Phases.{HoldsEither}
+use Rattle.store.specs.State.{StoreState}
+use Rattle.flusher.specs.declared.durable.Durable.{Durable as Done}
 use Rattle.world.specs.declared.commit.Commit.{Commit}
 use Rattle.world.specs.declared.commit.Commit.TheVariants as commits
-use Rattle.lw_types.specs.declared.refusal.Refusal.{Refusal}
-use Rattle.world.specs.declared.answer.Answer.{Answer}
 use Rattle.world.specs.declared.answer.Answer.TheVariants as answers
-use Rattle.world.specs.declared.step.Step.TheVariants as steps
-use Rattle.disk.specs.Outlook.{Outlook}
-use Rattle.world.specs.Device.{IsSight, MaySucceed, MayFail, passed, used_up}
-use Rattle.world.specs.Answers.{AnswersCall}
-use Rattle.world.specs.Course.{Course, Stage, after, effects_under_way, succeeded, failed}
-use Rattle.world.specs.Course.Stage.{Begun as Began, Written as Wrote, Synced, Opened, Durable as IsDurable, Stopped, Unsure}
-use Rattle.world.specs.Follows.{IsLife, IsAt, IsFlying, IsHealthy, Survives, stored}
-use Rattle.world.proofs.Taking.{moved, same_life}
+use Rattle.world.specs.Folding.{RunLaws}
+use Rattle.world.specs.Course.{Origin, Course, Flight, Stage, flying, moved_on, succeeded, failed, table_from, number_from}
+use Rattle.world.specs.Course.Stage.{Durable}
+use Rattle.world.specs.Answers.{AnswersCall, MayLeave}
+use Rattle.world.specs.Commits.{GoesTo, HasCall, IsOn, decisions_in, flight, flights_in, stored}
+use Rattle.world.specs.Follows.{HasFailed, IsAt, IsHealthy, IsLife}
+use Rattle.world.proofs.Flights.{flying_moved, leaves_from, stored_from}
 
--- what holds of a course at a stage
-pub to_stage : (P : Course → Type 0) (c : Course) (st : Stage) → c.stage ≡ st → P c → P (record c { stage = st })
-to_stage P c st is p = subst (λ st. P (record c { stage = st })) is p
+-- an image holds the same by equal names
+pub held : (t t' : TableState) (n n' : ℕ) (image : List ℕ) → t ≡ t' → n ≡ n' → HoldsTable t n image → HoldsTable t' n' image
+held t t' n n' image table number holds = subst (λ n. HoldsTable t' n image) number (subst (λ t. HoldsTable t n image) table holds)
 
--- the table that a change leaves is the fold of its commands too
-module _ (laws : RunLaws) (start : TableState) (settled flying : List Command) (s : StoreState) (change : Change) (size : ℕ)
-    (table : s.table ≡ folded start settled) (seq : s.seq ≡ length settled) (way : IsUnderWay s change size)
-    (commands : commands_of change.decisions ≡ flying) where
-  pub table_ahead : change.table ≡ folded start (settled ++ flying)
-  table_ahead =
-      way.table
-      ∙ (sym (laws.folding s.table change.decisions way.legal.continues.fit)
-      ∙ (ap (folded s.table) commands ∙ (ap (λ t. folded t flying) table ∙ sym (laws.joined start settled flying))))
+none : (s : StoreState) → s.seq ≡ s.seq + 0
+none s = omega arith
 
-  pub seq_ahead : change.seq ≡ length (settled ++ flying)
-  seq_ahead =
-      let whole = length-append settled flying in
-      let count = length-map change.decisions (λ (d : Decision). d.command) in
-      let size = ap length commands in
-      let last = way.seq in
-      omega (arith, whole, count, size, last, seq)
+-- a call after which no batch is durable, and every crash leaves the table from before
+pub stays : (s s' : StoreState) (flights : List Flight) → stored [] flights ≡ [] → MayLeave [] flights [] → s'.table ≡ s.table → s'.seq ≡ s.seq
+    → EveryImage s'.log.disk (HoldsTable s.table s.seq) → GoesTo flights s s'
+stays s s' flights alone leaves table seq images = record {
+  table = table ∙ ap (folded s.table) (sym alone);
+  seq = seq ∙ (none s ∙ ap (λ l. s.seq + length l) (sym alone));
+  images = λ image p. ([], leaves, held s.table s.table s.seq (s.seq + 0) image refl (none s) (images image p));
+}
 
-  held : (image : List ℕ) (t : TableState) (n : ℕ) (kept : List Command) → t ≡ folded start kept → n ≡ length kept → HoldsTable t n image
-      → HoldsTable (folded start kept) (length kept) image
-  held image t n kept table_is seq_is holds =
-      subst (λ n. HoldsTable (folded start kept) n image) seq_is (subst (λ t. HoldsTable t n image) table_is holds)
+-- the table and the number of a change are those of its commands
+module _ (laws : RunLaws) (s s' : StoreState) (change : Change) (size : ℕ) (way : IsUnderWay s change size) where
+  ahead : table_after s change ≡ folded s.table (commands_of change.decisions)
+  ahead = sym (laws.folding s.table change.decisions way.legal.continues.fit)
 
-  pub holds_ahead : (image : List ℕ) → HoldsTable change.table change.seq image
-      → HoldsTable (folded start (settled ++ flying)) (length (settled ++ flying)) image
-  holds_ahead image holds = held image change.table change.seq (settled ++ flying) table_ahead seq_ahead holds
+  ahead_seq : change.seq ≡ s.seq + length (commands_of change.decisions)
+  ahead_seq = way.seq ∙ ap (λ n. s.seq + n) (sym (length-map change.decisions (λ (d : Decision). d.command)))
 
-  pub holds_before : (image : List ℕ) → HoldsTable s.table s.seq image → HoldsTable (folded start settled) (length settled) image
-  holds_before image holds = held image s.table s.seq settled table seq holds
+  holds_ahead : (image : List ℕ) → HoldsTable (table_after s change) change.seq image
+      → HoldsTable (folded s.table (commands_of change.decisions)) (s.seq + length (commands_of change.decisions)) image
+  holds_ahead image holds = held (table_after s change) _ change.seq _ image ahead ahead_seq holds
 
--- a device call of the batch under way
-module _ (laws : RunLaws) (start : TableState) (c : Course) (s s' : StoreState) (core : CoreState) where
-  -- the life at another stage, on a store with the table of that stage
-  goes : (from to : Stage) (before after : Commit) → IsLife start (record c { stage = from }) s core before
-      → s'.table ≡ folded start (stored to c.settled c.flying) → s'.seq ≡ length (stored to c.settled c.flying)
-      → IsAt to c.flying (effects_under_way start c) s' after → IsHealthy s' after → Survives start (record c { stage = to }) s'.log.disk
-      → IsLife start (record c { stage = to }) s' core after
-  goes from to before after f table seq at healthy survives =
-      record { table = table; seq = seq; base = f.base; number = f.number; untaken = f.untaken; made = f.made; under_way = at; healthy = healthy; survives = survives }
-
-  -- a change that stays the one under way
-  still_flying : (from to : Stage) (old new : Change) → new ≡ old → IsFlying from c.flying from old → IsFlying to c.flying to new
-  still_flying from to old new is f = record { stage = refl; commands = ap (λ (ch : Change). commands_of ch.decisions) is ∙ f.commands }
-
-  module _ (table : s'.table ≡ s.table) (seq : s'.seq ≡ s.seq) where
-    -- whatever a crash leaves before the gate is touched
-    before_gate : EveryImage s'.log.disk (HoldsTable s.table s.seq) → s.table ≡ folded start c.settled → s.seq ≡ length c.settled
-        → (image : List ℕ) → IsPermitted s'.log.disk image → HoldsTable (folded start c.settled) (length c.settled) image
-    before_gate images table_is seq_is image p =
-        subst (λ n. HoldsTable (folded start c.settled) n image) seq_is (subst (λ t. HoldsTable t s.seq image) table_is (images image p))
-
-    pub write_ok : (room : Room) (phase : Begun) (next : Written) → IsLife start (record c { stage = Began }) s core (commits.Begun phase room)
-        → s'.failed ≡ s.failed → written_change next ≡ begun_change phase → IsWrittenOn s' next → EveryImage s'.log.disk (HoldsTable s.table s.seq)
-        → IsLife start (record c { stage = Wrote }) s' core (commits.Written next room)
-    write_ok room phase next f failed change on images =
-        goes Began Wrote (commits.Begun phase room) (commits.Written next room) f (table ∙ f.table) (seq ∙ f.seq)
-        (still_flying Began Wrote (begun_change phase) (written_change next) change f.under_way.0, on) (failed ∙ f.healthy)
-        (λ image p. (c.settled, refl, before_gate images f.table f.seq image p))
-
-    pub sync_ok : (room : Room) (phase : Written) (next : BodySynced) → IsLife start (record c { stage = Wrote }) s core (commits.Written phase room)
-        → s'.failed ≡ s.failed → synced_change next ≡ written_change phase → IsSyncedOn s' next → EveryImage s'.log.disk (HoldsTable s.table s.seq)
-        → IsLife start (record c { stage = Synced }) s' core (commits.BodySynced next room)
-    sync_ok room phase next f failed change on images =
-        goes Wrote Synced (commits.Written phase room) (commits.BodySynced next room) f (table ∙ f.table) (seq ∙ f.seq)
-        (still_flying Wrote Synced (written_change phase) (synced_change next) change f.under_way.0, on) (failed ∙ f.healthy)
-        (λ image p. (c.settled, refl, before_gate images f.table f.seq image p))
-
-    -- the life after a failed call, at a stage that leaves what was settled alone
-    pub stopped : (before : Stage) (commit : Commit) → IsLife start (record c { stage = before }) s core commit
-        → s.table ≡ folded start c.settled → s.seq ≡ length c.settled → EveryImage s'.log.disk (HoldsTable s.table s.seq)
-        → IsLife start (record c { stage = Stopped }) s' core commits.Failed
-    stopped before commit f table_is seq_is images =
-        goes before Stopped commit commits.Failed f (table ∙ table_is) (seq ∙ seq_is) (inl refl) tt
-        (λ image p. (c.settled, refl, before_gate images table_is seq_is image p))
-
-    -- whatever a crash leaves of a batch whose gate was written
-    either : (change : Change) (size : ℕ) → s.table ≡ folded start c.settled → s.seq ≡ length c.settled → IsUnderWay s change size
-        → commands_of change.decisions ≡ c.flying → EveryImage s'.log.disk (HoldsEither s change)
-        → (image : List ℕ) → IsPermitted s'.log.disk image
-        → (kept : List Command) × ((kept ≡ c.settled) ⊎ (kept ≡ c.settled ++ c.flying)) × HoldsTable (folded start kept) (length kept) image
-    either change size table_is seq_is way commands images image p =
+  -- a call after which a crash leaves the batch or not
+  pub doubts : (stage : Stage) → stored [] (flight stage change.decisions) ≡ []
+      → ((kept : List Command) → (kept ≡ []) ⊎ (kept ≡ commands_of change.decisions) → MayLeave [] (flight stage change.decisions) kept)
+      → s'.table ≡ s.table → s'.seq ≡ s.seq → EveryImage s'.log.disk (HoldsEither s change) → GoesTo (flight stage change.decisions) s s'
+  doubts stage alone leaves table seq images = record {
+    table = table ∙ ap (folded s.table) (sym alone);
+    seq = seq ∙ (none s ∙ ap (λ l. s.seq + length l) (sym alone));
+    images = λ image p.
         elim (images image p) [
-          | inl h ↦ (c.settled, inl refl, holds_before laws start c.settled c.flying s change size table_is seq_is way commands image h)
-          | inr h ↦ (c.settled ++ c.flying, inr refl, holds_ahead laws start c.settled c.flying s change size table_is seq_is way commands image h)
-        ]
+          | inl holds ↦ ([], leaves [] (inl refl), held s.table s.table s.seq (s.seq + 0) image refl (none s) holds)
+          | inr holds ↦ (commands_of change.decisions, leaves (commands_of change.decisions) (inr refl), holds_ahead image holds)
+        ];
+  }
 
-    pub open_ok : (room : Room) (phase : BodySynced) (next : GateWritten) (size : ℕ)
-        → IsLife start (record c { stage = Synced }) s core (commits.BodySynced phase room)
-        → s'.failed ≡ s.failed → opened_change next ≡ synced_change phase → IsOpenedOn s' next → IsUnderWay s (synced_change phase) size
-        → EveryImage s'.log.disk (HoldsEither s (synced_change phase))
-        → IsLife start (record c { stage = Opened }) s' core (commits.GateWritten next room)
-    open_ok room phase next size f failed change on way images =
-        goes Synced Opened (commits.BodySynced phase room) (commits.GateWritten next room) f (table ∙ f.table) (seq ∙ f.seq)
-        (still_flying Synced Opened (synced_change phase) (opened_change next) change f.under_way.0, on) (failed ∙ f.healthy)
-        (either (synced_change phase) size f.table f.seq way f.under_way.0.commands images)
+  -- the call that makes it durable
+  pub lasts : s'.table ≡ table_after s change → s'.seq ≡ change.seq → EveryImage s'.log.disk (HoldsTable (table_after s change) change.seq)
+      → GoesTo (flight Durable change.decisions) s s'
+  lasts table seq images = record {
+    table = table ∙ ahead;
+    seq = seq ∙ ahead_seq;
+    images = λ image p. (commands_of change.decisions, refl, holds_ahead image (images image p));
+  }
 
-    -- the life after a failed call on the gate
-    pub unsure : (before : Stage) (commit : Commit) (change : Change) (size : ℕ) → IsLife start (record c { stage = before }) s core commit
-        → s.table ≡ folded start c.settled → s.seq ≡ length c.settled → IsUnderWay s change size → commands_of change.decisions ≡ c.flying
-        → EveryImage s'.log.disk (HoldsEither s change)
-        → IsLife start (record c { stage = Unsure }) s' core commits.Failed
-    unsure before commit change size f table_is seq_is way commands images =
-        goes before Unsure commit commits.Failed f (table ∙ table_is) (seq ∙ seq_is) (inr refl) tt (either change size table_is seq_is way commands images)
+pub has_call : (commit : Commit) → (commit ≡ commits.Idle → ⊥) → (commit ≡ commits.Failed → ⊥) → ((durable : Done) → commit ≡ commits.Durable durable → ⊥) → HasCall commit
+has_call commits.Idle idle failed durable = idle refl
+has_call commits.Failed idle failed durable = failed refl
+has_call (commits.Durable d) idle failed durable = durable d refl
+has_call commit idle failed durable = tt
 
-  -- the last device call
-  pub made_durable : (room : Room) (phase : GateWritten) (size : ℕ) (durable : Durable)
-      → IsLife start (record c { stage = Opened }) s core (commits.GateWritten phase room) → s'.table ≡ (opened_change phase).table
-      → s'.seq ≡ (opened_change phase).seq → s'.failed ≡ s.failed → decisions_of durable ≡ (opened_change phase).decisions → IsUnderWay s (opened_change phase) size
-      → IsSettled s' → EveryImage s'.log.disk (HoldsTable (opened_change phase).table (opened_change phase).seq)
-      → IsLife start (record c { stage = IsDurable }) s' core (commits.Durable durable)
-  made_durable room phase size durable f table seq failed decisions way settled images =
-      let change = opened_change phase in
-      let commands = f.under_way.0.commands in
-      goes Opened IsDurable (commits.GateWritten phase room) (commits.Durable durable) f
-      (table ∙ table_ahead laws start c.settled c.flying s change size f.table f.seq way commands)
-      (seq ∙ seq_ahead laws start c.settled c.flying s change size f.table f.seq way commands) (
-        refl,
-        (
-          ap effects_in decisions
-              ∙ (sym (laws.effects s.table change.decisions way.legal.continues.fit)
-              ∙ (ap (effects_of s.table) commands ∙ ap (λ t. effects_of t c.flying) f.table)),
-          settled,
-        ),
-      ) (failed ∙ f.healthy)
-      (λ image p. (c.settled ++ c.flying, refl, holds_ahead laws start c.settled c.flying s change size f.table f.seq way commands image (images image p)))
+-- what holds of a refusal
+pub on_refusal : {T E : Type 0} (r : Result T E) (e : E) (X Y : Type 0) → r ≡ Err e → Y → MatchResult r (λ _. X) (λ _. Y)
+on_refusal r e X Y is y = subst (λ r. MatchResult r (λ _. X) (λ _. Y)) (sym is) y
 
--- The answer to a call that succeeded, and to one that failed, in the world as it is then.
-module _ (start : TableState) (c : Course) (s now : StoreState) (core core' : CoreState) (commit commit' : Commit) (failures : ℕ) (outlook : Outlook)
-    (store_is : now ≡ s) (core_is : core' ≡ core) (commit_is : commit' ≡ commit) (st : Stage) (is : c.stage ≡ st) where
-  pub succeeds : (a : Answer) → a ≡ answers.Called → (MaySucceed c.outlook → AnswersCall st c.outlook answers.Called)
-      → MaySucceed c.outlook × IsSight c.failures (passed c.outlook) failures outlook
-      → IsLife start (record c { stage = succeeded st }) s core commit
-      → AnswersCall c.stage c.outlook a
-      × (IsLife start (after start c steps.Call a) now core' commit'
-      × IsSight (after start c steps.Call a).failures (after start c steps.Call a).outlook failures outlook)
-  succeeds a called right sight life =
-      subst (λ a. AnswersCall c.stage c.outlook a × (IsLife start (after start c steps.Call a) now core' commit'
-      × IsSight (after start c steps.Call a).failures (after start c steps.Call a).outlook failures outlook)) (sym called) (
-        subst (λ st. AnswersCall st c.outlook answers.Called) (sym is) (right sight.0),
-        (
-          same_life start (record c { stage = succeeded c.stage }) c.failures (passed c.outlook) now core' commit'
-              (subst (λ st. IsLife start (record c { stage = succeeded st }) now core' commit') (sym is)
-              (moved start (record c { stage = succeeded st }) s now core core' commit commit' store_is core_is commit_is life)),
-          sight.1,
-        ),
+-- a commit with a call to make has one batch under way, which isn't durable
+record IsCallable (commit : Commit) : Type 0 where
+  pub alone : (settled : List Command) → stored settled (flights_in commit) ≡ settled
+  pub succeeds : AnswersCall (flights_in commit) answers.Called
+  pub fails : AnswersCall (flights_in commit) (answers.Refused refusals.DeviceFailed)
+  pub failed_then : HasFailed (moved_on failed (flights_in commit))
+
+is_callable : (commit : Commit) → HasCall commit → IsCallable commit
+is_callable (commits.Begun phase room) call = record { alone = λ settled. refl; succeeds = inl refl; fails = inr refl; failed_then = inl refl }
+is_callable (commits.Written phase room) call = record { alone = λ settled. refl; succeeds = inl refl; fails = inr refl; failed_then = inl refl }
+is_callable (commits.BodySynced phase room) call = record { alone = λ settled. refl; succeeds = inl refl; fails = inr refl; failed_then = inr refl }
+is_callable (commits.GateWritten phase room) call = record { alone = λ settled. refl; succeeds = inl refl; fails = inr refl; failed_then = inr refl }
+is_callable commit call = absurd call
+
+at_call : (flights : List Flight) (t : TableState) (s : StoreState) (commit : Commit) → HasCall commit → IsAt flights t s commit
+    → (flights ≡ flights_in commit) × (FitAll t (decisions_in commit) × IsOn s commit)
+at_call flights t s commits.Failed call at = absurd call
+at_call flights t s commit call at = at
+
+is_at : (flights : List Flight) (t : TableState) (s : StoreState) (commit : Commit) → flights ≡ flights_in commit → FitAll t (decisions_in commit)
+    → IsOn s commit → IsAt flights t s commit
+is_at flights t s commits.Failed is fit on = absurd on
+is_at flights t s commit is fit on = (is, (fit, on))
+
+still_healthy : (s s' : StoreState) (before after : Commit) → HasCall before → s'.failed ≡ s.failed → IsHealthy s before → IsHealthy s' after
+still_healthy s s' commits.Failed after call same healthy = absurd call
+still_healthy s s' before commits.Failed call same healthy = tt
+still_healthy s s' before after call same healthy = same ∙ healthy
+
+module _ (laws : RunLaws) (origin : Origin) (c : Course) (s s' : StoreState) (core : CoreState) (commit : Commit) (call : HasCall commit)
+    (f : IsLife origin c s core commit) where
+  flights_are : c.flights ≡ flights_in commit
+  flights_are = (at_call c.flights (table_from origin c.settled) s commit call f.under_way).0
+
+  pub is_on : IsOn s commit
+  is_on = (at_call c.flights (table_from origin c.settled) s commit call f.under_way).1.1
+
+  alone : stored c.settled c.flights ≡ c.settled
+  alone = ap (stored c.settled) flights_are ∙ (is_callable commit call).alone c.settled
+
+  table : s.table ≡ table_from origin c.settled
+  table = f.table ∙ ap (table_from origin) alone
+
+  seq : s.seq ≡ number_from origin c.settled
+  seq = f.seq ∙ ap (number_from origin) alone
+
+  ahead_of : (more : List Command) → s.seq + length more ≡ number_from origin (c.settled ++ more)
+  ahead_of more =
+      let whole = length-append c.settled more in
+      let before = seq in
+      omega (arith, whole, before)
+
+  folded_of : (more : List Command) → folded s.table more ≡ table_from origin (c.settled ++ more)
+  folded_of more = ap (λ t. folded t more) table ∙ sym (laws.joined origin.table c.settled more)
+
+  -- the life after a call
+  goes_on : (move : Stage → Stage) (next : Commit) → GoesTo (moved_on move (flights_in commit)) s s'
+      → IsAt (moved_on move (flights_in commit)) (table_from origin c.settled) s' next → IsHealthy s' next
+      → IsLife origin (record c { flights = moved_on move c.flights }) s' core next
+  goes_on move next goes at healthy =
+      subst (λ fl. IsLife origin (record c { flights = moved_on move fl }) s' core next) (sym flights_are) (
+      let flights = moved_on move (flights_in commit) in
+      let stored_is = sym (stored_from c.settled flights) in
+      let flying_is : flying c.flights ≡ flying flights = ap flying flights_are ∙ sym (flying_moved move (flights_in commit)) in
+      record {
+        table = goes.table ∙ (folded_of (stored [] flights) ∙ ap (table_from origin) stored_is);
+        seq = goes.seq ∙ (ahead_of (stored [] flights) ∙ ap (number_from origin) stored_is);
+        base = f.base ∙ ap (λ l. table_from origin (c.settled ++ (l ++ c.given_up))) flying_is;
+        number = f.number ∙ ap (λ l. number_from origin (c.settled ++ (l ++ c.given_up))) flying_is;
+        untaken = f.untaken;
+        made = f.made;
+        under_way = at;
+        healthy = healthy;
+        survives = λ image p.
+            let found = goes.images image p in (
+              c.settled ++ found.0,
+              leaves_from c.settled flights found.0 found.1,
+              held _ _ _ _ image (folded_of found.0) (ahead_of found.0) found.2,
+            );
+      }
       )
 
-  pub fails : (e : Refusal) → (MayFail c.outlook → AnswersCall st c.outlook (answers.Refused e))
-      → MayFail c.outlook × IsSight (c.failures + 1) (used_up c.outlook) failures outlook
-      → IsLife start (record c { stage = failed st }) s core commit
-      → AnswersCall c.stage c.outlook (answers.Refused e)
-      × (IsLife start (after start c steps.Call (answers.Refused e)) now core' commit'
-      × IsSight (c.failures + 1) (used_up c.outlook) failures outlook)
-  fails e right sight life = (
-    subst (λ st. AnswersCall st c.outlook (answers.Refused e)) (sym is) (right sight.0),
-    (
-      same_life start (record c { stage = failed c.stage }) (c.failures + 1) (used_up c.outlook) now core' commit'
-          (subst (λ st. IsLife start (record c { stage = failed st }) now core' commit') (sym is)
-          (moved start (record c { stage = failed st }) s now core core' commit commit' store_is core_is commit_is life)),
-      sight.1,
-    ),
+  -- a call that succeeded
+  pub call_succeeds : (next : Commit) → flights_in next ≡ moved_on succeeded (flights_in commit) → decisions_in next ≡ decisions_in commit → IsOn s' next
+      → GoesTo (moved_on succeeded (flights_in commit)) s s' → s'.failed ≡ s.failed
+      → AnswersCall c.flights answers.Called × IsLife origin (record c { flights = moved_on succeeded c.flights }) s' core next
+  call_succeeds next flights decisions on goes same =
+      let t = table_from origin c.settled in (
+        subst (λ fl. AnswersCall fl answers.Called) (sym flights_are) (is_callable commit call).succeeds,
+        goes_on succeeded next goes
+            (is_at (moved_on succeeded (flights_in commit)) t s' next (sym flights)
+            (subst (FitAll t) (sym decisions) (at_call c.flights t s commit call f.under_way).1.0) on)
+            (still_healthy s s' commit next call same f.healthy),
+      )
+
+  -- and one that failed
+  pub call_fails : GoesTo (moved_on failed (flights_in commit)) s s'
+      → AnswersCall c.flights (answers.Refused refusals.DeviceFailed)
+      × IsLife origin (record c { flights = moved_on failed c.flights }) s' core commits.Failed
+  call_fails goes = (
+    subst (λ fl. AnswersCall fl (answers.Refused refusals.DeviceFailed)) (sym flights_are) (is_callable commit call).fails,
+    goes_on failed commits.Failed goes (is_callable commit call).failed_then tt,
   )

@@ -1,86 +1,122 @@
 -- What the steps of a life leave of the rest of a course.
-use Rattle.std.proofs.Common.{◌≡◌, ◌∙◌, ℕ, true, false, MatchBool, List, [], ◌++◌, Option, Some, None, sym, ap, subst, refl}
+use Rattle.std.proofs.Common.{◌≡◌, ◌∙◌, ℕ, true, false, MatchBool, List, [], ◌∷◌, ◌++◌, Result, Ok, Err, sym, ap, subst, refl, append_assoc}
 use Rattle.std.proofs.lemmas.List.{append-nil}
 use Rattle.lw_types.specs.declared.refusal.Refusal.{Refusal}
 use Rattle.lw_types.specs.declared.refusal.Refusal.TheVariants.{OutOfStep}
 use Rattle.disk.specs.declared.sim.Image.{Image}
 use Rattle.devices.specs.declared.command.Command.{Command}
 use Rattle.devices.specs.declared.effect.Effect.{Effect}
-use Rattle.sessions.specs.Table.{TableState, effects_of}
+use Rattle.sessions.specs.Table.{Step as TableStep, effects_of}
 use Rattle.world.specs.Folding.{RunLaws}
 use Rattle.world.specs.declared.answer.Answer.{Answer}
 use Rattle.world.specs.declared.answer.Answer.TheVariants as answers
 use Rattle.world.specs.declared.step.Step.{Step}
 use Rattle.world.specs.declared.step.Step.TheVariants as steps
-use Rattle.world.specs.Course.{Course, after, turned, effects_under_way}
+use Rattle.world.specs.Course.{Origin, Course, Flight, after, admit, gone_through, released, went, wanted, table_from, effects_from}
 use Rattle.world.specs.Answers.{AnswersOpen, AnswersClosed, IsRight}
 use Rattle.world.specs.Follows.{IsSubsequence, IsOwn}
 use Rattle.world.proofs.Subsequences.{extended}
 
 -- the effects that were emitted, and whether the store is open, stay, and what has left grows at its end
-pub record Keeps (start : TableState) (c next : Course) : Type 0 where
+pub record Keeps (origin : Origin) (c next : Course) : Type 0 where
   pub emitted : next.emitted ≡ c.emitted
   pub is_open : next.is_open ≡ c.is_open
-  pub once : IsSubsequence c.left (effects_of start c.settled) → IsSubsequence next.left (effects_of start next.settled)
-  pub complete : c.left ≡ effects_of start c.settled → next.left ≡ effects_of start next.settled
+  pub once : IsSubsequence c.left (effects_from origin c.settled) → IsSubsequence next.left (effects_from origin next.settled)
+  pub complete : c.left ≡ effects_from origin c.settled → next.left ≡ effects_from origin next.settled
   pub grown : (more : List Effect) × (next.left ≡ c.left ++ more)
 
-turn_keeps : (start : TableState) (c : Course) (command : Command) (refused : Option Refusal) → Keeps start c (turned c command refused)
-turn_keeps start c command None = record { emitted = refl; is_open = refl; once = λ h. h; complete = λ h. h; grown = ([], sym (append-nil c.left)) }
-turn_keeps start c command (Some e) = record { emitted = refl; is_open = refl; once = λ h. h; complete = λ h. h; grown = ([], sym (append-nil c.left)) }
-
-request_keeps : (start : TableState) (c : Course) (moment : ℕ) (command : Command) (answer : Answer) → Keeps start c (after start c (steps.Request moment command) answer)
-request_keeps start c moment command (answers.Turn turn) = turn_keeps start c command turn.refused
-request_keeps start c moment command answer = record { emitted = refl; is_open = refl; once = λ h. h; complete = λ h. h; grown = ([], sym (append-nil c.left)) }
-
-refusal_keeps : (start : TableState) (c : Course) (most : ℕ) (e : Refusal) → Keeps start c (after start c (steps.Take most) (answers.Refused e))
-refusal_keeps start c most OutOfStep = record { emitted = refl; is_open = refl; once = λ h. h; complete = λ h. h; grown = ([], sym (append-nil c.left)) }
-refusal_keeps start c most e = record { emitted = refl; is_open = refl; once = λ h. h; complete = λ h. h; grown = ([], sym (append-nil c.left)) }
-
-take_keeps : (start : TableState) (c : Course) (most : ℕ) (answer : Answer) → Keeps start c (after start c (steps.Take most) answer)
-take_keeps start c most (answers.Taken n) = record { emitted = refl; is_open = refl; once = λ h. h; complete = λ h. h; grown = ([], sym (append-nil c.left)) }
-take_keeps start c most (answers.GivenUp n) = record { emitted = refl; is_open = refl; once = λ h. h; complete = λ h. h; grown = ([], sym (append-nil c.left)) }
-take_keeps start c most (answers.Refused e) = refusal_keeps start c most e
-take_keeps start c most answer = record { emitted = refl; is_open = refl; once = λ h. h; complete = λ h. h; grown = ([], sym (append-nil c.left)) }
-
-call_keeps : (start : TableState) (c : Course) (answer : Answer) → Keeps start c (after start c steps.Call answer)
-call_keeps start c answers.Called = record { emitted = refl; is_open = refl; once = λ h. h; complete = λ h. h; grown = ([], sym (append-nil c.left)) }
-call_keeps start c (answers.Refused e) = record { emitted = refl; is_open = refl; once = λ h. h; complete = λ h. h; grown = ([], sym (append-nil c.left)) }
-call_keeps start c answer = record { emitted = refl; is_open = refl; once = λ h. h; complete = λ h. h; grown = ([], sym (append-nil c.left)) }
-
-release_keeps : (laws : RunLaws) (start : TableState) (c : Course) (answer : Answer) → Keeps start c (after start c steps.Release answer)
-release_keeps laws start c (answers.Released n) = record {
-  emitted = refl;
-  is_open = refl;
-  once = λ h.
-      subst (IsSubsequence (c.left ++ effects_under_way start c)) (sym (laws.joined_effects start c.settled c.flying))
-      (extended c.left (effects_of start c.settled) (effects_under_way start c) h);
-  complete = λ h. ap (λ l. l ++ effects_under_way start c) h ∙ sym (laws.joined_effects start c.settled c.flying);
-  grown = (effects_under_way start c, refl);
+-- a course of which neither what is settled nor what has left changes
+keeps : (origin : Origin) (c next : Course) → next.emitted ≡ c.emitted → next.is_open ≡ c.is_open → next.settled ≡ c.settled → next.left ≡ c.left
+    → Keeps origin c next
+keeps origin c next emitted is_open settled left = record {
+  emitted = emitted;
+  is_open = is_open;
+  once = λ h. subst (λ l. IsSubsequence l (effects_from origin next.settled)) (sym left) (subst (λ k. IsSubsequence c.left (effects_from origin k)) (sym settled) h);
+  complete = λ h. left ∙ (h ∙ ap (effects_from origin) (sym settled));
+  grown = ([], left ∙ sym (append-nil c.left));
 }
-release_keeps laws start c answer = record { emitted = refl; is_open = refl; once = λ h. h; complete = λ h. h; grown = ([], sym (append-nil c.left)) }
 
-fail_keeps : (start : TableState) (c : Course) (answer : Answer) → Keeps start c (after start c steps.Fail answer)
-fail_keeps start c answers.Armed = record { emitted = refl; is_open = refl; once = λ h. h; complete = λ h. h; grown = ([], sym (append-nil c.left)) }
-fail_keeps start c answer = record { emitted = refl; is_open = refl; once = λ h. h; complete = λ h. h; grown = ([], sym (append-nil c.left)) }
+pub same_keeps : (origin : Origin) (c : Course) → Keeps origin c c
+same_keeps origin c = keeps origin c c refl refl refl refl
 
-pub step_keeps : (laws : RunLaws) (start : TableState) (c : Course) (step : Step) (answer : Answer) → IsOwn step → Keeps start c (after start c step answer)
-step_keeps laws start c (steps.Request moment command) answer own = request_keeps start c moment command answer
-step_keeps laws start c (steps.Take most) answer own = take_keeps start c most answer
-step_keeps laws start c steps.Call answer own = call_keeps start c answer
-step_keeps laws start c steps.Release answer own = release_keeps laws start c answer
-step_keeps laws start c steps.Fail answer own = fail_keeps start c answer
-step_keeps laws start c steps.List answer own = record { emitted = refl; is_open = refl; once = λ h. h; complete = λ h. h; grown = ([], sym (append-nil c.left)) }
-step_keeps laws start c steps.Emit answer own = absurd own
-step_keeps laws start c (steps.Crash image) answer own = absurd own
+went_keeps : (origin : Origin) (c : Course) (command : Command) (outcome : Result TableStep Refusal) → Keeps origin c (went c command outcome)
+went_keeps origin c command (Ok s) = keeps origin c (went c command (Ok s)) refl refl refl refl
+went_keeps origin c command (Err e) = same_keeps origin c
+
+keeps_on : (origin : Origin) (a b c : Course) → Keeps origin a b → Keeps origin b c → Keeps origin a c
+keeps_on origin a b c first second = record {
+  emitted = second.emitted ∙ first.emitted;
+  is_open = second.is_open ∙ first.is_open;
+  once = λ h. second.once (first.once h);
+  complete = λ h. second.complete (first.complete h);
+  grown = (
+    first.grown.0 ++ second.grown.0,
+    second.grown.1 ∙ (ap (λ l. l ++ second.grown.0) first.grown.1 ∙ append_assoc a.left first.grown.0 second.grown.0),
+  );
+}
+
+admit_keeps : (origin : Origin) (c : Course) (commands : List Command) → Keeps origin c (admit origin c commands)
+admit_keeps origin c [] = same_keeps origin c
+admit_keeps origin c (command ∷ commands) =
+    let next = went c command (wanted origin c command) in
+    keeps_on origin c next (admit origin next commands) (went_keeps origin c command (wanted origin c command)) (admit_keeps origin next commands)
+
+released_keeps : (laws : RunLaws) (origin : Origin) (c : Course) (flights : List Flight) → Keeps origin c (released origin c flights)
+released_keeps laws origin c [] = same_keeps origin c
+released_keeps laws origin c (flight ∷ flights) =
+    let more = effects_of (table_from origin c.settled) flight.commands in
+    let whole : effects_from origin (c.settled ++ flight.commands) ≡ effects_from origin c.settled ++ more =
+    ap (λ l. origin.left ++ l) (laws.joined_effects origin.table c.settled flight.commands)
+    ∙ sym (append_assoc origin.left (effects_of origin.table c.settled) more) in
+    record {
+      emitted = refl;
+      is_open = refl;
+      once = λ h. subst (IsSubsequence (c.left ++ more)) (sym whole) (extended c.left (effects_from origin c.settled) more h);
+      complete = λ h. ap (λ l. l ++ more) h ∙ sym whole;
+      grown = (more, refl);
+    }
+
+refusal_keeps : (origin : Origin) (c : Course) (most : ℕ) (e : Refusal) → Keeps origin c (after origin c (steps.Take most) (answers.Refused e))
+refusal_keeps origin c most OutOfStep = keeps origin c _ refl refl refl refl
+refusal_keeps origin c most e = same_keeps origin c
+
+take_keeps : (origin : Origin) (c : Course) (most : ℕ) (answer : Answer) → Keeps origin c (after origin c (steps.Take most) answer)
+take_keeps origin c most (answers.Taken n) = keeps origin c _ refl refl refl refl
+take_keeps origin c most (answers.GivenUp n) = keeps origin c _ refl refl refl refl
+take_keeps origin c most (answers.Refused e) = refusal_keeps origin c most e
+take_keeps origin c most answer = same_keeps origin c
+
+call_keeps : (origin : Origin) (c : Course) (answer : Answer) → Keeps origin c (after origin c steps.Call answer)
+call_keeps origin c answers.Called = keeps origin c _ refl refl refl refl
+call_keeps origin c (answers.Refused e) = keeps origin c _ refl refl refl refl
+call_keeps origin c answer = same_keeps origin c
+
+request_keeps : (origin : Origin) (c : Course) (moment : ℕ) (command : Command) (answer : Answer)
+    → Keeps origin c (after origin c (steps.Request moment command) answer)
+request_keeps origin c moment command (answers.Turn turn) = admit_keeps origin c (gone_through (command ∷ []) turn.refused)
+request_keeps origin c moment command answer = same_keeps origin c
+
+release_keeps : (laws : RunLaws) (origin : Origin) (c : Course) (answer : Answer) → Keeps origin c (after origin c steps.Release answer)
+release_keeps laws origin c (answers.Released n) = released_keeps laws origin c c.flights
+release_keeps laws origin c answer = same_keeps origin c
+
+pub step_keeps : (laws : RunLaws) (origin : Origin) (c : Course) (step : Step) (answer : Answer) → IsOwn step → Keeps origin c (after origin c step answer)
+step_keeps laws origin c (steps.Request moment command) answer own = request_keeps origin c moment command answer
+step_keeps laws origin c (steps.Take most) answer own = take_keeps origin c most answer
+step_keeps laws origin c steps.Call answer own = call_keeps origin c answer
+step_keeps laws origin c steps.Release answer own = release_keeps laws origin c answer
+step_keeps laws origin c steps.Fail answer own = same_keeps origin c
+step_keeps laws origin c steps.List answer own = same_keeps origin c
+step_keeps laws origin c steps.Emit answer own = absurd own
+step_keeps laws origin c (steps.Crash image) answer own = absurd own
 
 -- the answer to a step of a life that is open
-pub right_open : (start : TableState) (c : Course) (step : Step) (answer : Answer) → c.is_open ≡ true → AnswersOpen start c step answer → IsRight start c step answer
-right_open start c step answer is right = subst (λ b. MatchBool b (AnswersOpen start c step answer) (AnswersClosed start c step answer)) (sym is) right
+pub right_open : (origin : Origin) (c : Course) (step : Step) (answer : Answer) → c.is_open ≡ true → AnswersOpen origin c step answer → IsRight origin c step answer
+right_open origin c step answer is right = subst (λ b. MatchBool b (AnswersOpen origin c step answer) (AnswersClosed origin c step answer)) (sym is) right
 
 -- and to one of a closed world
-pub right_closed : (start : TableState) (c : Course) (step : Step) (answer : Answer) → c.is_open ≡ false → AnswersClosed start c step answer → IsRight start c step answer
-right_closed start c step answer is right = subst (λ b. MatchBool b (AnswersOpen start c step answer) (AnswersClosed start c step answer)) (sym is) right
+pub right_closed : (origin : Origin) (c : Course) (step : Step) (answer : Answer) → c.is_open ≡ false → AnswersClosed origin c step answer → IsRight origin c step answer
+right_closed origin c step answer is right = subst (λ b. MatchBool b (AnswersOpen origin c step answer) (AnswersClosed origin c step answer)) (sym is) right
 
 -- a step that is neither
 pub is_own : (step : Step) → (step ≡ steps.Emit → ⊥) → ((image : Image) → step ≡ steps.Crash image → ⊥) → IsOwn step

@@ -1,12 +1,17 @@
--- What is known of the coming calls, call by call.
-use Rattle.std.proofs.Common.{◌≡◌, ◌+◌, ◌<◌, ◌^◌, ◌∙◌, ℕ, zero, suc, Bool, true, false, cond, nat_lt, Option, Some, None, sym, ap, subst, refl, arith}
+-- What is known of the coming calls of a disk, call by call.
+use Rattle.std.proofs.Common.{◌≡◌, ◌≢◌, ◌+◌, ◌<◌, ◌^◌, ◌∙◌, ℕ, zero, suc, Bool, true, false, cond, nat_lt, sym, ap, subst, refl, arith}
 use Rattle.std.proofs.lemmas.Bool.{ltb-true}
 use Rattle.lw_types.specs.declared.refusal.Refusal.{Refusal}
-use Rattle.devices.specs.declared.command.Command.{Command}
+use Rattle.lw_types.specs.declared.refusal.Refusal.TheVariants.{DeviceFailed}
+use Rattle.lw_types.specs.Refusal.{number_of}
+use Rattle.disk.specs.declared.sim.Image.{Image}
 use Rattle.disk.specs.Outlook.{Outlook, IsArmed, IsForeseen}
 use Rattle.disk.specs.Outlook.Outlook.{Unknown, AllSucceed, FailsAfter}
-use Rattle.world.specs.Course.{Course, turned}
-use Rattle.world.specs.Device.{IsSight, IsKnown, MaySucceed, MayFail, MayFailSoon, armed, passed, passed_some, used_up}
+use Rattle.world.specs.declared.answer.Answer.{Answer}
+use Rattle.world.specs.declared.answer.Answer.TheVariants as answers
+use Rattle.world.specs.declared.step.Step.{Step}
+use Rattle.world.specs.declared.step.Step.TheVariants as steps
+use Rattle.world.specs.Calls.{Calls, AreCalls, IsForetold, IsKnown, IsNoFailure, MaySucceed, MayFail, MayFailSoon, armed, passed, passed_some, fell, called}
 
 no_true : true ≡ false → ⊥
 no_true h = cc
@@ -21,36 +26,49 @@ passes AllSucceed before after is seen = (tt, (subst (λ o. IsForeseen o true af
 passes (FailsAfter zero) before after is seen = absurd (no_true (subst (λ o. IsForeseen o true after) is seen).0)
 passes (FailsAfter (suc n)) before after is seen = (tt, (subst (λ o. IsForeseen o true after) is seen).1)
 
--- one that failed
-falls : (known before after : Outlook) → IsKnown known before → IsForeseen before false after → MayFail known × IsKnown (used_up known) after
-falls Unknown before after is seen = (tt, tt)
-falls AllSucceed before after is seen = absurd (no_false (subst (λ o. IsForeseen o false after) is seen).0)
-falls (FailsAfter zero) before after is seen = (tt, (subst (λ o. IsForeseen o false after) is seen).1)
-falls (FailsAfter (suc n)) before after is seen = absurd (no_false (subst (λ o. IsForeseen o false after) is seen).0)
+-- one that failed was armed, where it is always known whether one will
+falls : (before after : Outlook) → before ≢ Unknown → IsForeseen before false after → (before ≡ FailsAfter 0) × (after ≡ AllSucceed)
+falls Unknown after known seen = absurd (known refl)
+falls AllSucceed after known seen = absurd (no_false seen.0)
+falls (FailsAfter zero) after known seen = (refl, seen.1)
+falls (FailsAfter (suc n)) after known seen = absurd (no_false seen.0)
 
-module _ (counted : ℕ) (known : Outlook) (failures failures' : ℕ) (before after : Outlook) (sight : IsSight counted known failures before) where
-  pub call_passed : failures' ≡ failures → IsForeseen before true after → MaySucceed known × IsSight counted (passed known) failures' after
+may_fail : (known before : Outlook) → IsKnown known before → before ≡ FailsAfter 0 → MayFail known
+may_fail Unknown before is armed = tt
+may_fail AllSucceed before is armed = other (sym is ∙ armed)
+  where
+    other : AllSucceed ≡ FailsAfter 0 → ⊥
+    other h = cc
+may_fail (FailsAfter zero) before is armed = tt
+may_fail (FailsAfter (suc n)) before is armed = other (sym is ∙ armed)
+  where
+    other : FailsAfter (suc n) ≡ FailsAfter 0 → ⊥
+    other h = cc
+
+module _ (calls : Calls) (failures failures' : ℕ) (before after : Outlook) (are : AreCalls calls failures before) where
+  pub call_passed : failures' ≡ failures → IsForeseen before true after
+      → MaySucceed calls.coming × AreCalls (record calls { coming = passed calls.coming }) failures' after
   call_passed same seen =
-      let found = passes known before after sight.known_is seen in
-      (found.0, record { count = same ∙ sight.count; known_is = found.1 })
+      let found = passes calls.coming before after are.known seen in
+      (found.0, record { counted = same ∙ are.counted; known = found.1 })
 
-  pub call_fell : failures' ≡ failures + 1 → IsForeseen before false after → MayFail known × IsSight (counted + 1) (used_up known) failures' after
-  call_fell more seen =
-      let found = falls known before after sight.known_is seen in
-      (found.0, record { count = more ∙ ap (λ n. n + 1) sight.count; known_is = found.1 })
+  pub call_fell : failures' ≡ failures + 1 → before ≢ Unknown → IsForeseen before false after → MayFail calls.coming × AreCalls (fell calls) failures' after
+  call_fell more known seen =
+      let found = falls before after known seen in
+      (may_fail calls.coming before are.known found.0, record { counted = more ∙ ap (λ n. n + 1) are.counted; known = found.1 })
 
   -- no call
-  pub unseen : failures' ≡ failures → after ≡ before → IsSight counted known failures' after
-  unseen same is = record { count = same ∙ sight.count; known_is = subst (IsKnown known) (sym is) sight.known_is }
+  pub unseen : failures' ≡ failures → after ≡ before → AreCalls calls failures' after
+  unseen same is = record { counted = same ∙ are.counted; known = subst (IsKnown calls.coming) (sym is) are.known }
 
   -- the next call is to fail
-  pub arming : failures' ≡ failures → (failures + 1 < 2 ^ 64 → after ≡ FailsAfter 0) → IsSight counted (armed counted) failures' after
-  arming same arms = record { count = same ∙ sight.count; known_is = by (nat_lt (counted + 1) (2 ^ 64)) refl }
+  pub arming : failures' ≡ failures → (failures + 1 < 2 ^ 64 → after ≡ FailsAfter 0) → AreCalls (record calls { coming = armed calls.failed }) failures' after
+  arming same arms = record { counted = same ∙ are.counted; known = by (nat_lt (calls.failed + 1) (2 ^ 64)) refl }
     where
-      by : (b : Bool) → nat_lt (counted + 1) (2 ^ 64) ≡ b → IsKnown (cond b (FailsAfter 0) Unknown) after
+      by : (b : Bool) → nat_lt (calls.failed + 1) (2 ^ 64) ≡ b → IsKnown (cond b (FailsAfter 0) Unknown) after
       by true below =
-          let count = sight.count in
-          let small : counted + 1 < 2 ^ 64 = ltb-true (counted + 1) (2 ^ 64) below in
+          let count = are.counted in
+          let small : calls.failed + 1 < 2 ^ 64 = ltb-true (calls.failed + 1) (2 ^ 64) below in
           arms (omega (arith, count, small))
       by false below = tt
 
@@ -63,33 +81,57 @@ opening_ok (FailsAfter zero) before after is all first = absurd (first is)
 opening_ok (FailsAfter (suc n)) before after is all first = (tt, tt)
 
 -- and of which one failed
-opening_fell : (known before after : Outlook) → IsKnown known before → (before ≡ AllSucceed → ⊥) → (IsArmed before → after ≡ AllSucceed)
-    → MayFailSoon known × IsKnown (used_up known) after
-opening_fell Unknown before after is all used = (tt, tt)
-opening_fell AllSucceed before after is all used = absurd (all is)
-opening_fell (FailsAfter n) before after is all used = (tt, used (subst IsArmed (sym is) tt))
+opening_fell : (before after : Outlook) → before ≢ Unknown → (before ≡ AllSucceed → ⊥) → (IsArmed before → after ≡ AllSucceed) → after ≡ AllSucceed
+opening_fell Unknown after known all used = absurd (known refl)
+opening_fell AllSucceed after known all used = absurd (all refl)
+opening_fell (FailsAfter n) after known all used = used tt
 
-module _ (counted : ℕ) (known : Outlook) (failures failures' : ℕ) (before after : Outlook) (sight : IsSight counted known failures before) where
+may_fail_soon : (known before : Outlook) → IsKnown known before → (before ≡ AllSucceed → ⊥) → MayFailSoon known
+may_fail_soon AllSucceed before is all = all is
+may_fail_soon known before is all = tt
+
+module _ (calls : Calls) (failures failures' : ℕ) (before after : Outlook) (are : AreCalls calls failures before) where
   pub opening_passed : failures' ≡ failures → (before ≡ AllSucceed → after ≡ AllSucceed) → (before ≡ FailsAfter 0 → ⊥)
-      → MaySucceed known × IsSight counted (passed_some known) failures' after
+      → MaySucceed calls.coming × AreCalls (record calls { coming = passed_some calls.coming }) failures' after
   opening_passed same all first =
-      let found = opening_ok known before after sight.known_is all first in
-      (found.0, record { count = same ∙ sight.count; known_is = found.1 })
+      let found = opening_ok calls.coming before after are.known all first in
+      (found.0, record { counted = same ∙ are.counted; known = found.1 })
 
-  pub opening_failed : failures' ≡ failures + 1 → (before ≡ AllSucceed → ⊥) → (IsArmed before → after ≡ AllSucceed)
-      → MayFailSoon known × IsSight (counted + 1) (used_up known) failures' after
-  opening_failed more all used =
-      let found = opening_fell known before after sight.known_is all used in
-      (found.0, record { count = more ∙ ap (λ n. n + 1) sight.count; known_is = found.1 })
+  pub opening_failed : failures' ≡ failures + 1 → before ≢ Unknown → (before ≡ AllSucceed → ⊥) → (IsArmed before → after ≡ AllSucceed)
+      → MayFailSoon calls.coming × AreCalls (fell calls) failures' after
+  opening_failed more known all used = (
+    may_fail_soon calls.coming before are.known all,
+    record { counted = more ∙ ap (λ n. n + 1) are.counted; known = opening_fell before after known all used },
+  )
+
+-- an answer of an opening of which no call failed
+pub none_failed : (calls : Calls) (image : Image) (answer : Answer) → IsNoFailure answer
+    → (called calls (steps.Crash image) answer ≡ record calls { coming = passed_some calls.coming })
+    × (MaySucceed calls.coming → IsForetold calls (steps.Crash image) answer)
+none_failed calls image (answers.Refused DeviceFailed) quiet = absurd quiet
+none_failed calls image (answers.Refused e) quiet = (refl, λ may. may)
+none_failed calls image answer quiet = (refl, λ may. may)
+
+-- an opening that was refused
+pub opening_told : (calls : Calls) (failures failures' : ℕ) (before after : Outlook) (image : Image) (e : Refusal) → AreCalls calls failures before → before ≢ Unknown
+    → (e ≡ DeviceFailed → failures' ≡ failures + 1) × (e ≢ DeviceFailed → failures' ≡ failures)
+    → (before ≡ AllSucceed → (e ≢ DeviceFailed) × (after ≡ AllSucceed)) → (before ≡ FailsAfter 0 → (e ≡ DeviceFailed) × (after ≡ AllSucceed))
+    → (IsArmed before → e ≡ DeviceFailed → after ≡ AllSucceed)
+    → IsForetold calls (steps.Crash image) (answers.Refused e) × AreCalls (called calls (steps.Crash image) (answers.Refused e)) failures' after
+opening_told calls failures failures' before after image DeviceFailed are known counted all first armed =
+    opening_failed calls failures failures' before after are (counted.0 refl) known (λ is. (all is).0 refl) (λ is. armed is refl)
+opening_told calls failures failures' before after image e are known counted all first armed =
+    opening_passed calls failures failures' before after are (counted.1 (λ is. let n = ap number_of is in absurd (omega (arith, n)))) (λ is. (all is).1)
+    (λ is. let n = ap number_of (first is).0 in absurd (omega (arith, n)))
+
+-- a step that finds nothing to do
+pub idle_told : (calls : Calls) (step : Step) → ((image : Image) → step ≡ steps.Crash image → ⊥)
+    → IsForetold calls step answers.Idle × (called calls step answers.Idle ≡ calls)
+idle_told calls (steps.Crash image) other = absurd (other image refl)
+idle_told calls step other = (tt, refl)
 
 -- a store that was formatted
 pub formatted_known : (before after : Outlook) → (before ≡ AllSucceed → after ≡ AllSucceed) → IsKnown (passed_some before) after
 formatted_known Unknown after all = tt
 formatted_known AllSucceed after all = all refl
 formatted_known (FailsAfter n) after all = tt
-
--- a turn is no call
-pub turned_unseen : (c : Course) (command : Command) (refused : Option Refusal) (failures : ℕ) (outlook : Outlook) → IsSight c.failures c.outlook failures outlook
-    → IsSight (turned c command refused).failures (turned c command refused).outlook failures outlook
-turned_unseen c command None failures outlook sight = sight
-turned_unseen c command (Some e) failures outlook sight = sight

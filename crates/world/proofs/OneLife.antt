@@ -1,34 +1,34 @@
 -- One life, step by step.
-use Rattle.std.proofs.Common.{◌≡◌, ◌≢◌, ◌∙◌, ◌≤◌, ◌⊎◌, inl, inr, ℕ, true, MatchBool, List, [], ◌∷◌, ◌++◌, slice_get, Option, Some, None, length, take, map, sym, ap, subst, refl, arith, append_assoc, length-append}
+use Rattle.std.proofs.Common.{◌≡◌, ◌≢◌, ◌∙◌, ◌+◌, ◌≤◌, ◌⊎◌, inl, inr, ℕ, true, MatchBool, List, [], ◌∷◌, ◌++◌, slice_get, Option, Some, None, Result, Ok, Err, length, take, drop, map, sym, ap, subst, refl, arith, append_assoc, length-append}
 use Rattle.std.specs.Option.{MatchOption}
-use Rattle.std.proofs.lemmas.List.{append-nil, take-append-le, map_more}
+use Rattle.std.proofs.lemmas.List.{append-nil, drop_all, drop-append-le, length-take-le, map-append, take_all, take-append-le, take_more}
 use Rattle.std.proofs.lemmas.Option.{slice_get_within, get_or_from_slice_get}
 use Rattle.lw_types.specs.declared.refusal.Refusal.{Refusal}
+use Rattle.lw_types.specs.declared.refusal.Refusal.TheVariants as refusals
 use Rattle.lw_types.specs.declared.refusal.Refusal.TheVariants.{OutOfStep}
 use Rattle.lw_types.specs.Refusal.{number_of}
 use Rattle.devices.specs.declared.command.Command.{Command}
 use Rattle.devices.specs.declared.effect.Effect.{Effect}
-use Rattle.disk.specs.Outlook.{Outlook}
-use Rattle.world.specs.Folding.{RunLaws}
-use Rattle.sessions.specs.Table.{TableState, effects_of}
+use Rattle.sessions.specs.Table.{Step as TableStep, effects_of}
 use Rattle.gateway_wire.specs.declared.emission.Emission.{Emission}
 use Rattle.gateway_wire.specs.Emission.{emission}
+use Rattle.world.specs.Folding.{RunLaws}
 use Rattle.world.specs.declared.answer.Answer.{Answer}
 use Rattle.world.specs.declared.answer.Answer.TheVariants as answers
 use Rattle.world.specs.declared.step.Step.{Step}
 use Rattle.world.specs.declared.step.Step.TheVariants as steps
-use Rattle.world.specs.Course.{Course, Stage, decided, turned, after, course_of, beginning, effects_under_way}
-use Rattle.world.specs.Course.Stage.{Rest, Begun, Written, Synced, Opened, Durable, Stopped, Unsure}
-use Rattle.lw_types.specs.declared.refusal.Refusal.TheVariants as refusals
-use Rattle.world.specs.Answers.{AreRight, IsRight, AnswersOpen, AnswersClosed, AnswersTake, AnswersCall, AnswersRelease, Calls, now}
+use Rattle.world.specs.Course.{Origin, Course, Flight, Stage, decided, admit, went, wanted, released, gone_through, after, course_of, beginning, table_from, number_from, effects_from}
+use Rattle.world.specs.Course.Stage.{Durable, Stopped, Unsure}
+use Rattle.world.specs.Answers.{AreRight, IsRight, AnswersOpen, AnswersClosed, AnswersTake, AnswersCall, AnswersRelease, TakesBehind, Calls, Releases}
 use Rattle.world.specs.Follows.{IsOwn}
-use Rattle.world.proofs.Going.{step_keeps}
 use Rattle.world.specs.OneLife.{HasNoCrash, NoneGivenUp, NoneOutOfStep, emitted, IsOneLife}
+use Rattle.world.proofs.Going.{step_keeps}
 
 -- what one step keeps
-pub record Lives (start : TableState) (c : Course) (said : List Emission) : Type 0 where
-  pub released : c.left ≡ effects_of start c.settled
-  pub emitted : said ≡ map emission (take c.emitted c.left)
+pub record Lives (origin : Origin) (c : Course) (said : List Emission) : Type 0 where
+  pub released : c.left ≡ effects_from origin c.settled
+  pub emitted : said ≡ map emission (drop (length origin.left) (take c.emitted c.left))
+  pub past : length origin.left ≤ c.emitted
   pub within : c.emitted ≤ length c.left
   pub is_open : c.is_open ≡ true
 
@@ -49,82 +49,103 @@ apart : (e : Emission) (answer : Answer) → is_emitted answer ≡ 0 → answers
 apart e answer quiet h = let n = ap is_emitted h in absurd (omega (arith, quiet, n))
 
 -- no step but an emit is answered by what was emitted
-take_quiet : (stage : Stage) (c : Course) (most : ℕ) (e : Emission) → AnswersTake stage c most (answers.Emitted e) → ⊥
-take_quiet Rest c most e h = h
-take_quiet Stopped c most e h = apart e (answers.Refused refusals.Failed) refl h
-take_quiet Unsure c most e h = apart e (answers.Refused refusals.Failed) refl h
-take_quiet stage c most e h = apart e answers.Idle refl h
+behind_quiet : (stage : Stage) (e : Emission) → TakesBehind stage (answers.Emitted e) → ⊥
+behind_quiet Stopped e h = apart e (answers.Refused refusals.Failed) refl h
+behind_quiet Unsure e h = apart e (answers.Refused refusals.Failed) refl h
+behind_quiet stage e h = apart e answers.Idle refl h
 
-calls_quiet : (known : Outlook) (e : Emission) → Calls known (answers.Emitted e) → ⊥
-calls_quiet known e (inl h) = apart e answers.Called refl h.0
-calls_quiet known e (inr h) = apart e (answers.Refused refusals.DeviceFailed) refl h.0
+take_quiet : (flights : List Flight) (c : Course) (most : ℕ) (e : Emission) → AnswersTake flights c most (answers.Emitted e) → ⊥
+take_quiet [] c most e h = h
+take_quiet (flight ∷ flights) c most e h = behind_quiet flight.stage e h
 
-call_quiet : (stage : Stage) (known : Outlook) (e : Emission) → AnswersCall stage known (answers.Emitted e) → ⊥
-call_quiet Begun known e h = calls_quiet known e h
-call_quiet Written known e h = calls_quiet known e h
-call_quiet Synced known e h = calls_quiet known e h
-call_quiet Opened known e h = calls_quiet known e h
-call_quiet stage known e h = apart e answers.Idle refl h
+called_quiet : (e : Emission) → (answers.Emitted e ≡ answers.Called) ⊎ (answers.Emitted e ≡ answers.Refused refusals.DeviceFailed) → ⊥
+called_quiet e (inl h) = apart e answers.Called refl h
+called_quiet e (inr h) = apart e (answers.Refused refusals.DeviceFailed) refl h
 
-release_quiet : (stage : Stage) (start : TableState) (c : Course) (e : Emission) → AnswersRelease stage start c (answers.Emitted e) → ⊥
-release_quiet Durable start c e h = apart e (answers.Released (length (effects_under_way start c))) refl h
-release_quiet stage start c e h = apart e answers.Idle refl h
+calls_quiet : (stage : Stage) (e : Emission) → Calls stage (answers.Emitted e) → ⊥
+calls_quiet Durable e h = apart e answers.Idle refl h
+calls_quiet Stopped e h = apart e answers.Idle refl h
+calls_quiet Unsure e h = apart e answers.Idle refl h
+calls_quiet stage e h = called_quiet e h
+
+call_quiet : (flights : List Flight) (e : Emission) → AnswersCall flights (answers.Emitted e) → ⊥
+call_quiet [] e h = apart e answers.Idle refl h
+call_quiet (flight ∷ flights) e h = calls_quiet flight.stage e h
+
+releases_quiet : (stage : Stage) (n : ℕ) (e : Emission) → Releases stage n (answers.Emitted e) → ⊥
+releases_quiet Durable n e h = apart e (answers.Released n) refl h
+releases_quiet stage n e h = apart e answers.Idle refl h
+
+release_quiet : (origin : Origin) (c : Course) (flights : List Flight) (e : Emission) → AnswersRelease origin c flights (answers.Emitted e) → ⊥
+release_quiet origin c [] e h = apart e answers.Idle refl h
+release_quiet origin c (flight ∷ flights) e h = releases_quiet flight.stage (length (effects_of (table_from origin c.settled) flight.commands)) e h
 
 list_quiet : (e : Emission) (listed : Answer) → is_emitted listed ≡ 0 → (answers.Emitted e ≡ listed) ⊎ (answers.Emitted e ≡ answers.Refused refusals.OutOfMemory) → ⊥
 list_quiet e listed quiet (inl h) = apart e listed quiet h
 list_quiet e listed quiet (inr h) = apart e (answers.Refused refusals.OutOfMemory) refl h
 
-quiet : (start : TableState) (c : Course) (step : Step) (e : Emission) → IsOwn step → AnswersOpen start c step (answers.Emitted e) → ⊥
-quiet start c (steps.Request moment command) e own h = h
-quiet start c (steps.Take most) e own h = take_quiet c.stage c most e h
-quiet start c steps.Call e own h = call_quiet c.stage c.outlook e h
-quiet start c steps.Fail e own h = apart e answers.Armed refl h
-quiet start c steps.Release e own h = release_quiet c.stage start c e h
-quiet start c steps.List e own h = list_quiet e (answers.Listed (now start c) (length (decided c))) refl h
-quiet start c steps.Emit e own h = own
-quiet start c (steps.Crash image) e own h = own
+quiet : (origin : Origin) (c : Course) (step : Step) (e : Emission) → IsOwn step → AnswersOpen origin c step (answers.Emitted e) → ⊥
+quiet origin c (steps.Request moment command) e own h = h
+quiet origin c (steps.Take most) e own h = take_quiet c.flights c most e h
+quiet origin c steps.Call e own h = call_quiet c.flights e h
+quiet origin c steps.Fail e own h = apart e answers.Armed refl h
+quiet origin c steps.Release e own h = release_quiet origin c c.flights e h
+quiet origin c steps.List e own h = list_quiet e (answers.Listed (table_from origin (decided c)) (number_from origin (decided c))) refl h
+quiet origin c steps.Emit e own h = own
+quiet origin c (steps.Crash image) e own h = own
 
 -- a step of the life alone
-own_lives : (laws : RunLaws) (start : TableState) (c : Course) (said : List Emission) (step : Step) (answer : Answer) → IsOwn step → told_by answer ≡ [] → Lives start c said
-    → Lives start (after start c step answer) (said ++ told_by answer)
-own_lives laws start c said step answer own silent lives =
-    let keeps = step_keeps laws start c step answer own in
+own_lives : (laws : RunLaws) (origin : Origin) (c : Course) (said : List Emission) (step : Step) (answer : Answer) → IsOwn step → told_by answer ≡ [] → Lives origin c said
+    → Lives origin (after origin c step answer) (said ++ told_by answer)
+own_lives laws origin c said step answer own silent lives =
+    let keeps = step_keeps laws origin c step answer own in
     let more = keeps.grown.0 in
     let longer = ap length keeps.grown.1 ∙ length-append c.left more in
     let same = keeps.emitted in
     let before = lives.within in
+    let past = lives.past in
     record {
       released = keeps.complete lives.released;
       emitted =
           ap (λ l. said ++ l) silent
           ∙ (append-nil said
           ∙ (lives.emitted
-          ∙ ap (map emission)
+          ∙ ap (λ l. map emission (drop (length origin.left) l))
           (sym (take-append-le c.emitted c.left more lives.within)
-          ∙ (ap (take c.emitted) (sym keeps.grown.1) ∙ ap (λ n. take n (after start c step answer).left) (sym same)))));
+          ∙ (ap (take c.emitted) (sym keeps.grown.1) ∙ ap (λ n. take n (after origin c step answer).left) (sym same)))));
+      past = omega (arith, same, past);
       within = omega (arith, longer, same, before);
       is_open = keeps.is_open ∙ lives.is_open;
     }
 
-silent : (start : TableState) (c : Course) (step : Step) (answer : Answer) → IsOwn step → AnswersOpen start c step answer → told_by answer ≡ []
-silent start c step (answers.Emitted e) own right = absurd (quiet start c step e own right)
-silent start c step answer own right = refl
+silent : (origin : Origin) (c : Course) (step : Step) (answer : Answer) → IsOwn step → AnswersOpen origin c step answer → told_by answer ≡ []
+silent origin c step (answers.Emitted e) own right = absurd (quiet origin c step e own right)
+silent origin c step answer own right = refl
 
 -- an emit
-emit_lives : (start : TableState) (c : Course) (said : List Emission) (answer : Answer) (o : Option Effect) → slice_get c.left c.emitted ≡ o
-    → MatchOption o (answer ≡ answers.Idle) (λ effect. (answer ≡ answers.Emitted (emission effect)) ⊎ (answer ≡ answers.Refused refusals.OutOfMemory)) → Lives start c said
-    → Lives start (after start c steps.Emit answer) (said ++ told_by answer)
-emit_lives start c said answer None is right lives =
-    subst (λ a. Lives start (after start c steps.Emit a) (said ++ told_by a)) (sym right) (subst (Lives start c) (sym (append-nil said)) lives)
-emit_lives start c said answer (Some effect) is (inr right) lives =
-    subst (λ a. Lives start (after start c steps.Emit a) (said ++ told_by a)) (sym right) (subst (Lives start c) (sym (append-nil said)) lives)
-emit_lives start c said answer (Some effect) is (inl right) lives =
+emit_lives : (origin : Origin) (c : Course) (said : List Emission) (answer : Answer) (o : Option Effect) → slice_get c.left c.emitted ≡ o
+    → MatchOption o (answer ≡ answers.Idle) (λ effect. (answer ≡ answers.Emitted (emission effect)) ⊎ (answer ≡ answers.Refused refusals.OutOfMemory)) → Lives origin c said
+    → Lives origin (after origin c steps.Emit answer) (said ++ told_by answer)
+emit_lives origin c said answer None is right lives =
+    subst (λ a. Lives origin (after origin c steps.Emit a) (said ++ told_by a)) (sym right) (subst (Lives origin c) (sym (append-nil said)) lives)
+emit_lives origin c said answer (Some effect) is (inr right) lives =
+    subst (λ a. Lives origin (after origin c steps.Emit a) (said ++ told_by a)) (sym right) (subst (Lives origin c) (sym (append-nil said)) lives)
+emit_lives origin c said answer (Some effect) is (inl right) lives =
     let below = slice_get_within c.left c.emitted effect is in
-    subst (λ a. Lives start (after start c steps.Emit a) (said ++ told_by a)) (sym right) (record {
+    let before = length origin.left in
+    let past = lives.past in
+    let there : take c.emitted c.left ++ effect ∷ [] ≡ take (c.emitted + 1) c.left =
+    sym (take_more c.left c.emitted effect below
+    ∙ ap (λ f. take c.emitted c.left ++ f ∷ []) (get_or_from_slice_get c.left c.emitted effect effect is)) in
+    let count = length-take-le c.emitted c.left lives.within in
+    let dropped : drop before (take c.emitted c.left) ++ effect ∷ [] ≡ drop before (take (c.emitted + 1) c.left) =
+    sym (drop-append-le before (take c.emitted c.left) (effect ∷ []) (omega (arith, count, past))) ∙ ap (drop before) there in
+    subst (λ a. Lives origin (after origin c steps.Emit a) (said ++ told_by a)) (sym right) (record {
       released = lives.released;
       emitted =
           ap (λ l. l ++ emission effect ∷ []) lives.emitted
-          ∙ sym (map_more emission c.left c.emitted effect below ∙ ap (λ f. map emission (take c.emitted c.left) ++ emission f ∷ []) (get_or_from_slice_get c.left c.emitted effect effect is));
+          ∙ (sym (map-append emission (drop before (take c.emitted c.left)) (effect ∷ [])) ∙ ap (map emission) dropped);
+      past = omega (arith, past);
       within = omega (arith, below);
       is_open = lives.is_open;
     })
@@ -138,32 +159,32 @@ calm : (step : Step) (rest : List Step) → HasNoCrash (step ∷ rest) → IsCal
 calm (steps.Crash image) rest h = absurd h
 calm step rest h = (tt, h)
 
-open_right : (start : TableState) (c : Course) (step : Step) (answer : Answer) → c.is_open ≡ true → IsRight start c step answer → AnswersOpen start c step answer
-open_right start c step answer is right = subst (λ b. MatchBool b (AnswersOpen start c step answer) (AnswersClosed start c step answer)) is right
+open_right : (origin : Origin) (c : Course) (step : Step) (answer : Answer) → c.is_open ≡ true → IsRight origin c step answer → AnswersOpen origin c step answer
+open_right origin c step answer is right = subst (λ b. MatchBool b (AnswersOpen origin c step answer) (AnswersClosed origin c step answer)) is right
 
-step_lives : (laws : RunLaws) (start : TableState) (c : Course) (said : List Emission) (step : Step) (answer : Answer) → IsCalm step → AnswersOpen start c step answer → Lives start c said
-    → Lives start (after start c step answer) (said ++ told_by answer)
-step_lives laws start c said steps.Emit answer calm right lives = emit_lives start c said answer (slice_get c.left c.emitted) refl right lives
-step_lives laws start c said (steps.Crash image) answer calm right lives = absurd calm
-step_lives laws start c said (steps.Request moment command) answer calm right lives =
-    own_lives laws start c said (steps.Request moment command) answer tt (silent start c (steps.Request moment command) answer tt right) lives
-step_lives laws start c said (steps.Take most) answer calm right lives =
-    own_lives laws start c said (steps.Take most) answer tt (silent start c (steps.Take most) answer tt right) lives
-step_lives laws start c said steps.Call answer calm right lives = own_lives laws start c said steps.Call answer tt (silent start c steps.Call answer tt right) lives
-step_lives laws start c said steps.Fail answer calm right lives = own_lives laws start c said steps.Fail answer tt (silent start c steps.Fail answer tt right) lives
-step_lives laws start c said steps.Release answer calm right lives = own_lives laws start c said steps.Release answer tt (silent start c steps.Release answer tt right) lives
-step_lives laws start c said steps.List answer calm right lives = own_lives laws start c said steps.List answer tt (silent start c steps.List answer tt right) lives
+step_lives : (laws : RunLaws) (origin : Origin) (c : Course) (said : List Emission) (step : Step) (answer : Answer) → IsCalm step → AnswersOpen origin c step answer → Lives origin c said
+    → Lives origin (after origin c step answer) (said ++ told_by answer)
+step_lives laws origin c said steps.Emit answer calm right lives = emit_lives origin c said answer (slice_get c.left c.emitted) refl right lives
+step_lives laws origin c said (steps.Crash image) answer calm right lives = absurd calm
+step_lives laws origin c said (steps.Request moment command) answer calm right lives =
+    own_lives laws origin c said (steps.Request moment command) answer tt (silent origin c (steps.Request moment command) answer tt right) lives
+step_lives laws origin c said (steps.Take most) answer calm right lives =
+    own_lives laws origin c said (steps.Take most) answer tt (silent origin c (steps.Take most) answer tt right) lives
+step_lives laws origin c said steps.Call answer calm right lives = own_lives laws origin c said steps.Call answer tt (silent origin c steps.Call answer tt right) lives
+step_lives laws origin c said steps.Fail answer calm right lives = own_lives laws origin c said steps.Fail answer tt (silent origin c steps.Fail answer tt right) lives
+step_lives laws origin c said steps.Release answer calm right lives = own_lives laws origin c said steps.Release answer tt (silent origin c steps.Release answer tt right) lives
+step_lives laws origin c said steps.List answer calm right lives = own_lives laws origin c said steps.List answer tt (silent origin c steps.List answer tt right) lives
 
-lives_on : (laws : RunLaws) (start : TableState) (c : Course) (said : List Emission) (steps : List Step) (told : List Answer) → AreRight start c steps told → HasNoCrash steps → Lives start c said
-    → Lives start (course_of start c steps told) (said ++ emitted told)
-lives_on laws start c said [] [] right still lives = subst (Lives start c) (sym (append-nil said)) lives
-lives_on laws start c said [] (a ∷ told) right still lives = absurd right
-lives_on laws start c said (s ∷ steps) [] right still lives = absurd right
-lives_on laws start c said (s ∷ steps) (a ∷ told) right still lives =
+lives_on : (laws : RunLaws) (origin : Origin) (c : Course) (said : List Emission) (steps : List Step) (told : List Answer) → AreRight origin c steps told → HasNoCrash steps → Lives origin c said
+    → Lives origin (course_of origin c steps told) (said ++ emitted told)
+lives_on laws origin c said [] [] right still lives = subst (Lives origin c) (sym (append-nil said)) lives
+lives_on laws origin c said [] (a ∷ told) right still lives = absurd right
+lives_on laws origin c said (s ∷ steps) [] right still lives = absurd right
+lives_on laws origin c said (s ∷ steps) (a ∷ told) right still lives =
     let first = calm s steps still in
-    let next = step_lives laws start c said s a first.0 (open_right start c s a lives.is_open right.0) lives in
-    let rest = lives_on laws start (after start c s a) (said ++ told_by a) steps told right.1 first.1 next in
-    subst (Lives start (course_of start (after start c s a) steps told)) (append_assoc said (told_by a) (emitted told) ∙ ap (λ l. said ++ l) (sym (emitted_cons a told))) rest
+    let next = step_lives laws origin c said s a first.0 (open_right origin c s a lives.is_open right.0) lives in
+    let rest = lives_on laws origin (after origin c s a) (said ++ told_by a) steps told right.1 first.1 next in
+    subst (Lives origin (course_of origin (after origin c s a) steps told)) (append_assoc said (told_by a) (emitted told) ∙ ap (λ l. said ++ l) (sym (emitted_cons a told))) rest
 
 -- what is refused has its number, and nothing else has one
 abbrev refused_with : Answer → ℕ
@@ -171,108 +192,120 @@ refused_with (answers.Refused e) = number_of e
 refused_with answer = 0
 
 -- a batch is out of step only behind one that was lost
-out_of_step : (stage : Stage) (c : Course) (most : ℕ) → AnswersTake stage c most (answers.Refused OutOfStep) → c.given_up ≢ []
-out_of_step Rest c most (some, inl h) = let n = ap number_of h in absurd (omega (arith, n))
-out_of_step Rest c most (some, inr h) = h.1
-out_of_step Stopped c most h = let n = ap refused_with h in absurd (omega (arith, n))
-out_of_step Unsure c most h = let n = ap refused_with h in absurd (omega (arith, n))
-out_of_step stage c most h = let n = ap refused_with h in absurd (omega (arith, n))
+behind_in_step : (stage : Stage) → TakesBehind stage (answers.Refused OutOfStep) → ⊥
+behind_in_step Stopped h = let n = ap refused_with h in absurd (omega (arith, n))
+behind_in_step Unsure h = let n = ap refused_with h in absurd (omega (arith, n))
+behind_in_step stage h = let n = ap refused_with h in absurd (omega (arith, n))
+
+out_of_step : (flights : List Flight) (c : Course) (most : ℕ) → AnswersTake flights c most (answers.Refused OutOfStep) → c.given_up ≢ []
+out_of_step [] c most (some, inl h) = let n = ap number_of h in absurd (omega (arith, n))
+out_of_step [] c most (some, inr h) = h.1
+out_of_step (flight ∷ flights) c most h = absurd (behind_in_step flight.stage h)
 
 none_before : (answer : Answer) (rest : List Answer) → NoneGivenUp (answer ∷ rest) → NoneGivenUp rest
 none_before (answers.GivenUp n) rest h = absurd h
 none_before answer rest h = h
 
-turn_given : (c : Course) (command : Command) (refused : Option Refusal) → (turned c command refused).given_up ≡ c.given_up
-turn_given c command None = refl
-turn_given c command (Some e) = refl
+went_given : (c : Course) (command : Command) (outcome : Result TableStep Refusal) → (went c command outcome).given_up ≡ c.given_up
+went_given c command (Ok s) = refl
+went_given c command (Err e) = refl
 
-request_given : (start : TableState) (c : Course) (moment : ℕ) (command : Command) (answer : Answer) → (after start c (steps.Request moment command) answer).given_up ≡ c.given_up
-request_given start c moment command (answers.Turn turn) = turn_given c command turn.refused
-request_given start c moment command answer = refl
+admit_given : (origin : Origin) (c : Course) (commands : List Command) → (admit origin c commands).given_up ≡ c.given_up
+admit_given origin c [] = refl
+admit_given origin c (command ∷ commands) = admit_given origin (went c command (wanted origin c command)) commands ∙ went_given c command (wanted origin c command)
 
-call_given : (start : TableState) (c : Course) (answer : Answer) → (after start c steps.Call answer).given_up ≡ c.given_up
-call_given start c answers.Called = refl
-call_given start c (answers.Refused e) = refl
-call_given start c answer = refl
+request_given : (origin : Origin) (c : Course) (moment : ℕ) (command : Command) (answer : Answer) → (after origin c (steps.Request moment command) answer).given_up ≡ c.given_up
+request_given origin c moment command (answers.Turn turn) = admit_given origin c (gone_through (command ∷ []) turn.refused)
+request_given origin c moment command answer = refl
 
-release_given : (start : TableState) (c : Course) (answer : Answer) → (after start c steps.Release answer).given_up ≡ c.given_up
-release_given start c (answers.Released n) = refl
-release_given start c answer = refl
+call_given : (origin : Origin) (c : Course) (answer : Answer) → (after origin c steps.Call answer).given_up ≡ c.given_up
+call_given origin c answers.Called = refl
+call_given origin c (answers.Refused e) = refl
+call_given origin c answer = refl
 
-fail_given : (start : TableState) (c : Course) (answer : Answer) → (after start c steps.Fail answer).given_up ≡ c.given_up
-fail_given start c answers.Armed = refl
-fail_given start c answer = refl
+released_given : (origin : Origin) (c : Course) (flights : List Flight) → (released origin c flights).given_up ≡ c.given_up
+released_given origin c [] = refl
+released_given origin c (flight ∷ flights) = refl
 
-emit_given : (start : TableState) (c : Course) (answer : Answer) → (after start c steps.Emit answer).given_up ≡ c.given_up
-emit_given start c (answers.Emitted e) = refl
-emit_given start c answer = refl
+release_given : (origin : Origin) (c : Course) (answer : Answer) → (after origin c steps.Release answer).given_up ≡ c.given_up
+release_given origin c (answers.Released n) = released_given origin c c.flights
+release_given origin c answer = refl
 
-refusal_given : (start : TableState) (c : Course) (most : ℕ) (e : Refusal) → AnswersTake c.stage c most (answers.Refused e) → c.given_up ≡ []
-    → (after start c (steps.Take most) (answers.Refused e)).given_up ≡ []
-refusal_given start c most OutOfStep right none = absurd (out_of_step c.stage c most right none)
-refusal_given start c most e right none = none
+emit_given : (origin : Origin) (c : Course) (answer : Answer) → (after origin c steps.Emit answer).given_up ≡ c.given_up
+emit_given origin c (answers.Emitted e) = refl
+emit_given origin c answer = refl
 
-take_given : (start : TableState) (c : Course) (most : ℕ) (answer : Answer) (rest : List Answer) → AnswersTake c.stage c most answer → NoneGivenUp (answer ∷ rest)
-    → c.given_up ≡ [] → (after start c (steps.Take most) answer).given_up ≡ []
-take_given start c most (answers.Taken n) rest right up none = none
-take_given start c most (answers.GivenUp n) rest right up none = absurd up
-take_given start c most (answers.Refused e) rest right up none = refusal_given start c most e right none
-take_given start c most answer rest right up none = none
+refusal_given : (origin : Origin) (c : Course) (most : ℕ) (e : Refusal) → AnswersTake c.flights c most (answers.Refused e) → c.given_up ≡ []
+    → (after origin c (steps.Take most) (answers.Refused e)).given_up ≡ []
+refusal_given origin c most OutOfStep right none = absurd (out_of_step c.flights c most right none)
+refusal_given origin c most e right none = none
 
-given_stays : (start : TableState) (c : Course) (step : Step) (answer : Answer) (rest : List Answer) → IsCalm step → AnswersOpen start c step answer
-    → NoneGivenUp (answer ∷ rest) → c.given_up ≡ [] → (after start c step answer).given_up ≡ []
-given_stays start c (steps.Request moment command) answer rest calm right up none = request_given start c moment command answer ∙ none
-given_stays start c (steps.Take most) answer rest calm right up none = take_given start c most answer rest right up none
-given_stays start c steps.Call answer rest calm right up none = call_given start c answer ∙ none
-given_stays start c steps.Fail answer rest calm right up none = fail_given start c answer ∙ none
-given_stays start c steps.Release answer rest calm right up none = release_given start c answer ∙ none
-given_stays start c steps.List answer rest calm right up none = none
-given_stays start c steps.Emit answer rest calm right up none = emit_given start c answer ∙ none
-given_stays start c (steps.Crash image) answer rest calm right up none = absurd calm
+take_given : (origin : Origin) (c : Course) (most : ℕ) (answer : Answer) (rest : List Answer) → AnswersTake c.flights c most answer → NoneGivenUp (answer ∷ rest)
+    → c.given_up ≡ [] → (after origin c (steps.Take most) answer).given_up ≡ []
+take_given origin c most (answers.Taken n) rest right up none = none
+take_given origin c most (answers.GivenUp n) rest right up none = absurd up
+take_given origin c most (answers.Refused e) rest right up none = refusal_given origin c most e right none
+take_given origin c most answer rest right up none = none
 
-refusal_in_step : (c : Course) (most : ℕ) (e : Refusal) (rest : List Step) (others : List Answer) → AnswersTake c.stage c most (answers.Refused e) → c.given_up ≡ []
+given_stays : (origin : Origin) (c : Course) (step : Step) (answer : Answer) (rest : List Answer) → IsCalm step → AnswersOpen origin c step answer
+    → NoneGivenUp (answer ∷ rest) → c.given_up ≡ [] → (after origin c step answer).given_up ≡ []
+given_stays origin c (steps.Request moment command) answer rest calm right up none = request_given origin c moment command answer ∙ none
+given_stays origin c (steps.Take most) answer rest calm right up none = take_given origin c most answer rest right up none
+given_stays origin c steps.Call answer rest calm right up none = call_given origin c answer ∙ none
+given_stays origin c steps.Fail answer rest calm right up none = none
+given_stays origin c steps.Release answer rest calm right up none = release_given origin c answer ∙ none
+given_stays origin c steps.List answer rest calm right up none = none
+given_stays origin c steps.Emit answer rest calm right up none = emit_given origin c answer ∙ none
+given_stays origin c (steps.Crash image) answer rest calm right up none = absurd calm
+
+refusal_in_step : (c : Course) (most : ℕ) (e : Refusal) (rest : List Step) (others : List Answer) → AnswersTake c.flights c most (answers.Refused e) → c.given_up ≡ []
     → NoneOutOfStep rest others → NoneOutOfStep (steps.Take most ∷ rest) (answers.Refused e ∷ others)
-refusal_in_step c most OutOfStep rest others right none h = absurd (out_of_step c.stage c most right none)
+refusal_in_step c most OutOfStep rest others right none h = absurd (out_of_step c.flights c most right none)
 refusal_in_step c most e rest others right none h = h
 
-take_in_step : (c : Course) (most : ℕ) (answer : Answer) (rest : List Step) (others : List Answer) → AnswersTake c.stage c most answer → c.given_up ≡ []
+take_in_step : (c : Course) (most : ℕ) (answer : Answer) (rest : List Step) (others : List Answer) → AnswersTake c.flights c most answer → c.given_up ≡ []
     → NoneOutOfStep rest others → NoneOutOfStep (steps.Take most ∷ rest) (answer ∷ others)
 take_in_step c most (answers.Refused e) rest others right none h = refusal_in_step c most e rest others right none h
 take_in_step c most answer rest others right none h = h
 
-step_in_step : (start : TableState) (c : Course) (step : Step) (answer : Answer) (rest : List Step) (others : List Answer) → AnswersOpen start c step answer → c.given_up ≡ []
+step_in_step : (origin : Origin) (c : Course) (step : Step) (answer : Answer) (rest : List Step) (others : List Answer) → AnswersOpen origin c step answer → c.given_up ≡ []
     → NoneOutOfStep rest others → NoneOutOfStep (step ∷ rest) (answer ∷ others)
-step_in_step start c (steps.Take most) answer rest others right none h = take_in_step c most answer rest others right none h
-step_in_step start c step answer rest others right none h = h
+step_in_step origin c (steps.Take most) answer rest others right none h = take_in_step c most answer rest others right none h
+step_in_step origin c step answer rest others right none h = h
 
-emit_open : (start : TableState) (c : Course) (answer : Answer) → (after start c steps.Emit answer).is_open ≡ c.is_open
-emit_open start c (answers.Emitted e) = refl
-emit_open start c answer = refl
+emit_open : (origin : Origin) (c : Course) (answer : Answer) → (after origin c steps.Emit answer).is_open ≡ c.is_open
+emit_open origin c (answers.Emitted e) = refl
+emit_open origin c answer = refl
 
-stays_open : (laws : RunLaws) (start : TableState) (c : Course) (step : Step) (answer : Answer) → IsCalm step → c.is_open ≡ true → (after start c step answer).is_open ≡ true
-stays_open laws start c steps.Emit answer calm is = emit_open start c answer ∙ is
-stays_open laws start c (steps.Crash image) answer calm is = absurd calm
-stays_open laws start c (steps.Request moment command) answer calm is = (step_keeps laws start c (steps.Request moment command) answer tt).is_open ∙ is
-stays_open laws start c (steps.Take most) answer calm is = (step_keeps laws start c (steps.Take most) answer tt).is_open ∙ is
-stays_open laws start c steps.Call answer calm is = (step_keeps laws start c steps.Call answer tt).is_open ∙ is
-stays_open laws start c steps.Fail answer calm is = (step_keeps laws start c steps.Fail answer tt).is_open ∙ is
-stays_open laws start c steps.Release answer calm is = (step_keeps laws start c steps.Release answer tt).is_open ∙ is
-stays_open laws start c steps.List answer calm is = (step_keeps laws start c steps.List answer tt).is_open ∙ is
+stays_open : (laws : RunLaws) (origin : Origin) (c : Course) (step : Step) (answer : Answer) → IsCalm step → c.is_open ≡ true → (after origin c step answer).is_open ≡ true
+stays_open laws origin c steps.Emit answer calm is = emit_open origin c answer ∙ is
+stays_open laws origin c (steps.Crash image) answer calm is = absurd calm
+stays_open laws origin c (steps.Request moment command) answer calm is = (step_keeps laws origin c (steps.Request moment command) answer tt).is_open ∙ is
+stays_open laws origin c (steps.Take most) answer calm is = (step_keeps laws origin c (steps.Take most) answer tt).is_open ∙ is
+stays_open laws origin c steps.Call answer calm is = (step_keeps laws origin c steps.Call answer tt).is_open ∙ is
+stays_open laws origin c steps.Fail answer calm is = (step_keeps laws origin c steps.Fail answer tt).is_open ∙ is
+stays_open laws origin c steps.Release answer calm is = (step_keeps laws origin c steps.Release answer tt).is_open ∙ is
+stays_open laws origin c steps.List answer calm is = (step_keeps laws origin c steps.List answer tt).is_open ∙ is
 
-in_step_on : (laws : RunLaws) (start : TableState) (c : Course) (steps : List Step) (told : List Answer) → AreRight start c steps told → HasNoCrash steps → NoneGivenUp told
+in_step_on : (laws : RunLaws) (origin : Origin) (c : Course) (steps : List Step) (told : List Answer) → AreRight origin c steps told → HasNoCrash steps → NoneGivenUp told
     → c.given_up ≡ [] → c.is_open ≡ true → NoneOutOfStep steps told
-in_step_on laws start c [] told right still up none is = tt
-in_step_on laws start c (s ∷ steps) [] right still up none is = absurd right
-in_step_on laws start c (s ∷ steps) (a ∷ told) right still up none is =
+in_step_on laws origin c [] told right still up none is = tt
+in_step_on laws origin c (s ∷ steps) [] right still up none is = absurd right
+in_step_on laws origin c (s ∷ steps) (a ∷ told) right still up none is =
     let first = calm s steps still in
-    let right0 = open_right start c s a is right.0 in
-    step_in_step start c s a steps told right0 none
-    (in_step_on laws start (after start c s a) steps told right.1 first.1 (none_before a told up) (given_stays start c s a told first.0 right0 up none)
-    (stays_open laws start c s a first.0 is))
+    let right0 = open_right origin c s a is right.0 in
+    step_in_step origin c s a steps told right0 none
+    (in_step_on laws origin (after origin c s a) steps told right.1 first.1 (none_before a told up) (given_stays origin c s a told first.0 right0 up none)
+    (stays_open laws origin c s a first.0 is))
 
--- what a new world gave, when no step was a crash
-pub one_life : (laws : RunLaws) (start : TableState) (failures : ℕ) (known : Outlook) (steps : List Step) (told : List Answer)
-    → AreRight start (beginning failures known) steps told → HasNoCrash steps → IsOneLife start (course_of start (beginning failures known) steps told) steps told
-one_life laws start failures known steps told right still =
-    let lives = lives_on laws start (beginning failures known) [] steps told right still (record { released = refl; emitted = refl; within = omega arith; is_open = refl }) in
-    record { released = lives.released; emitted = lives.emitted; in_step = λ up. in_step_on laws start (beginning failures known) steps told right still up refl refl }
+-- what a world at its beginning gave, when no step was a crash
+pub one_life : (laws : RunLaws) (origin : Origin) (steps : List Step) (told : List Answer) → AreRight origin (beginning origin) steps told → HasNoCrash steps
+    → IsOneLife origin (course_of origin (beginning origin) steps told) steps told
+one_life laws origin steps told right still =
+    let count = length origin.left in
+    let none : [] ≡ map emission (drop count (take count origin.left)) =
+    sym (ap (map emission) (ap (drop count) (take_all count origin.left (omega arith)) ∙ drop_all count origin.left (omega arith))) in
+    let lives =
+    lives_on laws origin (beginning origin) [] steps told right still
+    (record { released = sym (append-nil origin.left); emitted = none; past = omega arith; within = omega arith; is_open = refl }) in
+    record { released = lives.released; emitted = lives.emitted; in_step = λ up. in_step_on laws origin (beginning origin) steps told right still up refl refl }

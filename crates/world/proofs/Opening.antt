@@ -1,14 +1,12 @@
 -- What a crash and an opening do to a course.
-use Rattle.std.proofs.Common.{◌≡◌, ◌+◌, ◌≢◌, ◌∙◌, ◌⊎◌, inl, inr, ℕ, Bool, true, false, List, ◌++◌, length, take, MatchBool, sym, ap, subst, refl, arith, append_assoc}
-use Rattle.std.proofs.lemmas.List.{append-nil, take_at, take_all}
+use Rattle.std.proofs.Common.{◌≡◌, ◌-◌, ◌≢◌, ◌∙◌, ◌⊎◌, inl, inr, ℕ, Bool, true, false, List, length, take, MatchBool, sym, ap, subst, refl, arith}
+use Rattle.std.proofs.lemmas.List.{append-nil}
 use Rattle.disk.specs.declared.sim.Image.{Image}
-use Rattle.disk.specs.State.{State, EveryImage, IsPermitted, NothingOpen}
+use Rattle.disk.specs.State.{State, EveryImage, IsPermitted}
 use Rattle.lw_types.specs.declared.refusal.Refusal.{Refusal}
 use Rattle.lw_types.specs.declared.refusal.Refusal.TheVariants.{OutOfMemory, DeviceFailed}
 use Rattle.lw_types.specs.Refusal.{number_of}
 use Rattle.devices.specs.declared.command.Command.{Command}
-use Rattle.devices.specs.declared.effect.Effect.{Effect}
-use Rattle.sessions.specs.Table.{TableState, folded, effects_of}
 use Rattle.world.specs.Folding.{RunLaws}
 use Rattle.session_core.specs.State.{opened}
 use Rattle.store.specs.Image.{HoldsTable}
@@ -19,82 +17,44 @@ use Rattle.world.specs.declared.place.Place.TheVariants.{Open, Closed, Crashing}
 use Rattle.world.specs.declared.answer.Answer.{Answer}
 use Rattle.world.specs.declared.answer.Answer.TheVariants as answers
 use Rattle.world.specs.declared.step.Step.TheVariants as steps
-use Rattle.world.specs.Device.{Device, IsSight, MaySucceed, MayFailSoon, passed_some, used_up}
-use Rattle.world.specs.Course.{Course, Stage, decided, reopened, closed, after}
-use Rattle.world.specs.Course.Stage.{Rest, Begun, Written, Synced, Opened, Durable, Stopped, Unsure}
-use Rattle.world.specs.Answers.{Leaves, MayLeave, AnswersCrash}
+use Rattle.world.specs.Course.{Origin, Course, decided, reopened, after, table_from, number_from, effects_from}
+use Rattle.world.specs.Answers.{Leaves, AnswersCrash}
 use Rattle.world.specs.Sound.{HasDisk}
-use Rattle.world.specs.Follows.{FollowsClosed, FollowsPlace, IsDisk, IsLife, IsSubsequence, Survives}
-use Rattle.world.proofs.Subsequences.{longer}
+use Rattle.world.specs.Follows.{FollowsPlace, IsLife, IsSubsequence, Survives}
+use Rattle.world.proofs.Calling.{held}
+use Rattle.world.proofs.Flights.{kept_front, kept_once}
 
 -- the content is always permitted
 pub content_permitted : (s : State) → IsPermitted s s.content
 content_permitted s = record { same_length = refl; kept = λ i h. refl }
 
-either : (stage : Stage) (settled flying kept : List Command) → MayLeave stage settled flying kept → (kept ≡ settled) ⊎ (kept ≡ settled ++ flying)
-either Opened settled flying kept h = h
-either Unsure settled flying kept h = h
-either Durable settled flying kept h = inr h
-either Rest settled flying kept h = inl h
-either Begun settled flying kept h = inl h
-either Written settled flying kept h = inl h
-either Synced settled flying kept h = inl h
-either Stopped settled flying kept h = inl h
-
--- what a crash leaves is a beginning of the decided commands
-pub kept_front : (c : Course) (kept : List Command) → Leaves c kept → take (length kept) (decided c) ≡ kept
-kept_front c kept leaves =
-    elim (either c.stage c.settled c.flying kept leaves) [
-      | inl is ↦ subst (λ k. take (length k) (decided c) ≡ k) (sym is) (take_at c.settled (c.flying ++ (c.given_up ++ c.untaken)) (length c.settled) refl)
-      | inr is ↦ subst (λ k. take (length k) (decided c) ≡ k) (sym is)
-          (ap (take (length (c.settled ++ c.flying))) (sym (append_assoc c.settled c.flying (c.given_up ++ c.untaken)))
-          ∙ take_at (c.settled ++ c.flying) (c.given_up ++ c.untaken) (length (c.settled ++ c.flying)) refl)
-    ]
-
--- all that is settled is part of it
-pub kept_settled : (c : Course) (kept : List Command) → Leaves c kept → take (length c.settled) kept ≡ c.settled
-kept_settled c kept leaves =
-    elim (either c.stage c.settled c.flying kept leaves) [
-      | inl is ↦ ap (take (length c.settled)) is ∙ take_all (length c.settled) c.settled (omega arith)
-      | inr is ↦ ap (take (length c.settled)) is ∙ take_at c.settled c.flying (length c.settled) refl
-    ]
-
--- it holds every command of which an effect has left
-pub kept_once : (laws : RunLaws) (start : TableState) (c : Course) (left : List Effect) (kept : List Command) → Leaves c kept → IsSubsequence left (effects_of start c.settled)
-    → IsSubsequence left (effects_of start kept)
-kept_once laws start c left kept leaves once =
-    elim (either c.stage c.settled c.flying kept leaves) [
-      | inl is ↦ subst (λ k. IsSubsequence left (effects_of start k)) (sym is) once
-      | inr is ↦ subst (λ k. IsSubsequence left (effects_of start k)) (sym is)
-          (subst (IsSubsequence left) (sym (laws.joined_effects start c.settled c.flying))
-          (longer left (effects_of start c.settled) (effects_of (folded start c.settled) c.flying) once))
-    ]
+-- what an opening that found this number cuts the decided list to
+pub cut_to : (origin : Origin) (c : Course) (kept : List Command) (n : ℕ) → Leaves c kept → n ≡ number_from origin kept
+    → kept ≡ take (n - origin.number) (decided c)
+cut_to origin c kept n leaves is =
+    let count : n - origin.number ≡ length kept = omega (arith, is) in
+    sym (ap (λ n. take n (decided c)) count ∙ kept_front c kept leaves)
 
 -- the life that begins with what a crash left
-pub life_opened : (start : TableState) (c : Course) (kept : List Command) (n : ℕ) (s : StoreState) → Leaves c kept → n ≡ length kept → IsSettled s → s.failed ≡ false
-    → s.table ≡ folded start kept → s.seq ≡ length kept → EveryImage s.log.disk (HoldsTable s.table s.seq)
-    → IsLife start (reopened c n) s (opened s.table s.seq) commits.Idle
-life_opened start c kept n s leaves n_is settled healthy table seq held =
-    let front : kept ≡ take n (decided c) = sym (ap (λ n. take n (decided c)) n_is ∙ kept_front c kept leaves) in
-    let table_is = table ∙ ap (folded start) front in
-    let seq_is = seq ∙ ap length front in
-    let alone = append-nil (take n (decided c)) in
+pub life_opened : (origin : Origin) (c : Course) (kept : List Command) (n : ℕ) (s : StoreState) → Leaves c kept → n ≡ number_from origin kept → IsSettled s
+    → s.failed ≡ false → s.table ≡ table_from origin kept → s.seq ≡ number_from origin kept → EveryImage s.log.disk (HoldsTable s.table s.seq)
+    → IsLife origin (reopened origin c n) s (opened s.table s.seq) commits.Idle
+life_opened origin c kept n s leaves n_is settled healthy table seq holds =
+    let front = cut_to origin c kept n leaves n_is in
+    let table_is = table ∙ ap (table_from origin) front in
+    let seq_is = seq ∙ ap (number_from origin) front in
+    let alone = append-nil (take (n - origin.number) (decided c)) in
     let alone_length = ap length alone in
     record {
       table = table_is;
       seq = seq_is;
-      base = table_is ∙ ap (folded start) (sym alone);
+      base = table_is ∙ ap (table_from origin) (sym alone);
       number = omega (arith, seq_is, alone_length);
       untaken = refl;
       made = refl;
-      under_way = (refl, (refl, settled));
+      under_way = (refl, (tt, settled));
       healthy = healthy;
-      survives = λ image p. (
-        take n (decided c),
-        refl,
-        subst (λ m. HoldsTable (folded start (take n (decided c))) m image) seq_is
-            (subst (λ t. HoldsTable t s.seq image) table_is (held image p)),
-      );
+      survives = λ image p. (take (n - origin.number) (decided c), refl, held s.table _ s.seq _ image table_is seq_is (holds image p));
     }
 
 -- an opening is refused for these two reasons, where others are ruled out
@@ -103,29 +63,18 @@ two_reasons OutOfMemory h = inl refl
 two_reasons DeviceFailed h = inr refl
 two_reasons e h = absurd (h (λ p. let n = ap number_of p in absurd (omega (arith, n))) (λ p. let n = ap number_of p in absurd (omega (arith, n))))
 
--- and the store stays closed
-pub closes : {D : Type 0} (dev : Device D) (start : TableState) (c : Course) (e : Refusal) (disk : D)
-    → ((e ≡ OutOfMemory) × (MaySucceed c.outlook × IsSight c.failures (passed_some c.outlook) (dev.failures disk) (dev.outlook disk)))
-    ⊎ ((e ≡ DeviceFailed) × (MayFailSoon c.outlook × IsSight (c.failures + 1) (used_up c.outlook) (dev.failures disk) (dev.outlook disk)))
-    → NothingOpen (dev.state disk) → Survives start c (dev.state disk)
-    → AnswersCrash start c (answers.Refused e) × FollowsClosed dev start (closed c e) disk
-closes dev start c e disk (inl (is, (may, sight))) still survives =
-    (inl (is, may), subst (λ (k : Course). FollowsClosed dev start k disk) (ap (closed c) (sym is)) (refl, (still, survives, sight)))
-closes dev start c e disk (inr (is, (may, sight))) still survives =
-    (inr (is, may), subst (λ (k : Course). FollowsClosed dev start k disk) (ap (closed c) (sym is)) (refl, (still, survives, sight)))
-
 -- the disk that comes out of a world has what a crash may leave
-pub disk_survives : {D : Type 0} {g : _} (dev : Device D) (start : TableState) (c : Course) (place : Place D g) (disk : D) → FollowsPlace dev start c place
-    → HasDisk place disk → Survives start c (dev.state disk) × IsDisk dev c disk
-disk_survives dev start c (Open life) disk f is = subst (λ d. Survives start c (dev.state d) × IsDisk dev c d) (sym is) (f.1.0.survives, f.1.1)
-disk_survives dev start c (Closed d) disk f is = subst (λ d. Survives start c (dev.state d) × IsDisk dev c d) (sym is) (f.1.1, f.1.2)
-disk_survives dev start c Crashing disk f is = absurd f
+pub disk_survives : {D : Type 0} {g : _} (state : D → State) (origin : Origin) (c : Course) (place : Place D g) (disk : D)
+    → FollowsPlace state origin c place → HasDisk place disk → Survives origin c (state disk)
+disk_survives state origin c (Open life) disk f is = subst (λ d. Survives origin c (state d)) (sym is) f.1.survives
+disk_survives state origin c (Closed d) disk f is = subst (λ d. Survives origin c (state d)) (sym is) f.1.1
+disk_survives state origin c Crashing disk f is = absurd f
 
 -- after a crash the same holds of the disk
-pub crashed_survives : (start : TableState) (c : Course) (before now : State) → Survives start c before → IsPermitted before now.content
-    → EveryImage now (λ image. image ≡ now.content) → Survives start c now
-crashed_survives start c before now survives permitted kept image p =
-    subst (λ bytes. (kept : List Command) × Leaves c kept × HoldsTable (folded start kept) (length kept) bytes) (sym (kept image p))
+pub crashed_survives : (origin : Origin) (c : Course) (before now : State) → Survives origin c before → IsPermitted before now.content
+    → EveryImage now (λ image. image ≡ now.content) → Survives origin c now
+crashed_survives origin c before now survives permitted kept image p =
+    subst (λ bytes. (kept : List Command) × Leaves c kept × HoldsTable (table_from origin kept) (number_from origin kept) bytes) (sym (kept image p))
     (survives now.content permitted)
 
 pub both_ways : (b : Bool) (X : Type 0) → X → MatchBool b X X
@@ -133,18 +82,17 @@ both_ways true X x = x
 both_ways false X x = x
 
 -- what a crash leaves of the effects
-pub record Crashes (start : TableState) (c next : Course) : Type 0 where
+pub record Crashes (origin : Origin) (c next : Course) : Type 0 where
   pub left : next.left ≡ c.left
   pub emitted : next.emitted ≡ length c.left
-  pub once : IsSubsequence c.left (effects_of start c.settled) → IsSubsequence next.left (effects_of start next.settled)
+  pub once : IsSubsequence c.left (effects_from origin c.settled) → IsSubsequence next.left (effects_from origin next.settled)
 
-pub crash_keeps : (laws : RunLaws) (start : TableState) (c : Course) (image : Image) (answer : Answer) → AnswersCrash start c answer
-    → Crashes start c (after start c (steps.Crash image) answer)
-crash_keeps laws start c image (answers.Opened devices seq) (may, (kept, leaves, seq_is, count)) =
-    let front : kept ≡ take seq (decided c) = sym (ap (λ n. take n (decided c)) seq_is ∙ kept_front c kept leaves) in
-    record { left = refl; emitted = refl; once = λ once. subst (λ k. IsSubsequence c.left (effects_of start k)) front (kept_once laws start c c.left kept leaves once) }
-crash_keeps laws start c image (answers.Refused e) (inl (is, may)) =
-    subst (λ e. Crashes start c (closed c e)) (sym is) (record { left = refl; emitted = refl; once = λ once. once })
-crash_keeps laws start c image (answers.Refused e) (inr (is, may)) =
-    subst (λ e. Crashes start c (closed c e)) (sym is) (record { left = refl; emitted = refl; once = λ once. once })
-crash_keeps laws start c image answer right = absurd right
+pub crash_keeps : (laws : RunLaws) (origin : Origin) (c : Course) (image : Image) (answer : Answer) → AnswersCrash origin c answer
+    → Crashes origin c (after origin c (steps.Crash image) answer)
+crash_keeps laws origin c image (answers.Opened devices seq) (kept, leaves, seq_is, count) = record {
+  left = refl;
+  emitted = refl;
+  once = λ once. subst (λ k. IsSubsequence c.left (effects_from origin k)) (cut_to origin c kept seq leaves seq_is) (kept_once laws origin c c.left kept leaves once);
+}
+crash_keeps laws origin c image (answers.Refused e) right = record { left = refl; emitted = refl; once = λ once. once }
+crash_keeps laws origin c image answer right = absurd right

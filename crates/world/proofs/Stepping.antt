@@ -1,28 +1,50 @@
 -- One step more in a run.
-use Rattle.std.proofs.Common.{◌≡◌, List, [], ◌∷◌, ◌++◌, sym, subst, refl}
-use Rattle.world.specs.Device.{Device}
-use Rattle.sessions.specs.Table.{TableState}
+use Rattle.std.proofs.Common.{◌≡◌, ℕ, List, [], ◌∷◌, ◌++◌, sym, subst, refl}
+use Rattle.disk.specs.Outlook.{Outlook}
+use Rattle.disk.specs.State.{State}
 use Rattle.world.specs.declared.answer.Answer.{Answer}
 use Rattle.world.specs.declared.step.Step.{Step}
+use Rattle.world.specs.declared.place.Place.{Place}
 use Rattle.world.specs.declared.world.World.{World}
-use Rattle.world.specs.Course.{Course, after, course_of}
+use Rattle.world.specs.Calls.{Calls, called, calls_of, IsForetold, AreForetold, AreCallsAt, ForetellsAt, ForetellsAll}
+use Rattle.world.specs.Course.{Origin, Course, after, course_of}
 use Rattle.world.specs.Answers.{AreRight, IsRight}
 use Rattle.world.specs.Follows.{Follows, Moves, Runs}
 
-one_more : (start : TableState) (c : Course) (steps : List Step) (answers : List Answer) (step : Step) (answer : Answer) → AreRight start c steps answers
-    → IsRight start (course_of start c steps answers) step answer
-    → AreRight start c (steps ++ step ∷ []) (answers ++ answer ∷ [])
-    × (course_of start c (steps ++ step ∷ []) (answers ++ answer ∷ []) ≡ after start (course_of start c steps answers) step answer)
-one_more start c [] [] step answer before right = ((right, tt), refl)
-one_more start c [] (a ∷ answers) step answer before right = absurd before
-one_more start c (s ∷ steps) [] step answer before right = absurd before
-one_more start c (s ∷ steps) (a ∷ answers) step answer before right =
-    let rest = one_more start (after start c s a) steps answers step answer before.1 right in ((before.0, rest.0), rest.1)
+one_more : (origin : Origin) (c : Course) (steps : List Step) (answers : List Answer) (step : Step) (answer : Answer) → AreRight origin c steps answers
+    → IsRight origin (course_of origin c steps answers) step answer
+    → AreRight origin c (steps ++ step ∷ []) (answers ++ answer ∷ [])
+    × (course_of origin c (steps ++ step ∷ []) (answers ++ answer ∷ []) ≡ after origin (course_of origin c steps answers) step answer)
+one_more origin c [] [] step answer before right = ((right, tt), refl)
+one_more origin c [] (a ∷ answers) step answer before right = absurd before
+one_more origin c (s ∷ steps) [] step answer before right = absurd before
+one_more origin c (s ∷ steps) (a ∷ answers) step answer before right =
+    let rest = one_more origin (after origin c s a) steps answers step answer before.1 right in ((before.0, rest.0), rest.1)
 
-pub runs_on : {D : Type 0} {g : _} (dev : Device D) (old mid new : World D g) (steps : List Step) (answers : List Answer) (step : Step) (answer : Answer)
-    → Runs dev old steps answers mid → Moves dev mid step answer new → Runs dev old (steps ++ step ∷ []) (answers ++ answer ∷ []) new
-runs_on dev old mid new steps answers step answer run move start c f =
-    let before = run start c f in
-    let moved = move start (course_of start c steps answers) before.1 in
-    let more = one_more start c steps answers step answer before.0 moved.0 in
-    (more.0, subst (λ k. Follows dev start k new) (sym more.1) moved.1)
+pub runs_on : {D : Type 0} {g : _} (state : D → State) (old mid new : World D g) (steps : List Step) (answers : List Answer) (step : Step) (answer : Answer)
+    → Runs state old steps answers mid → Moves state mid step answer new → Runs state old (steps ++ step ∷ []) (answers ++ answer ∷ []) new
+runs_on state old mid new steps answers step answer run move origin c f =
+    let before = run origin c f in
+    let moved = move origin (course_of origin c steps answers) before.1 in
+    let more = one_more origin c steps answers step answer before.0 moved.0 in
+    (more.0, subst (λ k. Follows state origin k new) (sym more.1) moved.1)
+
+-- the same of what is known of the disk's calls
+one_told : (calls : Calls) (steps : List Step) (answers : List Answer) (step : Step) (answer : Answer) → AreForetold calls steps answers
+    → IsForetold (calls_of calls steps answers) step answer
+    → AreForetold calls (steps ++ step ∷ []) (answers ++ answer ∷ [])
+    × (calls_of calls (steps ++ step ∷ []) (answers ++ answer ∷ []) ≡ called (calls_of calls steps answers) step answer)
+one_told calls [] [] step answer before told = ((told, tt), refl)
+one_told calls [] (a ∷ answers) step answer before told = absurd before
+one_told calls (s ∷ steps) [] step answer before told = absurd before
+one_told calls (s ∷ steps) (a ∷ answers) step answer before told =
+    let rest = one_told (called calls s a) steps answers step answer before.1 told in ((before.0, rest.0), rest.1)
+
+pub foretells_on : {D : Type 0} {g : _} (failures : D → ℕ) (outlook : D → Outlook) (old mid new : Place D g) (steps : List Step) (answers : List Answer)
+    (step : Step) (answer : Answer) → ForetellsAll failures outlook old steps answers mid → ForetellsAt failures outlook mid step answer new
+    → ForetellsAll failures outlook old (steps ++ step ∷ []) (answers ++ answer ∷ []) new
+foretells_on failures outlook old mid new steps answers step answer run move calls known =
+    let before = run calls known in
+    let moved = move (calls_of calls steps answers) before.1 in
+    let more = one_told calls steps answers step answer before.0 moved.0 in
+    (more.0, subst (λ k. AreCallsAt failures outlook k new) (sym more.1) moved.1)

@@ -1,22 +1,19 @@
 -- The course of a world: what was decided, how far it is on its way to the disk, and what has left, as
 -- the steps and their answers alone tell it.
-use Rattle.std.specs.Prelude.{ℕ, ◌+◌, Bool, true, false, List, [], ◌∷◌, ◌++◌, length, take, drop, Option, Some, None}
+use Rattle.std.specs.Prelude.{ℕ, ◌+◌, ◌-◌, Bool, true, false, List, [], ◌∷◌, ◌++◌, length, take, drop, nat_lt, ◌&&◌, if◌then◌else◌, Option, Some, Result, Ok, Err}
 use Rattle.lw_types.specs.declared.refusal.Refusal.{Refusal}
-use Rattle.lw_types.specs.declared.refusal.Refusal.TheVariants.{OutOfMemory, OutOfStep}
+use Rattle.lw_types.specs.declared.refusal.Refusal.TheVariants.{Backlog, OutOfMemory, OutOfStep}
 use Rattle.devices.specs.declared.command.Command.{Command}
 use Rattle.devices.specs.declared.effect.Effect.{Effect}
-use Rattle.disk.specs.Outlook.{Outlook}
-use Rattle.sessions.specs.Table.{TableState, folded, effects_of}
-use Rattle.world.specs.Device.{armed, passed, passed_some, used_up}
+use Rattle.sessions.specs.Table.{TableState, empty_table, folded, effects_of, step, Step as TableStep}
+use Rattle.session_core.specs.declared.decisions.TheConstants.{MOST_UNTAKEN, LAST_NUMBER}
 use Rattle.world.specs.declared.step.Step.{Step}
 use Rattle.world.specs.declared.step.Step.TheVariants as steps
 use Rattle.world.specs.declared.answer.Answer.{Answer}
 use Rattle.world.specs.declared.answer.Answer.TheVariants as answers
 
--- how far the commit of the batch that was taken last is
+-- how far the commit of a batch is
 pub data Stage : Type 0 where
-  -- no batch is under way
-  Rest : Stage
   -- nothing is written
   Begun : Stage
   -- its body is written
@@ -32,13 +29,37 @@ pub data Stage : Type 0 where
   -- a device call on the gate failed
   Unsure : Stage
 
+-- a batch under way
+pub record Flight : Type 0 where
+  pub commands : List Command
+  pub stage : Stage
+
+-- where a course begins: the table and the number of the store, and the effects that had left before
+pub record Origin : Type 0 where
+  pub table : TableState
+  pub number : ℕ
+  pub left : List Effect
+
+-- a store that was just formatted
+abbrev pub formatted : ℕ → ℕ → Origin
+formatted net_id slots = record { table = empty_table net_id slots; number = 0; left = [] }
+
+-- the table, the number and the effects of these commands
+abbrev pub table_from : Origin → List Command → TableState
+table_from origin commands = folded origin.table commands
+
+abbrev pub number_from : Origin → List Command → ℕ
+number_from origin commands = origin.number + length commands
+
+abbrev pub effects_from : Origin → List Command → List Effect
+effects_from origin commands = origin.left ++ effects_of origin.table commands
+
 pub record Course : Type 0 where
   -- the commands whose batches were released, or that an opening found on the disk
   pub settled : List Command
-  -- those of the batch under way
-  pub flying : List Command
-  pub stage : Stage
-  -- those that were taken in this life, and lost for want of memory
+  -- the batches under way, the oldest first
+  pub flights : List Flight
+  -- the commands that were taken in this life, and lost for want of memory
   pub given_up : List Command
   -- those that wait
   pub untaken : List Command
@@ -50,39 +71,61 @@ pub record Course : Type 0 where
   pub emitted : ℕ
   -- whether the store is open
   pub is_open : Bool
-  -- how many calls of the disk have failed, and what is known of the coming ones
-  pub failures : ℕ
-  pub outlook : Outlook
 
--- the decided commands
-abbrev pub decided : Course → List Command
-decided c = c.settled ++ (c.flying ++ (c.given_up ++ c.untaken))
-
--- the course of a world that was just formatted, on a disk of which this is known then
-abbrev pub beginning : ℕ → Outlook → Course
-beginning failures outlook =
+-- the course of a world that begins here
+abbrev pub beginning : Origin → Course
+beginning origin =
     record {
       settled = [];
-      flying = [];
-      stage = Rest;
+      flights = [];
       given_up = [];
       untaken = [];
       made = 0;
-      left = [];
-      emitted = 0;
+      left = origin.left;
+      emitted = length origin.left;
       is_open = true;
-      failures = failures;
-      outlook = outlook;
     }
 
--- a command was decided, unless it was refused
-abbrev pub turned : Course → Command → Option Refusal → Course
-turned c command None = record c { untaken = c.untaken ++ command ∷ []; made = c.made + 1 }
-turned c command (Some e) = c
+-- the commands of these batches
+abbrev pub flying : List Flight → List Command
+flying [] = []
+flying (flight ∷ flights) = flight.commands ++ flying flights
+
+-- the decided commands
+abbrev pub decided : Course → List Command
+decided c = c.settled ++ (flying c.flights ++ (c.given_up ++ c.untaken))
+
+-- what a command is to get: its step in the table after every decided command, while there is room for one more that
+-- waits and a number is left
+abbrev pub wanted : Origin → Course → Command → Result TableStep Refusal
+wanted origin c command =
+    if nat_lt (length c.untaken) MOST_UNTAKEN && nat_lt (number_from origin (decided c)) LAST_NUMBER
+    then step (table_from origin (decided c)) command
+    else Err Backlog
+
+-- a command that is to get this is decided, or changes nothing
+abbrev pub went : Course → Command → Result TableStep Refusal → Course
+went c command (Ok s) = record c { untaken = c.untaken ++ command ∷ []; made = c.made + 1 }
+went c command (Err e) = c
+
+-- these commands are gone through
+abbrev pub admit : Origin → Course → List Command → Course
+admit origin c [] = c
+admit origin c (command ∷ commands) = admit origin (went c command (wanted origin c command)) commands
+
+-- Those of a step's commands that its turn went through, where its own is the last of them: all, unless memory ran out
+-- at its own.
+abbrev pub gone_through : List Command → Option Refusal → List Command
+gone_through commands (Some OutOfMemory) = []
+gone_through commands refused = commands
 
 -- the oldest commands that wait become a batch, at most so many
 abbrev pub begun : Course → ℕ → Course
-begun c most = record c { flying = take most c.untaken; stage = Begun; untaken = drop most c.untaken }
+begun c most =
+    record c {
+      flights = c.flights ++ record { commands = take most c.untaken; stage = Begun } ∷ [];
+      untaken = drop most c.untaken;
+    }
 
 -- or they are lost
 abbrev pub gave_up : Course → ℕ → Course
@@ -104,56 +147,53 @@ failed Synced = Unsure
 failed Opened = Unsure
 failed stage = stage
 
--- the effects of the batch under way
-abbrev pub effects_under_way : TableState → Course → List Effect
-effects_under_way start c = effects_of (folded start c.settled) c.flying
+-- it was one of the oldest batch
+abbrev pub moved_on : (Stage → Stage) → List Flight → List Flight
+moved_on move [] = []
+moved_on move (flight ∷ flights) = record flight { stage = move flight.stage } ∷ flights
 
-abbrev pub released : TableState → Course → Course
-released start c =
+-- the oldest batch is released: its effects leave
+abbrev pub released : Origin → Course → List Flight → Course
+released origin c [] = c
+released origin c (flight ∷ flights) =
     record c {
-      settled = c.settled ++ c.flying;
-      flying = [];
-      stage = Rest;
-      left = c.left ++ effects_under_way start c;
+      settled = c.settled ++ flight.commands;
+      flights = flights;
+      left = c.left ++ effects_of (table_from origin c.settled) flight.commands;
     }
 
 -- the decided list is cut to what was found on the disk, and what was released and not emitted is lost
-abbrev pub reopened : Course → ℕ → Course
-reopened c seq =
+abbrev pub reopened : Origin → Course → ℕ → Course
+reopened origin c seq =
     record c {
-      settled = take seq (decided c);
-      flying = [];
-      stage = Rest;
+      settled = take (seq - origin.number) (decided c);
+      flights = [];
       given_up = [];
       untaken = [];
       made = 0;
       emitted = length c.left;
       is_open = true;
-      outlook = passed_some c.outlook;
     }
 
--- or the store stays closed, for want of memory or since the device failed
-abbrev pub closed : Course → Refusal → Course
-closed c OutOfMemory = record c { emitted = length c.left; is_open = false; outlook = passed_some c.outlook }
-closed c e = record c { emitted = length c.left; is_open = false; failures = c.failures + 1; outlook = used_up c.outlook }
+-- or the store stays closed
+abbrev pub closed : Course → Course
+closed c = record c { emitted = length c.left; is_open = false }
 
--- the course after a step that was answered so; `start` is the table as it was formatted
-abbrev pub after : TableState → Course → Step → Answer → Course
-after start c (steps.Request moment command) (answers.Turn turn) = turned c command turn.refused
-after start c (steps.Take most) (answers.Taken n) = begun c most
-after start c (steps.Take most) (answers.GivenUp n) = gave_up c most
-after start c (steps.Take most) (answers.Refused OutOfStep) = gave_up c most
-after start c steps.Call answers.Called = record c { stage = succeeded c.stage; outlook = passed c.outlook }
-after start c steps.Call (answers.Refused e) =
-    record c { stage = failed c.stage; failures = c.failures + 1; outlook = used_up c.outlook }
-after start c steps.Fail answers.Armed = record c { outlook = armed c.failures }
-after start c steps.Release (answers.Released n) = released start c
-after start c steps.Emit (answers.Emitted e) = record c { emitted = c.emitted + 1 }
-after start c (steps.Crash image) (answers.Opened devices seq) = reopened c seq
-after start c (steps.Crash image) (answers.Refused e) = closed c e
-after start c step answer = c
+-- the course after a step that was answered so
+abbrev pub after : Origin → Course → Step → Answer → Course
+after origin c (steps.Request moment command) (answers.Turn turn) = admit origin c (gone_through (command ∷ []) turn.refused)
+after origin c (steps.Take most) (answers.Taken n) = begun c most
+after origin c (steps.Take most) (answers.GivenUp n) = gave_up c most
+after origin c (steps.Take most) (answers.Refused OutOfStep) = gave_up c most
+after origin c steps.Call answers.Called = record c { flights = moved_on succeeded c.flights }
+after origin c steps.Call (answers.Refused e) = record c { flights = moved_on failed c.flights }
+after origin c steps.Release (answers.Released n) = released origin c c.flights
+after origin c steps.Emit (answers.Emitted e) = record c { emitted = c.emitted + 1 }
+after origin c (steps.Crash image) (answers.Opened devices seq) = reopened origin c seq
+after origin c (steps.Crash image) (answers.Refused e) = closed c
+after origin c step answer = c
 
 -- the course after these steps
-abbrev pub course_of : TableState → Course → List Step → List Answer → Course
-course_of start c (step ∷ rest) (answer ∷ others) = course_of start (after start c step answer) rest others
-course_of start c rest others = c
+abbrev pub course_of : Origin → Course → List Step → List Answer → Course
+course_of origin c (step ∷ rest) (answer ∷ others) = course_of origin (after origin c step answer) rest others
+course_of origin c rest others = c

@@ -1,20 +1,16 @@
 -- What a world is at a place of its course.
 use Rattle.std.specs.Prelude.{◌≡◌, ◌+◌, ◌⊎◌, ℕ, true, false, List, [], ◌∷◌, ◌++◌, length}
 use Rattle.devices.specs.declared.command.Command.{Command}
-use Rattle.devices.specs.declared.effect.Effect.{Effect}
 use Rattle.session_core.specs.State.{CoreState}
 use Rattle.disk.specs.declared.sim.Image.{Image}
 use Rattle.disk.specs.State.{State, NothingOpen, EveryImage}
 use Rattle.flusher.specs.declared.released.Released.{Released}
-use Rattle.sessions.specs.Table.{TableState, folded, effects_of}
-use Rattle.sessions.specs.Decision.{commands_of, effects_in}
+use Rattle.sessions.specs.Table.{TableState}
+use Rattle.sessions.specs.Decision.{FitAll, commands_of}
 use Rattle.store.specs.Image.{HoldsTable}
-use Rattle.store.specs.State.{StoreState, seen, disk_of, IsSettled}
+use Rattle.store.specs.State.{StoreState, seen}
 use Rattle.store.specs.declared.store.Store.{Store}
-use Rattle.world.specs.Device.{Device, IsSight, MaySucceed, passed_some}
-use Rattle.store.specs.Commit.{Change}
-use Rattle.store.specs.Phases.{IsBegunOn, IsWrittenOn, IsSyncedOn, IsOpenedOn, begun_change, written_change, synced_change, opened_change}
-use Rattle.flusher.specs.Released.{decisions_of, effects_of_all}
+use Rattle.flusher.specs.Released.{effects_of_all}
 use Rattle.world.specs.declared.commit.Commit.{Commit}
 use Rattle.world.specs.declared.commit.Commit.TheVariants as commits
 use Rattle.world.specs.declared.life.Life.{Life}
@@ -22,11 +18,12 @@ use Rattle.world.specs.declared.place.Place.{Place}
 use Rattle.world.specs.declared.place.Place.TheVariants.{Open, Closed, Crashing}
 use Rattle.world.specs.declared.world.World.{World}
 use Rattle.world.specs.declared.step.Step.{Step}
-use Rattle.world.specs.declared.answer.Answer.{Answer}
-use Rattle.world.specs.Course.{Course, Stage, effects_under_way, after, course_of}
-use Rattle.world.specs.Course.Stage.{Rest, Begun, Written, Synced, Opened, Durable, Stopped, Unsure}
-use Rattle.world.specs.Answers.{Leaves, AnswersOpen, AnswersCrash, IsRight, AreRight}
 use Rattle.world.specs.declared.step.Step.TheVariants as steps
+use Rattle.world.specs.declared.answer.Answer.{Answer}
+use Rattle.world.specs.Course.{Origin, Course, Flight, table_from, number_from, effects_from, flying, after, course_of}
+use Rattle.world.specs.Course.Stage.{Stopped, Unsure}
+use Rattle.world.specs.Answers.{Leaves, AnswersOpen, AnswersCrash, IsRight, AreRight}
+use Rattle.world.specs.Commits.{IsOn, flights_in, decisions_in, stored}
 
 -- one list is what is left of the other when some of it is dropped
 abbrev pub IsSubsequence : {A : Type 0} → List A → List A → Type 0
@@ -34,35 +31,23 @@ IsSubsequence xs [] = xs ≡ []
 IsSubsequence {A} xs (y ∷ ys) = IsSubsequence xs ys ⊎ ((rest : List A) × (xs ≡ y ∷ rest) × IsSubsequence rest ys)
 
 -- whatever a crash leaves of this disk holds the table and the number of commands that a crash may leave
-abbrev pub Survives : TableState → Course → State → Type 0
-Survives start c state =
-    EveryImage state (λ image. (kept : List Command) × Leaves c kept × HoldsTable (folded start kept) (length kept) image)
-
--- the commands whose table the store has
-abbrev pub stored : Stage → List Command → List Command → List Command
-stored Durable settled flying = settled ++ flying
-stored stage settled flying = settled
+abbrev pub Survives : Origin → Course → State → Type 0
+Survives origin c state =
+    EveryImage state (λ image. (kept : List Command) × Leaves c kept × HoldsTable (table_from origin kept) (number_from origin kept) image)
 
 -- those that left the log of the core
 abbrev pub taken : Course → List Command
-taken c = c.settled ++ (c.flying ++ c.given_up)
+taken c = c.settled ++ (flying c.flights ++ c.given_up)
 
--- the batch of a change that is on its way is the one under way
-pub record IsFlying (current : Stage) (flying : List Command) (at : Stage) (change : Change) : Type 0 where
-  pub stage : current ≡ at
-  pub commands : commands_of change.decisions ≡ flying
+-- a call of the one batch under way failed
+abbrev pub HasFailed : List Flight → Type 0
+HasFailed (flight ∷ []) = (flight.stage ≡ Stopped) ⊎ (flight.stage ≡ Unsure)
+HasFailed flights = ⊥
 
--- the commit is at the stage of the course, with the commands under way, on a store whose table had these effects
--- still to come
-abbrev pub IsAt : Stage → List Command → List Effect → StoreState → Commit → Type 0
-IsAt stage flying effects s commits.Idle = (stage ≡ Rest) × ((flying ≡ []) × IsSettled s)
-IsAt stage flying effects s commits.Failed = (stage ≡ Stopped) ⊎ (stage ≡ Unsure)
-IsAt stage flying effects s (commits.Begun phase room) = IsFlying stage flying Begun (begun_change phase) × IsBegunOn s phase
-IsAt stage flying effects s (commits.Written phase room) = IsFlying stage flying Written (written_change phase) × IsWrittenOn s phase
-IsAt stage flying effects s (commits.BodySynced phase room) = IsFlying stage flying Synced (synced_change phase) × IsSyncedOn s phase
-IsAt stage flying effects s (commits.GateWritten phase room) = IsFlying stage flying Opened (opened_change phase) × IsOpenedOn s phase
-IsAt stage flying effects s (commits.Durable durable) =
-    (stage ≡ Durable) × ((effects_in (decisions_of durable) ≡ effects) × IsSettled s)
+-- the commit is that of the batch under way, if there is one, whose decisions were made of this table
+abbrev pub IsAt : List Flight → TableState → StoreState → Commit → Type 0
+IsAt flights t s commits.Failed = HasFailed flights
+IsAt flights t s commit = (flights ≡ flights_in commit) × (FitAll t (decisions_in commit) × IsOn s commit)
 
 -- no device call of this store failed
 abbrev pub IsHealthy : StoreState → Commit → Type 0
@@ -71,60 +56,54 @@ IsHealthy s commit = s.failed ≡ false
 
 -- The store has the table of what is on the disk, the core that of what was taken and of what waits, and the commit
 -- is where the course says.
-pub record IsLife (start : TableState) (c : Course) (s : StoreState) (core : CoreState) (commit : Commit) : Type 0 where
-  pub table : s.table ≡ folded start (stored c.stage c.settled c.flying)
-  pub seq : s.seq ≡ length (stored c.stage c.settled c.flying)
-  pub base : core.base ≡ folded start (taken c)
-  pub number : core.opening + core.taken ≡ length (taken c)
+pub record IsLife (origin : Origin) (c : Course) (s : StoreState) (core : CoreState) (commit : Commit) : Type 0 where
+  pub table : s.table ≡ table_from origin (stored c.settled c.flights)
+  pub seq : s.seq ≡ number_from origin (stored c.settled c.flights)
+  pub base : core.base ≡ table_from origin (taken c)
+  pub number : core.opening + core.taken ≡ number_from origin (taken c)
   pub untaken : commands_of core.log ≡ c.untaken
   pub made : core.made ≡ c.made
-  pub under_way : IsAt c.stage c.flying (effects_under_way start c) s commit
+  pub under_way : IsAt c.flights (table_from origin c.settled) s commit
   pub healthy : IsHealthy s commit
-  pub survives : Survives start c s.log.disk
+  pub survives : Survives origin c s.log.disk
 
--- the disk has counted the failures of the course, and will answer as it is known there
-abbrev pub IsDisk : {D : Type 0} → Device D → Course → D → Type 0
-IsDisk dev c disk = IsSight c.failures c.outlook (dev.failures disk) (dev.outlook disk)
-
-abbrev pub FollowsLife : {D : Type 0} {g : _} → Device D → TableState → Course → Life D g → Type 0
-FollowsLife dev start c life =
-    IsLife start c (seen dev.state life.store) life.core life.commit × IsDisk dev c (disk_of life.store)
+abbrev pub FollowsLife : {D : Type 0} {g : _} → (D → State) → Origin → Course → Life D g → Type 0
+FollowsLife state origin c life = IsLife origin c (seen state life.store) life.core life.commit
 
 -- the disk of a store that is closed
-abbrev pub FollowsClosed : {D : Type 0} → Device D → TableState → Course → D → Type 0
-FollowsClosed dev start c disk =
-    (c.is_open ≡ false) × (NothingOpen (dev.state disk) × Survives start c (dev.state disk) × IsDisk dev c disk)
+abbrev pub FollowsClosed : {D : Type 0} → (D → State) → Origin → Course → D → Type 0
+FollowsClosed state origin c disk = (c.is_open ≡ false) × (NothingOpen (state disk) × Survives origin c (state disk))
 
-abbrev pub FollowsPlace : {D : Type 0} {g : _} → Device D → TableState → Course → Place D g → Type 0
-FollowsPlace dev start c (Open life) = (c.is_open ≡ true) × FollowsLife dev start c life
-FollowsPlace dev start c (Closed disk) = FollowsClosed dev start c disk
-FollowsPlace dev start c Crashing = ⊥
+abbrev pub FollowsPlace : {D : Type 0} {g : _} → (D → State) → Origin → Course → Place D g → Type 0
+FollowsPlace state origin c (Open life) = (c.is_open ≡ true) × FollowsLife state origin c life
+FollowsPlace state origin c (Closed disk) = FollowsClosed state origin c disk
+FollowsPlace state origin c Crashing = ⊥
 
--- The world is where its course is. What has left over all lives is part of the effects of commands that every
--- crash leaves.
-pub record Follows {D : Type 0} {g : _} (dev : Device D) (start : TableState) (c : Course) (world : World D g) : Type 0 where
-  pub place : FollowsPlace dev start c world.place
-  pub left : effects_of_all world.released.items ≡ c.left
-  pub emitted : world.emitted ≡ c.emitted
-  pub once : IsSubsequence c.left (effects_of start c.settled)
+-- The world is where its course is. What has left over all lives is part of what had left before, and of the effects of
+-- commands that every crash leaves.
+pub record Follows {D : Type 0} {g : _} (state : D → State) (origin : Origin) (c : Course) (world : World D g) : Type 0 where
+  pub place : FollowsPlace state origin c world.place
+  pub left : c.left ≡ origin.left ++ effects_of_all world.released.items
+  pub emitted : c.emitted ≡ length origin.left + world.emitted
+  pub once : IsSubsequence c.left (effects_from origin c.settled)
 
 -- a step of a life whose store is open: whatever course it follows, the answer is right, and it goes on following
-abbrev pub MovesLife : {D : Type 0} {g : _} → Device D → Life D g → Step → Answer → Life D g → Type 0
-MovesLife dev old step answer new =
-    (start : TableState) (c : Course) → FollowsLife dev start c old
-    → AnswersOpen start c step answer × FollowsLife dev start (after start c step answer) new
+abbrev pub MovesLife : {D : Type 0} {g : _} → (D → State) → Life D g → Step → Answer → Life D g → Type 0
+MovesLife state old step answer new =
+    (origin : Origin) (c : Course) → FollowsLife state origin c old
+    → AnswersOpen origin c step answer × FollowsLife state origin (after origin c step answer) new
 
 -- the same of a world
-abbrev pub Moves : {D : Type 0} {g : _} → Device D → World D g → Step → Answer → World D g → Type 0
-Moves dev old step answer new =
-    (start : TableState) (c : Course) → Follows dev start c old
-    → IsRight start c step answer × Follows dev start (after start c step answer) new
+abbrev pub Moves : {D : Type 0} {g : _} → (D → State) → World D g → Step → Answer → World D g → Type 0
+Moves state old step answer new =
+    (origin : Origin) (c : Course) → Follows state origin c old
+    → IsRight origin c step answer × Follows state origin (after origin c step answer) new
 
 -- and of a run of steps
-abbrev pub Runs : {D : Type 0} {g : _} → Device D → World D g → List Step → List Answer → World D g → Type 0
-Runs dev old steps answers new =
-    (start : TableState) (c : Course) → Follows dev start c old
-    → AreRight start c steps answers × Follows dev start (course_of start c steps answers) new
+abbrev pub Runs : {D : Type 0} {g : _} → (D → State) → World D g → List Step → List Answer → World D g → Type 0
+Runs state old steps answers new =
+    (origin : Origin) (c : Course) → Follows state origin c old
+    → AreRight origin c steps answers × Follows state origin (course_of origin c steps answers) new
 
 -- a step of a life alone
 abbrev pub IsOwn : Step → Type 0
@@ -133,29 +112,26 @@ IsOwn (steps.Crash image) = ⊥
 IsOwn step = Unit {0}
 
 -- what such a step released is what the course says
-abbrev pub Lets : {D : Type 0} {g : _} → Device D → Life D g → Step → Answer → List Released → List Released → Type 0
-Lets dev life step answer old new =
-    (start : TableState) (c : Course) → FollowsLife dev start c life
-    → effects_of_all old ≡ c.left → effects_of_all new ≡ (after start c step answer).left
+abbrev pub Lets : {D : Type 0} {g : _} → (D → State) → Life D g → Step → Answer → List Released → List Released → Type 0
+Lets state life step answer old new =
+    (origin : Origin) (c : Course) → FollowsLife state origin c life
+    → c.left ≡ origin.left ++ effects_of_all old → (after origin c step answer).left ≡ origin.left ++ effects_of_all new
 
 -- a store with the table and the number of commands that a crash may leave
-abbrev pub IsLeft : TableState → Course → TableState → ℕ → Type 0
-IsLeft start c table seq = (kept : List Command) × Leaves c kept × (table ≡ folded start kept) × (seq ≡ length kept)
+abbrev pub IsLeft : Origin → Course → TableState → ℕ → Type 0
+IsLeft origin c table seq = (kept : List Command) × Leaves c kept × (table ≡ table_from origin kept) × (seq ≡ number_from origin kept)
 
 -- an opening answered so, and led here
-abbrev pub Opens : {D : Type 0} {g : _} → Device D → TableState → Course → Answer → Place D g → Type 0
-Opens dev start c answer place =
-    AnswersCrash start c answer × ((image : Image) → FollowsPlace dev start (after start c (steps.Crash image) answer) place)
+abbrev pub Opens : {D : Type 0} {g : _} → (D → State) → Origin → Course → Answer → Place D g → Type 0
+Opens state origin c answer place =
+    AnswersCrash origin c answer × ((image : Image) → FollowsPlace state origin (after origin c (steps.Crash image) answer) place)
 
 -- the same of a disk after a crash
-abbrev pub Reopens : {D : Type 0} {g : _} → Device D → D → Answer → Place D g → Type 0
-Reopens dev disk answer place =
-    (start : TableState) (c : Course) → NothingOpen (dev.state disk) → Survives start c (dev.state disk) → IsDisk dev c disk
-    → Opens dev start c answer place
+abbrev pub Reopens : {D : Type 0} {g : _} → (D → State) → D → Answer → Place D g → Type 0
+Reopens state disk answer place =
+    (origin : Origin) (c : Course) → NothingOpen (state disk) → Survives origin c (state disk) → Opens state origin c answer place
 
 -- and of a store that was opened
-abbrev pub Begins : {D : Type 0} {g : _} → Device D → Store D g → Answer → Place D g → Type 0
-Begins dev store answer place =
-    (start : TableState) (c : Course) → IsLeft start c (seen dev.state store).table (seen dev.state store).seq → MaySucceed c.outlook
-    → IsSight c.failures (passed_some c.outlook) (dev.failures (disk_of store)) (dev.outlook (disk_of store))
-    → Opens dev start c answer place
+abbrev pub Begins : {D : Type 0} {g : _} → (D → State) → Store D g → Answer → Place D g → Type 0
+Begins state store answer place =
+    (origin : Origin) (c : Course) → IsLeft origin c (seen state store).table (seen state store).seq → Opens state origin c answer place

@@ -1,8 +1,9 @@
 pub mod Sound
 pub mod Tells
-pub mod Device
+pub mod Calls
 pub mod Course
 pub mod Answers
+pub mod Commits
 pub mod Follows
 pub mod OneLife
 pub mod Folding

@@ -1,14 +1,13 @@
 -- One life: from a new world on, no crash among the steps.
-use Rattle.std.specs.Prelude.{◌≡◌, List, [], ◌∷◌, take, map}
+use Rattle.std.specs.Prelude.{◌≡◌, List, [], ◌∷◌, length, take, drop, map}
 use Rattle.lw_types.specs.declared.refusal.Refusal.TheVariants.{OutOfStep}
-use Rattle.sessions.specs.Table.{TableState, effects_of}
 use Rattle.gateway_wire.specs.declared.emission.Emission.{Emission}
 use Rattle.gateway_wire.specs.Emission.{emission}
 use Rattle.world.specs.declared.step.Step.{Step}
 use Rattle.world.specs.declared.step.Step.TheVariants as steps
 use Rattle.world.specs.declared.answer.Answer.{Answer}
 use Rattle.world.specs.declared.answer.Answer.TheVariants as answers
-use Rattle.world.specs.Course.{Course}
+use Rattle.world.specs.Course.{Origin, Course, effects_from}
 
 -- no step is a crash
 abbrev pub HasNoCrash : List Step → Type 0
@@ -36,7 +35,7 @@ emitted (answer ∷ rest) = emitted rest
 
 -- What one life gave: the effects of the commands whose batches were released, in order and complete; of these a
 -- beginning was emitted; and no batch was out of step, unless one before it was lost.
-pub record IsOneLife (start : TableState) (c : Course) (steps : List Step) (told : List Answer) : Type 0 where
-  pub released : c.left ≡ effects_of start c.settled
-  pub emitted : emitted told ≡ map emission (take c.emitted c.left)
+pub record IsOneLife (origin : Origin) (c : Course) (steps : List Step) (told : List Answer) : Type 0 where
+  pub released : c.left ≡ effects_from origin c.settled
+  pub emitted : emitted told ≡ map emission (drop (length origin.left) (take c.emitted c.left))
   pub in_step : NoneGivenUp told → NoneOutOfStep steps told

@@ -1,11 +1,11 @@
 -- What one step's answer tells of the disk: a full journal only where it is, and a crash leaves the image that it names.
-use Rattle.std.specs.Prelude.{◌≡◌, ◌≢◌, ◌<◌, ℕ, List, [], ◌∷◌}
+use Rattle.std.specs.Prelude.{◌≡◌, List, [], ◌∷◌}
 use Rattle.lw_types.specs.declared.refusal.Refusal.{Refusal}
 use Rattle.lw_types.specs.declared.refusal.Refusal.TheVariants as refusals
 use Rattle.disk.specs.declared.sim.Image.{Image}
 use Rattle.disk.specs.Crash.{IsCrashed}
 use Rattle.disk.specs.State.{State}
-use Rattle.store.specs.State.{StoreState, disk_of, seen, IsRoomy}
+use Rattle.store.specs.State.{StoreState, seen, IsRoomy}
 use Rattle.world.specs.Sound.{HasDisk}
 use Rattle.world.specs.declared.place.Place.{Place}
 use Rattle.world.specs.declared.place.Place.TheVariants.{Open, Closed, Crashing}

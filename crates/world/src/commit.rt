@@ -1,6 +1,8 @@
 // How far a commit is.
+use disk::Sim;
 use flusher::{Durable, Room};
-use store::{Begun, BodySynced, GateWritten, Written};
+use lw_types::Refusal;
+use store::{Begun, BodySynced, GateWritten, Store, Written};
 
 /// How far the commit of the batch that was taken last is. A batch on its way has the room for its
 /// effects with it.
@@ -18,6 +20,46 @@ pub(crate) enum Commit {
 }
 
 impl Commit {
+    ghost use Rattle.std.specs.Prelude.{◌≡◌, ℕ, IfOk, MatchResult};
+    ghost use Rattle.store.specs.State.{seen, IsOneCall};
+    ghost use Rattle.world.specs.Course.{moved_on, succeeded, failed};
+    ghost use Rattle.world.specs.Commits.{HasCall, IsOn, GoesTo, decisions_in, flights_in};
+    ghost use Rattle.world.specs.Sound.{IsOnItsWay, HasRoom};
+
+    /// Makes the device call that is next. Refused with `DeviceFailed` exactly where the device
+    /// failed.
+    pub(crate) fn call<D: Sim>(self, store: &mut Store<D>) -> Result<Self, Refusal>
+        requires call { HasCall self }
+        requires way { IsOnItsWay (seen D.state store.old) self }
+        ensures way { IfOk result (IsOnItsWay (seen D.state store.new)) }
+        ensures room { (there fit : ℕ) → HasRoom self there fit
+            → IfOk result (λ next. HasRoom next there fit) }
+        ensures decisions { IfOk result (λ next. decisions_in next ≡ decisions_in self) }
+        ensures flights { IfOk result (λ next. flights_in next ≡ moved_on succeeded (flights_in self)) }
+        ensures on { IsOn (seen D.state store.old) self → IfOk result (IsOn (seen D.state store.new)) }
+        ensures goes { IsOn (seen D.state store.old) self → MatchResult result
+            (λ _. GoesTo (moved_on succeeded (flights_in self)) (seen D.state store.old) (seen D.state store.new))
+            (λ _. GoesTo (moved_on failed (flights_in self)) (seen D.state store.old) (seen D.state store.new)) }
+        ensures one_call { IsOneCall D.failures D.outlook store.old store.new result }
+    {
+        crate::laws::of_runs();
+        match self {
+            Commit::Begun(phase, room) => Ok(Commit::Written(phase.write(store)?, room)),
+            Commit::Written(phase, room) => Ok(Commit::BodySynced(phase.sync(store)?, room)),
+            Commit::BodySynced(phase, room) => Ok(Commit::GateWritten(
+                phase.open_gate(store)?,
+                room,
+            )),
+            Commit::GateWritten(phase, room) => {
+                Ok(Commit::Durable(Durable::new(phase.sync(store)?, room)))
+            }
+            other => {
+                other.lose();
+                unreachable!()
+            }
+        }
+    }
+
     /// Lets the batch go, at a crash.
     pub(crate) fn lose(self) {
         match self {

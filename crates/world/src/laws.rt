@@ -3,9 +3,8 @@
 ghost use Rattle.std.specs.Prelude.{◌≡◌, List, length, take};
 ghost use Rattle.devices.specs.declared.command.Command.{Command};
 ghost use Rattle.devices.specs.declared.effect.Effect.{Effect};
-ghost use Rattle.sessions.specs.Table.{TableState, effects_of};
 ghost use Rattle.world.specs.Answers.{Leaves};
-ghost use Rattle.world.specs.Course.{Course, decided};
+ghost use Rattle.world.specs.Course.{Origin, Course, decided, effects_from};
 ghost use Rattle.world.specs.Folding.{RunLaws};
 ghost use Rattle.world.specs.Follows.{IsSubsequence};
 
@@ -14,8 +13,8 @@ ghost use Rattle.world.specs.Follows.{IsSubsequence};
 pub fn what_a_crash_leaves()
     ensures beginning { (c : Course) (kept : List Command) → Leaves c kept → take (length kept) (decided c) ≡ kept }
     ensures settled { (c : Course) (kept : List Command) → Leaves c kept → take (length c.settled) kept ≡ c.settled }
-    ensures left { (start : TableState) (c : Course) (left : List Effect) (kept : List Command) → Leaves c kept
-        → IsSubsequence left (effects_of start c.settled) → IsSubsequence left (effects_of start kept) }
+    ensures left { (origin : Origin) (c : Course) (left : List Effect) (kept : List Command) → Leaves c kept
+        → IsSubsequence left (effects_from origin c.settled) → IsSubsequence left (effects_from origin kept) }
 {
     of_runs();
 }

@@ -27,7 +27,7 @@ impl<D: Sim> Life<D> {
     ghost use Rattle.world.specs.declared.commit.Commit.TheVariants as commits;
     ghost use Rattle.world.specs.declared.step.Step.TheVariants as steps;
     ghost use Rattle.world.specs.declared.answer.Answer.TheVariants as answers;
-    ghost use Rattle.world.specs.Device.{device};
+    ghost use Rattle.world.specs.Calls.{Foretells};
     ghost use Rattle.world.specs.Tells.{TellsRoom, TakeTellsRoom};
     ghost use Rattle.world.specs.Follows.{IsOwn, MovesLife, Lets};
     ghost use Rattle.world.specs.Sound.{IsSoundLife, HasRoom};
@@ -63,9 +63,10 @@ impl<D: Sim> Life<D> {
         requires room { HasRoom self.old.commit (length released.old.items) (vec_capacity released.old) }
         ensures sound { IsSoundLife D.state self.new }
         ensures room { HasRoom self.new.commit (length released.new.items) (vec_capacity released.new) }
-        ensures course { MovesLife (device D.state D.failures D.outlook) self.old step.now result self.new }
+        ensures course { MovesLife D.state self.old step.now result self.new }
+        ensures calls { Foretells D.failures D.outlook (disk_of self.old.store) step.now result (disk_of self.new.store) }
         ensures room_told { TellsRoom (seen D.state self.old.store) step.now result }
-        ensures left { Lets (device D.state D.failures D.outlook) self.old step.now result released.old.items released.new.items }
+        ensures left { Lets D.state self.old step.now result released.old.items released.new.items }
     {
         match step {
             Step::Request { moment, command } => self.request(*moment, command),
@@ -83,7 +84,8 @@ impl<D: Sim> Life<D> {
         requires { IsSoundLife D.state self.old }
         ensures sound { IsSoundLife D.state self.new }
         ensures commit { self.new.commit ≡ self.old.commit }
-        ensures course { MovesLife (device D.state D.failures D.outlook) self.old (steps.Request moment command.now) result self.new }
+        ensures course { MovesLife D.state self.old (steps.Request moment command.now) result self.new }
+        ensures calls { Foretells D.failures D.outlook (disk_of self.old.store) (steps.Request moment command.now) result (disk_of self.new.store) }
     {
         laws::of_runs();
         Answer::Turn(self.core.decide(moment, copy_of(command)))
@@ -98,7 +100,8 @@ impl<D: Sim> Life<D> {
         ensures room { HasRoom self.new.commit (length released.new.items) (vec_capacity released.new) }
         ensures released { released.new.items ≡ released.old.items }
         ensures room_told { TakeTellsRoom (seen D.state self.old.store) result }
-        ensures course { MovesLife (device D.state D.failures D.outlook) self.old (steps.Take most) result self.new }
+        ensures course { MovesLife D.state self.old (steps.Take most) result self.new }
+        ensures calls { Foretells D.failures D.outlook (disk_of self.old.store) (steps.Take most) result (disk_of self.new.store) }
     {
         match &self.commit {
             Commit::Failed => return Answer::Refused(Refusal::Failed),
@@ -133,8 +136,10 @@ impl<D: Sim> Life<D> {
         ensures released { released.new.items ≡ released.old.items }
         ensures room_told { IfOk result (TakeTellsRoom (seen D.state self.old.store)) }
         ensures course { MatchResult result
-            (λ answer. MovesLife (device D.state D.failures D.outlook) self.old (steps.Take most) answer self.new)
+            (λ answer. MovesLife D.state self.old (steps.Take most) answer self.new)
             (λ e. (e ≡ OutOfMemory) × (self.new ≡ self.old)) }
+        ensures calls { IfOk result (λ answer.
+            Foretells D.failures D.outlook (disk_of self.old.store) (steps.Take most) answer (disk_of self.new.store)) }
     {
         laws::of_runs();
         let room = Room::new(alloc)?;
@@ -146,8 +151,10 @@ impl<D: Sim> Life<D> {
                 self.set(Commit::Begun(begun, room));
                 Ok(Answer::Taken(count))
             }
-            Err(Refusal::OutOfStep) => Ok(Answer::Refused(Refusal::OutOfStep)),
-            Err(_) => Ok(Answer::GivenUp(count)),
+            Err(refusal) => match refusal {
+                Refusal::OutOfStep => Ok(Answer::Refused(refusal)),
+                _ => Ok(Answer::GivenUp(count)),
+            },
         }
     }
 
@@ -165,42 +172,21 @@ impl<D: Sim> Life<D> {
         requires { IsSoundLife D.state self.old }
         ensures sound { IsSoundLife D.state self.new }
         ensures room { (there fit : ℕ) → HasRoom self.old.commit there fit → HasRoom self.new.commit there fit }
-        ensures course { MovesLife (device D.state D.failures D.outlook) self.old steps.Call result self.new }
+        ensures course { MovesLife D.state self.old steps.Call result self.new }
+        ensures calls { Foretells D.failures D.outlook (disk_of self.old.store) steps.Call result (disk_of self.new.store) }
     {
         laws::of_runs();
-        match mem::replace(&mut self.commit, Commit::Failed) {
-            Commit::Begun(phase, room) => match phase.write(&mut self.store) {
-                Ok(next) => self.called(Commit::Written(next, room)),
-                Err(refusal) => Answer::Refused(refusal),
-            },
-            Commit::Written(phase, room) => match phase.sync(&mut self.store) {
-                Ok(next) => self.called(Commit::BodySynced(next, room)),
-                Err(refusal) => Answer::Refused(refusal),
-            },
-            Commit::BodySynced(phase, room) => match phase.open_gate(&mut self.store) {
-                Ok(next) => self.called(Commit::GateWritten(next, room)),
-                Err(refusal) => Answer::Refused(refusal),
-            },
-            Commit::GateWritten(phase, room) => match phase.sync(&mut self.store) {
-                Ok(durable) => self.called(Commit::Durable(Durable::new(durable, room))),
-                Err(refusal) => Answer::Refused(refusal),
-            },
-            other => {
-                self.set(other);
-                Answer::Idle
-            }
+        match &self.commit {
+            Commit::Idle | Commit::Failed | Commit::Durable(_) => return Answer::Idle,
+            _ => {}
         }
-    }
-
-    // A device call succeeded, and this is the commit after it.
-    fn called(&mut self, commit: Commit) -> Answer
-        ensures answer { result ≡ answers.Called }
-        ensures commit { self.new.commit ≡ commit }
-        ensures store { self.new.store ≡ self.old.store }
-        ensures core { self.new.core ≡ self.old.core }
-    {
-        self.set(commit);
-        Answer::Called
+        match mem::replace(&mut self.commit, Commit::Failed).call(&mut self.store) {
+            Ok(next) => {
+                self.set(next);
+                Answer::Called
+            }
+            Err(refusal) => Answer::Refused(refusal),
+        }
     }
 
     /// The next device call is to fail, as long as the disk can count failures.
@@ -208,7 +194,8 @@ impl<D: Sim> Life<D> {
         requires { IsSoundLife D.state self.old }
         ensures sound { IsSoundLife D.state self.new }
         ensures commit { self.new.commit ≡ self.old.commit }
-        ensures course { MovesLife (device D.state D.failures D.outlook) self.old steps.Fail result self.new }
+        ensures course { MovesLife D.state self.old steps.Fail result self.new }
+        ensures calls { Foretells D.failures D.outlook (disk_of self.old.store) steps.Fail result (disk_of self.new.store) }
     {
         self.store.arm(1);
         Answer::Armed
@@ -220,9 +207,11 @@ impl<D: Sim> Life<D> {
         requires room { HasRoom self.old.commit (length released.old.items) (vec_capacity released.old) }
         ensures sound { IsSoundLife D.state self.new }
         ensures room { HasRoom self.new.commit (length released.new.items) (vec_capacity released.new) }
-        ensures course { MovesLife (device D.state D.failures D.outlook) self.old steps.Release result self.new }
-        ensures left { Lets (device D.state D.failures D.outlook) self.old steps.Release result released.old.items released.new.items }
+        ensures course { MovesLife D.state self.old steps.Release result self.new }
+        ensures calls { Foretells D.failures D.outlook (disk_of self.old.store) steps.Release result (disk_of self.new.store) }
+        ensures left { Lets D.state self.old steps.Release result released.old.items released.new.items }
     {
+        laws::of_runs();
         match mem::replace(&mut self.commit, Commit::Idle) {
             Commit::Durable(durable) => {
                 let effects = durable.release();
@@ -239,7 +228,8 @@ impl<D: Sim> Life<D> {
 
     /// The table as it is now.
     pub(crate) fn list(&self) -> Answer
-        ensures { MovesLife (device D.state D.failures D.outlook) self.now steps.List result self.now }
+        ensures course { MovesLife D.state self.now steps.List result self.now }
+        ensures calls { Foretells D.failures D.outlook (disk_of self.now.store) steps.List result (disk_of self.now.store) }
     {
         laws::of_runs();
         match self.core.now().copy() {

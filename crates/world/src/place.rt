@@ -19,14 +19,15 @@ pub(crate) enum Place<D: Sim> {
 impl<D: Sim> Place<D> {
     ghost use Rattle.std.specs.Prelude.{◌≡◌, ℕ, false};
     ghost use Rattle.store.specs.State.{seen, disk_of, IsSettled};
-    ghost use Rattle.world.specs.Device.{device};
+    ghost use Rattle.world.specs.Calls.{ForetellsOpening, IsNoFailure};
     ghost use Rattle.world.specs.Follows.{Reopens, Begins};
     ghost use Rattle.world.specs.Sound.{IsSomewhere, HasDisk, IsSoundPlace};
 
     /// The store on a disk that crashed is opened, and a life begins with it.
     pub(crate) fn reopen(alloc: Global, disk: D) -> (Self, Answer)
         ensures sound { (there fit : ℕ) → IsSoundPlace D.state result.0 there fit }
-        ensures course { Reopens (device D.state D.failures D.outlook) disk result.1 result.0 }
+        ensures course { Reopens D.state disk result.1 result.0 }
+        ensures calls { ForetellsOpening D.failures D.outlook disk result.1 result.0 }
         ensures same { (now : D) → HasDisk result.0 now → (D.state now).content ≡ (D.state disk).content }
     {
         disk::laws::settled_disk_keeps_its_content();
@@ -40,7 +41,8 @@ impl<D: Sim> Place<D> {
     fn begin(alloc: Global, store: Store<D>) -> (Self, Answer)
         ensures sound { (there fit : ℕ) → IsSoundPlace D.state result.0 there fit }
         ensures course { (seen D.state store).failed ≡ false → IsSettled (seen D.state store)
-            → Begins (device D.state D.failures D.outlook) store result.1 result.0 }
+            → Begins D.state store result.1 result.0 }
+        ensures calls { IsNoFailure result.1 }
         ensures same { (now : D) → HasDisk result.0 now → now ≡ disk_of store }
     {
         store::laws::a_settled_store_is_on_its_disk();

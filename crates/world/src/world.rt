@@ -25,20 +25,20 @@ impl<D: Sim + Drop> World<D> {
     ghost use Rattle.std.specs.Prelude.{◌≢◌, IfOk, IfErr, MatchResult, length};
     ghost use Rattle.lw_types.specs.declared.refusal.Refusal.TheVariants.{DeviceFailed};
     ghost use Rattle.disk.specs.Outlook.Outlook.{AllSucceed};
-    ghost use Rattle.sessions.specs.Table.{TableState, empty_table, effects_of};
     ghost use Rattle.store.specs.Faults.{IsFormatRefusal};
     ghost use Rattle.world.specs.declared.step.Step.TheVariants as steps;
-    ghost use Rattle.world.specs.Device.{device, passed_some};
+    ghost use Rattle.world.specs.Calls.{AreCallsAt, ForetellsAt, passed_some};
     ghost use Rattle.world.specs.Tells.{PlaceTellsRoom, CrashesTo, LeavesImage};
-    ghost use Rattle.world.specs.Course.{Course, beginning};
-    ghost use Rattle.world.specs.Follows.{Follows, Moves, Survives, IsSubsequence, IsDisk};
+    ghost use Rattle.world.specs.Course.{Origin, Course, beginning, formatted, effects_from};
+    ghost use Rattle.world.specs.Follows.{Follows, Moves, Survives, IsSubsequence};
     ghost use Rattle.world.specs.Sound.{IsSound, HasDisk};
 
     /// A world with a new store on this disk. Refused as [`store::format`] is, and with `OutOfMemory`.
     pub fn format(alloc: Global, disk: D, net_id: NetId, slots: u64) -> Result<Self, Refusal>
         ensures sound { IfOk result (IsSound D.state) }
-        ensures course { IfOk result (Follows (device D.state D.failures D.outlook) (empty_table net_id slots)
-            (beginning (D.failures disk) (passed_some (D.outlook disk)))) }
+        ensures course { IfOk result (Follows D.state (formatted net_id slots) (beginning (formatted net_id slots))) }
+        ensures calls { IfOk result (λ world. AreCallsAt D.failures D.outlook
+            (record { failed = D.failures disk; coming = passed_some (D.outlook disk) }) world.place) }
         ensures unarmed { D.outlook disk ≡ AllSucceed → IfErr result (λ e. e ≢ DeviceFailed) }
         ensures refused { IfErr result (IsFormatRefusal slots (length (D.state disk).content)) }
     {
@@ -58,7 +58,8 @@ impl<D: Sim + Drop> World<D> {
     pub(crate) fn step(&mut self, alloc: Global, step: &Step) -> Answer
         requires { IsSound D.state self.old }
         ensures sound { IsSound D.state self.new }
-        ensures course { Moves (device D.state D.failures D.outlook) self.old step.now result self.new }
+        ensures course { Moves D.state self.old step.now result self.new }
+        ensures calls { ForetellsAt D.failures D.outlook self.old.place step.now result self.new.place }
         ensures room_told { PlaceTellsRoom D.state self.old.place step.now result }
         ensures crashed { LeavesImage D.state self.old.place step.now self.new.place }
     {
@@ -77,7 +78,8 @@ impl<D: Sim + Drop> World<D> {
     fn emit(&mut self, alloc: Global) -> Answer
         requires { IsSound D.state self.old }
         ensures sound { IsSound D.state self.new }
-        ensures course { Moves (device D.state D.failures D.outlook) self.old steps.Emit result self.new }
+        ensures course { Moves D.state self.old steps.Emit result self.new }
+        ensures calls { ForetellsAt D.failures D.outlook self.old.place steps.Emit result self.new.place }
     {
         match self.released.get(self.emitted) {
             None => Answer::Idle,
@@ -96,7 +98,8 @@ impl<D: Sim + Drop> World<D> {
     fn crash(&mut self, alloc: Global, image: &Image) -> Answer
         requires { IsSound D.state self.old }
         ensures sound { IsSound D.state self.new }
-        ensures course { Moves (device D.state D.failures D.outlook) self.old (steps.Crash image.now) result self.new }
+        ensures course { Moves D.state self.old (steps.Crash image.now) result self.new }
+        ensures calls { ForetellsAt D.failures D.outlook self.old.place (steps.Crash image.now) result self.new.place }
         ensures crashed { CrashesTo D.state image.now self.old.place self.new.place }
     {
         laws::of_runs();
@@ -127,9 +130,8 @@ impl<D: Sim + Drop> World<D> {
     pub fn close(self) -> D
         requires { IsSound D.state self }
         ensures disk { HasDisk self.place result }
-        ensures course { (start : TableState) (c : Course) → Follows (device D.state D.failures D.outlook) start c self
-            → Survives start c (D.state result) × IsSubsequence c.left (effects_of start c.settled)
-            × IsDisk (device D.state D.failures D.outlook) c result }
+        ensures course { (origin : Origin) (c : Course) → Follows D.state origin c self
+            → Survives origin c (D.state result) × IsSubsequence c.left (effects_from origin c.settled) }
     {
         let World {
             place,

@@ -1,22 +1,44 @@
 -- A world told plainly.
-use Rattle.std.specs.Prelude.{◌≡◌, ◌++◌, Bool, List, if◌then◌else◌, Option, Some, None, Result, MatchResult}
+use Rattle.std.specs.Prelude.{◌≡◌, ◌++◌, Bool, List, [], ◌∷◌, if◌then◌else◌, Option, Some, None, Result, MatchResult}
 use Rattle.lw_types.specs.declared.refusal.Refusal.{Refusal}
 use Rattle.devices.specs.declared.command.Command.{Command}
-use Rattle.sessions.specs.Table.{TableState, Step as TableStep}
+use Rattle.sessions.specs.Table.{Step as TableStep}
 use Rattle.world.specs.declared.step.Step.{Step}
 use Rattle.world.specs.declared.answer.Answer.{Answer}
-use Rattle.world.specs.Course.{Course, after}
+use Rattle.world.specs.Calls.{Calls, IsForetold, called}
+use Rattle.world.specs.Course.{Origin, Course, Flight, Stage, after, flying}
+use Rattle.world.specs.Course.Stage.{Begun, Written, Synced, Opened, Durable, Stopped, Unsure}
 use Rattle.world.specs.Answers.{IsRight}
+use Rattle.world_tests.specs.declared.model.Flight.{Flight as PlainFlight}
+use Rattle.world_tests.specs.declared.model.Stage.{Stage as PlainStage}
+use Rattle.world_tests.specs.declared.model.Stage.TheVariants as variants
 
--- the table as it was formatted, and the course
+-- where the course begins, what is known of the disk's calls, and the course
 pub record PlainState : Type 0 where
-  pub start : TableState
+  pub origin : Origin
+  pub calls : Calls
   pub course : Course
 
--- a step has a right answer, and the course after it is the one that the answer tells
+abbrev pub stage_of : PlainStage → Stage
+stage_of variants.Begun = Begun
+stage_of variants.Written = Written
+stage_of variants.Synced = Synced
+stage_of variants.Opened = Opened
+stage_of variants.Durable = Durable
+stage_of variants.Stopped = Stopped
+stage_of variants.Unsure = Unsure
+
+-- the batch under way, if there is one
+abbrev pub flights_of : Option PlainFlight → List Flight
+flights_of None = []
+flights_of (Some f) = record { commands = f.commands.items; stage = stage_of f.stage } ∷ []
+
+-- a step has a right answer, which is foretold, and the course after it is the one that the answer tells
 abbrev pub Goes : PlainState → Step → Answer → PlainState → Type 0
 Goes old step answer new =
-    IsRight old.start old.course step answer × (new ≡ record old { course = after old.start old.course step answer })
+    IsRight old.origin old.course step answer
+    × (IsForetold old.calls step answer
+    × (new ≡ record { origin = old.origin; calls = called old.calls step answer; course = after old.origin old.course step answer }))
 
 -- why a command that is to get this is not decided, if it is not
 abbrev pub IsRefusal : Result TableStep Refusal → Option Refusal → Type 0
@@ -24,4 +46,4 @@ IsRefusal outcome refused = MatchResult outcome (λ _. refused ≡ None) (λ e. 
 
 -- what a crash leaves, with the batch under way or without it
 abbrev pub kept_with : Bool → Course → List Command
-kept_with flew c = if flew then c.settled ++ c.flying else c.settled
+kept_with flew c = if flew then c.settled ++ flying c.flights else c.settled

@@ -2,11 +2,11 @@
 // that one is wanted.
 ghost use Rattle.std.specs.Prelude.{◌≡◌, ◌++◌, ℕ, true, IfOk};
 ghost use Rattle.disk.specs.Outlook.Outlook.{AllSucceed};
-ghost use Rattle.sessions.specs.Table.{empty_table, folded, effects_of, step, stepped, step_effects};
+ghost use Rattle.sessions.specs.Table.{folded, effects_of, step, stepped, step_effects};
 ghost use Rattle.world.specs.declared.step.Step.TheVariants as steps;
-ghost use Rattle.world.specs.Answers.{Leaves, wanted};
-ghost use Rattle.world.specs.Course.{beginning, decided};
-ghost use Rattle.world_tests.specs.Plain.{Goes, IsRefusal, kept_with};
+ghost use Rattle.world.specs.Answers.{Leaves};
+ghost use Rattle.world.specs.Course.{beginning, decided, flying, formatted, table_from, wanted};
+ghost use Rattle.world_tests.specs.Plain.{Goes, IsRefusal, flights_of, kept_with};
 
 use devices::{Command, Effect};
 use disk::Image;
@@ -19,10 +19,9 @@ use std::marker::Model;
 use std::mem;
 use world::{Answer, Step};
 
-/// How far the commit of the batch that was taken last is.
+/// How far the commit of a batch is.
 #[derive(Clone, Copy, Debug, PartialEq, Eq)]
 pub(crate) enum Stage {
-    Rest,
     Begun,
     Written,
     Synced,
@@ -32,15 +31,21 @@ pub(crate) enum Stage {
     Unsure,
 }
 
-/// A world told plainly. Contracts see the table as it was formatted, and the course. Want of memory
-/// ends it, so that no batch is given up.
+/// The batch under way.
+#[derive(Drop)]
+pub(crate) struct Flight {
+    commands: Vec<Command>,
+    stage: Stage,
+}
+
+/// A world told plainly. Contracts see where its course begins, the course, and what is known of the
+/// disk's calls. Want of memory ends it, so that no batch is given up.
 #[derive(Drop)]
 pub(crate) struct Plain {
     net_id: NetId,
     slots: Slots,
     settled: Vec<Command>,
-    flying: Vec<Command>,
-    stage: Stage,
+    flying: Option<Flight>,
     untaken: Vec<Command>,
     made: u64,
     left: Vec<Effect>,
@@ -57,36 +62,26 @@ pub(crate) struct Plain {
 impl Model for Plain {
     ghost use Rattle.std.specs.Prelude.{[], if◌then◌else◌};
     ghost use Rattle.disk.specs.Outlook.Outlook.{AllSucceed, FailsAfter};
-    ghost use Rattle.sessions.specs.Table.{empty_table};
-    ghost use Rattle.world_tests.specs.declared.model.Stage.TheVariants as variants;
-    ghost use Rattle.world.specs.Course.Stage.{Rest, Begun, Written, Synced, Opened, Durable, Stopped, Unsure};
-    ghost use Rattle.world_tests.specs.Plain.{PlainState};
+    ghost use Rattle.world.specs.Course.{formatted};
+    ghost use Rattle.world_tests.specs.Plain.{PlainState, flights_of};
 
     ghost Value = { PlainState };
 
     ghost view = { λ m. record {
-      start = empty_table m.net_id m.slots;
+      origin = formatted m.net_id m.slots;
+      calls = record {
+        failed = m.failures;
+        coming = if m.armed then FailsAfter 0 else AllSucceed;
+      };
       course = record {
         settled = m.settled.items;
-        flying = m.flying.items;
-        stage = elim m.stage [
-          | variants.Rest ↦ Rest
-          | variants.Begun ↦ Begun
-          | variants.Written ↦ Written
-          | variants.Synced ↦ Synced
-          | variants.Opened ↦ Opened
-          | variants.Durable ↦ Durable
-          | variants.Stopped ↦ Stopped
-          | variants.Unsure ↦ Unsure
-        ];
+        flights = flights_of m.flying;
         given_up = [];
         untaken = m.untaken.items;
         made = m.made;
         left = m.left.items;
         emitted = m.emitted;
         is_open = m.is_open;
-        failures = m.failures;
-        outlook = if m.armed then FailsAfter 0 else AllSucceed;
       };
     } };
 }
@@ -94,15 +89,15 @@ impl Model for Plain {
 impl Plain {
     /// A world that was just formatted.
     pub(crate) fn new(alloc: Global, net_id: NetId, slots: Slots) -> Self
-        ensures start { result.start ≡ empty_table net_id slots }
-        ensures course { result.course ≡ beginning 0 AllSucceed }
+        ensures origin { result.origin ≡ formatted net_id slots }
+        ensures calls { result.calls ≡ record { failed = 0; coming = AllSucceed } }
+        ensures course { result.course ≡ beginning (formatted net_id slots) }
     {
         Plain {
             net_id,
             slots,
             settled: Vec::new(alloc),
-            flying: Vec::new(alloc),
-            stage: Stage::Rest,
+            flying: None,
             untaken: Vec::new(alloc),
             made: 0,
             left: Vec::new(alloc),
@@ -151,7 +146,7 @@ impl Plain {
 
     // Why the command is not decided, if it is not.
     fn why_not(&self, alloc: Global, command: &Command) -> Result<Option<Refusal>, Refusal>
-        ensures { IfOk result (λ refused. IsRefusal (wanted self.now.start self.now.course command.now) refused) }
+        ensures { IfOk result (λ refused. IsRefusal (wanted self.now.origin self.now.course command.now) refused) }
     {
         let all = self.decided(alloc)?;
         if self.untaken.len() as u64 >= MOST_UNTAKEN || all.len() as u64 >= LAST_NUMBER {
@@ -169,18 +164,21 @@ impl Plain {
         requires { self.old.course.is_open ≡ true }
         ensures { IfOk result (λ answer. Goes self.old (steps.Take most) answer self.new) }
     {
-        match self.stage {
-            Stage::Stopped | Stage::Unsure => return Ok(Answer::Refused(Refusal::Failed)),
-            Stage::Rest => {}
-            _ => return Ok(Answer::Idle),
+        if let Some(flight) = &self.flying {
+            return Ok(match flight.stage {
+                Stage::Stopped | Stage::Unsure => Answer::Refused(Refusal::Failed),
+                _ => Answer::Idle,
+            });
         }
         if self.untaken.is_empty() {
             return Ok(Answer::Idle);
         }
         let count = self.untaken.len().min(most.get() as usize);
         let rest = self.untaken.split_off(count)?;
-        self.flying = mem::replace(&mut self.untaken, rest);
-        self.stage = Stage::Begun;
+        self.flying = Some(Flight {
+            commands: mem::replace(&mut self.untaken, rest),
+            stage: Stage::Begun,
+        });
         self.gate_written = false;
         self.gate_synced = false;
         Ok(Answer::Taken(count))
@@ -202,7 +200,10 @@ impl Plain {
         requires { self.old.course.is_open ≡ true }
         ensures { IfOk result (λ answer. Goes self.old steps.Call answer self.new) }
     {
-        let (succeeded, failed) = match self.stage {
+        let Some(flight) = &mut self.flying else {
+            return Ok(Answer::Idle);
+        };
+        let (succeeded, failed) = match flight.stage {
             Stage::Begun => (Stage::Written, Stage::Stopped),
             Stage::Written => (Stage::Synced, Stage::Stopped),
             Stage::Synced => (Stage::Opened, Stage::Unsure),
@@ -212,10 +213,10 @@ impl Plain {
         if self.armed {
             self.failures = self.failures.checked_add(1).ok_or(Refusal::OutOfMemory)?;
             self.armed = false;
-            self.stage = failed;
+            flight.stage = failed;
             return Ok(Answer::Refused(Refusal::DeviceFailed));
         }
-        self.stage = succeeded;
+        flight.stage = succeeded;
         self.gate_written = succeeded == Stage::Opened;
         Ok(Answer::Called)
     }
@@ -224,16 +225,21 @@ impl Plain {
         requires { self.old.course.is_open ≡ true }
         ensures { IfOk result (λ answer. Goes self.old steps.Release answer self.new) }
     {
-        if self.stage != Stage::Durable {
-            return Ok(Answer::Idle);
+        match self.flying.take() {
+            Some(flight) if flight.stage == Stage::Durable => {
+                let mut table = self.table(alloc, &self.settled)?;
+                let mut effects = fold(alloc, &mut table, &flight.commands)?;
+                let count = effects.len();
+                self.left.append(&mut effects)?;
+                let mut commands = flight.commands;
+                self.settled.append(&mut commands)?;
+                Ok(Answer::Released(count))
+            }
+            other => {
+                self.flying = other;
+                Ok(Answer::Idle)
+            }
         }
-        let mut table = self.table(alloc, &self.settled)?;
-        let mut effects = fold(alloc, &mut table, &self.flying)?;
-        let count = effects.len();
-        self.left.append(&mut effects)?;
-        self.settled.append(&mut self.flying)?;
-        self.stage = Stage::Rest;
-        Ok(Answer::Released(count))
     }
 
     fn emit(&mut self, alloc: Global) -> Result<Answer, Refusal>
@@ -279,8 +285,7 @@ impl Plain {
         let kept = self.kept(alloc, flew)?;
         let table = self.table(alloc, &kept)?;
         self.settled = kept;
-        self.flying.clear();
-        self.stage = Stage::Rest;
+        self.flying = None;
         self.untaken.clear();
         self.made = 0;
         self.is_open = true;
@@ -294,9 +299,9 @@ impl Plain {
     fn flew(&self, image: &Image) -> bool
         ensures { Leaves self.now.course (kept_with result self.now.course) }
     {
-        match self.stage {
-            Stage::Durable => true,
-            Stage::Opened | Stage::Unsure => match image {
+        match self.flying.as_ref().map(|flight| flight.stage) {
+            Some(Stage::Durable) => true,
+            Some(Stage::Opened | Stage::Unsure) => match image {
                 Image::Old => self.gate_synced,
                 _ => self.gate_written,
             },
@@ -311,7 +316,7 @@ impl Plain {
         let mut kept = Vec::new(alloc);
         add(&mut kept, &self.settled)?;
         if flew {
-            add(&mut kept, &self.flying)?;
+            add_flying(&mut kept, &self.flying)?;
         }
         Ok(kept)
     }
@@ -322,18 +327,28 @@ impl Plain {
     {
         let mut all = Vec::new(alloc);
         add(&mut all, &self.settled)?;
-        add(&mut all, &self.flying)?;
+        add_flying(&mut all, &self.flying)?;
         add(&mut all, &self.untaken)?;
         Ok(all)
     }
 
     // The table that these commands leave of the one that was formatted.
     fn table(&self, alloc: Global, commands: &[Command]) -> Result<Table, Refusal>
-        ensures { IfOk result (λ table. table ≡ folded self.now.start commands.now) }
+        ensures { IfOk result (λ table. table ≡ table_from self.now.origin commands.now) }
     {
         let mut table = Table::new(alloc, self.net_id, self.slots)?;
         let _ = fold(alloc, &mut table, commands)?;
         Ok(table)
+    }
+}
+
+// Adds the commands of the batch under way behind others.
+fn add_flying(commands: &mut Vec<Command>, batch: &Option<Flight>) -> Result<(), Refusal>
+    ensures { IfOk result (λ _. commands.new.items ≡ commands.old.items ++ flying (flights_of batch.now)) }
+{
+    match batch {
+        Some(flight) => add(commands, &flight.commands),
+        None => Ok(()),
     }
 }
 

@@ -1,4 +1,4 @@
-use Rattle.world.proofs.Opening.{kept_front, kept_settled, kept_once}
+use Rattle.world.proofs.Flights.{kept_front, kept_settled, kept_once}
 use Rattle.world.proofs.laws.what_a_crash_leaves.Goals as goal
 
 pub returns-clause-beginning : goal.returns-clause-beginning

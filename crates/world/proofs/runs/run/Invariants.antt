@@ -1,6 +1,6 @@
 -- The world is sound, each step so far has its right answer and led here, and there is room for the other answers.
 use Rattle.std.proofs.Common.{◌≡◌, ◌≤◌, length, take, vec_capacity}
-use Rattle.world.specs.Device.{device}
+use Rattle.world.specs.Calls.{ForetellsAll}
 use Rattle.world.specs.Follows.{Runs}
 use Rattle.world.specs.Sound.{IsSound}
 use Rattle.world.specs.Tells.{TellsAlone}
@@ -9,8 +9,8 @@ use Rattle.world.proofs.runs.run.Given as goal
 abbrev pub invariant-loop-step : goal.invariant-loop-step
 invariant-loop-step g l =
     let state = g.D.Disk.state in
-    let dev = device state g.D.Disk.failures g.D.Disk.outlook in
     IsSound state l.world
-    × (Runs dev l.fn.world (take l.step-index l.steps) l.answers.items l.world
+    × (Runs state l.fn.world (take l.step-index l.steps) l.answers.items l.world
+    × (ForetellsAll g.D.Disk.failures g.D.Disk.outlook l.fn.world.place (take l.step-index l.steps) l.answers.items l.world.place
     × (TellsAlone state l.fn.world.place (take l.step-index l.steps) l.answers.items l.world.place
-    × ((length l.answers.items ≡ l.step-index) × (length l.steps ≤ vec_capacity l.answers))))
+    × ((length l.answers.items ≡ l.step-index) × (length l.steps ≤ vec_capacity l.answers)))))

@@ -1,10 +1,10 @@
-use Rattle.std.proofs.Common.{◌∙◌, length, ap, subst, sym, arith}
+use Rattle.std.proofs.Common.{◌∙◌, ◌++◌, length, ap, subst, sym, arith, length-append}
 use Rattle.std.proofs.lemmas.List.{length-map}
 use Rattle.flusher.specs.Released.{effect_of, effects_of_all}
 use Rattle.world.specs.declared.step.Step.TheVariants as steps
 use Rattle.world.specs.Answers.{AnswersCrash}
+use Rattle.world.specs.Calls.{AreCallsAt, called}
 use Rattle.world.specs.Course.{after}
-use Rattle.world.specs.Device.{device}
 use Rattle.world.specs.Follows.{FollowsPlace}
 use Rattle.world.specs.Sound.{HasDisk}
 use Rattle.world.proofs.Known.{unseen}
@@ -12,35 +12,43 @@ use Rattle.world.proofs.Opening.{disk_survives, crashed_survives, both_ways, cra
 use Rattle.world.proofs.world.World.crash.Goals as goal
 
 pub returns-clause-course : goal.returns-clause-course
-returns-clause-course g c start course f =
+returns-clause-course g c origin course f =
     let state = g.D.Disk.state in
-    let failures = g.D.Disk.failures in
-    let outlook = g.D.Disk.outlook in
-    let dev = device state failures outlook in
     let world = c.args.self.now in
     let image = c.args.image.now in
     let answer = c.reopen-place.result.1 in
     let old = c.end-disk.result in
     let disk = c.crash.new.self in
     let came = subst (λ p. HasDisk p old) c.replace.ensures.value c.end-disk.ensures in
-    let before = disk_survives dev start course world.place old f.place came in
-    let survives = crashed_survives start course (state old) (state disk) before.0 c.crash.ensures.permitted
+    let before = disk_survives state origin course world.place old f.place came in
+    let survives = crashed_survives origin course (state old) (state disk) before c.crash.ensures.permitted
     (c.settled_disk_keeps_its_content.ensures (state disk) c.crash.ensures.settled.nothing_open) in
-    let sight = unseen course.failures course.outlook (failures old) (failures disk) (outlook old) (outlook disk) before.1 c.crash.ensures.failures c.crash.ensures.outlook in
-    let opened = c.reopen-place.ensures.course start course c.crash.ensures.settled.nothing_open survives sight in
-    let next = after start course (steps.Crash image) answer in
-    let kept = crash_keeps c.of_runs.ensures start course image answer opened.0 in (
-      both_ways course.is_open (AnswersCrash start course answer) opened.0,
+    let opened = c.reopen-place.ensures.course origin course c.crash.ensures.settled.nothing_open survives in
+    let next = after origin course (steps.Crash image) answer in
+    let kept = crash_keeps c.of_runs.ensures origin course image answer opened.0 in (
+      both_ways course.is_open (AnswersCrash origin course answer) opened.0,
       record {
-        place = subst (FollowsPlace dev start next) (sym c.put.ensures.place) (opened.1 image);
-        left = ap (λ r. effects_of_all r.items) c.put.ensures.released ∙ (f.left ∙ sym kept.left);
+        place = subst (FollowsPlace state origin next) (sym c.put.ensures.place) (opened.1 image);
+        left = kept.left ∙ (f.left ∙ ap (λ r. origin.left ++ effects_of_all r.items) (sym c.put.ensures.released));
         emitted =
             let put = c.put.ensures.emitted in
             let there = c.len-self.ensures in
             let effects = length-map world.released.items effect_of in
-            let left = ap length f.left in
+            let left = ap length f.left ∙ length-append origin.left (effects_of_all world.released.items) in
             let wanted = kept.emitted in
             omega (arith, put, there, effects, left, wanted, world.released.ok.0);
         once = kept.once f.once;
       },
     )
+
+pub returns-clause-calls : goal.returns-clause-calls
+returns-clause-calls g c calls are =
+    let failures = g.D.Disk.failures in
+    let outlook = g.D.Disk.outlook in
+    let image = c.args.image.now in
+    let old = c.end-disk.result in
+    let disk = c.crash.new.self in
+    let came = subst (λ p. HasDisk p old) c.replace.ensures.value c.end-disk.ensures in
+    let crashed = unseen calls (failures old) (failures disk) (outlook old) (outlook disk) (are old came) c.crash.ensures.failures c.crash.ensures.outlook in
+    let found = c.reopen-place.ensures.calls image calls crashed in
+    (found.0, subst (AreCallsAt failures outlook (called calls (steps.Crash image) c.reopen-place.result.1)) (sym c.put.ensures.place) found.1)

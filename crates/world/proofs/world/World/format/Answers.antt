@@ -1,41 +1,41 @@
-use Rattle.std.proofs.Common.{refl, [], ap, subst, sym}
+use Rattle.std.proofs.Common.{◌∙◌, refl, [], ap, subst, sym}
 use Rattle.flusher.specs.Released.{effects_of_all}
-use Rattle.sessions.specs.Table.{empty_table}
 use Rattle.session_core.specs.State.{opened}
 use Rattle.store.specs.State.{seen, disk_of}
-use Rattle.world.specs.Device.{IsSight, passed_some}
 use Rattle.world.specs.declared.commit.Commit.TheVariants as commits
-use Rattle.world.specs.Course.{beginning}
+use Rattle.world.specs.Calls.{AreCalls, passed_some}
+use Rattle.world.specs.Course.{beginning, formatted}
 use Rattle.world.proofs.Known.{formatted_known}
-use Rattle.world.proofs.Taking.{moved, same_life}
+use Rattle.world.proofs.Taking.{moved}
 use Rattle.world.proofs.Opening.{life_opened}
 use Rattle.world.proofs.world.World.format.Goals as goal
 
 pub returns-in-Ok-clause-course : goal.returns-in-Ok-clause-course
 returns-in-Ok-clause-course g c =
     let state = g.D.Disk.state in
-    let failures = g.D.Disk.failures in
-    let outlook = g.D.Disk.outlook in
-    let start = empty_table c.args.net_id c.args.slots in
+    let origin = formatted c.args.net_id c.args.slots in
+    let first = beginning origin in
     let made = c.in_ok-store.ensures in
     let s = seen state c.in_ok-store.store in
     let life = c.in-Ok.life in
     let settled = made.settled g.met.D.Sim.is_honest in
-    let first = beginning (failures c.args.disk) (passed_some (outlook c.args.disk)) in
     record {
       place = (
         refl,
-        (
-          moved start first s (seen state life.store) (opened s.table s.seq) life.core commits.Idle life.commit
-              c.in-Ok.ensures.store c.in-Ok.ensures.core c.in-Ok.ensures.idle
-              (same_life start _ (failures c.args.disk) (passed_some (outlook c.args.disk)) s (opened s.table s.seq) commits.Idle
-              (life_opened start first [] 0 s refl refl settled made.healthy.0 made.empty.0 made.empty.1
-              (c.a_settled_store_is_on_its_disk.ensures s settled))),
-          subst (λ d. IsSight (failures c.args.disk) (passed_some (outlook c.args.disk)) (failures d) (outlook d)) (sym c.in-Ok.ensures.disk)
-              (record { count = made.healthy.1; known_is = formatted_known (outlook c.args.disk) (outlook (disk_of c.in_ok-store.store)) made.unarmed }),
-        ),
+        moved origin first s (seen state life.store) (opened s.table s.seq) life.core commits.Idle life.commit
+            c.in-Ok.ensures.store c.in-Ok.ensures.core c.in-Ok.ensures.idle
+            (life_opened origin first [] 0 s refl refl settled made.healthy.0 made.empty.0 made.empty.1 (c.a_settled_store_is_on_its_disk.ensures s settled)),
       );
-      left = ap effects_of_all c.new-in-Ok.ensures.items;
+      left = sym (ap effects_of_all c.new-in-Ok.ensures.items);
       emitted = refl;
       once = refl;
     }
+
+pub returns-in-Ok-clause-calls : goal.returns-in-Ok-clause-calls
+returns-in-Ok-clause-calls g c disk there =
+    let failures = g.D.Disk.failures in
+    let outlook = g.D.Disk.outlook in
+    let made = c.in_ok-store.ensures in
+    subst (λ d. AreCalls (record { failed = failures c.args.disk; coming = passed_some (outlook c.args.disk) }) (failures d) (outlook d))
+    (sym (there ∙ c.in-Ok.ensures.disk))
+    (record { counted = made.healthy.1; known = formatted_known (outlook c.args.disk) (outlook (disk_of c.in_ok-store.store)) made.unarmed })

@@ -1,0 +1,63 @@
+-- What an emit does to a course.
+use Rattle.std.proofs.Common.{◌≡◌, ◌∙◌, ◌+◌, ◌<◌, ◌⊎◌, ℕ, zero, suc, List, [], ◌∷◌, ◌++◌, slice_get, get_or, Option, Some, None, length, map, ap, subst, sym, refl, arith}
+use Rattle.flusher.specs.declared.released.Released.{Released}
+use Rattle.flusher.specs.Released.{effect_of, effects_of_all}
+use Rattle.std.specs.Option.{MatchOption}
+use Rattle.std.proofs.lemmas.Option.{slice_get-get_or}
+use Rattle.disk.specs.State.{State}
+use Rattle.lw_types.specs.declared.refusal.Refusal.TheVariants.{OutOfMemory}
+use Rattle.gateway_wire.specs.Emission.{emission}
+use Rattle.world.specs.declared.answer.Answer.{Answer}
+use Rattle.world.specs.declared.answer.Answer.TheVariants as answers
+use Rattle.world.specs.declared.place.Place.{Place}
+use Rattle.world.specs.declared.place.Place.TheVariants.{Open, Closed, Crashing}
+use Rattle.world.specs.Course.{Origin, Course}
+use Rattle.world.specs.Answers.{AnswersEmit}
+use Rattle.world.specs.Follows.{FollowsPlace}
+
+get_behind : {A : Type 0} (xs ys : List A) (n : ℕ) → slice_get (xs ++ ys) (length xs + n) ≡ slice_get ys n
+get_behind [] ys n = ap (slice_get ys) (omega arith)
+get_behind (x ∷ xs) ys n =
+    let next : length (x ∷ xs) + n ≡ suc (length xs + n) = omega arith in
+    ap (slice_get (x ∷ (xs ++ ys))) next ∙ get_behind xs ys n
+
+abbrev each : {A B : Type 0} → (A → B) → Option A → Option B
+each f None = None
+each f (Some x) = Some (f x)
+
+get_map : {A B : Type 0} (f : A → B) (xs : List A) (n : ℕ) → slice_get (map f xs) n ≡ each f (slice_get xs n)
+get_map f [] n = refl
+get_map f (x ∷ xs) zero = refl
+get_map f (x ∷ xs) (suc n) = get_map f xs n
+
+-- what is emitted next
+next_left : (origin : Origin) (c : Course) (items : List Released) (n : ℕ) → c.left ≡ origin.left ++ effects_of_all items
+    → c.emitted ≡ length origin.left + n → slice_get c.left c.emitted ≡ each effect_of (slice_get items n)
+next_left origin c items n left emitted =
+    ap (λ l. slice_get l c.emitted) left
+    ∙ (ap (slice_get (origin.left ++ effects_of_all items)) emitted ∙ (get_behind origin.left (effects_of_all items) n ∙ get_map effect_of items n))
+
+-- what stands where a look found this
+pub found_at : (xs items : List Released) (n : ℕ) (released : Released) → xs ≡ items → n < length xs → released ≡ get_or xs n released
+    → slice_get items n ≡ Some released
+found_at xs items n released same within is =
+    subst (λ xs. slice_get xs n ≡ Some released) same (slice_get-get_or xs n released within ∙ ap Some (sym is))
+
+-- an answer with the effect of this release is right
+pub emits : (origin : Origin) (c : Course) (items : List Released) (n : ℕ) (released : Released) (answer : Answer) → c.left ≡ origin.left ++ effects_of_all items
+    → c.emitted ≡ length origin.left + n → slice_get items n ≡ Some released
+    → (answer ≡ answers.Emitted (emission (effect_of released))) ⊎ (answer ≡ answers.Refused OutOfMemory) → AnswersEmit c answer
+emits origin c items n released answer left emitted there right =
+    let next = next_left origin c items n left emitted ∙ ap (each effect_of) there in
+    subst (λ o. MatchOption o (answer ≡ answers.Idle) (λ effect. (answer ≡ answers.Emitted (emission effect)) ⊎ (answer ≡ answers.Refused OutOfMemory)))
+    (sym next) right
+
+-- where the world is has nothing to do with how much was emitted
+pub same_place : {D : Type 0} {g : _} (state : D → State) (origin : Origin) (c : Course) (n : ℕ) (place : Place D g) → FollowsPlace state origin c place
+    → FollowsPlace state origin (record c { emitted = n }) place
+same_place state origin c n (Open life) (is, f) = (
+  is,
+  record { table = f.table; seq = f.seq; base = f.base; number = f.number; untaken = f.untaken; made = f.made; under_way = f.under_way; healthy = f.healthy; survives = f.survives },
+)
+same_place state origin c n (Closed disk) f = f
+same_place state origin c n Crashing f = f

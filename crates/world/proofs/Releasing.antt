@@ -1,0 +1,72 @@
+-- What a release does to a course.
+use Rattle.std.proofs.Common.{◌≡◌, ◌∙◌, ◌+◌, ℕ, List, [], ◌∷◌, ◌++◌, Result, Ok, Err, length, sym, ap, subst, refl, append_assoc}
+use Rattle.std.proofs.lemmas.List.{append-nil}
+use Rattle.lw_types.specs.declared.refusal.Refusal.{Refusal}
+use Rattle.devices.specs.declared.command.Command.{Command}
+use Rattle.sessions.specs.Table.{Step as TableStep, effects_of}
+use Rattle.sessions.specs.Decision.{commands_of, effects_in}
+use Rattle.session_core.specs.State.{CoreState}
+use Rattle.store.specs.State.{StoreState}
+use Rattle.flusher.specs.declared.durable.Durable.{Durable as Done}
+use Rattle.flusher.specs.declared.released.Released.{Released}
+use Rattle.flusher.specs.Released.{decisions_of, effects_of_all}
+use Rattle.world.specs.declared.answer.Answer.{Answer}
+use Rattle.world.specs.declared.answer.Answer.TheVariants as answers
+use Rattle.world.specs.declared.commit.Commit.TheVariants as commits
+use Rattle.world.specs.declared.step.Step.TheVariants as steps
+use Rattle.world.specs.Folding.{RunLaws}
+use Rattle.world.specs.Course.{Origin, Course, admit, after, gone_through, released, table_from, wanted, went}
+use Rattle.world.specs.Answers.{AnswersRelease}
+use Rattle.world.specs.Follows.{IsLife}
+
+module _ (laws : RunLaws) (origin : Origin) (c : Course) (s : StoreState) (core : CoreState) (durable : Done)
+    (f : IsLife origin c s core (commits.Durable durable)) where
+  effects : effects_of (table_from origin c.settled) (commands_of (decisions_of durable)) ≡ effects_in (decisions_of durable)
+  effects = laws.effects (table_from origin c.settled) (decisions_of durable) f.under_way.1.0
+
+  -- the life after it
+  pub releases : (n : ℕ) → n ≡ length (effects_in (decisions_of durable))
+      → AnswersRelease origin c c.flights (answers.Released n) × IsLife origin (released origin c c.flights) s core commits.Idle
+  releases n count =
+      let ds = decisions_of durable in
+      let commands = commands_of ds in
+      let flown = subst (λ fl. IsLife origin (record c { flights = fl }) s core (commits.Durable durable)) f.under_way.0 f in
+      let lists : c.settled ++ ((commands ++ []) ++ c.given_up) ≡ (c.settled ++ commands) ++ c.given_up =
+      ap (λ l. c.settled ++ (l ++ c.given_up)) (append-nil commands) ∙ sym (append_assoc c.settled commands c.given_up) in
+      subst (λ fl. AnswersRelease origin c fl (answers.Released n) × IsLife origin (released origin c fl) s core commits.Idle) (sym f.under_way.0) (
+        ap answers.Released (count ∙ ap length (sym effects)),
+        record {
+          table = flown.table;
+          seq = flown.seq;
+          base = flown.base ∙ ap (table_from origin) lists;
+          number = flown.number ∙ ap (λ l. origin.number + length l) lists;
+          untaken = flown.untaken;
+          made = flown.made;
+          under_way = (refl, (tt, f.under_way.1.1));
+          healthy = flown.healthy;
+          survives = flown.survives;
+        },
+      )
+
+  -- and what it lets out
+  pub lets : (old new : List Released) → effects_of_all new ≡ effects_of_all old ++ effects_in (decisions_of durable)
+      → c.left ≡ origin.left ++ effects_of_all old → (released origin c c.flights).left ≡ origin.left ++ effects_of_all new
+  lets old new more left =
+      subst (λ fl. (released origin c fl).left ≡ origin.left ++ effects_of_all new) (sym f.under_way.0)
+      (ap (λ l. c.left ++ l) effects
+      ∙ (ap (λ l. l ++ effects_in (decisions_of durable)) left
+      ∙ (append_assoc origin.left (effects_of_all old) (effects_in (decisions_of durable)) ∙ ap (λ l. origin.left ++ l) (sym more))))
+
+-- a turn lets nothing out
+went_left : (c : Course) (command : Command) (outcome : Result TableStep Refusal) → (went c command outcome).left ≡ c.left
+went_left c command (Ok s) = refl
+went_left c command (Err e) = refl
+
+admit_left : (origin : Origin) (c : Course) (commands : List Command) → (admit origin c commands).left ≡ c.left
+admit_left origin c [] = refl
+admit_left origin c (command ∷ commands) = admit_left origin (went c command (wanted origin c command)) commands ∙ went_left c command (wanted origin c command)
+
+pub request_left : (origin : Origin) (c : Course) (moment : ℕ) (command : Command) (answer : Answer)
+    → (after origin c (steps.Request moment command) answer).left ≡ c.left
+request_left origin c moment command (answers.Turn turn) = admit_left origin c (gone_through (command ∷ []) turn.refused)
+request_left origin c moment command answer = refl
