@@ -9,14 +9,18 @@ use std::test::Fail;
 const REQUEST: [u8; 23] =
     *b"\x00\x08\x07\x06\x05\x04\x03\x02\x01\x18\x17\x16\x15\x14\x13\x12\x11\x01\x00\xAA\xBB\xCC\xDD";
 
-const QUESTION: &str = r#"{"DLSettings":"00","DevAddr":"54000001","DevEUI":"1112131415161718","MACVersion":"1.0.4","MessageType":"JoinReq","PHYPayload":"00080706050403020118171615141312110100AABBCCDD","ProtocolVersion":"1.0","ReceiverID":"0102030405060708","RxDelay":1,"SenderID":"00002A","TransactionID":2}"#;
+const QUESTION: &str =
+    r#"{"DLSettings":"00","DevAddr":"54000001","DevEUI":"1112131415161718","MACVersion":"1.0.4","MessageType":"JoinReq","PHYPayload":"00080706050403020118171615141312110100AABBCCDD","ProtocolVersion":"1.0","ReceiverID":"0102030405060708","RxDelay":1,"SenderID":"00002A","TransactionID":2}"#;
 
 // The same question, with the MIC of its Join-Request.
-const SIGNED: &str = r#"{"DLSettings":"00","DevAddr":"54000001","DevEUI":"1112131415161718","MACVersion":"1.0.4","MessageType":"JoinReq","PHYPayload":"000807060504030201181716151413121101009E7419CE","ProtocolVersion":"1.0","ReceiverID":"0102030405060708","RxDelay":1,"SenderID":"00002A","TransactionID":2}"#;
+const SIGNED: &str =
+    r#"{"DLSettings":"00","DevAddr":"54000001","DevEUI":"1112131415161718","MACVersion":"1.0.4","MessageType":"JoinReq","PHYPayload":"000807060504030201181716151413121101009E7419CE","ProtocolVersion":"1.0","ReceiverID":"0102030405060708","RxDelay":1,"SenderID":"00002A","TransactionID":2}"#;
 
-const GRANTED: &str = r#"{"AppSKey":{"AESKey":"65A2E3FC3F681266CA0F9088A6AD5FE4"},"MessageType":"JoinAns","NwkSKey":{"AESKey":"38F19F1F7C923B7B392DFDBECE201B6B"},"PHYPayload":"2040A8AE29D75BA396C02EF9C963CAD8BE","ProtocolVersion":"1.0","ReceiverID":"00002A","Result":{"Description":"","ResultCode":"Success"},"SenderID":"0102030405060708","TransactionID":2}"#;
+const GRANTED: &str =
+    r#"{"AppSKey":{"AESKey":"65A2E3FC3F681266CA0F9088A6AD5FE4"},"MessageType":"JoinAns","NwkSKey":{"AESKey":"38F19F1F7C923B7B392DFDBECE201B6B"},"PHYPayload":"2040A8AE29D75BA396C02EF9C963CAD8BE","ProtocolVersion":"1.0","ReceiverID":"00002A","Result":{"Description":"","ResultCode":"Success"},"SenderID":"0102030405060708","TransactionID":2}"#;
 
-const NO_QUESTION: &str = r#"{"MessageType":"JoinAns","ProtocolVersion":"1.0","ReceiverID":"000000","Result":{"Description":"bad message","ResultCode":"Other"},"SenderID":"0102030405060708","TransactionID":0}"#;
+const NO_QUESTION: &str =
+    r#"{"MessageType":"JoinAns","ProtocolVersion":"1.0","ReceiverID":"000000","Result":{"Description":"bad message","ResultCode":"Other"},"SenderID":"0102030405060708","TransactionID":0}"#;
 
 fn state(dev_eui: u64, join_eui: u64, dev_nonce: Option<u16>) -> JoinState {
     JoinState {
@@ -72,7 +76,9 @@ fn refuses(
     outcome: &str,
 ) -> Result<(), Fail> {
     let (text, after) = answer_text(alloc, state, question)?;
-    let expected = format!(in alloc; "{{\"MessageType\":\"JoinAns\",\"ProtocolVersion\":\"1.0\",\"ReceiverID\":\"00002A\",\"Result\":{{{outcome}}},\"SenderID\":\"0102030405060708\",\"TransactionID\":2}}")?;
+    let expected = format!(in alloc;
+        "{{\"MessageType\":\"JoinAns\",\"ProtocolVersion\":\"1.0\",\"ReceiverID\":\"00002A\",\"Result\":{{{outcome}}},\"SenderID\":\"0102030405060708\",\"TransactionID\":2}}"
+    )?;
     assert_eq!(rt; text.as_str(), expected.as_str());
     assert!(rt; after.is_none());
     assert!(rt; read_join_ans(alloc, text.as_str())?.result.is_err());
@@ -85,10 +91,26 @@ fn a_join_is_refused_for_its_first_cause(rt: HostRuntime) -> Result<(), Fail> {
     let device = 0x1112_1314_1516_1718;
     let server = 0x0102_0304_0506_0708;
     for (state, question, outcome) in [
-        (state(device + 1, server + 1, None), QUESTION, r#""Description":"unknown device","ResultCode":"UnknownDevEUI""#),
-        (state(device, server + 1, None), QUESTION, r#""Description":"wrong join eui","ResultCode":"JoinReqFailed""#),
-        (state(device, server, Some(1)), QUESTION, r#""Description":"bad mic","ResultCode":"MICFailed""#),
-        (state(device, server, Some(1)), SIGNED, r#""Description":"dev nonce used","ResultCode":"JoinReqFailed""#),
+        (
+            state(device + 1, server + 1, None),
+            QUESTION,
+            r#""Description":"unknown device","ResultCode":"UnknownDevEUI""#,
+        ),
+        (
+            state(device, server + 1, None),
+            QUESTION,
+            r#""Description":"wrong join eui","ResultCode":"JoinReqFailed""#,
+        ),
+        (
+            state(device, server, Some(1)),
+            QUESTION,
+            r#""Description":"bad mic","ResultCode":"MICFailed""#,
+        ),
+        (
+            state(device, server, Some(1)),
+            SIGNED,
+            r#""Description":"dev nonce used","ResultCode":"JoinReqFailed""#,
+        ),
     ] {
         refuses(&rt, alloc, &state, question, outcome)?;
     }
@@ -104,13 +126,7 @@ fn question_with(alloc: Global, last: &str) -> Result<String, Fail> {
 #[test]
 fn a_text_that_is_no_question_is_answered(rt: HostRuntime) -> Result<(), Fail> {
     let alloc = rt.alloc();
-    for text in [
-        "",
-        "{}",
-        "no JSON",
-        "[1]",
-        r#"{"DLSettings":"00"}"#,
-    ] {
+    for text in ["", "{}", "no JSON", "[1]", r#"{"DLSettings":"00"}"#] {
         let (answer, after) = answer_text(alloc, &known_state(), text)?;
         assert_eq!(rt; answer.as_str(), NO_QUESTION);
         assert!(rt; after.is_none());
