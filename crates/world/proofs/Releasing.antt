@@ -1,9 +1,9 @@
 -- What a release does to a course.
-use Rattle.std.proofs.Common.{◌≡◌, ◌∙◌, ◌+◌, ℕ, List, [], ◌∷◌, ◌++◌, Result, Ok, Err, length, sym, ap, subst, refl, append_assoc}
+use Rattle.std.proofs.Common.{◌≡◌, ◌∙◌, ◌+◌, inl, inr, ℕ, List, [], ◌∷◌, ◌++◌, Result, Ok, Err, length, sym, ap, subst, refl, append_assoc}
 use Rattle.std.proofs.lemmas.List.{append-nil}
 use Rattle.lw_types.specs.declared.refusal.Refusal.{Refusal}
 use Rattle.devices.specs.declared.command.Command.{Command}
-use Rattle.sessions.specs.Table.{Step as TableStep, effects_of}
+use Rattle.sessions.specs.Table.{TableState, Step as TableStep, effects_of}
 use Rattle.sessions.specs.Decision.{commands_of, effects_in}
 use Rattle.session_core.specs.State.{CoreState}
 use Rattle.store.specs.State.{StoreState}
@@ -12,12 +12,13 @@ use Rattle.flusher.specs.declared.released.Released.{Released}
 use Rattle.flusher.specs.Released.{decisions_of, effects_of_all}
 use Rattle.world.specs.declared.answer.Answer.{Answer}
 use Rattle.world.specs.declared.answer.Answer.TheVariants as answers
+use Rattle.world.specs.declared.commit.Commit.{Commit}
 use Rattle.world.specs.declared.commit.Commit.TheVariants as commits
 use Rattle.world.specs.declared.step.Step.TheVariants as steps
 use Rattle.world.specs.Folding.{RunLaws}
-use Rattle.world.specs.Course.{Origin, Course, admit, after, gone_through, released, table_from, wanted, went}
-use Rattle.world.specs.Answers.{AnswersRelease}
-use Rattle.world.specs.Follows.{IsLife}
+use Rattle.world.specs.Course.{Origin, Course, Flight, admit, after, gone_through, released, table_from, wanted, went}
+use Rattle.world.specs.Answers.{AnswersRelease, Releases}
+use Rattle.world.specs.Follows.{IsAt, IsLife}
 
 module _ (laws : RunLaws) (origin : Origin) (c : Course) (s : StoreState) (core : CoreState) (durable : Done)
     (f : IsLife origin c s core (commits.Durable durable)) where
@@ -56,6 +57,20 @@ module _ (laws : RunLaws) (origin : Origin) (c : Course) (s : StoreState) (core 
       (ap (λ l. c.left ++ l) effects
       ∙ (ap (λ l. l ++ effects_in (decisions_of durable)) left
       ∙ (append_assoc origin.left (effects_of_all old) (effects_in (decisions_of durable)) ∙ ap (λ l. origin.left ++ l) (sym more))))
+
+-- a commit that isn't durable releases nothing
+pub holds_back : (origin : Origin) (c : Course) (t : TableState) (s : StoreState) (flights : List Flight) (commit : Commit)
+    → ((durable : Done) → commit ≡ commits.Durable durable → ⊥) → IsAt flights t s commit → AnswersRelease origin c flights answers.Idle
+holds_back origin c t s flights (commits.Durable durable) other at = absurd (other durable refl)
+holds_back origin c t s [] commits.Failed other at = absurd at
+holds_back origin c t s (flight ∷ []) commits.Failed other (inl is) = subst (λ st. Releases st (length (effects_of (table_from origin c.settled) flight.commands)) answers.Idle) (sym is) refl
+holds_back origin c t s (flight ∷ []) commits.Failed other (inr is) = subst (λ st. Releases st (length (effects_of (table_from origin c.settled) flight.commands)) answers.Idle) (sym is) refl
+holds_back origin c t s (flight ∷ next ∷ rest) commits.Failed other at = absurd at
+holds_back origin c t s flights commits.Idle other at = subst (λ fl. AnswersRelease origin c fl answers.Idle) (sym at.0) refl
+holds_back origin c t s flights (commits.Begun phase room) other at = subst (λ fl. AnswersRelease origin c fl answers.Idle) (sym at.0) refl
+holds_back origin c t s flights (commits.Written phase room) other at = subst (λ fl. AnswersRelease origin c fl answers.Idle) (sym at.0) refl
+holds_back origin c t s flights (commits.BodySynced phase room) other at = subst (λ fl. AnswersRelease origin c fl answers.Idle) (sym at.0) refl
+holds_back origin c t s flights (commits.GateWritten phase room) other at = subst (λ fl. AnswersRelease origin c fl answers.Idle) (sym at.0) refl
 
 -- a turn lets nothing out
 went_left : (c : Course) (command : Command) (outcome : Result TableStep Refusal) → (went c command outcome).left ≡ c.left

@@ -6,7 +6,7 @@ use Rattle.sessions.specs.Table.{Step as TableStep}
 use Rattle.world.specs.declared.step.Step.{Step}
 use Rattle.world.specs.declared.answer.Answer.{Answer}
 use Rattle.world.specs.Calls.{Calls, IsForetold, called}
-use Rattle.world.specs.Course.{Origin, Course, Flight, Stage, after, flying}
+use Rattle.world.specs.Course.{Origin, Course, Flight, Stage, after}
 use Rattle.world.specs.Course.Stage.{Begun, Written, Synced, Opened, Durable, Stopped, Unsure}
 use Rattle.world.specs.Answers.{IsRight}
 use Rattle.world_tests.specs.declared.model.Flight.{Flight as PlainFlight}
@@ -44,6 +44,10 @@ Goes old step answer new =
 abbrev pub IsRefusal : Result TableStep Refusal → Option Refusal → Type 0
 IsRefusal outcome refused = MatchResult outcome (λ _. refused ≡ None) (λ e. refused ≡ Some e)
 
--- what a crash leaves, with the batch under way or without it
+-- what a crash leaves, with the batches under way or without them
+abbrev pub with_all : List Command → List Flight → List Command
+with_all settled [] = settled
+with_all settled (flight ∷ flights) = with_all (settled ++ flight.commands) flights
+
 abbrev pub kept_with : Bool → Course → List Command
-kept_with flew c = if flew then c.settled ++ flying c.flights else c.settled
+kept_with flew c = if flew then with_all c.settled c.flights else c.settled

@@ -299,13 +299,16 @@ impl Plain {
     fn flew(&self, image: &Image) -> bool
         ensures { Leaves self.now.course (kept_with result self.now.course) }
     {
-        match self.flying.as_ref().map(|flight| flight.stage) {
-            Some(Stage::Durable) => true,
-            Some(Stage::Opened | Stage::Unsure) => match image {
-                Image::Old => self.gate_synced,
-                _ => self.gate_written,
+        match &self.flying {
+            None => false,
+            Some(flight) => match flight.stage {
+                Stage::Durable => true,
+                Stage::Opened | Stage::Unsure => match image {
+                    Image::Old => self.gate_synced,
+                    _ => self.gate_written,
+                },
+                _ => false,
             },
-            _ => false,
         }
     }
 
@@ -315,8 +318,10 @@ impl Plain {
     {
         let mut kept = Vec::new(alloc);
         add(&mut kept, &self.settled)?;
-        if flew {
-            add_flying(&mut kept, &self.flying)?;
+        if let Some(flight) = &self.flying {
+            if flew {
+                add(&mut kept, &flight.commands)?;
+            }
         }
         Ok(kept)
     }

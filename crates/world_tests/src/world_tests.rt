@@ -187,6 +187,7 @@ fn many_decisions_wait(rt: HostRuntime) -> Result<(), Fail> {
     Ok(())
 }
 
+// At its largest size a world stands beside no model, each of whose steps costs by all commands.
 #[test]
 fn a_store_of_4096_devices_is_opened(rt: HostRuntime) -> Result<(), Fail> {
     let alloc = rt.alloc();

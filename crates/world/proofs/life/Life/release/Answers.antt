@@ -1,10 +1,13 @@
-use Rattle.std.proofs.Common.{◌∙◌, ◌++◌, sym, subst, ap, length, arith}
+use Rattle.std.proofs.Common.{◌≡◌, ◌∙◌, ◌++◌, sym, subst, ap, length, vec_capacity, arith}
 use Rattle.std.proofs.lemmas.List.{length-map, map-append}
-use Rattle.store.specs.State.{seen}
+use Rattle.store.specs.State.{seen, disk_of}
 use Rattle.flusher.specs.Released.{effect_of, effects_of_all}
-use Rattle.world.specs.Course.{released}
+use Rattle.world.specs.Course.{released, table_from}
+use Rattle.world.specs.Calls.{AreCalls}
 use Rattle.world.specs.Follows.{IsLife}
-use Rattle.world.proofs.Releasing.{releases, lets}
+use Rattle.world.specs.Sound.{IsOnItsWay, HasRoom}
+use Rattle.world.proofs.Taking.{moved}
+use Rattle.world.proofs.Releasing.{releases, lets, holds_back}
 use Rattle.world.proofs.life.Life.release.Goals as goal
 
 pub returns-in-Durable-clause-course : goal.returns-in-Durable-clause-course
@@ -30,3 +33,26 @@ returns-in-Durable-clause-left g c origin course f left =
     ∙ (map-append effect_of c.args.released.now.items c.release-effects.result.items
     ∙ ap (λ l. effects_of_all c.args.released.now.items ++ l) c.release-effects.ensures.effects))
     left
+
+pub returns-in_default : goal.returns-in_default
+returns-in_default g c =
+    let state = g.D.Disk.state in
+    let failures = g.D.Disk.failures in
+    let outlook = g.D.Disk.outlook in
+    let life = c.args.self.now in
+    let new = c.set.new.self in
+    let same : new.commit ≡ life.commit = cc (c.set.ensures.commit, c.replace.ensures.value) in
+    record {
+      sound =
+          subst (IsOnItsWay (seen state new.store)) (sym same)
+          (subst (λ d. IsOnItsWay (seen state d) life.commit) (sym c.set.ensures.store) c.requires.sound);
+      room = subst (λ k. HasRoom k (length c.args.released.now.items) (vec_capacity c.args.released.now)) (sym same) c.requires.room;
+      course = λ origin course f. (
+        holds_back origin course (table_from origin course.settled) (seen state life.store) course.flights life.commit
+            (λ durable is. c.in_default.not-Durable durable (cc (is, c.replace.ensures.value))) f.under_way,
+        moved origin course (seen state life.store) (seen state new.store) life.core new.core life.commit new.commit
+            (ap (seen state) c.set.ensures.store) c.set.ensures.core same f,
+      );
+      calls = λ calls are. (tt, subst (λ d. AreCalls calls (failures (disk_of d)) (outlook (disk_of d))) (sym c.set.ensures.store) are);
+      left = λ origin course f left. left;
+    }
