@@ -26,13 +26,13 @@ fn state(dev_nonce: Option<u16>, join_nonce: Option<u32>) -> Result<JoinState, F
 }
 
 // A Join-Request of this DevNonce.
-fn request(dev_nonce: u16) -> JoinRequest {
+fn request(dev_nonce: u16) -> Result<JoinRequest, Fail> {
     let mut request = [0; 23];
     request[..17].copy_from_slice(&NAMES);
     request[17..19].copy_from_slice(&dev_nonce.to_le_bytes());
     let mic = join_mic(&APP_KEY, &request[..19]);
     request[19..].copy_from_slice(&mic);
-    request
+    Ok(JoinRequest::new(request).ok_or("a Join-Request")?)
 }
 
 fn ask(request: JoinRequest) -> Result<JoinAsk, Fail> {
@@ -54,7 +54,7 @@ fn grants(
     dev_nonce: u16,
     next: u32,
 ) -> Result<(), Fail> {
-    let (after, grant) = answer(&state(last, granted)?, &ask(request(dev_nonce))?)?;
+    let (after, grant) = answer(&state(last, granted)?, &ask(request(dev_nonce)?)?)?;
     assert_eq!(rt; grant.join_nonce.get(), next);
     assert_eq!(rt; after, state(Some(dev_nonce), Some(next))?);
     Ok(())

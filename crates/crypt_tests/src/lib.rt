@@ -6,6 +6,8 @@ mod aes128_tests;
 #[cfg(test)]
 mod aes_cmac_tests;
 #[cfg(test)]
+mod backend_json_tests;
+#[cfg(test)]
 mod counters_tests;
 #[cfg(test)]
 mod frame_crypt_tests;

@@ -1,28 +1,16 @@
 -- What a join server grants, and what it refuses (TS001-1.0.4 §6.2).
-use Rattle.std.specs.Prelude.{◌≡◌, ◌==◌, ◌+◌, ◌^◌, ℕ, Bool, true, not, nat_eq, nat_lt, if◌then◌else◌, List, [], ◌∷◌, ◌++◌, take, drop, Option, Some, Result, Ok, Err, unwrap_or, replicate}
+use Rattle.std.specs.Prelude.{◌==◌, ◌+◌, ◌^◌, ℕ, Bool, true, not, nat_eq, nat_lt, if◌then◌else◌, List, ◌∷◌, ◌++◌, Option, Some, Result, Ok, Err, unwrap_or, replicate}
 use Rattle.std.specs.Option.{option_map_or}
-use Rattle.std.specs.Int.{w16, w32, w64, from_le_bytes, to_le_bytes}
+use Rattle.std.specs.Result.{result_and}
+use Rattle.std.specs.Int.{w32, to_le_bytes}
 use Rattle.std.specs.Cmp.Lexicographic.{pointwise}
 use Rattle.lw_types.specs.declared.refusal.Refusal.{Refusal}
 use Rattle.lw_types.specs.declared.refusal.Refusal.TheVariants.{WrongJoinEui, BadMic, DevNonceUsed, JoinNonceSpent}
 use Rattle.frame_crypt.specs.Joins.{join_mic, sealed, session_key, three_bytes}
+use Rattle.join_server.specs.Request.{join_eui_of, dev_nonce_of, message_of, mic_of}
 use Rattle.join_server.specs.declared.state.JoinState.{JoinState}
 use Rattle.join_server.specs.declared.ask.JoinAsk.{JoinAsk}
 use Rattle.join_server.specs.declared.grant.JoinGrant.{JoinGrant}
-
--- the fields of a Join-Request: MHDR (1), JoinEUI (8), DevEUI (8), DevNonce (2), MIC (4), low bytes first (§6.2.5)
-abbrev pub join_eui_of : List ℕ → ℕ
-join_eui_of request = from_le_bytes w64 (take 8 (drop 1 request))
-
-abbrev pub dev_nonce_of : List ℕ → ℕ
-dev_nonce_of request = from_le_bytes w16 (take 2 (drop 17 request))
-
--- all before the MIC, and the MIC
-abbrev pub message_of : List ℕ → List ℕ
-message_of request = take 19 request
-
-abbrev pub mic_of : List ℕ → List ℕ
-mic_of request = drop 19 request
 
 -- the first DevNonce of a device may be any, and later ones are above the last
 abbrev pub is_later : Option ℕ → ℕ → Bool
@@ -48,17 +36,20 @@ accept_fields join_nonce ask =
     0x20 ∷ (three_bytes join_nonce ++ (three_bytes ask.net_id ++ (to_le_bytes w32 ask.dev_addr.0 ++ (ask.dl_settings ∷ ask.rx_delay ∷ replicate 4 0))))
 
 -- what a device is granted: the keys of the next JoinNonce and this DevNonce (§6.2.3), and the sealed accept
-pub record IsGrantOf (s : JoinState) (ask : JoinAsk) (grant : JoinGrant) : Type 0 where
-  pub join_nonce : grant.join_nonce ≡ next_join_nonce s.join_nonce
-  pub nwk_skey : grant.nwk_skey.0 ≡ session_key s.app_key.0 1 grant.join_nonce ask.net_id (dev_nonce_of ask.request)
-  pub app_skey : grant.app_skey.0 ≡ session_key s.app_key.0 2 grant.join_nonce ask.net_id (dev_nonce_of ask.request)
-  pub accept : grant.accept ≡ sealed s.app_key.0 (accept_fields grant.join_nonce ask)
+abbrev pub grant_of : JoinState → JoinAsk → JoinGrant
+grant_of s ask =
+    let join_nonce = next_join_nonce s.join_nonce in
+    record {
+      join_nonce = join_nonce;
+      nwk_skey = record { 0 = session_key s.app_key.0 1 join_nonce ask.net_id (dev_nonce_of ask.request) };
+      app_skey = record { 0 = session_key s.app_key.0 2 join_nonce ask.net_id (dev_nonce_of ask.request) };
+      accept = sealed s.app_key.0 (accept_fields join_nonce ask);
+    }
 
--- the device's state after a join: both nonces are used, and nothing else has changed
-abbrev pub joined : JoinState → ℕ → ℕ → JoinState
-joined s dev_nonce join_nonce = record s { dev_nonce = Some dev_nonce; join_nonce = Some join_nonce }
+-- the device's state after a join that was granted: both nonces are used, and nothing else has changed
+abbrev pub joined : JoinState → JoinAsk → JoinState
+joined s ask = record s { dev_nonce = Some (dev_nonce_of ask.request); join_nonce = Some (next_join_nonce s.join_nonce) }
 
--- the answer to a join that is granted
-pub record IsAnswer (s : JoinState) (ask : JoinAsk) (answer : JoinState × JoinGrant) : Type 0 where
-  pub grant : IsGrantOf s ask answer.1
-  pub state : answer.0 ≡ joined s (dev_nonce_of ask.request) answer.1.join_nonce
+-- the answer to a Join-Request
+abbrev pub answered : JoinState → JoinAsk → Result (JoinState × JoinGrant) Refusal
+answered s ask = result_and (admission s ask.request) (Ok (joined s ask, grant_of s ask))

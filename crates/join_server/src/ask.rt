@@ -1,8 +1,6 @@
 // What a network asks of a join server.
+use crate::JoinRequest;
 use lw_types::{DevAddr, NetId, Ranged};
-
-/// The bytes of a Join-Request: MHDR, JoinEUI, DevEUI, DevNonce and MIC (TS001-1.0.4 §6.2.5).
-pub type JoinRequest = [u8; 23];
 
 /// The delay from the end of an uplink to RX1, from 1 to 15 seconds (TS001-1.0.4 §6.2.6).
 pub type RxDelay = Ranged<1, 15>;

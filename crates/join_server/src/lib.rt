@@ -3,10 +3,13 @@
 
 mod ask;
 mod grant;
+pub mod laws;
+mod request;
 mod server;
 mod state;
 
-pub use ask::{JoinAsk, JoinRequest, RxDelay};
+pub use ask::{JoinAsk, RxDelay};
 pub use grant::{JoinGrant, SealedAccept};
+pub use request::JoinRequest;
 pub use server::answer;
 pub use state::JoinState;

@@ -8,6 +8,7 @@ ghost use Rattle.lw_types.specs.Hex.{hex_text, is_upper_digit, IsHexText, field_
 ghost use Rattle.lw_types.specs.declared.refusal.Refusal.TheVariants.{OutOfMemory, BadMessage};
 
 use crate::refusal::Refusal;
+use crate::text::FromText;
 use hex::FromHex;
 use std::alloc::{AllocError, Global};
 use std::fmt;
@@ -71,6 +72,32 @@ pub fn read_hex(alloc: Global, text: &str) -> Result<Vec<u8>, Refusal>
     match hex::decode(alloc, text) {
         Ok(bytes) => Ok(bytes),
         Err(_) => Err(Refusal::OutOfMemory),
+    }
+}
+
+/// Bytes of a fixed number, as two digits each, the first byte first.
+#[derive(Clone, Copy, Debug, PartialEq, Eq)]
+pub struct HexArray<const N: usize>(pub [u8; N]);
+
+impl<const N: usize> fmt::Display for HexArray<N> {
+    ghost output = { λ array. Some (hex_text array.0) };
+
+    fn fmt<W: fmt::Write>(&self, f: &mut fmt::Formatter<W>) -> fmt::Result {
+        show(f, &self.0)
+    }
+}
+
+impl<const N: usize> FromText for HexArray<N> {
+    ghost use Rattle.std.specs.Prelude.{◌≡◌, length};
+    ghost use Rattle.hex.specs.Hex.{IsBytes};
+    ghost use Rattle.lw_types.specs.Hex.{hex_text};
+
+    ghost is_value = { λ array. IsBytes array.0 × (length array.0 ≡ N) };
+
+    ghost text_of = { λ array. hex_text array.0 };
+
+    fn from_text(text: &str) -> Option<Self> {
+        Some(HexArray(read_array(text)?))
     }
 }
 

@@ -45,6 +45,13 @@ impl NetId {
         }
     }
 
+    /// The network of number 0.
+    pub fn zero() -> Self
+        ensures { result ≡ 0 }
+    {
+        NetId { number: 0 }
+    }
+
     /// The number of the network, from 0 to 63.
     pub fn get(self) -> u8
         ensures value { result ≡ self }

@@ -18,7 +18,7 @@ mod words;
 pub use bytes::Bytes;
 pub use direction::Direction;
 pub use frame_copy::{FrameCopy, Reception};
-pub use hex_text::{ByteField, read_field, read_hex, write_hex};
+pub use hex_text::{ByteField, HexArray, read_field, read_hex, write_hex};
 pub use identifiers::{DevAddr, Eui, JoinNonce, NetId};
 pub use key::Key;
 pub use payload::{LONGEST_FRAME, LONGEST_PAYLOAD, Payload, PhyPayload};

@@ -12,6 +12,7 @@ pub trait FromText: Sized {
 
     /// The value whose text this is; `None` for a text of no value.
     fn from_text(text: &str) -> Option<Self>
+        ensures value { IfSome result is_value }
         ensures found { IfSome result (λ x. text.now ≡ text_of x) }
         ensures only { (x : Self) → is_value x → text.now ≡ text_of x → result ≡ Some x };
 }

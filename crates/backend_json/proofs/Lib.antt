@@ -1,0 +1,3 @@
+pub mod Equal
+pub mod Numbers
+pub mod OneMessage

@@ -1,0 +1,86 @@
+-- The answers of a join server, as the values that JSON texts are read as. The members stand in the byte order of their
+-- names, and there are no others.
+use Rattle.std.specs.Prelude.{◌≡◌, ◌<◌, ◌^◌, ℕ, List, [], length, Some, codes, Result, Ok, Err, IfOk}
+use Rattle.serde_json.specs.Data.{Data, Members, number, string, object, member, no_members, unsigned}
+use Rattle.serde_json.specs.Read.{read}
+use Rattle.lw_types.specs.Hex.{IsBytes, eui_text, hex_text, key_text, net_id_text}
+use Rattle.lw_types.specs.declared.key.Key.{Key}
+use Rattle.lw_types.specs.declared.identifiers.Eui.{Eui}
+use Rattle.backend_json.specs.declared.join_ans.Accepted.{Accepted}
+use Rattle.backend_json.specs.declared.join_ans.Cause.{Cause}
+use Rattle.backend_json.specs.declared.join_ans.Cause.TheVariants.{UnknownDevEui, WrongJoinEui, BadMic, DevNonceUsed, JoinNonceSpent, BadMessage}
+use Rattle.backend_json.specs.declared.join_ans.JoinAns.{JoinAns}
+
+-- a key stands in an object of its own
+abbrev pub aes_key : Key → Data
+aes_key key = object (member (codes "AESKey") (string (key_text key)) no_members)
+
+-- the ResultCode and the Description of a refusal
+abbrev pub code_of : Cause → List ℕ
+code_of UnknownDevEui = codes "UnknownDevEUI"
+code_of WrongJoinEui = codes "JoinReqFailed"
+code_of BadMic = codes "MICFailed"
+code_of DevNonceUsed = codes "JoinReqFailed"
+code_of JoinNonceSpent = codes "JoinReqFailed"
+code_of BadMessage = codes "Other"
+
+abbrev pub description_of : Cause → List ℕ
+description_of UnknownDevEui = codes "unknown device"
+description_of WrongJoinEui = codes "wrong join eui"
+description_of BadMic = codes "bad mic"
+description_of DevNonceUsed = codes "dev nonce used"
+description_of JoinNonceSpent = codes "join nonce spent"
+description_of BadMessage = codes "bad message"
+
+abbrev pub outcome : List ℕ → List ℕ → Data
+outcome code description = object (member (codes "Description") (string description) (member (codes "ResultCode") (string code) no_members))
+
+abbrev pub outcome_of : Result Accepted Cause → Data
+outcome_of (Ok accepted) = outcome (codes "Success") []
+outcome_of (Err cause) = outcome (code_of cause) (description_of cause)
+
+-- the members of every answer from ProtocolVersion on
+abbrev pub closing : ℕ → Data → Eui → ℕ → Members
+closing receiver result sender transaction =
+    member (codes "ProtocolVersion") (string (codes "1.0"))
+    (member (codes "ReceiverID") (string (net_id_text receiver))
+    (member (codes "Result") result
+    (member (codes "SenderID") (string (eui_text sender))
+    (member (codes "TransactionID") (number (unsigned transaction))
+    no_members))))
+
+-- and those before: a join that is granted has the two keys and the accept besides
+abbrev pub opening : Result Accepted Cause → Members → Members
+opening (Ok accepted) rest =
+    member (codes "AppSKey") (aes_key accepted.app_skey)
+    (member (codes "MessageType") (string (codes "JoinAns"))
+    (member (codes "NwkSKey") (aes_key accepted.nwk_skey)
+    (member (codes "PHYPayload") (string (hex_text accepted.accept))
+    rest)))
+opening (Err cause) rest = member (codes "MessageType") (string (codes "JoinAns")) rest
+
+-- a JoinAns
+abbrev pub join_ans : JoinAns → Data
+join_ans ans = object (opening ans.result (closing ans.receiver (outcome_of ans.result) ans.sender ans.transaction))
+
+-- a text is such an answer if it is read as it
+abbrev pub IsJoinAns : List ℕ → JoinAns → Type 0
+IsJoinAns text ans = read text ≡ Some (join_ans ans)
+
+-- the values that an answer of a program has by its types
+abbrev pub IsKey : Key → Type 0
+IsKey key = IsBytes key.0 × (length key.0 ≡ 16)
+
+abbrev pub IsSealed : List ℕ → Type 0
+IsSealed accept = IsBytes accept × (length accept ≡ 17)
+
+pub record AreKeys (accepted : Accepted) : Type 0 where
+  pub app_skey : IsKey accepted.app_skey
+  pub nwk_skey : IsKey accepted.nwk_skey
+  pub accept : IsSealed accepted.accept
+
+pub record IsAns (ans : JoinAns) : Type 0 where
+  pub receiver : ans.receiver < 64
+  pub sender : ans.sender.0 < 2 ^ 64
+  pub result : IfOk ans.result AreKeys
+  pub transaction : ans.transaction < 2 ^ 32

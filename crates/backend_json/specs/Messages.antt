@@ -1,0 +1,42 @@
+-- The messages between a network and its join server, as the values that JSON texts are read as. The members stand in
+-- the byte order of their names, and there are no others.
+use Rattle.std.specs.Prelude.{◌≡◌, ◌<◌, ◌≤◌, ◌^◌, ℕ, List, [], ◌∷◌, Some, codes}
+use Rattle.serde_json.specs.Data.{Data, number, string, object, member, no_members, unsigned}
+use Rattle.serde_json.specs.Read.{read}
+use Rattle.lw_types.specs.Hex.{IsBytes, dev_addr_text, eui_text, hex_text, net_id_text}
+use Rattle.lw_types.specs.declared.identifiers.Eui.{Eui}
+use Rattle.join_server.specs.Request.{IsRequest, dev_eui_of, join_eui_of}
+use Rattle.join_server.specs.declared.ask.JoinAsk.{JoinAsk}
+
+abbrev pub eui : ℕ → Eui
+eui n = record { 0 = n }
+
+-- a JoinReq: the question of a network
+abbrev pub join_req : JoinAsk → Data
+join_req ask =
+    object
+    (member (codes "DLSettings") (string (hex_text (ask.dl_settings ∷ [])))
+    (member (codes "DevAddr") (string (dev_addr_text ask.dev_addr))
+    (member (codes "DevEUI") (string (eui_text (eui (dev_eui_of ask.request))))
+    (member (codes "MACVersion") (string (codes "1.0.4"))
+    (member (codes "MessageType") (string (codes "JoinReq"))
+    (member (codes "PHYPayload") (string (hex_text ask.request))
+    (member (codes "ProtocolVersion") (string (codes "1.0"))
+    (member (codes "ReceiverID") (string (eui_text (eui (join_eui_of ask.request))))
+    (member (codes "RxDelay") (number (unsigned ask.rx_delay))
+    (member (codes "SenderID") (string (net_id_text ask.net_id))
+    (member (codes "TransactionID") (number (unsigned ask.transaction))
+    no_members)))))))))))
+
+-- a text is such a message if it is read as it
+abbrev pub IsJoinReq : List ℕ → JoinAsk → Type 0
+IsJoinReq text ask = read text ≡ Some (join_req ask)
+
+-- the values that a question of a program has by its types
+pub record IsAsk (ask : JoinAsk) : Type 0 where
+  pub net_id : ask.net_id < 64
+  pub dev_addr : ask.dev_addr.0 < 2 ^ 32
+  pub dl_settings : ask.dl_settings < 2 ^ 8
+  pub rx_delay : (1 ≤ ask.rx_delay) × (ask.rx_delay ≤ 15)
+  pub request : IsRequest ask.request × IsBytes ask.request
+  pub transaction : ask.transaction < 2 ^ 32

@@ -1,0 +1,102 @@
+// The join server behind its texts.
+ghost use Rattle.std.specs.Prelude.{◌≡◌, string_bytes, MatchResult};
+ghost use Rattle.serde_json.specs.Written.{compact_text};
+ghost use Rattle.lw_types.specs.declared.refusal.Refusal.TheVariants.{OutOfMemory};
+ghost use Rattle.backend_json.specs.declared.join_ans.JoinAns.{JoinAns};
+ghost use Rattle.backend_json.specs.Answers.{IsJoinAns, join_ans};
+ghost use Rattle.backend_json.specs.Replies.{IsReply, ans_to, cause_of, no_question, reply};
+
+use crate::{Accepted, Cause, JoinAns, join_ans_text, read_join_req};
+use join_server::{JoinAsk, JoinState, answer};
+use lw_types::{NetId, Refusal};
+use std::alloc::Global;
+
+/// Answers a text that a network sends, for the device of the state: the text of the answer, and the device's state after
+/// a join that is granted. Every text is answered, with the first cause that there is: that it is no question, that
+/// the device is another one, and then those of [`answer`]. Refused with `OutOfMemory` alone.
+pub fn answer_text(
+    alloc: Global,
+    state: &JoinState,
+    text: &str,
+) -> Result<(String, Option<JoinState>), Refusal>
+    ensures { MatchResult result
+        (λ found. (ans : JoinAns) × IsReply state.now text.now (ans, found.1)
+        × (string_bytes found.0 ≡ compact_text (join_ans ans)) × IsJoinAns (string_bytes found.0) ans)
+        (λ e. e ≡ OutOfMemory) }
+{
+    let (ans, after) = reply_to(alloc, state, text)?;
+    Ok((join_ans_text(alloc, &ans)?, after))
+}
+
+// The reply to a text.
+fn reply_to(
+    alloc: Global,
+    state: &JoinState,
+    text: &str,
+) -> Result<(JoinAns, Option<JoinState>), Refusal>
+    ensures { MatchResult result (IsReply state.now text.now) (λ e. e ≡ OutOfMemory) }
+{
+    match read_join_req(alloc, text) {
+        Ok(ask) => Ok(reply(state, &ask)),
+        Err(refusal) => match refusal {
+            Refusal::OutOfMemory => Err(Refusal::OutOfMemory),
+            _ => Ok(no_question(state)),
+        },
+    }
+}
+
+// The reply to a question.
+fn reply(state: &JoinState, ask: &JoinAsk) -> (JoinAns, Option<JoinState>)
+    ensures { result ≡ reply state.now ask.now }
+{
+    if ask.request.dev_eui() != state.dev_eui {
+        return (ans_to(ask, Err(Cause::UnknownDevEui)), None);
+    }
+    match answer(state, ask) {
+        Ok((after, grant)) => {
+            let accept = grant.accept;
+            let accepted = Accepted {
+                app_skey: grant.app_skey,
+                nwk_skey: grant.nwk_skey,
+                accept,
+            };
+            (ans_to(ask, Ok(accepted)), Some(after))
+        }
+        Err(refusal) => (ans_to(ask, Err(cause_of(refusal))), None),
+    }
+}
+
+fn ans_to(ask: &JoinAsk, answer: Result<Accepted, Cause>) -> JoinAns
+    ensures { result ≡ ans_to ask.now answer }
+{
+    JoinAns {
+        receiver: ask.net_id,
+        sender: ask.request.join_eui(),
+        result: answer,
+        transaction: ask.transaction,
+    }
+}
+
+fn cause_of(refusal: Refusal) -> Cause
+    ensures { result ≡ cause_of refusal }
+{
+    match refusal {
+        Refusal::WrongJoinEui => Cause::WrongJoinEui,
+        Refusal::BadMic => Cause::BadMic,
+        Refusal::DevNonceUsed => Cause::DevNonceUsed,
+        Refusal::JoinNonceSpent => Cause::JoinNonceSpent,
+        _ => Cause::BadMessage,
+    }
+}
+
+fn no_question(state: &JoinState) -> (JoinAns, Option<JoinState>)
+    ensures { result ≡ no_question state.now }
+{
+    let ans = JoinAns {
+        receiver: NetId::zero(),
+        sender: state.join_eui,
+        result: Err(Cause::BadMessage),
+        transaction: 0,
+    };
+    (ans, None)
+}

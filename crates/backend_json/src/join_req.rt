@@ -1,0 +1,141 @@
+// The question of a network: whether a device may join.
+ghost use Rattle.std.specs.Prelude.{◌≡◌, ◌≢◌, ◌⊎◌, ◌↔◌, codes, string_bytes, [], ◌∷◌, IfOk, IfErr, IsTrue, OnOk, MatchOption, MatchResult};
+ghost use Rattle.serde_json.specs.Data.{string, number, unsigned, put as with_member};
+ghost use Rattle.serde_json.specs.View.{members_view, view};
+ghost use Rattle.serde_json.specs.Written.{compact_text};
+ghost use Rattle.lw_types.specs.Hex.{dev_addr_text, eui_text, hex_text, net_id_text};
+ghost use Rattle.lw_types.specs.declared.refusal.Refusal.TheVariants.{OutOfMemory, BadMessage};
+ghost use Rattle.join_server.specs.declared.ask.JoinAsk.{JoinAsk};
+ghost use Rattle.join_server.specs.Request.{dev_eui_of, join_eui_of};
+ghost use Rattle.backend_json.specs.Messages.{IsAsk, IsJoinReq, eui, join_req};
+
+use crate::json::{put_number, put_text, put_word, read_value};
+use crate::members::Rest;
+use join_server::{JoinAsk, JoinRequest, RxDelay};
+use lw_types::{Eui, HexArray, Refusal};
+use serde_json::{Map, Value};
+use std::alloc::{AllocError, Global};
+
+/// The text of a question: compact JSON, its members in the byte order of their names.
+pub fn join_req_text(alloc: Global, ask: &JoinAsk) -> Result<String, Refusal>
+    ensures { MatchResult result
+        (λ text. (string_bytes text ≡ compact_text (join_req ask.now)) × IsJoinReq (string_bytes text) ask.now)
+        (λ e. e ≡ OutOfMemory) }
+{
+    let mut members = Map::new(alloc);
+    put_device(&mut members, alloc, ask)?;
+    put_network(&mut members, alloc, ask)?;
+    Ok(Value::Object(members).to_string(alloc)?)
+}
+
+/// The question that a text is. Any other text is refused as `BadMessage`: white space and the order of the members are
+/// free, as JSON has them, and of a member that comes twice the last counts, but there are no others, numbers are whole,
+/// hex is in upper case, and the PHYPayload is a Join-Request of this DevEUI and JoinEUI.
+pub fn read_join_req(alloc: Global, text: &str) -> Result<JoinAsk, Refusal>
+    ensures found { IfOk result (λ ask. IsAsk ask × IsJoinReq text.now ask) }
+    ensures refused { IfErr result (λ e. (e ≡ OutOfMemory)
+        ⊎ ((e ≡ BadMessage) × ((ask : JoinAsk) → IsAsk ask → ¬ (IsJoinReq text.now ask)))) }
+{
+    ask_of(&read_value(alloc, text)?).ok_or(Refusal::BadMessage)
+}
+
+// The members from DLSettings to MessageType.
+fn put_device(
+    members: &mut Map<String, Value>,
+    alloc: Global,
+    ask: &JoinAsk,
+) -> Result<(), AllocError>
+    ensures { OnOk result (members_view members.new.entries
+        ≡ with_member (codes "MessageType") (string (codes "JoinReq"))
+        (with_member (codes "MACVersion") (string (codes "1.0.4"))
+        (with_member (codes "DevEUI") (string (eui_text (eui (dev_eui_of ask.now.request))))
+        (with_member (codes "DevAddr") (string (dev_addr_text ask.now.dev_addr))
+        (with_member (codes "DLSettings") (string (hex_text (ask.now.dl_settings ∷ []))) (members_view members.old.entries)))))) }
+{
+    put_text(
+        members,
+        alloc,
+        "DLSettings",
+        HexArray([ask.dl_settings]).to_string(alloc)?,
+    )?;
+    put_text(members, alloc, "DevAddr", ask.dev_addr.to_string(alloc)?)?;
+    put_text(
+        members,
+        alloc,
+        "DevEUI",
+        ask.request.dev_eui().to_string(alloc)?,
+    )?;
+    put_word(members, alloc, "MACVersion", "1.0.4")?;
+    put_word(members, alloc, "MessageType", "JoinReq")
+}
+
+// The members from PHYPayload to TransactionID.
+fn put_network(
+    members: &mut Map<String, Value>,
+    alloc: Global,
+    ask: &JoinAsk,
+) -> Result<(), AllocError>
+    ensures { OnOk result (members_view members.new.entries
+        ≡ with_member (codes "TransactionID") (number (unsigned ask.now.transaction))
+        (with_member (codes "SenderID") (string (net_id_text ask.now.net_id))
+        (with_member (codes "RxDelay") (number (unsigned ask.now.rx_delay))
+        (with_member (codes "ReceiverID") (string (eui_text (eui (join_eui_of ask.now.request))))
+        (with_member (codes "ProtocolVersion") (string (codes "1.0"))
+        (with_member (codes "PHYPayload") (string (hex_text ask.now.request)) (members_view members.old.entries))))))) }
+{
+    put_text(
+        members,
+        alloc,
+        "PHYPayload",
+        HexArray(ask.request.bytes()).to_string(alloc)?,
+    )?;
+    put_word(members, alloc, "ProtocolVersion", "1.0")?;
+    put_text(
+        members,
+        alloc,
+        "ReceiverID",
+        ask.request.join_eui().to_string(alloc)?,
+    )?;
+    put_number(members, alloc, "RxDelay", ask.rx_delay.get())?;
+    put_text(members, alloc, "SenderID", ask.net_id.to_string(alloc)?)?;
+    put_number(members, alloc, "TransactionID", u64::from(ask.transaction))
+}
+
+// The question that the value is.
+fn ask_of(value: &Value) -> Option<JoinAsk>
+    ensures { MatchOption result ((ask : JoinAsk) → IsAsk ask → view value.now ≢ join_req ask)
+        (λ ask. IsAsk ask × (view value.now ≡ join_req ask)) }
+{
+    let mut rest = Rest::of(value)?;
+    let HexArray([dl_settings]): HexArray<1> = rest.value("DLSettings")?;
+    let dev_addr = rest.value("DevAddr")?;
+    let dev_eui: Eui = rest.value("DevEUI")?;
+    rest.text("MACVersion", "1.0.4")?;
+    rest.text("MessageType", "JoinReq")?;
+    let request: JoinRequest = rest.value("PHYPayload")?;
+    rest.text("ProtocolVersion", "1.0")?;
+    let join_eui: Eui = rest.value("ReceiverID")?;
+    let rx_delay = RxDelay::new(rest.number("RxDelay")?)?;
+    let net_id = rest.value("SenderID")?;
+    let transaction = u32::try_from(rest.number("TransactionID")?).ok()?;
+    rest.end()?;
+    if is_between(&request, dev_eui, join_eui) {
+        Some(JoinAsk {
+            net_id,
+            dev_addr,
+            dl_settings,
+            rx_delay,
+            request,
+            transaction,
+        })
+    } else {
+        None
+    }
+}
+
+// Whether the device asks this join server.
+fn is_between(request: &JoinRequest, dev_eui: Eui, join_eui: Eui) -> bool
+    ensures { IsTrue result ↔ ((dev_eui.0 ≡ dev_eui_of request.now) × (join_eui.0 ≡ join_eui_of request.now)) }
+{
+    request.dev_eui() == dev_eui && request.join_eui() == join_eui
+}

@@ -1,0 +1,14 @@
+//! Laws of the texts. The functions do nothing: their contracts are the laws.
+ghost use Rattle.std.specs.Prelude.{◌≡◌, ℕ, List};
+ghost use Rattle.join_server.specs.declared.ask.JoinAsk.{JoinAsk};
+ghost use Rattle.backend_json.specs.declared.join_ans.JoinAns.{JoinAns};
+ghost use Rattle.backend_json.specs.Answers.{IsAns, IsJoinAns};
+ghost use Rattle.backend_json.specs.Messages.{IsAsk, IsJoinReq};
+
+/// No text is of two questions, and none of two answers: what is read of a text that was written is what was written.
+pub fn each_text_is_of_one_message()
+    ensures questions { (text : List ℕ) (a b : JoinAsk) → IsAsk a → IsAsk b → IsJoinReq text a → IsJoinReq text b → a ≡ b }
+    ensures answers { (text : List ℕ) (a b : JoinAns) → IsAns a → IsAns b → IsJoinAns text a → IsJoinAns text b → a ≡ b }
+{
+    lw_types::laws::each_text_is_of_one_value();
+}

@@ -1,0 +1,165 @@
+// Reading of answers.
+ghost use Rattle.std.specs.Prelude.{◌≡◌, ◌≢◌, ◌⊎◌, ◌<◌, ◌^◌, ℕ, List, codes, [], Ok, Err, Some, IfOk, IfErr, IfSome, MatchOption};
+ghost use Rattle.serde_json.specs.Data.{Members, member, no_members, number, string, unsigned};
+ghost use Rattle.serde_json.specs.View.{members_view, view};
+ghost use Rattle.lw_types.specs.Hex.{eui_text, hex_text, net_id_text};
+ghost use Rattle.lw_types.specs.declared.key.Key.{Key};
+ghost use Rattle.lw_types.specs.declared.identifiers.Eui.{Eui};
+ghost use Rattle.lw_types.specs.declared.refusal.Refusal.TheVariants.{OutOfMemory, BadMessage};
+ghost use Rattle.backend_json.specs.declared.join_ans.Accepted.{Accepted};
+ghost use Rattle.backend_json.specs.declared.join_ans.Cause.{Cause};
+ghost use Rattle.backend_json.specs.declared.join_ans.JoinAns.{JoinAns};
+ghost use Rattle.backend_json.specs.Answers.{IsAns, IsJoinAns, IsKey, IsSealed, aes_key, code_of, description_of, join_ans, outcome};
+
+use crate::json::read_value;
+use crate::members::Rest;
+use crate::{Accepted, Cause, JoinAns};
+use join_server::SealedAccept;
+use lw_types::{Eui, HexArray, Key, NetId, Refusal};
+use serde_json::Value;
+use std::alloc::Global;
+
+/// The answer that a text is. Any other text is refused as `BadMessage`, as [`crate::read_join_req`] does.
+pub fn read_join_ans(alloc: Global, text: &str) -> Result<JoinAns, Refusal>
+    ensures found { IfOk result (λ ans. IsAns ans × IsJoinAns text.now ans) }
+    ensures refused { IfErr result (λ e. (e ≡ OutOfMemory)
+        ⊎ ((e ≡ BadMessage) × ((ans : JoinAns) → IsAns ans → ¬ (IsJoinAns text.now ans)))) }
+{
+    ans_of(&read_value(alloc, text)?).ok_or(Refusal::BadMessage)
+}
+
+fn ans_of(value: &Value) -> Option<JoinAns>
+    ensures { MatchOption result ((ans : JoinAns) → IsAns ans → view value.now ≢ join_ans ans)
+        (λ ans. IsAns ans × (view value.now ≡ join_ans ans)) }
+{
+    match granted_of(value) {
+        Some(ans) => Some(ans),
+        None => refused_of(value),
+    }
+}
+
+// The answer that the value is, where that grants a session.
+fn granted_of(value: &Value) -> Option<JoinAns>
+    ensures { MatchOption result
+        ((ans : JoinAns) (accepted : Accepted) → IsAns ans → ans.result ≡ Ok accepted → view value.now ≢ join_ans ans)
+        (λ ans. IsAns ans × (view value.now ≡ join_ans ans)) }
+{
+    let mut rest = Rest::of(value)?;
+    let app_skey = key_of(&mut rest, "AppSKey")?;
+    rest.text("MessageType", "JoinAns")?;
+    let nwk_skey = key_of(&mut rest, "NwkSKey")?;
+    let accept = accept_of(&mut rest)?;
+    let receiver = receiver_of(&mut rest)?;
+    success_of(&mut rest)?;
+    let (sender, transaction) = sender_of(&mut rest)?;
+    let accepted = Accepted {
+        app_skey,
+        nwk_skey,
+        accept,
+    };
+    Some(JoinAns {
+        receiver,
+        sender,
+        result: Ok(accepted),
+        transaction,
+    })
+}
+
+// The answer that the value is, where that refuses a join.
+fn refused_of(value: &Value) -> Option<JoinAns>
+    ensures { MatchOption result
+        ((ans : JoinAns) (cause : Cause) → IsAns ans → ans.result ≡ Err cause → view value.now ≢ join_ans ans)
+        (λ ans. IsAns ans × (view value.now ≡ join_ans ans)) }
+{
+    let mut rest = Rest::of(value)?;
+    rest.text("MessageType", "JoinAns")?;
+    let receiver = receiver_of(&mut rest)?;
+    let cause = cause_of(&mut rest)?;
+    let (sender, transaction) = sender_of(&mut rest)?;
+    Some(JoinAns {
+        receiver,
+        sender,
+        result: Err(cause),
+        transaction,
+    })
+}
+
+// The key in the next member, where it has this name.
+fn key_of(rest: &mut Rest<'_>, name: &str) -> Option<Key>
+    ensures found { IfSome result (λ key. IsKey key
+        × (members_view rest.old.members ≡ member name.now (aes_key key) (members_view rest.new.members))) }
+    ensures only { (key : Key) (others : Members) → IsKey key
+        → members_view rest.old.members ≡ member name.now (aes_key key) others → result ≡ Some key }
+{
+    let mut inner = rest.object(name)?;
+    let key = inner.value("AESKey")?;
+    inner.end()?;
+    Some(key)
+}
+
+// The accept.
+fn accept_of(rest: &mut Rest<'_>) -> Option<SealedAccept>
+    ensures found { IfSome result (λ accept. IsSealed accept × (members_view rest.old.members
+        ≡ member (codes "PHYPayload") (string (hex_text accept)) (members_view rest.new.members))) }
+    ensures only { (accept : List ℕ) (others : Members) → IsSealed accept → members_view rest.old.members
+        ≡ member (codes "PHYPayload") (string (hex_text accept)) others → result ≡ Some accept }
+{
+    let HexArray(accept): HexArray<17> = rest.value("PHYPayload")?;
+    Some(accept)
+}
+
+// ProtocolVersion and ReceiverID.
+fn receiver_of(rest: &mut Rest<'_>) -> Option<NetId>
+    ensures found { IfSome result (λ receiver. members_view rest.old.members
+        ≡ member (codes "ProtocolVersion") (string (codes "1.0"))
+        (member (codes "ReceiverID") (string (net_id_text receiver)) (members_view rest.new.members))) }
+    ensures only { (receiver : ℕ) (others : Members) → receiver < 64 → members_view rest.old.members
+        ≡ member (codes "ProtocolVersion") (string (codes "1.0"))
+        (member (codes "ReceiverID") (string (net_id_text receiver)) others) → result ≡ Some receiver }
+{
+    rest.text("ProtocolVersion", "1.0")?;
+    rest.value("ReceiverID")
+}
+
+// SenderID and TransactionID, and that no member follows.
+fn sender_of(rest: &mut Rest<'_>) -> Option<(Eui, u32)>
+    ensures found { IfSome result (λ p. members_view rest.old.members
+        ≡ member (codes "SenderID") (string (eui_text p.0))
+        (member (codes "TransactionID") (number (unsigned p.1)) no_members)) }
+    ensures only { (sender : Eui) (transaction : ℕ) → sender.0 < 2 ^ 64 → transaction < 2 ^ 32 → members_view rest.old.members
+        ≡ member (codes "SenderID") (string (eui_text sender))
+        (member (codes "TransactionID") (number (unsigned transaction)) no_members) → result ≡ Some (sender, transaction) }
+{
+    let sender = rest.value("SenderID")?;
+    let transaction = u32::try_from(rest.number("TransactionID")?).ok()?;
+    rest.end()?;
+    Some((sender, transaction))
+}
+
+// That the Result is Success.
+fn success_of(rest: &mut Rest<'_>) -> Option<()>
+    ensures { MatchOption result
+        ((others : Members) → members_view rest.old.members ≢ member (codes "Result") (outcome (codes "Success") []) others)
+        (λ _. members_view rest.old.members
+        ≡ member (codes "Result") (outcome (codes "Success") []) (members_view rest.new.members)) }
+{
+    let mut inner = rest.object("Result")?;
+    inner.text("Description", "")?;
+    inner.text("ResultCode", "Success")?;
+    inner.end()
+}
+
+// The cause in the Result.
+fn cause_of(rest: &mut Rest<'_>) -> Option<Cause>
+    ensures { MatchOption result
+        ((cause : Cause) (others : Members) → members_view rest.old.members
+        ≢ member (codes "Result") (outcome (code_of cause) (description_of cause)) others)
+        (λ cause. members_view rest.old.members
+        ≡ member (codes "Result") (outcome (code_of cause) (description_of cause)) (members_view rest.new.members)) }
+{
+    let mut inner = rest.object("Result")?;
+    let cause = Cause::described(inner.any_text("Description")?)?;
+    inner.text("ResultCode", cause.code())?;
+    inner.end()?;
+    Some(cause)
+}

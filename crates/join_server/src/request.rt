@@ -1,0 +1,99 @@
+// The Join-Request (TS001-1.0.4 §6.2.5).
+ghost use Rattle.std.specs.Prelude.{◌≡◌, SomeIff, nat_eq};
+ghost use Rattle.std.specs.Cmp.Lexicographic.{pointwise};
+ghost use Rattle.frame_crypt.specs.Joins.{join_mic};
+ghost use Rattle.join_server.specs.Request.{IsRequest, dev_eui_of, dev_nonce_of, join_eui_of, message_of, mic_of};
+
+use frame_crypt::join_mic;
+use lw_types::{Eui, FromText, HexArray, Key};
+use std::marker::Model;
+
+/// The 23 bytes of a Join-Request: MHDR, which is 0, JoinEUI, DevEUI, DevNonce and MIC (TS001-1.0.4 §6.2.5).
+#[derive(Clone, Copy, Debug, PartialEq, Eq)]
+pub struct JoinRequest {
+    bytes: [u8; 23],
+}
+
+impl Model for JoinRequest {
+    ghost use Rattle.std.specs.Prelude.{List, ℕ};
+    ghost use Rattle.join_server.specs.Request.{IsRequest};
+
+    ghost Value = { List ℕ };
+
+    ghost view = { λ r. r.bytes };
+
+    ghost invariant = { λ r. IsRequest r.bytes };
+
+    ghost inverse = { λ bytes. record { bytes = bytes } };
+}
+
+impl JoinRequest {
+    /// The Join-Request of these bytes; `None` where the MHDR isn't 0, so that they are no Join-Request.
+    pub fn new(bytes: [u8; 23]) -> Option<Self>
+        ensures { SomeIff result (IsRequest bytes) bytes }
+    {
+        if bytes[0] == 0 {
+            Some(JoinRequest { bytes })
+        } else {
+            None
+        }
+    }
+
+    /// Its bytes.
+    pub fn bytes(&self) -> [u8; 23]
+        ensures value { result ≡ self.now }
+        ensures request { IsRequest self.now }
+    {
+        self.bytes
+    }
+
+    /// The join server that is asked.
+    pub fn join_eui(&self) -> Eui
+        ensures { result.0 ≡ join_eui_of self.now }
+    {
+        let mut bytes = [0; 8];
+        bytes.copy_from_slice(&self.bytes[1..9]);
+        Eui(u64::from_le_bytes(bytes))
+    }
+
+    /// The device that asks.
+    pub fn dev_eui(&self) -> Eui
+        ensures { result.0 ≡ dev_eui_of self.now }
+    {
+        let mut bytes = [0; 8];
+        bytes.copy_from_slice(&self.bytes[9..17]);
+        Eui(u64::from_le_bytes(bytes))
+    }
+
+    /// The device's number for this request.
+    pub fn dev_nonce(&self) -> u16
+        ensures { result ≡ dev_nonce_of self.now }
+    {
+        let mut bytes = [0; 2];
+        bytes.copy_from_slice(&self.bytes[17..19]);
+        u16::from_le_bytes(bytes)
+    }
+
+    /// Whether the MIC is that of all before it under this key (TS001-1.0.4 §6.2.5).
+    pub fn is_signed(&self, key: &Key) -> bool
+        ensures { result ≡ pointwise nat_eq (mic_of self.now) (join_mic key.now.0 (message_of self.now)) }
+    {
+        let (message, mic) = self.bytes.split_at(19);
+        mic == join_mic(key, message).as_slice()
+    }
+}
+
+/// The text has two digits for each byte, and MHDR comes first.
+impl FromText for JoinRequest {
+    ghost use Rattle.lw_types.specs.Hex.{IsBytes, hex_text};
+    ghost use Rattle.join_server.specs.Request.{IsRequest};
+
+    ghost is_value = { λ bytes. IsRequest bytes × IsBytes bytes };
+
+    ghost text_of = { hex_text };
+
+    fn from_text(text: &str) -> Option<Self> {
+        let HexArray(bytes) = HexArray::from_text(text)?;
+        JoinRequest::new(bytes)
+    }
+}
