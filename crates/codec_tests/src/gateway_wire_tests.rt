@@ -60,23 +60,27 @@ fn report(report: Report) -> Result<Effect, Fail> {
     })
 }
 
-// These bytes, for the gateway.
-fn is_frame(rt: &impl Abort, emission: &Emission, bytes: &[u8]) {
+// Whether it is these bytes, for the gateway.
+fn is_frame(emission: &Emission, bytes: &[u8]) -> bool {
     match emission {
-        Emission::Gateway { gateway, frame } => {
-            assert_eq!(rt; *gateway, GATEWAY);
-            assert_eq!(rt; frame.as_slice(), bytes);
-        }
-        Emission::Application { .. } => assert!(rt; false),
+        Emission::Gateway { gateway, frame } => *gateway == GATEWAY && frame.as_slice() == bytes,
+        Emission::Application { .. } => false,
+    }
+}
+
+// Whether the gateway is sent these bytes.
+fn gateway_bytes_are(alloc: Global, effect: &Effect, bytes: &[u8]) -> Result<bool, Fail> {
+    match gateway_bytes(alloc, effect)? {
+        Some(frame) => Ok(frame.as_slice() == bytes),
+        None => Ok(false),
     }
 }
 
 // The effect leaves as these bytes for its gateway, and as nothing for an application.
 fn is_sent(rt: &impl Abort, alloc: Global, effect: &Effect, bytes: &[u8]) -> Result<(), Fail> {
-    let frame = gateway_bytes(alloc, effect)?.ok_or("for a gateway")?;
-    assert_eq!(rt; frame.as_slice(), bytes);
+    assert!(rt; gateway_bytes_are(alloc, effect, bytes)?);
     assert!(rt; app_line(alloc, effect)?.is_none());
-    is_frame(rt, &Emission::of(alloc, effect)?, bytes);
+    assert!(rt; is_frame(&Emission::of(alloc, effect)?, bytes));
     Ok(())
 }
 
@@ -136,23 +140,29 @@ fn an_accept_goes_to_its_gateway(rt: HostRuntime) -> Result<(), Fail> {
     is_sent(&rt, alloc, &accept, bytes.as_slice())
 }
 
-// These words, for application 3.
-fn is_line(rt: &impl Abort, emission: &Emission, text: &str) {
+// Whether it is this line, for application 3.
+fn is_line(emission: &Emission, text: &str) -> bool {
     match emission {
         Emission::Application { application, line } => {
-            assert_eq!(rt; application.get(), 3);
-            assert_eq!(rt; line.as_str(), text);
+            application.get() == 3 && line.as_str() == text
         }
-        Emission::Gateway { .. } => assert!(rt; false),
+        Emission::Gateway { .. } => false,
+    }
+}
+
+// Whether the application is told this line.
+fn app_line_is(alloc: Global, effect: &Effect, text: &str) -> Result<bool, Fail> {
+    match app_line(alloc, effect)? {
+        Some(line) => Ok(line.as_str() == text),
+        None => Ok(false),
     }
 }
 
 // The effect leaves as this line for its application, and as nothing for a gateway.
 fn is_told(rt: &impl Abort, alloc: Global, effect: &Effect, text: &str) -> Result<(), Fail> {
-    let line = app_line(alloc, effect)?.ok_or("for an application")?;
-    assert_eq!(rt; line.as_str(), text);
-    assert!(rt; gateway_bytes(alloc, effect)?.is_none());
-    is_line(rt, &Emission::of(alloc, effect)?, text);
+    assert!(rt; app_line_is(alloc, effect, text)?, "{text}");
+    assert!(rt; gateway_bytes(alloc, effect)?.is_none(), "{text}");
+    assert!(rt; is_line(&Emission::of(alloc, effect)?, text), "{text}");
     Ok(())
 }
 
@@ -190,7 +200,7 @@ fn a_forward_has_its_mark(rt: HostRuntime) -> Result<(), Fail> {
         session: name(16_777_215)?,
         counter: 4_294_967_295,
     };
-    assert_eq!(rt; forward(payload(rt.alloc(), "")?)?.mark(), Some(mark));
+    assert!(rt; forward(payload(rt.alloc(), "")?)?.mark() == Some(mark));
     Ok(())
 }
 
@@ -249,11 +259,19 @@ fn provisioned(alloc: Global, slot: u16) -> Result<Emission, Fail> {
     Ok(Emission::of(alloc, &report(Report::Provisioned { slot })?)?)
 }
 
+fn is_as_its_copy(emission: &Emission) -> Result<bool, Fail> {
+    Ok(emission.clone()? == *emission)
+}
+
 #[test]
 fn an_emission_is_copied_whole(rt: HostRuntime) -> Result<(), Fail> {
-    let emission = provisioned(rt.alloc(), 7)?;
-    assert!(rt; emission.clone()? == emission);
-    assert!(rt; emission != provisioned(rt.alloc(), 8)?);
+    assert!(rt; is_as_its_copy(&provisioned(rt.alloc(), 7)?)?);
+    Ok(())
+}
+
+#[test]
+fn emissions_are_told_apart(rt: HostRuntime) -> Result<(), Fail> {
+    assert!(rt; provisioned(rt.alloc(), 7)? != provisioned(rt.alloc(), 8)?);
     Ok(())
 }
 
@@ -328,8 +346,8 @@ fn other_lines_are_refused(rt: HostRuntime) {
 #[test]
 fn words_are_values(rt: HostRuntime) {
     let mut words = Words::of("7 15 16 x");
-    assert_eq!(rt; next_value(&mut words), Some(7u8));
-    assert_eq!(rt; next_ranged(&mut words), Application::new(15));
+    assert!(rt; next_value(&mut words) == Some(7u8));
+    assert!(rt; next_ranged(&mut words) == Application::new(15));
     let sixteen: Option<Application> = next_ranged(&mut words);
     assert!(rt; sixteen.is_none());
     let number: Option<u32> = next_value(&mut words);
@@ -338,12 +356,16 @@ fn words_are_values(rt: HostRuntime) {
     assert!(rt; nothing.is_none());
 }
 
+fn in_use() -> Result<Activation, Fail> {
+    let activation = Activation::new(Some(nonce(5)?), Some(current(3, 70)?), None);
+    Ok(activation.ok_or("in order")?)
+}
+
 // A device with a session in use and one item.
 fn busy(alloc: Global) -> Result<Device, Fail> {
-    let activation = Activation::new(Some(nonce(5)?), Some(current(3, 70)?), None);
     let items = ItemQueue::new(items(alloc, 1, 1)?);
     Ok(Device {
-        activation: activation.ok_or("in order")?,
+        activation: in_use()?,
         items: items.ok().ok_or("one item")?,
         ..brought(alloc, Eui(0xAB))?
     })
@@ -356,7 +378,7 @@ fn is_listed(
     seq: u64,
     text: &str,
 ) -> Result<(), Fail> {
-    assert_eq!(rt; list_text(alloc, table, seq)?.as_str(), text);
+    assert!(rt; list_text(alloc, table, seq)?.as_str() == text);
     Ok(())
 }
 

@@ -23,15 +23,15 @@ fn refusals_have_numbers_and_messages(rt: HostRuntime) -> Result<(), Fail> {
     for (refusal, number, message) in table {
         assert_eq!(rt; refusal.number(), number);
         let shown = refusal.to_string(rt.alloc())?;
-        assert_eq!(rt; shown.as_str(), message);
+        assert!(rt; shown.as_str() == message);
     }
     Ok(())
 }
 
 // The bytes have this text as hex, and are read of it.
 fn has_hex(rt: &impl Abort, alloc: Global, bytes: &[u8], text: &str) -> Result<(), Fail> {
-    assert_eq!(rt; write_hex(alloc, bytes)?.as_str(), text);
-    assert_eq!(rt; read_hex(alloc, text)?.as_slice(), bytes);
+    assert!(rt; write_hex(alloc, bytes)?.as_str() == text);
+    assert!(rt; read_hex(alloc, text)?.as_slice() == bytes);
     Ok(())
 }
 
@@ -53,8 +53,8 @@ fn other_texts_are_no_hex(rt: HostRuntime) {
 
 // The bytes have this text in a line, and are read of it.
 fn has_field(rt: &impl Abort, alloc: Global, bytes: &[u8], text: &str) -> Result<(), Fail> {
-    assert_eq!(rt; ByteField(bytes).to_string(alloc)?.as_str(), text);
-    assert_eq!(rt; read_field(alloc, text)?.as_slice(), bytes);
+    assert!(rt; ByteField(bytes).to_string(alloc)?.as_str() == text);
+    assert!(rt; read_field(alloc, text)?.as_slice() == bytes);
     Ok(())
 }
 
@@ -118,7 +118,7 @@ fn numbers_have_one_text(rt: HostRuntime) {
 }
 
 fn shows(rt: &impl Abort, shown: &String, text: &str) {
-    assert_eq!(rt; shown.as_str(), text);
+    assert!(rt; shown.as_str() == text);
 }
 
 #[test]
@@ -156,8 +156,8 @@ fn bytes_are_kept(rt: HostRuntime) -> Result<(), Fail> {
         assert!(rt; len <= LONGEST_PAYLOAD);
         let bytes = Payload::from_slice(rt.alloc(), content.as_slice())?;
         assert_eq!(rt; bytes.len(), len);
-        assert_eq!(rt; bytes.is_empty(), len == 0);
-        assert_eq!(rt; bytes.into_vec(), content);
+        assert!(rt; bytes.is_empty() == (len == 0));
+        assert!(rt; bytes.into_vec() == content);
     }
     Ok(())
 }
@@ -166,7 +166,7 @@ fn bytes_are_kept(rt: HostRuntime) -> Result<(), Fail> {
 fn bytes_are_bounded(rt: HostRuntime) -> Result<(), Fail> {
     for (len, may) in [(LONGEST_PAYLOAD, true), (LONGEST_PAYLOAD + 1, false)] {
         let bytes = Payload::new(vec![in rt.alloc(); 0xA5; len]?);
-        assert_eq!(rt; bytes.is_ok(), may, "{len}");
+        assert!(rt; bytes.is_ok() == may, "{len}");
     }
     Ok(())
 }
@@ -174,7 +174,7 @@ fn bytes_are_bounded(rt: HostRuntime) -> Result<(), Fail> {
 #[test]
 fn ranges_have_their_ends(rt: HostRuntime) {
     for (value, is_in) in [(2, false), (3, true), (5, true), (6, false)] {
-        assert_eq!(rt; Ranged::<3, 5>::new(value).is_some(), is_in, "{value}");
+        assert!(rt; Ranged::<3, 5>::new(value).is_some() == is_in, "{value}");
     }
     assert!(rt; Ranged::<3, 5>::new(4).is_some_and(|number| number.get() == 4));
 }
@@ -187,7 +187,7 @@ fn join_nonces_have_24_bits(rt: HostRuntime) {
         (16_777_215, true),
         (16_777_216, false),
     ] {
-        assert_eq!(rt; JoinNonce::new(value).is_some(), is_in, "{value}");
+        assert!(rt; JoinNonce::new(value).is_some() == is_in, "{value}");
     }
 }
 
@@ -221,12 +221,9 @@ fn copied(alloc: Global, len: usize) -> Result<FrameCopy, Refusal> {
 fn copies_are_whole(rt: HostRuntime) -> Result<(), Fail> {
     for len in [0, 17, LONGEST_FRAME] {
         let copy = copied(rt.alloc(), len)?;
-        assert_eq!(rt; copy.reception, RECEPTION);
+        assert!(rt; copy.reception == RECEPTION);
         assert_eq!(rt; copy.stamp, 50_000);
-        assert_eq!(rt;
-            copy.phy_payload.into_vec(),
-            vec![in rt.alloc(); 0x40; len]?
-        );
+        assert!(rt; copy.phy_payload.into_vec() == vec![in rt.alloc(); 0x40; len]?);
     }
     Ok(())
 }

@@ -49,6 +49,16 @@ fn read(alloc: Global, direction: Direction, bytes: &[u8]) -> Result<Decoded, Re
     }
 }
 
+// Whether these commands are read of an uplink, as far as there.
+fn is_read(
+    alloc: Global,
+    bytes: &[u8],
+    commands: Vec<MacCommand>,
+    stop: usize,
+) -> Result<bool, Fail> {
+    Ok(decode_up(alloc, bytes)? == Decoded { commands, stop })
+}
+
 #[test]
 fn reading_stops_at_the_end(rt: HostRuntime) -> Result<(), Fail> {
     let alloc = rt.alloc();
@@ -57,43 +67,33 @@ fn reading_stops_at_the_end(rt: HostRuntime) -> Result<(), Fail> {
         command(alloc, Cid::LinkAdr, &[0x07])?,
         command(alloc, Cid::DeviceTime, &[])?,
     ]?;
-    let wanted = Decoded { commands, stop: 4 };
-    assert_eq!(rt; decode_up(alloc, &[0x02, 0x03, 0x07, 0x0D])?, wanted);
+    assert!(rt; is_read(alloc, &[0x02, 0x03, 0x07, 0x0D], commands, 4)?);
     Ok(())
 }
 
 #[test]
 fn reading_stops_where_no_known_command_begins(rt: HostRuntime) -> Result<(), Fail> {
     let commands = vec![in rt.alloc(); command(rt.alloc(), Cid::LinkCheck, &[])?]?;
-    let wanted = Decoded { commands, stop: 1 };
-    assert_eq!(rt; decode_up(rt.alloc(), &[0x02, 0x0B, 0x02])?, wanted);
+    assert!(rt; is_read(rt.alloc(), &[0x02, 0x0B, 0x02], commands, 1)?);
     Ok(())
 }
 
-// The bytes are read as this one command.
+// Whether the bytes are read as this one command.
 fn is_read_whole(
-    rt: &impl Abort,
     alloc: Global,
     direction: Direction,
     bytes: &[u8],
-    wanted: MacCommand,
-) -> Result<(), Fail> {
-    let found = read(alloc, direction, bytes)?;
-    assert_eq!(rt; found.stop, bytes.len(), "{bytes:?}");
-    assert_eq!(rt; found.commands, vec![in alloc; wanted]?, "{bytes:?}");
-    Ok(())
+    command: MacCommand,
+) -> Result<bool, Fail> {
+    let commands = vec![in alloc; command]?;
+    let stop = bytes.len();
+    Ok(read(alloc, direction, bytes)? == Decoded { commands, stop })
 }
 
-// Without the last of them none is read.
-fn is_cut_off(
-    rt: &impl Abort,
-    alloc: Global,
-    direction: Direction,
-    bytes: &[u8],
-) -> Result<(), Fail> {
+// Whether none is read without the last of them.
+fn is_cut_off(alloc: Global, direction: Direction, bytes: &[u8]) -> Result<bool, Fail> {
     let (_, cut) = bytes.split_last().ok_or("an identifier")?;
-    assert_eq!(rt; read(alloc, direction, cut)?.stop, 0, "{bytes:?}, cut");
-    Ok(())
+    Ok(read(alloc, direction, cut)?.stop == 0)
 }
 
 #[test]
@@ -101,10 +101,11 @@ fn each_command_is_read_whole_both_ways(rt: HostRuntime) -> Result<(), Fail> {
     let alloc = rt.alloc();
     for (number, cid, up, down) in TABLE {
         for (direction, len) in [(Direction::Up, up), (Direction::Down, down)] {
+            let command = command(alloc, cid, payload(len)?)?;
             let bytes = spelled(alloc, number, len)?;
-            let wanted = command(alloc, cid, payload(len)?)?;
-            is_read_whole(&rt, alloc, direction, bytes.as_slice(), wanted)?;
-            is_cut_off(&rt, alloc, direction, bytes.as_slice())?;
+            let is_whole = is_read_whole(alloc, direction, bytes.as_slice(), command)?;
+            assert!(rt; is_whole, "{number}");
+            assert!(rt; is_cut_off(alloc, direction, bytes.as_slice())?, "{number}");
         }
     }
     Ok(())
@@ -124,7 +125,7 @@ fn downlinks_are_written_behind_what_is_there(rt: HostRuntime) -> Result<(), Fai
         let out = written(rt.alloc(), cid, down)?;
         let bytes = spelled(rt.alloc(), number, down)?;
         let behind = out.as_slice().strip_prefix(&[0xAA]);
-        assert_eq!(rt; behind, Some(bytes.as_slice()), "{cid:?}");
+        assert!(rt; behind == Some(bytes.as_slice()), "{number}");
     }
     Ok(())
 }
@@ -133,20 +134,23 @@ fn downlinks_are_written_behind_what_is_there(rt: HostRuntime) -> Result<(), Fai
 fn ten_numbers_are_known(rt: HostRuntime) {
     for number in 0..=u8::MAX {
         let known = TABLE.iter().any(|row| row.0 == number);
-        assert_eq!(rt; Cid::from_number(number).is_some(), known, "{number}");
+        assert!(rt; Cid::from_number(number).is_some() == known, "{number}");
     }
 }
 
 #[test]
 fn each_command_has_its_row(rt: HostRuntime) {
     for (number, cid, up, down) in TABLE {
-        let lens = (
-            cid.payload_len(Direction::Up),
-            cid.payload_len(Direction::Down),
+        assert!(rt; Cid::from_number(number) == Some(cid), "{number}");
+        assert!(rt; cid.number() == number, "{number}");
+        assert!(rt;
+            cid.payload_len(Direction::Up) == usize::from(up),
+            "{number}"
         );
-        assert_eq!(rt; Cid::from_number(number), Some(cid));
-        assert_eq!(rt; cid.number(), number, "{cid:?}");
-        assert_eq!(rt; lens, (usize::from(up), usize::from(down)), "{cid:?}");
+        assert!(rt;
+            cid.payload_len(Direction::Down) == usize::from(down),
+            "{number}"
+        );
     }
 }
 
@@ -193,15 +197,9 @@ fn counted(alloc: Global, direction: Direction, bytes: &[u8]) -> Result<(usize, 
 fn many_commands_are_read(rt: HostRuntime) -> Result<(), Fail> {
     let alloc = rt.alloc();
     let bytes = requests(alloc, 242)?;
-    assert_eq!(rt;
-        counted(alloc, Direction::Down, bytes.as_slice())?,
-        (48, 240)
-    );
+    assert!(rt; counted(alloc, Direction::Down, bytes.as_slice())? == (48, 240));
     let bytes = vec![in alloc; 0x02; 242]?;
-    assert_eq!(rt;
-        counted(alloc, Direction::Up, bytes.as_slice())?,
-        (242, 242)
-    );
+    assert!(rt; counted(alloc, Direction::Up, bytes.as_slice())? == (242, 242));
     Ok(())
 }
 
@@ -212,7 +210,7 @@ fn many_commands_are_written(rt: HostRuntime) -> Result<(), Fail> {
     let found = decode_down(alloc, bytes.as_slice())?;
     let mut out = Vec::new(alloc);
     encode_down(alloc, found.commands.as_slice(), &mut out)?;
-    assert_eq!(rt; out, bytes);
+    assert!(rt; out == bytes);
     Ok(())
 }
 
@@ -224,12 +222,11 @@ fn many_commands_fit_a_wide_room(rt: HostRuntime) -> Result<(), Fail> {
 
 #[test]
 fn queues_are_whole_commands_of_three_kinds(rt: HostRuntime) -> Result<(), Fail> {
-    let alloc = rt.alloc();
-    for (_, cid, _, down) in TABLE {
+    for (number, cid, _, down) in TABLE {
         let may = matches!(cid, Cid::LinkAdr | Cid::DutyCycle | Cid::DevStatus);
-        assert_eq!(rt; cid.may_be_queued(), may, "{cid:?}");
-        let bytes = spelled(alloc, cid.number(), down)?;
-        assert_eq!(rt; are_queueable(bytes.as_slice()), may, "{cid:?}");
+        assert!(rt; cid.may_be_queued() == may, "{number}");
+        let bytes = spelled(rt.alloc(), number, down)?;
+        assert!(rt; are_queueable(bytes.as_slice()) == may, "{number}");
     }
     Ok(())
 }
@@ -238,7 +235,7 @@ fn queues_are_whole_commands_of_three_kinds(rt: HostRuntime) -> Result<(), Fail>
 fn queues_end_with_a_command(rt: HostRuntime) -> Result<(), Fail> {
     for (len, whole) in [(0, true), (60, true), (61, false)] {
         let bytes = requests(rt.alloc(), len)?;
-        assert_eq!(rt; are_queueable(bytes.as_slice()), whole, "{len}");
+        assert!(rt; are_queueable(bytes.as_slice()) == whole, "{len}");
     }
     Ok(())
 }

@@ -21,13 +21,13 @@ pub struct Format {
 pub fn read_format(line: &[u8]) -> Option<Format> {
     let mut words = Words::of(str::from_utf8(line).ok()?);
     match words.next() {
-        Some("format") => format(words),
+        Some("format") => format_fields(words),
         _ => None,
     }
 }
 
 // A network and how many slots.
-fn format(mut words: Words<'_>) -> Option<Format> {
+fn format_fields(mut words: Words<'_>) -> Option<Format> {
     let net_id = next_value(&mut words)?;
     let slots = next_value(&mut words)?;
     match words.next() {
