@@ -76,13 +76,15 @@ fn a_batch_gives_its_records(rt: HostRuntime) -> Result<(), Fail> {
     for count in [5, 64] {
         let mut table = new_table(alloc, 64)?;
         let batch = batch(&rt, alloc, &mut table, count)?;
-        let _ = batch.records(alloc)?;
         let mut records = Records::new(alloc);
         for decision in batch.as_slice() {
             records.add(decision)?;
         }
         let mut other = new_table(alloc, 64)?;
-        assert_eq!(rt; other.advance(0, &batch)?, count);
+        let last = other.continuation_end(0, batch.as_slice());
+        assert!(rt; last.is_some());
+        assert_eq!(rt; last, Some(count));
+        other.place_all(&batch, batch.records(alloc)?);
         assert!(rt; other.devices() == table.devices());
         assert_eq!(rt; batch.into_vec().len() as u64, count);
     }
