@@ -132,16 +132,22 @@ impl Plain {
         ensures { (moment : ℕ) → IfOk result (λ answer. Goes self.old (steps.Request moment command.now) answer self.new) }
     {
         let from = self.made;
-        let refused = self.why_not(alloc, command)?;
-        if refused.is_none() {
-            self.untaken.push(command.clone()?)?;
-            self.made = from.checked_add(1).ok_or(Refusal::OutOfMemory)?;
+        match self.why_not(alloc, command)? {
+            None => {
+                self.untaken.push(command.clone()?)?;
+                self.made = from.checked_add(1).ok_or(Refusal::OutOfMemory)?;
+                Ok(Answer::Turn(Turn {
+                    from,
+                    to: self.made,
+                    refused: None,
+                }))
+            }
+            Some(refusal) => Ok(Answer::Turn(Turn {
+                from,
+                to: from,
+                refused: Some(refusal),
+            })),
         }
-        Ok(Answer::Turn(Turn {
-            from,
-            to: self.made,
-            refused,
-        }))
     }
 
     // Why the command is not decided, if it is not.
@@ -328,7 +334,8 @@ impl Plain {
 
     // The decided commands.
     fn decided(&self, alloc: Global) -> Result<Vec<Command>, Refusal>
-        ensures { IfOk result (λ all. all.items ≡ decided self.now.course) }
+        ensures commands { IfOk result (λ all. all.items ≡ decided self.now.course) }
+        ensures number { self.now.origin.number ≡ 0 }
     {
         let mut all = Vec::new(alloc);
         add(&mut all, &self.settled)?;
