@@ -168,14 +168,16 @@ fn a_new_device_has_empty_queues(rt: HostRuntime) -> Result<(), Fail> {
     Ok(())
 }
 
-fn is_as_its_copy(device: &Device) -> Result<bool, Fail> {
-    let copy = device.copy()?;
-    Ok(copy.same_as(device))
+fn is_as_its_copy(device: &Device) -> bool {
+    match device.copy() {
+        Ok(copy) => copy.same_as(device),
+        Err(_) => false,
+    }
 }
 
 #[test]
 fn a_device_is_copied_whole(rt: HostRuntime) -> Result<(), Fail> {
-    assert!(rt; is_as_its_copy(&brought(rt.alloc(), DEVICE)?)?);
+    assert!(rt; is_as_its_copy(&brought(rt.alloc(), DEVICE)?));
     Ok(())
 }
 
@@ -289,12 +291,17 @@ fn from_1_to_32_gateways_hear_a_frame(rt: HostRuntime) -> Result<(), Fail> {
     Ok(())
 }
 
+// Whether it is of these copies of twelve bytes.
+fn is_of(heard: &Heard, hearings: &[Hearing]) -> bool {
+    heard.phy_payload() == [0x40; 12].as_slice() && heard.hearings() == hearings
+}
+
 #[test]
 fn what_was_heard_is_kept(rt: HostRuntime) -> Result<(), Fail> {
     for count in [1, 32] {
+        let hearings = hearings(rt.alloc(), count)?;
         let heard = heard(rt.alloc(), count)?.ok_or("at most 32")?;
-        assert!(rt; heard.phy_payload() == [0x40; 12].as_slice());
-        assert!(rt; heard.hearings() == hearings(rt.alloc(), count)?.as_slice());
+        assert!(rt; is_of(&heard, hearings.as_slice()), "{count}");
     }
     Ok(())
 }

@@ -69,7 +69,7 @@ fn is_frame(emission: &Emission, bytes: &[u8]) -> bool {
 }
 
 // Whether the gateway is sent these bytes.
-fn gateway_bytes_are(alloc: Global, effect: &Effect, bytes: &[u8]) -> Result<bool, Fail> {
+fn gateway_bytes_are(alloc: Global, effect: &Effect, bytes: &[u8]) -> Result<bool, Refusal> {
     match gateway_bytes(alloc, effect)? {
         Some(frame) => Ok(frame.as_slice() == bytes),
         None => Ok(false),
@@ -151,7 +151,7 @@ fn is_line(emission: &Emission, text: &str) -> bool {
 }
 
 // Whether the application is told this line.
-fn app_line_is(alloc: Global, effect: &Effect, text: &str) -> Result<bool, Fail> {
+fn app_line_is(alloc: Global, effect: &Effect, text: &str) -> Result<bool, Refusal> {
     match app_line(alloc, effect)? {
         Some(line) => Ok(line.as_str() == text),
         None => Ok(false),

@@ -55,7 +55,7 @@ fn is_read(
     bytes: &[u8],
     commands: Vec<MacCommand>,
     stop: usize,
-) -> Result<bool, Fail> {
+) -> Result<bool, Refusal> {
     Ok(decode_up(alloc, bytes)? == Decoded { commands, stop })
 }
 
@@ -84,7 +84,7 @@ fn is_read_whole(
     direction: Direction,
     bytes: &[u8],
     command: MacCommand,
-) -> Result<bool, Fail> {
+) -> Result<bool, Refusal> {
     let commands = vec![in alloc; command]?;
     let stop = bytes.len();
     Ok(read(alloc, direction, bytes)? == Decoded { commands, stop })
@@ -188,7 +188,7 @@ fn requests(alloc: Global, len: usize) -> Result<Vec<u8>, Fail> {
 }
 
 // How many commands are read, and where reading stops.
-fn counted(alloc: Global, direction: Direction, bytes: &[u8]) -> Result<(usize, usize), Fail> {
+fn counted(alloc: Global, direction: Direction, bytes: &[u8]) -> Result<(usize, usize), Refusal> {
     let found = read(alloc, direction, bytes)?;
     Ok((found.commands.len(), found.stop))
 }

@@ -57,14 +57,14 @@ fn refuses(rt: &impl Abort, alloc: Global, bytes: &[u8], refusal: Refusal, case:
 }
 
 // What is written of a frame.
-fn written(alloc: Global, frame: &Phy) -> Result<Vec<u8>, Fail> {
+fn written(alloc: Global, frame: &Phy) -> Result<Vec<u8>, Refusal> {
     let mut out = Vec::new(alloc);
     encode(alloc, frame, &mut out)?;
     Ok(out)
 }
 
 // Whether the bytes are read as this frame.
-fn is_of(alloc: Global, bytes: &[u8], frame: &Phy) -> Result<bool, Fail> {
+fn is_of(alloc: Global, bytes: &[u8], frame: &Phy) -> Result<bool, Refusal> {
     Ok(decode(alloc, bytes)? == *frame)
 }
 
@@ -441,7 +441,7 @@ fn each_length_of_f_opts_is_read_again_with_a_payload(rt: HostRuntime) -> Result
 }
 
 // What is written of a frame behind 7.
-fn behind_7(alloc: Global, frame: &Phy) -> Result<Vec<u8>, Fail> {
+fn behind_7(alloc: Global, frame: &Phy) -> Result<Vec<u8>, Refusal> {
     let mut out = Vec::from_slice(alloc, &[7])?;
     encode(alloc, frame, &mut out)?;
     Ok(out)
