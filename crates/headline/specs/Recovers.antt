@@ -3,7 +3,7 @@ use Rattle.std.specs.Prelude.{◌≡◌, ℕ, List, length, take}
 use Rattle.devices.specs.declared.command.Command.{Command}
 use Rattle.sessions.specs.Table.{TableState}
 use Rattle.world.specs.Course.{Origin, Course, decided, table_from, number_from, effects_from}
-use Rattle.world.specs.Follows.{IsSubsequence}
+use Rattle.sessions.specs.Marks.{IsSubsequence}
 
 -- A table and a number are what a beginning of the decided commands leaves. It has every command whose batch was
 -- released, and what has left is part of its effects.

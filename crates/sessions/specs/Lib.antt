@@ -2,3 +2,4 @@ pub mod Step
 pub mod Table
 pub mod Index
 pub mod Decision
+pub mod Marks

@@ -1,6 +1,8 @@
 //! Laws on the definitions that the contracts of this crate cite. Nothing here is of use but its contracts.
 ghost use Rattle.std.specs.Prelude.{◌≡◌, ◌++◌, ◌↔◌, ◌≤◌, ◌+◌, ℕ, List, SomeIff, length};
 ghost use Rattle.devices.specs.declared.command.Command.{Command};
+ghost use Rattle.devices.specs.declared.effect.Effect.{Effect};
+ghost use Rattle.sessions.specs.Marks.{AreOnce, IsSubsequence};
 ghost use Rattle.sessions.specs.Table.{TableState, CanPut, folded, effects_of};
 ghost use Rattle.sessions.specs.Decision.{Decides, Fits, FitAll, ContinueAll, applied_all, taken_back_all, commands_of, effects_in};
 ghost use Rattle.sessions.specs.declared.decision.Decision.{Decision};
@@ -49,6 +51,12 @@ pub fn decided_records_may_be_put()
 /// found are those of the table.
 pub fn taking_back()
     ensures { (t : TableState) (ds : List Decision) → FitAll t ds → taken_back_all (applied_all t ds) ds ≡ t }
+{}
+
+/// No mark is used up twice by the effects of commands, and none by a part of effects of which that is so.
+pub fn no_mark_stands_twice()
+    ensures commands { (t : TableState) (commands : List Command) → AreOnce (effects_of t commands) }
+    ensures part { (effects left : List Effect) → IsSubsequence left effects → AreOnce effects → AreOnce left }
 {}
 
 /// A table has from 1 to 4,096 slots.

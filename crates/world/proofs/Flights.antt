@@ -9,7 +9,7 @@ use Rattle.world.specs.Course.{Origin, Course, Flight, Stage, decided, flying, m
 use Rattle.world.specs.Course.Stage.{Opened, Durable, Unsure}
 use Rattle.world.specs.Answers.{ByStage, Leaves, MayLeave}
 use Rattle.world.specs.Commits.{stored, with_durable}
-use Rattle.world.specs.Follows.{IsSubsequence}
+use Rattle.sessions.specs.Marks.{IsSubsequence}
 use Rattle.world.proofs.Subsequences.{longer}
 
 -- a call changes no commands

@@ -14,7 +14,8 @@ use Rattle.world.specs.declared.step.Step.{Step}
 use Rattle.world.specs.declared.step.Step.TheVariants as steps
 use Rattle.world.specs.Course.{Origin, Course, Flight, after, admit, gone_through, released, went, wanted, table_from, effects_from}
 use Rattle.world.specs.Answers.{AnswersOpen, AnswersClosed, IsRight}
-use Rattle.world.specs.Follows.{IsSubsequence, IsOwn}
+use Rattle.sessions.specs.Marks.{IsSubsequence}
+use Rattle.world.specs.Follows.{IsOwn}
 use Rattle.world.proofs.Subsequences.{extended}
 
 -- the effects that were emitted, and whether the store is open, stay, and what has left grows at its end

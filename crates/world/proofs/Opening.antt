@@ -20,7 +20,8 @@ use Rattle.world.specs.declared.step.Step.TheVariants as steps
 use Rattle.world.specs.Course.{Origin, Course, decided, reopened, after, table_from, number_from, effects_from}
 use Rattle.world.specs.Answers.{Leaves, AnswersCrash}
 use Rattle.world.specs.Sound.{HasDisk}
-use Rattle.world.specs.Follows.{FollowsPlace, IsLife, IsSubsequence, Survives}
+use Rattle.sessions.specs.Marks.{IsSubsequence}
+use Rattle.world.specs.Follows.{FollowsPlace, IsLife, Survives}
 use Rattle.world.proofs.Calling.{held}
 use Rattle.world.proofs.Flights.{kept_front, kept_once}
 

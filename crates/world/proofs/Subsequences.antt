@@ -1,6 +1,6 @@
 -- Lists of which some elements were dropped.
 use Rattle.std.proofs.Common.{inl, inr, List, [], ◌∷◌, ◌++◌, ap, subst, sym, refl}
-use Rattle.world.specs.Follows.{IsSubsequence}
+use Rattle.sessions.specs.Marks.{IsSubsequence}
 
 pub nothing : {A : Type 0} (ys : List A) → IsSubsequence [] ys
 nothing [] = refl

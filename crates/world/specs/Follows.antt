@@ -7,6 +7,7 @@ use Rattle.disk.specs.State.{State, NothingOpen, EveryImage}
 use Rattle.flusher.specs.declared.released.Released.{Released}
 use Rattle.sessions.specs.Table.{TableState}
 use Rattle.sessions.specs.Decision.{FitAll, commands_of}
+use Rattle.sessions.specs.Marks.{IsSubsequence}
 use Rattle.store.specs.Image.{HoldsTable}
 use Rattle.store.specs.State.{StoreState, seen}
 use Rattle.store.specs.declared.store.Store.{Store}
@@ -24,11 +25,6 @@ use Rattle.world.specs.Course.{Origin, Course, Flight, table_from, number_from, 
 use Rattle.world.specs.Course.Stage.{Stopped, Unsure}
 use Rattle.world.specs.Answers.{Leaves, AnswersOpen, AnswersCrash, IsRight, AreRight}
 use Rattle.world.specs.Commits.{IsOn, flights_in, decisions_in, stored}
-
--- one list is what is left of the other when some of it is dropped
-abbrev pub IsSubsequence : {A : Type 0} → List A → List A → Type 0
-IsSubsequence xs [] = xs ≡ []
-IsSubsequence {A} xs (y ∷ ys) = IsSubsequence xs ys ⊎ ((rest : List A) × (xs ≡ y ∷ rest) × IsSubsequence rest ys)
 
 -- whatever a crash leaves of this disk holds the table and the number of commands that a crash may leave
 abbrev pub Survives : Origin → Course → State → Type 0

@@ -6,7 +6,7 @@ ghost use Rattle.devices.specs.declared.effect.Effect.{Effect};
 ghost use Rattle.world.specs.Answers.{Leaves};
 ghost use Rattle.world.specs.Course.{Origin, Course, decided, effects_from};
 ghost use Rattle.world.specs.Folding.{RunLaws};
-ghost use Rattle.world.specs.Follows.{IsSubsequence};
+ghost use Rattle.sessions.specs.Marks.{IsSubsequence};
 
 /// What a crash leaves is a beginning of the decided commands, and holds all that is settled. So it has every
 /// command of which an effect has left.

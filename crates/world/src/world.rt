@@ -30,7 +30,8 @@ impl<D: Sim + Drop> World<D> {
     ghost use Rattle.world.specs.Calls.{AreCallsAt, ForetellsAt, passed_some};
     ghost use Rattle.world.specs.Tells.{PlaceTellsRoom, CrashesTo, LeavesImage};
     ghost use Rattle.world.specs.Course.{Origin, Course, beginning, formatted, effects_from};
-    ghost use Rattle.world.specs.Follows.{Follows, Moves, Survives, IsSubsequence};
+    ghost use Rattle.sessions.specs.Marks.{IsSubsequence};
+    ghost use Rattle.world.specs.Follows.{Follows, Moves, Survives};
     ghost use Rattle.world.specs.Sound.{IsSound, HasDisk};
 
     /// A world with a new store on this disk. Refused as [`store::format`] is, and with `OutOfMemory`.
