@@ -39,6 +39,13 @@ pub behind_two : {ms ns os : Members} {k l m n : List ℕ} {d e f g : Data}
 unfolding tail
 behind_two first second = ap tail (behind first second)
 
+-- and behind five
+pub behind_five : {ms ns os : Members} {k l m n o p q r s t : List ℕ} {d e f g h i j u v w : Data}
+    → ms ≡ member k d (member l e (member m f (member n g (member o h ns))))
+    → ms ≡ member p i (member q j (member r u (member s v (member t w os)))) → ns ≡ os
+unfolding tail
+behind_five first second = ap (λ (ms : Members). tail (tail (tail (tail (tail ms))))) (sym first ∙ second)
+
 -- the value of that member
 pub at_front : {ms ns os : Members} {k l : List ℕ} {d e : Data} → ms ≡ member k d ns → ms ≡ member l e os → d ≡ e
 unfolding head

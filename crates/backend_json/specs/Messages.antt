@@ -1,9 +1,10 @@
 -- The messages between a network and its join server, as the values that JSON texts are read as. The members stand in
 -- the byte order of their names, and there are no others.
 use Rattle.std.specs.Prelude.{◌≡◌, ◌<◌, ◌≤◌, ◌^◌, ℕ, List, [], ◌∷◌, Some, codes}
-use Rattle.serde_json.specs.Data.{Data, number, string, object, member, no_members, unsigned}
+use Rattle.serde_json.specs.Data.{Data, Members, number, string, object, member, no_members, unsigned}
 use Rattle.serde_json.specs.Read.{read}
 use Rattle.lw_types.specs.Hex.{IsBytes, dev_addr_text, eui_text, hex_text, net_id_text}
+use Rattle.lw_types.specs.declared.identifiers.DevAddr.{DevAddr}
 use Rattle.lw_types.specs.declared.identifiers.Eui.{Eui}
 use Rattle.join_server.specs.Request.{IsRequest, dev_eui_of, join_eui_of}
 use Rattle.join_server.specs.declared.ask.JoinAsk.{JoinAsk}
@@ -11,22 +12,33 @@ use Rattle.join_server.specs.declared.ask.JoinAsk.{JoinAsk}
 abbrev pub eui : ℕ → Eui
 eui n = record { 0 = n }
 
+-- the members of a question up to MessageType
+abbrev pub device : ℕ → DevAddr → Eui → Members → Members
+device dl_settings dev_addr dev_eui rest =
+    member (codes "DLSettings") (string (hex_text (dl_settings ∷ [])))
+    (member (codes "DevAddr") (string (dev_addr_text dev_addr))
+    (member (codes "DevEUI") (string (eui_text dev_eui))
+    (member (codes "MACVersion") (string (codes "1.0.4"))
+    (member (codes "MessageType") (string (codes "JoinReq"))
+    rest))))
+
+-- and from RxDelay on
+abbrev pub network : ℕ → ℕ → ℕ → Members
+network rx_delay net_id transaction =
+    member (codes "RxDelay") (number (unsigned rx_delay))
+    (member (codes "SenderID") (string (net_id_text net_id))
+    (member (codes "TransactionID") (number (unsigned transaction))
+    no_members))
+
 -- a JoinReq: the question of a network
 abbrev pub join_req : JoinAsk → Data
 join_req ask =
     object
-    (member (codes "DLSettings") (string (hex_text (ask.dl_settings ∷ [])))
-    (member (codes "DevAddr") (string (dev_addr_text ask.dev_addr))
-    (member (codes "DevEUI") (string (eui_text (eui (dev_eui_of ask.request))))
-    (member (codes "MACVersion") (string (codes "1.0.4"))
-    (member (codes "MessageType") (string (codes "JoinReq"))
+    (device ask.dl_settings ask.dev_addr (eui (dev_eui_of ask.request))
     (member (codes "PHYPayload") (string (hex_text ask.request))
     (member (codes "ProtocolVersion") (string (codes "1.0"))
     (member (codes "ReceiverID") (string (eui_text (eui (join_eui_of ask.request))))
-    (member (codes "RxDelay") (number (unsigned ask.rx_delay))
-    (member (codes "SenderID") (string (net_id_text ask.net_id))
-    (member (codes "TransactionID") (number (unsigned ask.transaction))
-    no_members)))))))))))
+    (network ask.rx_delay ask.net_id ask.transaction)))))
 
 -- a text is such a message if it is read as it
 abbrev pub IsJoinReq : List ℕ → JoinAsk → Type 0

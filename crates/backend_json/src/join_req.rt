@@ -1,18 +1,20 @@
 // The question of a network: whether a device may join.
-ghost use Rattle.std.specs.Prelude.{◌≡◌, ◌≢◌, ◌⊎◌, ◌↔◌, codes, string_bytes, [], ◌∷◌, IfOk, IfErr, IsTrue, OnOk, MatchOption, MatchResult};
-ghost use Rattle.serde_json.specs.Data.{string, number, unsigned, put as with_member};
+ghost use Rattle.std.specs.Prelude.{◌≡◌, ◌≢◌, ◌⊎◌, ◌↔◌, ◌<◌, ◌≤◌, ◌^◌, ℕ, codes, string_bytes, [], ◌∷◌, IfOk, IfErr, IfSome, Some, IsTrue, OnOk, MatchOption, MatchResult};
+ghost use Rattle.serde_json.specs.Data.{Members, string, number, unsigned, put as with_member};
 ghost use Rattle.serde_json.specs.View.{members_view, view};
 ghost use Rattle.serde_json.specs.Written.{compact_text};
 ghost use Rattle.lw_types.specs.Hex.{dev_addr_text, eui_text, hex_text, net_id_text};
 ghost use Rattle.lw_types.specs.declared.refusal.Refusal.TheVariants.{OutOfMemory, BadMessage};
+ghost use Rattle.lw_types.specs.declared.identifiers.DevAddr.{DevAddr};
+ghost use Rattle.lw_types.specs.declared.identifiers.Eui.{Eui};
 ghost use Rattle.join_server.specs.declared.ask.JoinAsk.{JoinAsk};
 ghost use Rattle.join_server.specs.Request.{dev_eui_of, join_eui_of};
-ghost use Rattle.backend_json.specs.Messages.{IsAsk, IsJoinReq, eui, join_req};
+ghost use Rattle.backend_json.specs.Messages.{IsAsk, IsJoinReq, device, eui, join_req, network};
 
 use crate::json::{put_number, put_text, put_word, read_value};
 use crate::members::Rest;
 use join_server::{JoinAsk, JoinRequest, RxDelay};
-use lw_types::{Eui, HexArray, Refusal};
+use lw_types::{DevAddr, Eui, HexArray, NetId, Refusal};
 use serde_json::{Map, Value};
 use std::alloc::{AllocError, Global};
 
@@ -107,18 +109,11 @@ fn ask_of(value: &Value) -> Option<JoinAsk>
         (λ ask. IsAsk ask × (view value.now ≡ join_req ask)) }
 {
     let mut rest = Rest::of(value)?;
-    let HexArray([dl_settings]): HexArray<1> = rest.value("DLSettings")?;
-    let dev_addr = rest.value("DevAddr")?;
-    let dev_eui: Eui = rest.value("DevEUI")?;
-    rest.text("MACVersion", "1.0.4")?;
-    rest.text("MessageType", "JoinReq")?;
+    let (dl_settings, dev_addr, dev_eui) = device_of(&mut rest)?;
     let request: JoinRequest = rest.value("PHYPayload")?;
     rest.text("ProtocolVersion", "1.0")?;
     let join_eui: Eui = rest.value("ReceiverID")?;
-    let rx_delay = RxDelay::new(rest.number("RxDelay")?)?;
-    let net_id = rest.value("SenderID")?;
-    let transaction = u32::try_from(rest.number("TransactionID")?).ok()?;
-    rest.end()?;
+    let (rx_delay, net_id, transaction) = network_of(&mut rest)?;
     if is_between(&request, dev_eui, join_eui) {
         Some(JoinAsk {
             net_id,
@@ -131,6 +126,34 @@ fn ask_of(value: &Value) -> Option<JoinAsk>
     } else {
         None
     }
+}
+
+// The members from DLSettings to MessageType.
+fn device_of(rest: &mut Rest<'_>) -> Option<(u8, DevAddr, Eui)>
+    ensures found { IfSome result (λ p. members_view rest.old.members ≡ device p.0 p.1 p.2 (members_view rest.new.members)) }
+    ensures only { (dl_settings : ℕ) (dev_addr : DevAddr) (dev_eui : Eui) (others : Members)
+        → dl_settings < 2 ^ 8 → dev_addr.0 < 2 ^ 32 → dev_eui.0 < 2 ^ 64
+        → members_view rest.old.members ≡ device dl_settings dev_addr dev_eui others → result ≡ Some (dl_settings, dev_addr, dev_eui) }
+{
+    let HexArray([dl_settings]): HexArray<1> = rest.value("DLSettings")?;
+    let dev_addr = rest.value("DevAddr")?;
+    let dev_eui = rest.value("DevEUI")?;
+    rest.text("MACVersion", "1.0.4")?;
+    rest.text("MessageType", "JoinReq")?;
+    Some((dl_settings, dev_addr, dev_eui))
+}
+
+// The members from RxDelay on, and that no other follows.
+fn network_of(rest: &mut Rest<'_>) -> Option<(RxDelay, NetId, u32)>
+    ensures found { IfSome result (λ p. members_view rest.old.members ≡ network p.0 p.1 p.2) }
+    ensures only { (rx_delay net_id transaction : ℕ) → (1 ≤ rx_delay) × (rx_delay ≤ 15) → net_id < 64 → transaction < 2 ^ 32
+        → members_view rest.old.members ≡ network rx_delay net_id transaction → result ≡ Some (rx_delay, net_id, transaction) }
+{
+    let rx_delay = RxDelay::new(rest.number("RxDelay")?)?;
+    let net_id = rest.value("SenderID")?;
+    let transaction = u32::try_from(rest.number("TransactionID")?).ok()?;
+    rest.end()?;
+    Some((rx_delay, net_id, transaction))
 }
 
 // Whether the device asks this join server.
