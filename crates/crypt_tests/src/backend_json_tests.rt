@@ -1,7 +1,7 @@
 // The texts of joins, byte for byte, and which texts are none. Frames, keys and MICs were made by Python's `cryptography`.
 use backend_json::{answer_text, join_req_text, read_join_ans, read_join_req};
 use join_server::{JoinAsk, JoinRequest, JoinState, RxDelay};
-use lw_types::{DevAddr, Eui, Key, NetId};
+use lw_types::{DevAddr, Eui, JoinNonce, Key, NetId};
 use std::alloc::Global;
 use std::process::Abort;
 use std::test::Fail;
@@ -21,6 +21,9 @@ const GRANTED: &str =
 
 const NO_QUESTION: &str =
     r#"{"MessageType":"JoinAns","ProtocolVersion":"1.0","ReceiverID":"000000","Result":{"Description":"bad message","ResultCode":"Other"},"SenderID":"0102030405060708","TransactionID":0}"#;
+
+const NESTED: &str =
+    "[[[[[[[[[[[[[[[[[[[[[[[[[[[[[[[[[[[[[[[[[[[[[[[[[[[[[[[[[[[[[[[[[[[[[[[[[[[[[[[[[[[[[[[[[[[[[[[[[[[[[[[[[[[[[[[[[[[[[[[[[[[[[[[[[[[[[[[[[[[[[[[[[[[[[[[[[[[[[[[[[[[[[[[[[[[[[[[[[[[[[[[[[[[[[[[[[[[[[[[[]]]]]]]]]]]]]]]]]]]]]]]]]]]]]]]]]]]]]]]]]]]]]]]]]]]]]]]]]]]]]]]]]]]]]]]]]]]]]]]]]]]]]]]]]]]]]]]]]]]]]]]]]]]]]]]]]]]]]]]]]]]]]]]]]]]]]]]]]]]]]]]]]]]]]]]]]]]]]]]]]]]]]]]]]]]]]]]]]]]]]]]]]]]]]]]]]]]]]]]]";
 
 fn state(dev_eui: u64, join_eui: u64, dev_nonce: Option<u16>) -> JoinState {
     JoinState {
@@ -117,6 +120,14 @@ fn a_join_is_refused_for_its_first_cause(rt: HostRuntime) -> Result<(), Fail> {
     Ok(())
 }
 
+#[test]
+fn the_last_join_nonce_is_granted_once(rt: HostRuntime) -> Result<(), Fail> {
+    let mut spent = known_state();
+    spent.join_nonce = JoinNonce::new(16_777_215);
+    let outcome = r#""Description":"join nonce spent","ResultCode":"JoinReqFailed""#;
+    refuses(&rt, rt.alloc(), &spent, SIGNED, outcome)
+}
+
 // A question whose last members are these.
 fn question_with(alloc: Global, last: &str) -> Result<String, Fail> {
     let (front, _) = QUESTION.split_once("\"RxDelay\"").ok_or("a delay")?;
@@ -149,6 +160,7 @@ fn each_member_has_one_form(rt: HostRuntime) -> Result<(), Fail> {
         r#""RxDelay":1,"SenderID":"00002A","TransactionID":4294967296}"#,
         r#""RxDelay":1,"SenderID":"00002A","TransactionID":2,"Z":0}"#,
         r#""RxDelay":1,"SenderID":"00002A"}"#,
+        r#""RxDelay":1,"SenderID":"00002A","TransactionID":2,"RxDelay":16}"#,
     ] {
         let text = question_with(alloc, last)?;
         let (answer, _) = answer_text(alloc, &known_state(), text.as_str())?;
