@@ -9,9 +9,9 @@ use Rattle.world.specs.Calls.{Calls, IsForetold, called}
 use Rattle.world.specs.Course.{Origin, Course, Flight, Stage, after}
 use Rattle.world.specs.Course.Stage.{Begun, Written, Synced, Opened, Durable, Stopped, Unsure}
 use Rattle.world.specs.Answers.{IsRight}
-use Rattle.world_tests.specs.declared.model.Flight.{Flight as PlainFlight}
-use Rattle.world_tests.specs.declared.model.Stage.{Stage as PlainStage}
-use Rattle.world_tests.specs.declared.model.Stage.TheVariants as variants
+use Rattle.world_tests.specs.declared.flight.Flight.{Flight as PlainFlight}
+use Rattle.world_tests.specs.declared.flight.Stage.{Stage as PlainStage}
+use Rattle.world_tests.specs.declared.flight.Stage.TheVariants as variants
 
 -- where the course begins, what is known of the disk's calls, and the course
 pub record PlainState : Type 0 where

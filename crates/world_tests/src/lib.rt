@@ -2,6 +2,7 @@
 //! `headline`.
 #![tactic(auto)]
 
+mod flight;
 #[cfg(test)]
 mod headline_tests;
 #[cfg(test)]

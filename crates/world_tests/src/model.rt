@@ -8,6 +8,7 @@ ghost use Rattle.world.specs.Answers.{Leaves};
 ghost use Rattle.world.specs.Course.{beginning, decided, flying, formatted, table_from, wanted};
 ghost use Rattle.world_tests.specs.Plain.{Goes, IsRefusal, flights_of, kept_with};
 
+use crate::flight::{Flight, Stage};
 use devices::{Command, Effect};
 use disk::Image;
 use gateway_wire::Emission;
@@ -18,25 +19,6 @@ use std::alloc::Global;
 use std::marker::Model;
 use std::mem;
 use world::{Answer, Step};
-
-/// How far the commit of a batch is.
-#[derive(Clone, Copy, Debug, PartialEq, Eq)]
-pub(crate) enum Stage {
-    Begun,
-    Written,
-    Synced,
-    Opened,
-    Durable,
-    Stopped,
-    Unsure,
-}
-
-/// The batch under way.
-#[derive(Drop)]
-pub(crate) struct Flight {
-    commands: Vec<Command>,
-    stage: Stage,
-}
 
 /// A world told plainly. Contracts see where its course begins, the course, and what is known of the
 /// disk's calls. Want of memory ends it, so that no batch is given up.
