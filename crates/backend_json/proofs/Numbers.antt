@@ -8,8 +8,8 @@ use Rattle.lw_types.specs.Hex.{IsBytes}
 byte_at : (xs : List ℕ) (k : ℕ) → IsBytes xs → (i : ℕ) → i < 8 → slice_index (take 8 (drop k xs)) i < 256
 byte_at xs k bytes i few = subst (λ (b : ℕ). b < 256) (sym (get_or-take 8 (drop k xs) i 0 few ∙ get_or-drop k xs i 0)) (bytes (k + i))
 
-pub number_of_part : (xs : List ℕ) (k : ℕ) → IsBytes xs → from_le_bytes w64 (take 8 (drop k xs)) < 2 ^ 64
-number_of_part xs k bytes =
+pub number_of_part : (k : ℕ) (xs : List ℕ) → IsBytes xs → from_le_bytes w64 (take 8 (drop k xs)) < 2 ^ 64
+number_of_part k xs bytes =
     let b0 = byte_at xs k bytes 0 (omega arith) in
     let b1 = byte_at xs k bytes 1 (omega arith) in
     let b2 = byte_at xs k bytes 2 (omega arith) in

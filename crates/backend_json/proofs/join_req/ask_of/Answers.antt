@@ -10,7 +10,7 @@ returns-in_err-dl_settings c =
     refused _ c.from_residual-in_err-dl_settings.result c.from_residual-in_err-dl_settings.ensures
     (λ ask is h.
     let r0 = inside (sym c.in_ok-rest.ensures ∙ h) in
-    no_value (c.in_err-dl_settings.ensures.only ask.dl_settings ask.dev_addr (eui (dev_eui_of ask.request)) _ is.dl_settings is.dev_addr (number_of_part ask.request 9 is.request.1) r0))
+    no_value (c.in_err-dl_settings.ensures.only ask.dl_settings ask.dev_addr (eui (dev_eui_of ask.request)) _ is.dl_settings is.dev_addr (number_of_part 9 ask.request is.request.1) r0))
 
 pub returns-in_err-request : goal.returns-in_err-request
 returns-in_err-request c =
@@ -37,7 +37,7 @@ returns-in_err-join_eui c =
     let r1 = behind_five c.in_ok-dl_settings.ensures.found r0 in
     let r2 = behind c.in_ok-request.ensures.found r1 in
     let r3 = behind c.in_ok-text.ensures r2 in
-    no_value (c.in_err-join_eui.ensures.only (eui (join_eui_of ask.request)) _ (number_of_part ask.request 1 is.request.1) r3))
+    no_value (c.in_err-join_eui.ensures.only (eui (join_eui_of ask.request)) _ (number_of_part 1 ask.request is.request.1) r3))
 
 pub returns-in_err-rx_delay : goal.returns-in_err-rx_delay
 returns-in_err-rx_delay c =
@@ -56,7 +56,7 @@ returns-else-is_between c ask is h =
     let r1 = behind_five c.in_ok-dl_settings.ensures.found r0 in
     let r2 = behind c.in_ok-request.ensures.found r1 in
     let r3 = behind c.in_ok-text.ensures r2 in
-    let device = c.in_ok-dl_settings.ensures.only ask.dl_settings ask.dev_addr (eui (dev_eui_of ask.request)) _ is.dl_settings is.dev_addr (number_of_part ask.request 9 is.request.1) r0 in
+    let device = c.in_ok-dl_settings.ensures.only ask.dl_settings ask.dev_addr (eui (dev_eui_of ask.request)) _ is.dl_settings is.dev_addr (number_of_part 9 ask.request is.request.1) r0 in
     let request = c.in_ok-request.ensures.only ask.request _ is.request r1 in
-    let join_eui = c.in_ok-join_eui.ensures.only (eui (join_eui_of ask.request)) _ (number_of_part ask.request 1 is.request.1) r3 in
+    let join_eui = c.in_ok-join_eui.ensures.only (eui (join_eui_of ask.request)) _ (number_of_part 1 ask.request is.request.1) r3 in
     search (rules, device, request, join_eui)
