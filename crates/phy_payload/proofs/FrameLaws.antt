@@ -172,7 +172,7 @@ body_found first body frame fits short e =
       ]
     ]
 
-phy_takes : (bytes : List ℕ) (frame : Phy) → IsBytes bytes → phy_at bytes ≡ Ok frame → IsPhy bytes frame
+pub phy_takes : (bytes : List ℕ) (frame : Phy) → IsBytes bytes → phy_at bytes ≡ Ok frame → IsPhy bytes frame
 unfolding phy_at
 phy_takes [] frame fits e = absurd cc
 phy_takes (first ∷ body) frame fits e =
@@ -191,7 +191,7 @@ data_body (Downlink adr ack pending) false body = refl
 pub short_enough : (frame : Phy) → Fits frame → length (spelling frame) ≤ 255
 short_enough frame h = (has_spelling frame h).1
 
-phy_again : (frame : Phy) → Fits frame → phy_at (spelling frame) ≡ Ok frame
+pub phy_again : (frame : Phy) → Fits frame → phy_at (spelling frame) ≡ Ok frame
 unfolding phy_at spelling
 phy_again (phy.JoinRequest r) h =
     let most : length (spelling (phy.JoinRequest r)) ≤ 255 = short_enough (phy.JoinRequest r) h in

@@ -1,3 +1,4 @@
 pub mod FrameFields
 pub mod FrameLaws
 pub mod Lengths
+pub mod Requests

@@ -1,5 +1,5 @@
--- Reading a frame from left to right. That it gives back what is spelled, and nothing else, is what `decode`
--- ensures.
+-- Reading a frame from left to right. That it gives back what is spelled, and nothing else, is the law
+-- `reading_is_the_grammar`.
 use Rattle.std.specs.Prelude.{◌≡◌, ℕ, ◌-◌, ◌/◌, ◌%◌, Bool, false, true, List, [], ◌∷◌, length, take, drop, nat_lt, ◌==◌, if◌then◌else◌, Option, Some, None, Result, Ok, Err, MatchResult}
 use Rattle.std.specs.Int.{w16, w32}
 use Rattle.byte_fields.specs.Reading.{Reader, ◌>>=◌, both, byte_at, front_at, le_at, le_eui_at, seen_as, whole}

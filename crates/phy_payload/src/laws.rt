@@ -1,9 +1,12 @@
 //! Laws of frames and their bytes. Each stands on a function that does nothing.
-ghost use Rattle.std.specs.Prelude.{◌≡◌, ◌-◌, ◌≤◌, List, ℕ, drop, length, take};
+ghost use Rattle.std.specs.Prelude.{◌≡◌, ◌∷◌, ◌-◌, ◌≤◌, [], List, ℕ, drop, length, take};
+ghost use Rattle.std.specs.Int.{from_le_bytes, w16, w64};
+ghost use Rattle.lw_types.specs.Hex.{IsBytes};
 ghost use Rattle.phy_payload.specs.declared.phy.Phy.{Phy};
 ghost use Rattle.phy_payload.specs.declared.data_frame.DataFrame.{DataFrame};
 ghost use Rattle.phy_payload.specs.declared.join.JoinRequest.{JoinRequest};
 ghost use Rattle.phy_payload.specs.Frame.{data_message, request_message, spelling, Fits, IsPhy};
+ghost use Rattle.phy_payload.specs.Reading.{phy_at};
 
 /// No frame has two spellings.
 pub fn each_frame_has_one_spelling()
@@ -28,4 +31,24 @@ pub fn a_mic_stands_behind_its_message()
         → (take (length bytes - 4) bytes ≡ request_message r) × (drop (length bytes - 4) bytes ≡ r.mic.0) }
     ensures data_frames { (bytes : List ℕ) (d : DataFrame) → IsPhy bytes (Phy.DataFrame d)
         → (take (length bytes - 4) bytes ≡ data_message d) × (drop (length bytes - 4) bytes ≡ d.mic.0) }
+{}
+
+/// Reading from left to right gives a frame exactly where the bytes are that frame.
+pub fn reading_is_the_grammar()
+    ensures read { (bytes : List ℕ) (frame : Phy) → IsBytes bytes → phy_at bytes ≡ Ok frame → IsPhy bytes frame }
+    ensures spelled { (bytes : List ℕ) (frame : Phy) → IsPhy bytes frame → phy_at bytes ≡ Ok frame }
+{}
+
+/// The Join-Requests are the 23 bytes whose MHDR is 0. Their fields are JoinEUI (8), DevEUI (8), DevNonce (2)
+/// and MIC (4), low bytes first (TS001-1.0.4 §4.2, §6.2.5).
+pub fn a_join_request_has_23_bytes()
+    ensures shape { (bytes : List ℕ) (r : JoinRequest) → IsPhy bytes (Phy.JoinRequest r)
+        → (length bytes ≡ 23) × (take 1 bytes ≡ 0 ∷ []) }
+    ensures fields { (bytes : List ℕ) (r : JoinRequest) → IsPhy bytes (Phy.JoinRequest r)
+        → (r.join_eui.0 ≡ from_le_bytes w64 (take 8 (drop 1 bytes)))
+        × (r.dev_eui.0 ≡ from_le_bytes w64 (take 8 (drop 9 bytes)))
+        × (r.dev_nonce ≡ from_le_bytes w16 (take 2 (drop 17 bytes)))
+        × (r.mic.0 ≡ drop 19 bytes) }
+    ensures each { (bytes : List ℕ) → IsBytes bytes → length bytes ≡ 23 → take 1 bytes ≡ 0 ∷ []
+        → (r : JoinRequest) × IsPhy bytes (Phy.JoinRequest r) }
 {}

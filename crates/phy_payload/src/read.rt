@@ -159,6 +159,8 @@ pub fn decode(alloc: Global, bytes: &[u8]) -> Result<Phy, Refusal>
         → MatchResult result (λ found. found ≡ frame) (λ e. (e ≡ OutOfMemory) × TakesMemory frame) }
     // Memory runs out only for a frame that takes some, and else the bytes decide.
     ensures refused { IfErr result (λ e. ((e ≡ OutOfMemory) × IsSomePhyInMemory bytes.now) ⊎ (e ≡ refusal_of bytes.now)) }
+    // What reading from left to right gives is answered, but where memory runs out for it.
+    ensures reads { Reads result (phy_at bytes.now) }
 {
     read_phy(alloc, bytes)
 }
