@@ -34,7 +34,8 @@ ans_to ask result =
       transaction = ask.transaction;
     }
 
-abbrev told : JoinAsk → Result (JoinState × JoinGrant) Refusal → JoinAns × Option JoinState
+-- the answer of the join server is told, with the state of the device after a grant
+abbrev pub told : JoinAsk → Result (JoinState × JoinGrant) Refusal → JoinAns × Option JoinState
 told ask (Ok granted) = (ans_to ask (Ok (accepted_of granted.1)), Some granted.0)
 told ask (Err refusal) = (ans_to ask (Err (cause_of refusal)), None)
 

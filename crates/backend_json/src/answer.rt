@@ -3,7 +3,7 @@ ghost use Rattle.std.specs.Prelude.{◌≡◌, string_bytes, MatchResult};
 ghost use Rattle.serde_json.specs.Written.{compact_text};
 ghost use Rattle.lw_types.specs.declared.refusal.Refusal.TheVariants.{OutOfMemory};
 ghost use Rattle.backend_json.specs.declared.join_ans.JoinAns.{JoinAns};
-ghost use Rattle.backend_json.specs.Answers.{IsJoinAns, join_ans};
+ghost use Rattle.backend_json.specs.Answers.{IsAns, IsJoinAns, join_ans};
 ghost use Rattle.backend_json.specs.Replies.{IsReply, ans_to, cause_of, no_question, reply};
 
 use crate::{Accepted, Cause, JoinAns, join_ans_text, read_join_req};
@@ -20,11 +20,12 @@ pub fn answer_text(
     text: &str,
 ) -> Result<(String, Option<JoinState>), Refusal>
     ensures { MatchResult result
-        (λ found. (ans : JoinAns) × IsReply state.now text.now (ans, found.1)
+        (λ found. (ans : JoinAns) × IsAns ans × IsReply state.now text.now (ans, found.1)
         × (string_bytes found.0 ≡ compact_text (join_ans ans)) × IsJoinAns (string_bytes found.0) ans)
         (λ e. e ≡ OutOfMemory) }
 {
     let (ans, after) = reply_to(alloc, state, text)?;
+    in_range(ans);
     Ok((join_ans_text(alloc, &ans)?, after))
 }
 
@@ -100,3 +101,8 @@ fn no_question(state: &JoinState) -> (JoinAns, Option<JoinState>)
     };
     (ans, None)
 }
+
+// What an answer has by its types.
+fn in_range(_ans: JoinAns)
+    ensures { IsAns _ans }
+{}
