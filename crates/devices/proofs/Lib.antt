@@ -1,2 +1,4 @@
+pub mod Best
 pub mod Equal
-pub mod Hearings
+pub mod Gateways
+mod MacCommands

@@ -26,3 +26,7 @@ no_grants = record { granted = None; current = None; pending = None }
 
 abbrev pub grants_of : Option ℕ → Option CurrentSession → Option Session → Grants
 grants_of granted current pending = record { granted = granted; current = current; pending = pending }
+
+-- a session is granted: it waits for its first uplink, in the place of one that waited, and the one in use stays
+abbrev pub with_grant : Grants → Session → Grants
+with_grant g s = record g { granted = Some s.join_nonce; pending = Some s }

@@ -1,17 +1,9 @@
 -- A frame with all the copies of it.
-use Rattle.std.specs.Prelude.{◌≢◌, ◌≤◌, ◌<◌, ℕ, List, length, All, AllPairs, Contains}
+use Rattle.std.specs.Prelude.{◌≡◌, ◌≢◌, ◌≤◌, ◌<◌, ◌<ℤ◌, ◌⊎◌, ℕ, Bool, true, false, nat_lt, int_lt, if◌then◌else◌, List, [], ◌∷◌, Option, Some, None, length, All, AllPairs, Contains}
 use Rattle.lw_types.specs.declared.frame_copy.Reception.{Reception}
 use Rattle.region_eu868.specs.Region.{channels}
 use Rattle.devices.specs.declared.heard.Hearing.{Hearing}
-use Rattle.devices.specs.declared.heard.TheConstants.Heard.{MOST}
-
--- the bytes of a frame, and how each gateway heard it
-pub record Copies : Type 0 where
-  pub phy_payload : List ℕ
-  pub hearings : List Hearing
-
-abbrev pub heard : List ℕ → List Hearing → Copies
-heard bytes all = record { phy_payload = bytes; hearings = all }
+use Rattle.devices.specs.declared.heard.TheConstants.Hearings.{MOST}
 
 abbrev pub gateway_of : Hearing → ℕ
 gateway_of h = h.reception.gateway.0
@@ -30,3 +22,39 @@ pub record AreHearings (hearings : List Hearing) : Type 0 where
   pub few : length hearings ≤ MOST
   pub receivable : All (λ h. IsReceivable h.reception) hearings
   pub apart : AreApart hearings
+
+-- whether a copy was heard better than another: with a greater SNR, else with a greater RSSI, else by a smaller gateway
+abbrev pub is_better : Hearing → Hearing → Bool
+is_better a b =
+    if int_lt b.reception.snr a.reception.snr then true
+    else if int_lt a.reception.snr b.reception.snr then false
+    else if int_lt b.reception.rssi a.reception.rssi then true
+    else if int_lt a.reception.rssi b.reception.rssi then false
+    else nat_lt (gateway_of a) (gateway_of b)
+
+-- the better one of two copies
+abbrev pub better_of : Hearing → Hearing → Hearing
+better_of a b = if is_better b a then b else a
+
+-- the best of these and of those before them
+abbrev pub best_with : Hearing → List Hearing → Hearing
+best_with best [] = best
+best_with best (h ∷ hs) = best_with (better_of best h) hs
+
+-- the copy that was heard best
+abbrev pub best_of : List Hearing → Option Hearing
+best_of [] = None
+best_of (h ∷ hs) = Some (best_with h hs)
+
+-- a copy was heard better than another: with a greater SNR, with the same and a greater RSSI, or with both the same and by
+-- a smaller gateway
+abbrev pub IsBetter : Hearing → Hearing → Type 0
+IsBetter a b =
+    (b.reception.snr <ℤ a.reception.snr)
+    ⊎ (a.reception.snr ≡ b.reception.snr) × ((b.reception.rssi <ℤ a.reception.rssi)
+    ⊎ (a.reception.rssi ≡ b.reception.rssi) × (gateway_of a < gateway_of b))
+
+-- one of these copies, and none of them is better
+pub record IsBest (hearings : List Hearing) (best : Hearing) : Type 0 where
+  pub one : Contains hearings best
+  pub greatest : All (λ h. ¬ (IsBetter h best)) hearings

@@ -2,3 +2,4 @@ pub mod Activation
 pub mod Device
 pub mod Mark
 pub mod Heard
+pub mod MacQueue

@@ -45,7 +45,7 @@ impl Model for Activation {
 
 impl Activation {
     ghost use Rattle.std.specs.Prelude.{◌≡◌, SomeIff};
-    ghost use Rattle.devices.specs.Activation.{AreInOrder, grants_of, no_grants};
+    ghost use Rattle.devices.specs.Activation.{AreInOrder, grants_of, no_grants, with_grant};
 
     /// Nothing granted yet.
     pub fn none() -> Self
@@ -93,6 +93,16 @@ impl Activation {
         ensures { result ≡ self.now.current }
     {
         self.current
+    }
+
+    /// Grants a session, under a JoinNonce above the last one. It waits for its first uplink, in the place of one that
+    /// waited, and the session in use stays.
+    pub fn grant(&mut self, session: Session)
+        requires { unwrap_or self.old.granted 0 < session.join_nonce }
+        ensures { self.new ≡ with_grant self.old session }
+    {
+        self.granted = Some(session.join_nonce);
+        self.pending = Some(session);
     }
 
     /// The session that waits for its first uplink.

@@ -1,5 +1,5 @@
 // What is asked of the network.
-use crate::{Application, Rx1Offset, RxDelay};
+use crate::{Application, AskedBytes, Heard, Rx1Offset, RxDelay, Tag};
 use lw_types::{Eui, Key};
 
 /// What an application says of a device that it brings.
@@ -13,9 +13,34 @@ pub struct Provisioning {
     pub rx_delay: RxDelay,
 }
 
+/// An item as an application hands it in: neither its port nor its length is known to be in range.
+#[derive(Clone, Debug, PartialEq, Eq, Drop)]
+pub struct Queueing {
+    pub application: Application,
+    pub dev_eui: Eui,
+    pub tag: Tag,
+    pub port: u8,
+    pub confirmed: bool,
+    pub payload: AskedBytes,
+}
+
+/// MAC commands as an application hands them in: any bytes.
+#[derive(Clone, Debug, PartialEq, Eq, Drop)]
+pub struct MacQueueing {
+    pub application: Application,
+    pub dev_eui: Eui,
+    pub commands: AskedBytes,
+}
+
 /// What a device, or the network for it, is asked to do.
 #[derive(Clone, Debug, PartialEq, Eq, Drop)]
 pub enum Command {
     /// A new device is brought.
     Provision(Provisioning),
+    /// Gateways heard a frame.
+    Heard(Heard),
+    /// An application queues an item for its device.
+    Queue(Queueing),
+    /// An application queues MAC commands for its device.
+    QueueMac(MacQueueing),
 }

@@ -1,9 +1,11 @@
 // A frame with all the copies of it.
-ghost use Rattle.std.specs.Prelude.{◌≡◌, ◌≤◌, ◌<◌, ◌↔◌, All, AllPairs, Any, IsTrue, MatchOption, length};
-ghost use Rattle.devices.specs.Heard.{heard, gateway_of, AreApart, AreHearings, IsReceivable};
+ghost use Rattle.std.specs.Prelude.{◌≡◌, ◌≤◌, ◌<◌, ◌↔◌, All, AllPairs, Any, IsTrue, MatchOption, Some, length};
+ghost use Rattle.devices.specs.Heard.{best_of, gateway_of, is_better, AreApart, AreHearings, IsReceivable};
 
 use lw_types::{Eui, PhyPayload, Reception};
 use region_eu868::is_channel;
+use std::alloc::AllocError;
+use std::fmt;
 use std::marker::Model;
 
 /// How one gateway heard a frame, and its moment of the frame's end, in microseconds.
@@ -13,58 +15,123 @@ pub struct Hearing {
     pub stamp: u32,
 }
 
-/// A frame as 1 to 32 gateways heard it, no two copies from one gateway, and each copy on a channel at a
-/// data rate from 0 to 5. The frame's bytes are kept once.
+/// How 1 to 32 gateways heard one frame: no two copies are from one gateway, and each is on a channel at a data rate from 0
+/// to 5. In contracts it is the list of them.
 #[derive(Drop)]
+pub struct Hearings {
+    items: Vec<Hearing>,
+}
+
+impl Model for Hearings {
+    ghost use Rattle.std.specs.Prelude.{List};
+    ghost use Rattle.devices.specs.declared.heard.Hearing.{Hearing};
+    ghost use Rattle.devices.specs.Heard.{AreHearings};
+
+    ghost Value = { List Hearing };
+
+    ghost view = { λ h. h.items.items };
+
+    ghost invariant = { λ h. AreHearings h.items.items };
+}
+
+/// A frame with all the copies of it that gateways heard. Its bytes are kept once.
+#[derive(Clone, Debug, PartialEq, Eq, Drop)]
 pub struct Heard {
-    phy_payload: PhyPayload,
-    hearings: Vec<Hearing>,
+    pub phy_payload: PhyPayload,
+    pub hearings: Hearings,
 }
 
-impl Model for Heard {
-    ghost use Rattle.devices.specs.Heard.{Copies, AreHearings};
-
-    ghost Value = { Copies };
-
-    ghost view = { λ h. record { phy_payload = h.phy_payload; hearings = h.hearings.items } };
-
-    ghost invariant = { λ h. AreHearings h.hearings.items };
-}
-
-impl Heard {
+impl Hearings {
     /// The most gateways of which a copy is kept.
     pub const MOST: usize = 32;
 
-    /// The frame of these copies, in the order in which they came; `None` where they are none or more than
-    /// 32, two are of one gateway, or one is not on a channel at a data rate from 0 to 5.
-    pub fn new(phy_payload: PhyPayload, hearings: Vec<Hearing>) -> Option<Self>
-        ensures { MatchOption result (¬ (AreHearings hearings.items))
-            (λ h. AreHearings hearings.items × (h ≡ heard phy_payload hearings.items)) }
+    /// These copies, in the order in which they came; `None` where they are none or more than 32, two are of one
+    /// gateway, or one is not on a channel at a data rate from 0 to 5.
+    pub fn new(items: Vec<Hearing>) -> Option<Self>
+        ensures { MatchOption result (¬ (AreHearings items.items)) (λ h. AreHearings items.items × (h ≡ items.items)) }
     {
-        if are_hearings(hearings.as_slice()) {
-            Some(Heard {
-                phy_payload,
-                hearings,
-            })
+        if are_hearings(items.as_slice()) {
+            Some(Hearings { items })
         } else {
             None
         }
     }
 
-    /// The bytes of the frame.
-    pub fn phy_payload(&self) -> &[u8]
-        ensures { result.now ≡ self.now.phy_payload }
+    /// The copies in the order in which they came.
+    pub fn as_slice(&self) -> &[Hearing]
+        ensures hearings { result.now ≡ self.now }
+        ensures in_range { AreHearings self.now }
     {
-        self.phy_payload.as_slice()
+        self.items.as_slice()
     }
 
-    /// How each gateway heard it.
-    pub fn hearings(&self) -> &[Hearing]
-        ensures hearings { result.now ≡ self.now.hearings }
-        ensures in_range { AreHearings self.now.hearings }
+    /// The copy that was heard best: of the greatest SNR, of these of the greatest RSSI, and of these of the least
+    /// gateway.
+    pub fn best(&self) -> Hearing
+        ensures best { Some result ≡ best_of self.now }
+        ensures in_range { AreHearings self.now }
     {
-        self.hearings.as_slice()
+        let mut best = self.items[0];
+        for hearing in &self.items[1..] {
+            if hearing.is_better_than(&best) {
+                best = *hearing;
+            }
+        }
+        best
     }
+}
+
+impl Hearing {
+    // Whether the frame was heard better so.
+    fn is_better_than(&self, other: &Hearing) -> bool
+        ensures { result ≡ is_better self.now other.now }
+    {
+        let (a, b) = (&self.reception, &other.reception);
+        if a.snr != b.snr {
+            return a.snr > b.snr;
+        }
+        if a.rssi != b.rssi {
+            return a.rssi > b.rssi;
+        }
+        a.gateway < b.gateway
+    }
+}
+
+impl Clone for Hearings {
+    ghost is_clone = { λ s t. t ≡ s };
+
+    fn clone(&self) -> Result<Self, AllocError> {
+        Ok(Hearings {
+            items: self.items.clone()?,
+        })
+    }
+}
+
+impl fmt::Debug for Hearings {
+    fn fmt<W: fmt::Write>(&self, f: &mut fmt::Formatter<W>) -> fmt::Result {
+        self.items.fmt(f)
+    }
+}
+
+impl PartialEq for Hearings {
+    ghost use Rattle.std.specs.Cmp.Lexicographic.{pointwise, lists_per};
+    ghost use Rattle.devices.specs.contracts.heard.HearingPartialEq.TheImpl.{ghosts};
+    ghost use Rattle.devices.specs.contracts.heard.HearingPartialEq.TheImpl.Laws as hearing;
+
+    ghost eq = { λ x y. pointwise ghosts.eq x y };
+
+    ghost laws = { lists_per hearing.laws-law };
+
+    fn eq(&self, other: &Self) -> bool {
+        self.items == other.items
+    }
+}
+
+impl Eq for Hearings {
+    ghost use Rattle.std.specs.Cmp.Lexicographic.{lists_equiv};
+    ghost use Rattle.devices.specs.contracts.heard.HearingEq.TheImpl.Laws as hearing;
+
+    ghost laws = { lists_equiv hearing.laws-law };
 }
 
 // Whether these may be all the copies of a frame.
@@ -74,7 +141,7 @@ fn are_hearings(hearings: &[Hearing]) -> bool
     if hearings.is_empty() {
         return false;
     }
-    if hearings.len() > Heard::MOST {
+    if hearings.len() > Hearings::MOST {
         return false;
     }
     if !are_receivable(hearings) {

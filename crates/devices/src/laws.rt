@@ -1,5 +1,8 @@
-//! The ranges of the types: each is what its name says, and no neighbour is let in or left out.
-ghost use Rattle.std.specs.Prelude.{◌≡◌, ◌≤◌, ◌^◌, SomeIff};
+//! The ranges of the types: each is what its name says, and no neighbour is let in or left out. And which copy of a frame
+//! is the best one.
+ghost use Rattle.std.specs.Prelude.{◌≡◌, ◌≤◌, ◌^◌, ◌↔◌, IsTrue, List, [], MatchOption, Some, SomeIff};
+ghost use Rattle.devices.specs.declared.heard.Hearing.{Hearing};
+ghost use Rattle.devices.specs.Heard.{best_of, is_better, AreApart, IsBest, IsBetter};
 
 use crate::{
     Application, Copies, Effects, ItemQueue, MacQueue, NextDown, Port, Rx1Offset, RxDelay,
@@ -52,4 +55,14 @@ pub fn limits_are_these()
     ensures mac_queue { MacQueue.MOST ≡ 64 }
     ensures items { ItemQueue.MOST ≡ 16 }
     ensures effects { Effects.MOST ≡ 4 }
+{}
+
+/// The best of the copies of a frame: one of them, unless there are none, such that no other was heard better. Where no
+/// two copies are of one gateway, it is the only such copy.
+pub fn the_best_copy_is_heard_best()
+    ensures better { (a b : Hearing) → IsTrue (is_better a b) ↔ IsBetter a b }
+    ensures best { (hearings : List Hearing) →
+        MatchOption (best_of hearings) (hearings ≡ []) (λ best. IsBest hearings best) }
+    ensures only { (hearings : List Hearing) (h : Hearing) → AreApart hearings → IsBest hearings h →
+        best_of hearings ≡ Some h }
 {}

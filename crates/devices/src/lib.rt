@@ -16,12 +16,12 @@ mod mark;
 mod queue;
 
 pub use activation::{Activation, CurrentSession, Session};
-pub use command::{Command, Provisioning};
+pub use command::{Command, MacQueueing, Provisioning, Queueing};
 pub use device::Device;
 pub use effect::{Downlink, Effect, Report, Windows};
 pub use effects::Effects;
-pub use heard::{Heard, Hearing};
-pub use lw_types::{Payload, Ranged};
+pub use heard::{Heard, Hearing, Hearings};
+pub use lw_types::{Bytes, Payload, Ranged};
 pub use mac_queue::MacQueue;
 pub use mark::{Mark, SessionName};
 pub use queue::{Item, ItemQueue};
@@ -41,6 +41,9 @@ pub type Port = Ranged<1, 223>;
 /// The counter that a session's next downlink uses up, from 0 to 2^32, where 2^32 means that none is
 /// left.
 pub type NextDown = Ranged<0, 4_294_967_296>;
+
+/// The bytes that an application hands in, of any number.
+pub type AskedBytes = Bytes<{ usize::MAX }>;
 
 /// How many gateways heard an uplink, from 1 to 32.
 pub type Copies = Ranged<1, 32>;

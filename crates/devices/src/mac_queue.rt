@@ -1,9 +1,10 @@
 // The MAC commands that wait for a device's next downlink.
-ghost use Rattle.std.specs.Prelude.{◌≡◌, ◌≤◌, ◌<◌, ◌↔◌, List, [], ℕ, IsTrue, length, IfOk, MatchResult, Some, nat_eq};
+ghost use Rattle.std.specs.Prelude.{◌≡◌, ◌≢◌, ◌≤◌, ◌<◌, ◌+◌, ◌++◌, ◌↔◌, true, List, [], ℕ, IsTrue, length, IfOk, MatchResult, OnErr, OnOk, Some, nat_eq};
 ghost use Rattle.std.specs.Cmp.{partial_equiv_from_equiv};
 ghost use Rattle.std.specs.Cmp.Lexicographic.{pointwise, nat_list_eq_equiv};
 ghost use Rattle.std.specs.Fmt.{debug_list, decimal};
 ghost use Rattle.mac_commands.specs.Queueable.{AreQueueable};
+ghost use Rattle.devices.specs.MacQueue.{may_queue};
 
 use mac_commands::are_queueable;
 use std::alloc::{AllocError, Global};
@@ -65,6 +66,26 @@ impl MacQueue {
         Ok(MacQueue {
             bytes: Vec::from_slice(alloc, bytes)?,
         })
+    }
+
+    /// Whether an application may queue these bytes: one or more whole commands. Takes no memory.
+    pub fn takes(bytes: &[u8]) -> bool
+        ensures value { result ≡ may_queue bytes.now }
+        ensures whole { IsTrue result ↔ ((bytes.now ≢ []) × AreQueueable bytes.now) }
+    {
+        !bytes.is_empty() && are_queueable(bytes)
+    }
+
+    /// Adds whole commands at the end. After an `Err` the queue is as before.
+    pub fn append(&mut self, commands: &[u8]) -> Result<(), AllocError>
+        requires room { length self.old + length commands.now ≤ Self.MOST }
+        requires whole { may_queue commands.now ≡ true }
+        ensures ok { OnOk result (self.new ≡ self.old ++ commands.now) }
+        ensures err { OnErr result (self.new ≡ self.old) }
+    {
+        mac_commands::laws::whole_commands_join_and_part();
+        self.bytes.extend_from_slice(commands)?;
+        Ok(())
     }
 
     /// The bytes of the commands, at most 64.

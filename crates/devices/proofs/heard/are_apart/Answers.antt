@@ -2,7 +2,7 @@ use Rattle.std.proofs.Common.{ap, refl, sym, ◌∙◌}
 use Rattle.std.proofs.lemmas.Bool.{false≢true}
 use Rattle.std.proofs.lemmas.List.{get_or_default}
 use Rattle.devices.specs.Heard.{gateway_of}
-use Rattle.devices.proofs.Hearings.{apart_all, apart_more, not_apart}
+use Rattle.devices.proofs.Gateways.{apart_all, apart_more, not_apart}
 use Rattle.devices.proofs.heard.are_apart.Goals as goal
 
 pub returns-then-has_gateway : goal.returns-then-has_gateway

@@ -1,4 +1,4 @@
-use Rattle.devices.proofs.Hearings.{ApartBelow}
+use Rattle.devices.proofs.Gateways.{ApartBelow}
 use Rattle.devices.proofs.heard.are_apart.Given as goal
 
 abbrev pub invariant-loop-i : goal.invariant-loop-i

@@ -1,6 +1,6 @@
 use Rattle.std.proofs.Common.{arith, refl}
 use Rattle.std.proofs.lemmas.List.{get_or_default}
-use Rattle.devices.proofs.Hearings.{receivable_more}
+use Rattle.devices.proofs.Gateways.{receivable_more}
 use Rattle.devices.proofs.heard.are_receivable.Goals as goal
 
 pub loop-hearing-preserved : goal.loop-hearing-preserved

@@ -1,4 +1,4 @@
-use Rattle.devices.proofs.Hearings.{ReceivableBelow}
+use Rattle.devices.proofs.Gateways.{ReceivableBelow}
 use Rattle.devices.proofs.heard.are_receivable.Given as goal
 
 abbrev pub invariant-loop-hearing : goal.invariant-loop-hearing

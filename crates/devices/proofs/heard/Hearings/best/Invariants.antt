@@ -1,0 +1,7 @@
+use Rattle.std.proofs.Common.{◌≡◌, drop}
+use Rattle.devices.specs.Heard.{best_with}
+use Rattle.devices.proofs.heard.Hearings.best.Given as goal
+
+-- the best copy is the best of those that are left and of those before them
+abbrev pub invariant-loop-hearing : goal.invariant-loop-hearing
+invariant-loop-hearing l = best_with l.initial.best l.hearing-items ≡ best_with l.best (drop l.hearing-index l.hearing-items)
