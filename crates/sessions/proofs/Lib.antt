@@ -1,5 +1,11 @@
+pub mod Joins
+pub mod JoinTexts
+pub mod Queues
 pub mod Runs
 pub mod CopyState
 pub mod Slots
 pub mod Placing
+pub mod Moves
+pub mod Grants
+pub mod Covering
 pub mod Once

@@ -1,5 +1,5 @@
 -- What a table has after a record is placed, from what it had before.
-use Rattle.std.proofs.Common.{◌<◌, ◌≤◌, ◌≢◌, ◌≡◌, ◌↔◌, ◌+◌, ◌∙◌, ℕ, suc, zero, true, cond, List, [], ◌∷◌, ◌++◌, length, take, drop, Option, Some, None, nat_eq, get_or, sym, ap, refl, arith}
+use Rattle.std.proofs.Common.{◌<◌, ◌≤◌, ◌≢◌, ◌≡◌, ◌↔◌, ◌+◌, ◌∙◌, ℕ, suc, zero, true, cond, List, [], ◌∷◌, ◌++◌, length, take, drop, Option, Some, None, nat_eq, get_or, sym, ap, refl, arith, subst}
 use Rattle.std.specs.List.{slice_get}
 use Rattle.std.specs.Option.{MatchOption}
 use Rattle.std.proofs.lemmas.Bool.{eq-eqb, ne_eqb}
@@ -7,9 +7,11 @@ use Rattle.std.proofs.lemmas.List.{take_all, drop_all, length_push}
 use Rattle.std.proofs.lemmas.Option.{none-some, same_Some, slice_get_within}
 use Rattle.devices.specs.declared.device.Device.{Device}
 use Rattle.sessions.specs.Table.{TableState, CanPlace, TakesNext, placed, slot_of, with_device}
-use Rattle.sessions.specs.Decision.{FitAll, applied, applied_all}
+use Rattle.lw_types.specs.declared.identifiers.Eui.{Eui}
+use Rattle.sessions.specs.Decision.{FitAll, HasPlace, applied, applied_all}
+use Rattle.sessions.specs.Index.{HaveOwnSlots}
 use Rattle.sessions.specs.declared.decision.Decision.{Decision}
-use Rattle.sessions.proofs.Slots.{place, place-pushed, place-replaced, split}
+use Rattle.sessions.proofs.Slots.{own_names-pushed, own_names-replaced, place, place-found, place-pushed, place-replaced, split}
 use Rattle.sessions.proofs.Runs.{CanPlace-fits, FitAll-next, applied_all-next}
 
 abbrev name : Device → ℕ
@@ -26,16 +28,16 @@ by_slot t slot x can P used next = at (slice_get t.devices slot) refl can
     at None is new = next is new
 
 -- the next slot takes a record at the end
-at_end : (n : ℕ) (x : Device) (xs : List Device) → n ≡ length xs → with_device n x xs ≡ xs ++ x ∷ []
+pub at_end : (n : ℕ) (x : Device) (xs : List Device) → n ≡ length xs → with_device n x xs ≡ xs ++ x ∷ []
 at_end n x xs last =
     ap (λ front. front ++ x ∷ drop (suc n) xs) (take_all n xs (omega arith)) ∙ ap (λ rest. xs ++ x ∷ rest) (drop_all (suc n) xs (omega arith))
 
-get-new : (n : ℕ) (x : Device) (xs : List Device) → n ≤ length xs → slice_get (with_device n x xs) n ≡ Some x
+pub get-new : (n : ℕ) (x : Device) (xs : List Device) → n ≤ length xs → slice_get (with_device n x xs) n ≡ Some x
 get-new zero x xs within = refl
 get-new (suc n) x [] within = absurd (omega arith)
 get-new (suc n) x (y ∷ ys) within = get-new n x ys (omega arith)
 
-get-other : (n k : ℕ) (x : Device) (xs : List Device) → n ≤ length xs → n ≢ k → slice_get (with_device n x xs) k ≡ slice_get xs k
+pub get-other : (n k : ℕ) (x : Device) (xs : List Device) → n ≤ length xs → n ≢ k → slice_get (with_device n x xs) k ≡ slice_get xs k
 get-other zero zero x xs within apart = absurd (apart refl)
 get-other zero (suc k) x [] within apart = refl
 get-other zero (suc k) x (y ∷ ys) within apart = refl
@@ -135,3 +137,34 @@ same_net t (d ∷ ds) = same_net (applied t d) ds
 pub same_slots : (t : TableState) (ds : List Decision) → (applied_all t ds).slots ≡ t.slots
 same_slots t [] = refl
 same_slots t (d ∷ ds) = same_slots (applied t d) ds
+
+-- where each device of a table is found at its own slot, it is so of what decisions leave
+own-placed : (t : TableState) (slot : ℕ) (x : Device) → CanPlace t slot x → HaveOwnSlots t.devices → HaveOwnSlots (placed t slot x).devices
+own-placed t slot x can own =
+    by_slot t slot x can (HaveOwnSlots (placed t slot x).devices)
+    (λ old at same. own_names-replaced name slot x old t.devices own at (ap (λ (u : Eui). u.0) same))
+    (λ none next. subst (λ ds. HaveOwnSlots ds) (sym (at_end slot x t.devices next.0)) (own_names-pushed name x t.devices own next.2))
+
+own-left : (t : TableState) (ds : List Decision) → FitAll t ds → HaveOwnSlots t.devices → HaveOwnSlots (applied_all t ds).devices
+own-left t [] fit own = own
+own-left t (d ∷ ds) fit own = own-left (applied t d) ds fit.1 (own-placed t d.slot d.after (CanPlace-fits t d fit.0) own)
+
+-- so a record that they leave is found at its slot
+pub has-own-place : (t : TableState) (ds : List Decision) (slot : ℕ) (after device : Device) (before : Option Device) → FitAll t ds → HaveOwnSlots t.devices
+    → before ≡ slice_get (applied_all t ds).devices slot → before ≡ Some device → HasPlace (applied_all t ds) slot after before
+has-own-place t ds slot after device before fit own found is =
+    subst (HasPlace (applied_all t ds) slot after) (sym is) (own-left t ds fit own slot device (sym found ∙ is))
+
+-- a device that is found by its name is in the list, and has the name
+pub found_name : (e : ℕ) (slot : ℕ) (d : Device) (devices : List Device) → slot_of e devices ≡ Some slot → slice_get devices slot ≡ Some d → d.dev_eui.0 ≡ e
+found_name e slot d devices found at =
+    let f = place-found name e 0 devices slot found in
+    let here : f.0 ≡ slot = (let h = f.2 in omega arith) in
+    ap name (sym (same_Some f.1 d (sym f.3 ∙ (ap (slice_get devices) here ∙ at)))) ∙ f.4
+
+pub found_within : (e : ℕ) (slot : ℕ) (devices : List Device) → slot_of e devices ≡ Some slot → slot < length devices
+found_within e slot devices found =
+    let f = place-found name e 0 devices slot found in
+    let within = slice_get_within devices f.0 f.1 f.3 in
+    let here : slot ≡ f.0 = (let h = f.2 in omega arith) in
+    omega arith

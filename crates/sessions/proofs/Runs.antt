@@ -1,23 +1,34 @@
 -- Decisions that continue a table, joined and folded.
-use Rattle.std.proofs.Common.{Err, ◌≡◌, ◌+◌, ◌∙◌, ℕ, List, [], ◌∷◌, ◌++◌, length, Result, Ok, suc, sym, ap, subst, refl, arith}
-use Rattle.std.proofs.Common.{◌<◌, ◌≤◌, cond, true, nat_lt, Option, Some, None, take, drop, get_or}
+use Rattle.std.proofs.Common.{Err, inl, ◌≡◌, ◌+◌, ◌∙◌, ℕ, List, [], ◌∷◌, ◌++◌, length, Result, Ok, suc, sym, ap, subst, refl, arith}
+use Rattle.std.proofs.Common.{◌<◌, ◌≤◌, zero, cond, Bool, true, false, nat_lt, Option, Some, None, take, drop, get_or}
 use Rattle.std.proofs.lemmas.Bool.{ltb-true, lt-ltb}
 use Rattle.std.proofs.lemmas.List.{append_assoc, take_more, drop_more, take-append-drop, length-take-le, take_at, take_all}
-use Rattle.std.proofs.lemmas.Option.{slice_get_past}
+use Rattle.std.proofs.lemmas.Option.{none-some, same_Some, slice_get_past, slice_get_within}
 use Rattle.std.specs.Option.{MatchOption}
-use Rattle.std.specs.Result.{MatchResult}
+use Rattle.std.specs.Result.{IsErrAnd}
+use Rattle.std.proofs.lemmas.Result.{err_from_is_err_and}
+use Rattle.std.specs.Prelude.{MatchBool}
 use Rattle.devices.specs.declared.device.Device.{Device}
-use Rattle.lw_types.specs.declared.refusal.Refusal.TheVariants.{TableFull, DevEuiTaken}
+use Rattle.lw_types.specs.declared.refusal.Refusal.TheVariants.{TableFull, DevEuiTaken, OutOfMemory, UnknownDevEui}
 use Rattle.devices.specs.Device.{provisioned}
 use Rattle.devices.specs.declared.command.Provisioning.{Provisioning}
 use Rattle.devices.specs.declared.command.Command.{Command}
-use Rattle.devices.specs.declared.command.Command.TheVariants.{Provision}
+use Rattle.devices.specs.declared.command.Command.TheVariants.{Provision, Heard, Queue, QueueMac}
 use Rattle.std.specs.List.{slice_get}
 use Rattle.lw_types.specs.declared.refusal.Refusal.{Refusal}
-use Rattle.sessions.specs.Step.{Outcome, step1, outcome, provisioned_effects}
-use Rattle.sessions.proofs.Slots.{split}
-use Rattle.sessions.specs.Table.{TableState, Step, TakesNext, CanPlace, CanPut, place_for, new_slot, slot_of, with_device, step, step_at, stepped, step_effects, folded, effects_of, ◌>>=◌}
-use Rattle.sessions.specs.Decision.{Continues, Decides, IsDecision, Fits, FitAll, AreNumbered, ContinueAll, applied, applied_all, back_at, taken_back, taken_back_all, commands_of, effects_in}
+use Rattle.lw_types.specs.Answer.{Answers, AnswersWithMemory}
+use Rattle.lw_types.specs.declared.identifiers.Eui.{Eui}
+use Rattle.join_server.specs.Request.{dev_eui_of}
+use Rattle.sessions.specs.Chain.{◌>>=◌}
+use Rattle.sessions.specs.Outcome.{Outcome, outcome}
+use Rattle.sessions.specs.Join.{request_in}
+use Rattle.sessions.specs.Step.{step1, provisioned_effects}
+use Rattle.sessions.proofs.Joins.{both_ok, heard-name, heard-ok, no_ok}
+use Rattle.sessions.proofs.Queues.{queue-ok, queue_mac-ok}
+use Rattle.sessions.proofs.Slots.{place-found, split}
+use Rattle.sessions.specs.Table.{TableState, Step, TakesNext, CanPlace, CanPut, place_for, known_slot, new_slot, slot_of, with_device, step, step_at, stepped, step_effects, folded, effects_of}
+use Rattle.sessions.specs.Decision.{Continues, AnswersTo, HasPlace, is_frugal, IsDecision, IsStepped, Fits, FitAll, AreNumbered, ContinueAll, applied, applied_all, back_at, taken_back, taken_back_all, commands_of, effects_in}
+use Rattle.sessions.specs.declared.decide.Stepped.{Stepped}
 use Rattle.sessions.specs.declared.decision.Decision.{Decision}
 
 same_Ok : {A : Type 0} (x y : A) → ◌≡◌ {A = Result A Refusal} (Ok x) (Ok y) → x ≡ y
@@ -53,23 +64,42 @@ new_slot-ok t None slot P h goes =
 MatchOption-of_none : {X : Type 0} (o : Option X) (P : Type 0) (Q : X → Type 0) → o ≡ None → P → MatchOption o P Q
 MatchOption-of_none o P Q none p = subst (λ o. MatchOption o P Q) (sym none) p
 
+MatchOption-of_some : {X : Type 0} (o : Option X) (x : X) (P : Type 0) (Q : X → Type 0) → o ≡ Some x → Q x → MatchOption o P Q
+MatchOption-of_some o x P Q is q = subst (λ o. MatchOption o P Q) (sym is) q
+
 -- a provisioning's outcome has its device's name
 name_provisioned : (net_id slot : ℕ) (p : Provisioning) (o : Outcome) → step1 net_id slot None (Provision p) ≡ Ok o → o.device.dev_eui.0 ≡ p.dev_eui.0
 name_provisioned net_id slot p o is = ap (λ (o : Outcome). o.device.dev_eui.0) (sym (same_Ok (outcome (provisioned p) (provisioned_effects slot p)) o is))
 
--- no command is carried out on a record that isn't its own
+-- no device is brought to a slot in use
 not_provisioned : (net_id slot : ℕ) (d : Device) (p : Provisioning) (o : Outcome) (P : Type 0) → step1 net_id slot (Some d) (Provision p) ≡ Ok o → P
 not_provisioned net_id slot d p o P is = ok-or-err DevEuiTaken o P is
 
+-- a step leaves a device that is there its name
+keeps_name : (net_id slot : ℕ) (d : Device) (c : Command) (o : Outcome) → step1 net_id slot (Some d) c ≡ Ok o → d.dev_eui ≡ o.device.dev_eui
+keeps_name net_id slot d (Provision p) o is = not_provisioned net_id slot d p o _ is
+keeps_name net_id slot d (Heard h) o is = heard-name net_id slot d h o is
+keeps_name net_id slot d (Queue q) o is = (queue-ok d q o is).named
+keeps_name net_id slot d (QueueMac q) o is = (queue_mac-ok d q o is).named
+
 -- the slot of a command that was carried out on what is at a slot
 place-carried : (t : TableState) (slot : ℕ) (c : Command) (before : Option Device) (o : Outcome) → step1 t.net_id slot before c ≡ Ok o
-    → MatchOption before (TakesNext t slot o.device) (λ _. Unit {0}) → place_for t c ≡ Ok slot
+    → HasPlace t slot o.device before → place_for t c ≡ Ok slot
 place-carried t slot (Provision p) (Some d) o is place = not_provisioned t.net_id slot d p o _ is
 place-carried t slot (Provision p) None o is place =
     let name = name_provisioned t.net_id slot p o is in
     let within : nat_lt (length t.devices) t.slots ≡ true = lt-ltb (length t.devices) t.slots (omega (arith, place.0, place.1)) in
     ap (new_slot t) (ap (λ e. slot_of e t.devices) (sym name) ∙ place.2)
     ∙ (ap (λ b. cond b (Ok (length t.devices)) (Err TableFull)) within ∙ ap Ok (sym place.0))
+place-carried t slot (Heard h) None o is place = no_ok UnknownDevEui o _ is
+place-carried t slot (Heard h) (Some d) o is place =
+    let found = heard-ok t.net_id slot d h o is in
+    ap (λ (r : Result (List ℕ) Refusal). r >>= λ request. known_slot (slot_of (dev_eui_of request) t.devices)) found.1
+    ∙ ap known_slot (ap (λ e. slot_of e t.devices) found.2.asks ∙ place)
+place-carried t slot (Queue q) None o is place = no_ok UnknownDevEui o _ is
+place-carried t slot (Queue q) (Some d) o is place = ap known_slot (ap (λ e. slot_of e t.devices) (queue-ok d q o is).asked ∙ place)
+place-carried t slot (QueueMac q) None o is place = no_ok UnknownDevEui o _ is
+place-carried t slot (QueueMac q) (Some d) o is place = ap known_slot (ap (λ e. slot_of e t.devices) (queue_mac-ok d q o is).asked ∙ place)
 
 -- a decision that was made of a table is the step of its command there
 step-fits : (t : TableState) (d : Decision) → Fits t d
@@ -141,40 +171,54 @@ ContinueAll-split t seq first second both =
     let numbered = AreNumbered-split seq first second both.numbered in
     (record { fit = fit.0; numbered = numbered.0 }, record { fit = fit.1; numbered = numbered.1 })
 
--- a decision on a record in use doesn't fit yet: the one command brings a device
-in_use : (net_id slot : ℕ) (d : Device) (c : Command) (o : Outcome) (P : Type 0) → step1 net_id slot (Some d) c ≡ Ok o → P
-in_use net_id slot d (Provision p) o P is = not_provisioned net_id slot d p o P is
-
--- what holds of a decision that brings a device holds of each
-brings : (t : TableState) (d : Decision) → Fits t d → (P : Type 0) → (slice_get t.devices d.slot ≡ None → TakesNext t d.slot d.after → P) → P
-brings t d fits P new = by_before d.before (sym fits.before) fits.place d.is_step
+-- a decision that was made of a table brings a device to the next slot, or changes the record of one that is there
+by_place : (t : TableState) (d : Decision) → Fits t d → (P : Type 0)
+    → (slice_get t.devices d.slot ≡ None → TakesNext t d.slot d.after → P)
+    → ((device : Device) → slice_get t.devices d.slot ≡ Some device → device.dev_eui ≡ d.after.dev_eui → slot_of device.dev_eui.0 t.devices ≡ Some d.slot → P) → P
+by_place t d fits P next used = by_before d.before (sym fits.before) fits.place d.is_step
   where
-    by_before : (before : Option Device) → slice_get t.devices d.slot ≡ before → MatchOption before (TakesNext t d.slot d.after) (λ _. Unit {0})
+    by_before : (before : Option Device) → slice_get t.devices d.slot ≡ before → HasPlace t d.slot d.after before
         → step1 d.net_id d.slot before d.command ≡ Ok (outcome d.after d.effects) → P
-    by_before None found place is = new found place
-    by_before (Some device) found place is = in_use d.net_id d.slot device d.command (outcome d.after d.effects) P is
+    by_before None found place is = next found place
+    by_before (Some device) found place is = used device found (keeps_name d.net_id d.slot device d.command (outcome d.after d.effects) is) place
 
 -- the record of a decision that was made of a table has its place there
 pub CanPlace-fits : (t : TableState) (d : Decision) → Fits t d → CanPlace t d.slot d.after
-CanPlace-fits t d fits = brings t d fits (CanPlace t d.slot d.after) (λ empty next. MatchOption-of_none (slice_get t.devices d.slot) _ _ empty next)
+CanPlace-fits t d fits =
+    by_place t d fits (CanPlace t d.slot d.after)
+    (λ empty next. MatchOption-of_none (slice_get t.devices d.slot) _ _ empty next)
+    (λ device found same own. MatchOption-of_some (slice_get t.devices d.slot) device _ _ found same)
 
 -- and may be put there
 pub CanPut-fits : (t : TableState) (d : Decision) → Fits t d → CanPut t d.slot d.after
 CanPut-fits t d fits =
-    brings t d fits (CanPut t d.slot d.after)
-    (λ empty next. (omega (arith, next.0), next.1, MatchOption-of_none (slot_of d.after.dev_eui.0 t.devices) _ _ next.2 tt))
+    by_place t d fits (CanPut t d.slot d.after)
+    (λ empty next. (omega (arith, next.0), fits.within, MatchOption-of_none (slot_of d.after.dev_eui.0 t.devices) _ _ next.2 tt))
+    (λ device found same own.
+    let within = slice_get_within t.devices d.slot device found in
+    let kept : slot_of d.after.dev_eui.0 t.devices ≡ Some d.slot = ap (λ (e : Eui). slot_of e.0 t.devices) (sym same) ∙ own in
+    (omega arith, fits.within, MatchOption-of_some (slot_of d.after.dev_eui.0 t.devices) d.slot _ _ kept refl))
 
 -- it can be taken back
 taken_back-applied : (t : TableState) (d : Decision) → Fits t d → taken_back (applied t d) d ≡ t
 taken_back-applied t d fits =
-    brings t d fits (taken_back (applied t d) d ≡ t) (λ empty next.
+    by_place t d fits (taken_back (applied t d) d ≡ t)
+    (λ empty next.
     ap (back_at (applied t d) d.slot) (fits.before ∙ empty)
     ∙ ap (λ ds. record t { devices = ds }) (take_at_end t.devices d.slot d.after next.0))
+    (λ device found same own.
+    ap (back_at (applied t d) d.slot) (fits.before ∙ found)
+    ∙ ap (λ ds. record t { devices = ds }) (put_back t.devices d.slot d.after device found))
   where
     take_at_end : (ds : List Device) (slot : ℕ) (x : Device) → slot ≡ length ds → take slot (with_device slot x ds) ≡ ds
     take_at_end ds slot x last =
         let all : take slot ds ≡ ds = take_all slot ds (omega arith) in
         ap (λ front. take slot (front ++ x ∷ drop (suc slot) ds)) all ∙ take_at ds (x ∷ drop (suc slot) ds) slot (sym last)
+
+    put_back : (ds : List Device) (slot : ℕ) (x old : Device) → slice_get ds slot ≡ Some old → with_device slot old (with_device slot x ds) ≡ ds
+    put_back [] slot x old found = absurd (none-some old found)
+    put_back (d ∷ ds) zero x old found = ap (λ y. y ∷ ds) (sym (same_Some d old found))
+    put_back (d ∷ ds) (suc slot) x old found = ap (λ ys. d ∷ ys) (put_back ds slot x old found)
 
 pub taken_back_all-applied_all : (t : TableState) (ds : List Decision) → FitAll t ds → taken_back_all (applied_all t ds) ds ≡ t
 taken_back_all-applied_all t [] fit = refl
@@ -191,18 +235,62 @@ pub applied_all-next : (t : TableState) (n : ℕ) (d : Decision) (ds : List Deci
 applied_all-next t n d ds within item =
     ap (applied_all t) (take_more ds n d within ∙ ap (λ x. take n ds ++ x ∷ []) (sym item)) ∙ applied_all-append t (take n ds) (d ∷ [])
 
--- what a table decides is a step there
-Decides-ok : (t : TableState) (seq : ℕ) (c : Command) (d : Decision) → Decides t seq c (Ok d)
-    → (s : Step) × (step t c ≡ Ok s) × IsDecision t seq c s d
-Decides-ok t seq c d h = go (step t c) refl h
+-- an answer that is no refusal is what is wanted
+pub AnswersTo-ok : {A B : Type 0} (c : Command) (wanted : Result A Refusal) (Is : A → B → Type 0) (found : B) → AnswersTo c wanted Is (Ok found)
+    → (x : A) × (wanted ≡ Ok x) × Is x found
+AnswersTo-ok {A} {B} c wanted Is found answers = by_frugal (is_frugal c) wanted answers
   where
-    go : (r : Result Step Refusal) → step t c ≡ r → MatchResult r (λ s. IsDecision t seq c s d) (λ e. ◌≡◌ {A = Result Decision Refusal} (Ok d) (Err e))
-        → (s : Step) × (step t c ≡ Ok s) × IsDecision t seq c s d
-    go (Ok s) is found = (s, is, found)
-    go (Err e) is refused = ok-or-err e d _ (sym refused)
+    by_frugal : (frugal : Bool) (wanted : Result A Refusal) → MatchBool frugal (Answers wanted Is (Ok found)) (AnswersWithMemory wanted Is (Ok found))
+        → (x : A) × (wanted ≡ Ok x) × Is x found
+    by_frugal true (Ok x) is = (x, refl, is)
+    by_frugal true (Err e) refused = ok-or-err e found _ (sym refused)
+    by_frugal false (Ok x) is = (x, refl, is)
+    by_frugal false (Err e) none = absurd none
+
+pub AnswersTo-is : {A B : Type 0} (c : Command) (wanted : Result A Refusal) (Is : A → B → Type 0) (x : A) (found : B) → wanted ≡ Ok x → Is x found
+    → AnswersTo c wanted Is (Ok found)
+AnswersTo-is {A} {B} c wanted Is x found ok is = subst (λ (w : Result A Refusal). AnswersTo c w Is (Ok found)) (sym ok) (by_frugal (is_frugal c))
+  where
+    by_frugal : (frugal : Bool) → MatchBool frugal (Answers (Ok x) Is (Ok found)) (AnswersWithMemory (Ok x) Is (Ok found))
+    by_frugal true = is
+    by_frugal false = is
+
+same_Err : {A B : Type 0} (x e : Refusal) → ◌≡◌ {A = Result A Refusal} (Err x) (Err e) → ◌≡◌ {A = Result B Refusal} (Err x) (Err e)
+same_Err {A} {B} x e h = ap (λ (y : Refusal). Err y) (same x e h)
+  where
+    same : (x e : Refusal) → ◌≡◌ {A = Result A Refusal} (Err x) (Err e) → x ≡ e
+    same x e h = cc
+
+-- a refusal that is handed on is answered as it was
+pub AnswersTo-handed : {A B C : Type 0} (c : Command) (wanted : Result A Refusal) (Is : A → B → Type 0) (Is' : A → C → Type 0) (e : Refusal)
+    → AnswersTo c wanted Is (Err e) → AnswersTo c wanted Is' (Err e)
+AnswersTo-handed {A} {B} {C} c wanted Is Is' e answers = by_frugal (is_frugal c) wanted answers
+  where
+    by_frugal : (frugal : Bool) (wanted : Result A Refusal) → MatchBool frugal (Answers wanted Is (Err e)) (AnswersWithMemory wanted Is (Err e))
+        → MatchBool frugal (Answers {B = C} wanted Is' (Err e)) (AnswersWithMemory {B = C} wanted Is' (Err e))
+    by_frugal true (Ok x) h = h
+    by_frugal true (Err e') h = same_Err e e' h
+    by_frugal false wanted h = h
+
+pub AnswersTo-err : {A B C : Type 0} (c : Command) (wanted : Result A Refusal) (Is : A → B → Type 0) (Is' : A → C → Type 0) (e : Refusal) (result : Result C Refusal)
+    → IsErrAnd result (λ x. x ≡ e) → AnswersTo c wanted Is (Err e) → AnswersTo c wanted Is' result
+AnswersTo-err {A} {B} {C} c wanted Is Is' e result handed answers =
+    let r = err_from_is_err_and result handed in
+    subst (AnswersTo c wanted Is') (sym (r.1 ∙ ap Err r.2)) (AnswersTo-handed c wanted Is Is' e answers)
+
+-- and so is want of memory, where something is wanted
+pub AnswersTo-memory : {A B : Type 0} (c : Command) (wanted : Result A Refusal) (Is : A → B → Type 0) (x : A) (e : Refusal) (result : Result B Refusal) → wanted ≡ Ok x
+    → IsErrAnd result (λ y. y ≡ e) → e ≡ OutOfMemory → AnswersTo c wanted Is result
+AnswersTo-memory {A} {B} c wanted Is x e result ok handed none =
+    let r = err_from_is_err_and result handed in
+    subst (AnswersTo c wanted Is) (sym (r.1 ∙ ap Err r.2)) (subst (λ (w : Result A Refusal). AnswersTo c w Is (Err e)) (sym ok) (by_frugal (is_frugal c)))
+  where
+    by_frugal : (frugal : Bool) → MatchBool frugal (Answers (Ok x) Is (Err e)) (AnswersWithMemory (Ok x) Is (Err e))
+    by_frugal true = none
+    by_frugal false = inl none
 
 -- a step of a table stands at its command's slot, on the record there
-step-parts : (t : TableState) (c : Command) (s : Step) → step t c ≡ Ok s → (place_for t c ≡ Ok s.slot) × (s.before ≡ slice_get t.devices s.slot)
+pub step-parts : (t : TableState) (c : Command) (s : Step) → step t c ≡ Ok s → (place_for t c ≡ Ok s.slot) × (s.before ≡ slice_get t.devices s.slot)
 step-parts t c s h = at (place_for t c) refl h
   where
     done : (slot : ℕ) (r : Result Outcome Refusal) → (r >>= λ o. Ok (step_at slot (slice_get t.devices slot) o)) ≡ Ok s → place_for t c ≡ Ok slot
@@ -217,19 +305,72 @@ step-parts t c s h = at (place_for t c) refl h
     at (Ok slot) is e = done slot (step1 t.net_id slot (slice_get t.devices slot) c) e is
     at (Err e') is e = ok-or-err e' s _ e
 
--- a device that a step brings takes the next slot
-place-stepped : (t : TableState) (c : Command) (slot : ℕ) (o : Outcome) → place_for t c ≡ Ok slot → step1 t.net_id slot (slice_get t.devices slot) c ≡ Ok o
-    → MatchOption (slice_get t.devices slot) (TakesNext t slot o.device) (λ _. Unit {0})
-place-stepped t (Provision p) slot o place is =
-    new_slot-ok t (slot_of p.dev_eui.0 t.devices) slot (MatchOption (slice_get t.devices slot) (TakesNext t slot o.device) (λ _. Unit {0})) place (λ new last room.
+-- and is what the command does there
+pub step-carried : (t : TableState) (c : Command) (s : Step) → step t c ≡ Ok s
+    → step1 t.net_id s.slot (slice_get t.devices s.slot) c ≡ Ok (outcome s.after s.effects)
+step-carried t c s is =
+    let at = both_ok (place_for t c) (λ slot. step1 t.net_id slot (slice_get t.devices slot) c >>= λ o. Ok (step_at slot (slice_get t.devices slot) o)) s is in
+    let done =
+    both_ok (step1 t.net_id at.0 (slice_get t.devices at.0) c) (λ o. Ok (step_at at.0 (slice_get t.devices at.0) o)) s at.2 in
+    let same = same_Ok (step_at at.0 (slice_get t.devices at.0) done.0) s done.2 in
+    let here : at.0 ≡ s.slot = ap (λ (x : Step). x.slot) same in
+    ap (λ slot. step1 t.net_id slot (slice_get t.devices slot) c) (sym here)
+    ∙ (done.1 ∙ ap (λ (x : Step). Ok (outcome x.after x.effects)) same)
+
+-- so it is a decision
+pub IsStepped-step : (t : TableState) (c : Command) (s : Step) (net_id : ℕ) (before : Option Device) (found : Stepped) → step t c ≡ Ok s → IsStepped s found
+    → net_id ≡ t.net_id → before ≡ slice_get t.devices found.slot → step1 net_id found.slot before c ≡ Ok (outcome found.after found.effects)
+IsStepped-step t c s net_id before found is made net at =
+    ap (λ n. step1 n found.slot before c) net
+    ∙ (ap (λ b. step1 t.net_id found.slot b c) at
+    ∙ (ap (λ slot. step1 t.net_id slot (slice_get t.devices slot) c) made.slot
+    ∙ (step-carried t c s is
+    ∙ (ap (λ x. Ok (outcome x s.effects)) (sym made.after) ∙ ap (λ es. Ok (outcome found.after es)) (sym made.effects)))))
+
+pub IsStepped-before : (t : TableState) (c : Command) (s : Step) (before : Option Device) (found : Stepped) → step t c ≡ Ok s → IsStepped s found
+    → before ≡ slice_get t.devices found.slot → before ≡ s.before
+IsStepped-before t c s before found is made at = at ∙ (ap (slice_get t.devices) made.slot ∙ sym (step-parts t c s is).1)
+
+known-ok : (found : Option ℕ) (slot : ℕ) → known_slot found ≡ Ok slot → found ≡ Some slot
+known-ok (Some own) slot is = ap Some (same_Ok own slot is)
+known-ok None slot is = no_ok UnknownDevEui slot _ is
+
+-- the device of a name that is known
+pub known-device : (t : TableState) (dev_eui slot : ℕ) → known_slot (slot_of dev_eui t.devices) ≡ Ok slot
+    → (d : Device) × (slice_get t.devices slot ≡ Some d) × (slot_of d.dev_eui.0 t.devices ≡ Some slot)
+known-device t dev_eui slot known =
+    let found = known-ok (slot_of dev_eui t.devices) slot known in
+    let f = place-found (λ (d : Device). d.dev_eui.0) dev_eui 0 t.devices slot found in
+    let here : slot ≡ f.0 = (let h = f.2 in omega arith) in
+    (f.1, ap (slice_get t.devices) here ∙ f.3, ap (λ e. slot_of e t.devices) f.4 ∙ found)
+
+-- it is in its place
+known-place : (t : TableState) (dev_eui slot : ℕ) (after : Device) → length t.devices ≤ t.slots → known_slot (slot_of dev_eui t.devices) ≡ Ok slot
+    → (slot < t.slots) × HasPlace t slot after (slice_get t.devices slot)
+known-place t dev_eui slot after few known =
+    let found = known-device t dev_eui slot known in
+    let within = slice_get_within t.devices slot found.0 found.1 in
+    (omega arith, MatchOption-of_some (slice_get t.devices slot) found.0 _ _ found.1 found.2)
+
+-- a record that a step leaves has its place
+pub place-stepped : (t : TableState) (c : Command) (slot : ℕ) (o : Outcome) → length t.devices ≤ t.slots → place_for t c ≡ Ok slot
+    → step1 t.net_id slot (slice_get t.devices slot) c ≡ Ok o → (slot < t.slots) × HasPlace t slot o.device (slice_get t.devices slot)
+place-stepped t (Provision p) slot o few place is =
+    new_slot-ok t (slot_of p.dev_eui.0 t.devices) slot ((slot < t.slots) × HasPlace t slot o.device (slice_get t.devices slot)) place (λ new last room.
     let past : length t.devices ≤ slot = omega arith in
     let empty = slice_get_past t.devices slot past in
     let name = name_provisioned t.net_id slot p o (ap (λ b. step1 t.net_id slot b (Provision p)) (sym empty) ∙ is) in
-    MatchOption-of_none (slice_get t.devices slot) _ _ empty (last, room, ap (λ e. slot_of e t.devices) name ∙ new))
+    (room, MatchOption-of_none (slice_get t.devices slot) _ _ empty (last, room, ap (λ e. slot_of e t.devices) name ∙ new)))
+place-stepped t (Heard h) slot o few place is =
+    let request = both_ok (request_in h.phy_payload) (λ request. known_slot (slot_of (dev_eui_of request) t.devices)) slot place in
+    known-place t (dev_eui_of request.0) slot o.device few request.2
+place-stepped t (Queue q) slot o few place is = known-place t q.dev_eui.0 slot o.device few place
+place-stepped t (QueueMac q) slot o few place is = known-place t q.dev_eui.0 slot o.device few place
 
 -- a decision that is a step of a table was made of it
-Fits-decision : (t : TableState) (seq : ℕ) (c : Command) (s : Step) (d : Decision) → step t c ≡ Ok s → IsDecision t seq c s d → Fits t d
-Fits-decision t seq c s d is made =
+pub Fits-decision : (t : TableState) (seq : ℕ) (c : Command) (s : Step) (d : Decision) → length t.devices ≤ t.slots → step t c ≡ Ok s
+    → IsDecision t seq c s d → Fits t d
+Fits-decision t seq c s d few is made =
     let parts = step-parts t c s is in
     let at : slice_get t.devices s.slot ≡ slice_get t.devices d.slot = ap (slice_get t.devices) (sym made.slot) in
     let before = made.before ∙ (parts.1 ∙ at) in
@@ -237,19 +378,13 @@ Fits-decision t seq c s d is made =
     let carried : step1 t.net_id d.slot (slice_get t.devices d.slot) c ≡ Ok (outcome d.after d.effects) =
     ap (λ n. step1 n d.slot (slice_get t.devices d.slot) c) (sym made.net)
     ∙ (ap (λ b. step1 d.net_id d.slot b c) (sym before) ∙ (ap (step1 d.net_id d.slot d.before) (sym made.command) ∙ d.is_step)) in
+    let place = place-stepped t c d.slot (outcome d.after d.effects) few placed_at carried in
     record {
       net = made.net;
       before = before;
-      place =
-          subst (λ b. MatchOption b (TakesNext t d.slot d.after) (λ _. Unit {0})) (sym before)
-          (place-stepped t c d.slot (outcome d.after d.effects) placed_at carried);
+      within = place.0;
+      place = subst (HasPlace t d.slot d.after) (sym before) place.1;
     }
-
--- and what a table decides too
-pub Decides-fits : (t : TableState) (seq : ℕ) (c : Command) (d : Decision) → Decides t seq c (Ok d) → Fits t d × (d.seq ≡ seq)
-Decides-fits t seq c d made =
-    let found = Decides-ok t seq c d made in
-    (Fits-decision t seq c found.0 d found.1 found.2, found.2.number)
 
 -- the decision behind those that continue a table continues what they leave
 pub ContinueAll-next : (t : TableState) (seq n : ℕ) (d : Decision) (ds : List Decision) → n < length ds → d ≡ get_or ds n d

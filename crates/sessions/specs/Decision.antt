@@ -1,21 +1,28 @@
 -- Decisions that continue a table.
-use Rattle.std.specs.Prelude.{◌≡◌, ◌≢◌, ◌+◌, ℕ, List, [], ◌∷◌, Option, Some, None, Result, map, slice_get, take}
+use Rattle.std.specs.Prelude.{◌≡◌, ◌≢◌, ◌+◌, ◌<◌, ℕ, Bool, true, false, MatchBool, List, [], ◌∷◌, Option, Some, None, Result, map, slice_get, take}
 use Rattle.std.specs.List.{flat_map}
 use Rattle.std.specs.Option.{MatchOption}
-use Rattle.lw_types.specs.Answer.{Answers}
+use Rattle.lw_types.specs.Answer.{Answers, AnswersWithMemory}
 use Rattle.lw_types.specs.declared.refusal.Refusal.{Refusal}
 use Rattle.devices.specs.declared.device.Device.{Device}
 use Rattle.devices.specs.declared.command.Command.{Command}
+use Rattle.devices.specs.declared.command.Command.TheVariants.{Provision, Heard, Queue, QueueMac}
 use Rattle.devices.specs.declared.effect.Effect.{Effect}
-use Rattle.sessions.specs.Table.{TableState, Step, TakesNext, step, placed}
+use Rattle.sessions.specs.Table.{TableState, Step, TakesNext, slot_of, step, placed}
+use Rattle.sessions.specs.declared.decide.Stepped.{Stepped}
 use Rattle.sessions.specs.declared.decision.Decision.{Decision}
 
--- The decision was made of this table: its network and the record at its slot are the table's, and a device that it
--- brings takes the next slot.
+-- the place of a record: a device that is brought takes the next slot, and one that is there is found at its own
+abbrev pub HasPlace : TableState → ℕ → Device → Option Device → Type 0
+HasPlace t slot after before = MatchOption before (TakesNext t slot after) (λ device. slot_of device.dev_eui.0 t.devices ≡ Some slot)
+
+-- the decision was made of this table: its network and the record at its slot are the table's, and its record has its
+-- place there
 pub record Fits (t : TableState) (d : Decision) : Type 0 where
   pub net : d.net_id ≡ t.net_id
   pub before : d.before ≡ slice_get t.devices d.slot
-  pub place : MatchOption d.before (TakesNext t d.slot d.after) (λ _. Unit {0})
+  pub within : d.slot < t.slots
+  pub place : HasPlace t d.slot d.after d.before
 
 -- it was made of this table and has the next sequence number
 pub record Continues (t : TableState) (seq : ℕ) (d : Decision) : Type 0 where
@@ -83,6 +90,24 @@ pub record IsDecision (t : TableState) (seq : ℕ) (asked : Command) (s : Step) 
   pub after : d.after ≡ s.after
   pub effects : d.effects ≡ s.effects
 
--- the step of the command is decided, or exactly its refusal is answered
+-- whether each refusal of a command is known before any memory is taken for it
+abbrev pub is_frugal : Command → Bool
+is_frugal (Provision p) = true
+is_frugal (Heard h) = false
+is_frugal (Queue q) = true
+is_frugal (QueueMac q) = true
+
+-- what is answered to a command: exactly what is wanted, unless memory is out; and where the command isn't frugal,
+-- OutOfMemory may stand in the place of a refusal too
+abbrev pub AnswersTo : {A B : Type 0} → Command → Result A Refusal → (A → B → Type 0) → Result B Refusal → Type 0
+AnswersTo command wanted Is result = MatchBool (is_frugal command) (Answers wanted Is result) (AnswersWithMemory wanted Is result)
+
+-- the step of the command is decided, or its refusal is answered
 abbrev pub Decides : TableState → ℕ → Command → Result Decision Refusal → Type 0
-Decides t seq command result = Answers (step t command) (IsDecision t seq command) result
+Decides t seq command result = AnswersTo command (step t command) (IsDecision t seq command) result
+
+-- this is the step
+pub record IsStepped (s : Step) (found : Stepped) : Type 0 where
+  pub slot : found.slot ≡ s.slot
+  pub after : found.after ≡ s.after
+  pub effects : found.effects ≡ s.effects

@@ -1,3 +1,7 @@
+pub mod Chain
+pub mod Outcome
+pub mod Join
+pub mod Queueing
 pub mod Step
 pub mod Table
 pub mod Index

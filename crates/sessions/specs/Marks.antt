@@ -1,9 +1,16 @@
 -- What has left a network, and that no mark is there twice.
-use Rattle.std.specs.Prelude.{◌≡◌, ◌≢◌, ◌⊎◌, List, [], ◌∷◌}
+use Rattle.std.specs.Prelude.{◌≡◌, ◌≢◌, ◌≤◌, ◌<◌, ◌⊎◌, ℕ, List, [], ◌∷◌, Some, IfSome, All, slice_get, unwrap_or}
 use Rattle.std.specs.List.{AllByRecursion, filter_map}
+use Rattle.devices.specs.declared.activation.CurrentSession.{CurrentSession}
+use Rattle.devices.specs.declared.device.Device.{Device}
 use Rattle.devices.specs.declared.effect.Effect.{Effect}
 use Rattle.devices.specs.declared.mark.Mark.{Mark}
+use Rattle.devices.specs.declared.mark.Mark.TheVariants.{Forwarded, Granted, Sent}
+use Rattle.devices.specs.declared.mark.SessionName.{SessionName}
+use Rattle.devices.specs.Activation.{Grants, AreInOrder}
 use Rattle.devices.specs.Mark.{mark_of}
+use Rattle.sessions.specs.Index.{HaveOwnSlots}
+use Rattle.sessions.specs.Table.{TableState, slot_of}
 
 -- one list is what is left of the other when some of it is dropped
 abbrev pub IsSubsequence : {A : Type 0} → List A → List A → Type 0
@@ -22,3 +29,43 @@ AreDistinct (x ∷ xs) = AllByRecursion (λ y. x ≢ y) xs × AreDistinct xs
 -- no mark is used up twice
 abbrev pub AreOnce : List Effect → Type 0
 AreOnce effects = AreDistinct (marks_of effects)
+
+-- ---- what a table says of the marks before it
+
+-- the session of a mark
+abbrev pub session_in : Mark → SessionName
+session_in (Forwarded session counter) = session
+session_in (Granted session) = session
+session_in (Sent session counter) = session
+
+-- the JoinNonce was granted and its session doesn't wait for its first uplink; where it is the one in use, this much of
+-- it is past
+pub record IsPast (g : Grants) (join_nonce : ℕ) (Past : CurrentSession → Type 0) : Type 0 where
+  pub granted : join_nonce ≤ unwrap_or g.granted 0
+  pub begun : IfSome g.pending (λ s. s.join_nonce ≢ join_nonce)
+  pub past : IfSome g.current (λ c. c.session.join_nonce ≡ join_nonce → Past c)
+
+-- a device with these grants doesn't use up this mark of its own again
+abbrev pub GrantsCover : Grants → Mark → Type 0
+GrantsCover g (Forwarded session counter) = IsPast g session.join_nonce (λ c. counter ≤ c.last_up)
+GrantsCover g (Granted session) = session.join_nonce ≤ unwrap_or g.granted 0
+GrantsCover g (Sent session counter) = IsPast g session.join_nonce (λ c. counter < c.next_down)
+
+-- the table has the device of the mark, and its grants cover it
+pub record Covers (t : TableState) (m : Mark) : Type 0 where
+  pub slot : ℕ
+  pub device : Device
+  pub own : slot_of (session_in m).dev_eui.0 t.devices ≡ Some slot
+  pub at : slice_get t.devices slot ≡ Some device
+  pub grants : GrantsCover device.activation m
+
+-- each DevEUI stands at one slot, and the grants of each device are in order
+pub record IsSound (t : TableState) : Type 0 where
+  pub own : HaveOwnSlots t.devices
+  pub in_order : All (λ d. AreInOrder d.activation) t.devices
+
+-- a sound table's network has used up these marks, and none of them twice
+pub record HasUsedUp (t : TableState) (marks : List Mark) : Type 0 where
+  pub sound : IsSound t
+  pub covered : All (λ m. Covers t m) marks
+  pub distinct : AreDistinct marks

@@ -1,23 +1,18 @@
 -- What a command does to one device.
-use Rattle.std.specs.Prelude.{◌≡◌, ℕ, List, [], ◌∷◌, Option, Some, None, Result, Ok, Err}
+use Rattle.std.specs.Prelude.{ℕ, List, [], ◌∷◌, Option, Some, None, Result, Ok, Err}
 use Rattle.lw_types.specs.declared.refusal.Refusal.{Refusal}
-use Rattle.lw_types.specs.declared.refusal.Refusal.TheVariants.{DevEuiTaken}
+use Rattle.lw_types.specs.declared.refusal.Refusal.TheVariants.{DevEuiTaken, UnknownDevEui}
 use Rattle.devices.specs.Device.{provisioned}
 use Rattle.devices.specs.declared.device.Device.{Device}
 use Rattle.devices.specs.declared.command.Provisioning.{Provisioning}
 use Rattle.devices.specs.declared.command.Command.{Command}
-use Rattle.devices.specs.declared.command.Command.TheVariants.{Provision}
+use Rattle.devices.specs.declared.command.Command.TheVariants.{Provision, Heard, Queue, QueueMac}
 use Rattle.devices.specs.declared.effect.Effect.{Effect}
 use Rattle.devices.specs.declared.effect.Effect.TheVariants.{Report}
 use Rattle.devices.specs.declared.effect.Report.TheVariants.{Provisioned}
-
--- the record that a command leaves, and the effects that it has, in order
-pub record Outcome : Type 0 where
-  pub device : Device
-  pub effects : List Effect
-
-abbrev pub outcome : Device → List Effect → Outcome
-outcome device effects = record { device = device; effects = effects }
+use Rattle.sessions.specs.Outcome.{Outcome, outcome}
+use Rattle.sessions.specs.Join.{heard_at}
+use Rattle.sessions.specs.Queueing.{queue_at, queue_mac_at}
 
 -- a new device's application is told the slot
 abbrev pub provisioned_effects : ℕ → Provisioning → List Effect
@@ -28,7 +23,11 @@ abbrev pub step1 : ℕ → ℕ → Option Device → Command → Result Outcome 
 -- a device is brought to an empty slot
 step1 net_id slot None (Provision p) = Ok (outcome (provisioned p) (provisioned_effects slot p))
 step1 net_id slot (Some device) (Provision p) = Err DevEuiTaken
-
--- this record and these effects are the outcome
-abbrev pub IsOutcome : Outcome → Device × List Effect → Type 0
-IsOutcome o found = (found.0 ≡ o.device) × (found.1 ≡ o.effects)
+-- a frame is of a device that is there
+step1 net_id slot None (Heard h) = Err UnknownDevEui
+step1 net_id slot (Some device) (Heard h) = heard_at net_id slot device h
+-- items and MAC commands are queued for a device that is there
+step1 net_id slot None (Queue q) = Err UnknownDevEui
+step1 net_id slot (Some device) (Queue q) = queue_at device q
+step1 net_id slot None (QueueMac q) = Err UnknownDevEui
+step1 net_id slot (Some device) (QueueMac q) = queue_mac_at device q

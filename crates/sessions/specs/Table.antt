@@ -3,12 +3,16 @@ use Rattle.std.specs.Prelude.{◌≡◌, ◌==◌, ◌<◌, ◌≤◌, ℕ, List
 use Rattle.std.specs.List.{position_from}
 use Rattle.std.specs.Option.{MatchOption}
 use Rattle.lw_types.specs.declared.refusal.Refusal.{Refusal}
-use Rattle.lw_types.specs.declared.refusal.Refusal.TheVariants.{DevEuiTaken, TableFull}
+use Rattle.lw_types.specs.declared.refusal.Refusal.TheVariants.{DevEuiTaken, TableFull, UnknownDevEui}
 use Rattle.devices.specs.declared.device.Device.{Device}
 use Rattle.devices.specs.declared.command.Command.{Command}
-use Rattle.devices.specs.declared.command.Command.TheVariants.{Provision}
+use Rattle.devices.specs.declared.command.Command.TheVariants.{Provision, Heard, Queue, QueueMac}
 use Rattle.devices.specs.declared.effect.Effect.{Effect}
-use Rattle.sessions.specs.Step.{Outcome, step1}
+use Rattle.join_server.specs.Request.{dev_eui_of}
+use Rattle.sessions.specs.Chain.{◌>>=◌}
+use Rattle.sessions.specs.Outcome.{Outcome}
+use Rattle.sessions.specs.Join.{request_in}
+use Rattle.sessions.specs.Step.{step1}
 
 -- a network's devices by slot, and how many slots there are
 pub record TableState : Type 0 where
@@ -33,9 +37,17 @@ abbrev pub new_slot : TableState → Option ℕ → Result ℕ Refusal
 new_slot t (Some taken) = Err DevEuiTaken
 new_slot t None = next_slot t
 
--- the slot at which a command works
+-- the slot of a device that is there
+abbrev pub known_slot : Option ℕ → Result ℕ Refusal
+known_slot (Some slot) = Ok slot
+known_slot None = Err UnknownDevEui
+
+-- the slot at which a command works: the next one for a new device, else that of a DevEUI, which a Join-Request has
 abbrev pub place_for : TableState → Command → Result ℕ Refusal
 place_for t (Provision p) = new_slot t (slot_of p.dev_eui.0 t.devices)
+place_for t (Heard h) = request_in h.phy_payload >>= λ request. known_slot (slot_of (dev_eui_of request) t.devices)
+place_for t (Queue q) = known_slot (slot_of q.dev_eui.0 t.devices)
+place_for t (QueueMac q) = known_slot (slot_of q.dev_eui.0 t.devices)
 
 -- the devices with this record at this slot, which is a slot in use or the next one
 abbrev pub with_device : ℕ → Device → List Device → List Device
@@ -64,11 +76,6 @@ pub record Step : Type 0 where
   pub before : Option Device
   pub after : Device
   pub effects : List Effect
-
-infixl 10 ◌>>=◌
-abbrev pub ◌>>=◌ : {A B : Type 0} → Result A Refusal → (A → Result B Refusal) → Result B Refusal
-(Ok x) >>= f = f x
-(Err e) >>= f = Err e
 
 abbrev pub step_at : ℕ → Option Device → Outcome → Step
 step_at slot before o = record { slot = slot; before = before; after = o.device; effects = o.effects }

@@ -1,9 +1,9 @@
 // Decisions on a table: whether they continue it, and the table with their records.
-ghost use Rattle.std.specs.Prelude.{◌≡◌, ◌↔◌, IsTrue, MatchResult};
+ghost use Rattle.std.specs.Prelude.{◌≡◌, ◌<◌, ◌↔◌, IsTrue, MatchResult};
 ghost use Rattle.std.specs.Option.{option_copied};
 ghost use Rattle.lw_types.specs.declared.refusal.Refusal.TheVariants.{OutOfMemory};
 ghost use Rattle.sessions.specs.Table.{TakesNext};
-ghost use Rattle.sessions.specs.Decision.{Fits, Continues, applied};
+ghost use Rattle.sessions.specs.Decision.{Fits, HasPlace, Continues, applied};
 
 use crate::{Decision, Table};
 use devices::Device;
@@ -22,10 +22,26 @@ impl Table {
     fn fits(&self, decision: &Decision) -> bool
         ensures { IsTrue result ↔ Fits self.now decision.now }
     {
-        let found = self.devices().get(decision.slot as usize);
-        self.net_id() == decision.net_id
-            && is_record(&decision.before, found)
-            && (found.is_some() || self.takes_next(decision.slot, &decision.after))
+        self.has_slot(decision)
+            && is_record(&decision.before, self.devices().get(decision.slot as usize))
+            && self.has_place(decision)
+    }
+
+    // Whether the decision is of this network, at one of its slots.
+    pub(crate) fn has_slot(&self, decision: &Decision) -> bool
+        ensures { IsTrue result ↔ ((decision.now.net_id ≡ self.now.net_id) × (decision.now.slot < self.now.slots)) }
+    {
+        self.net_id() == decision.net_id && u64::from(decision.slot) < self.slots().get()
+    }
+
+    // Whether the record that the decision leaves has its place here.
+    fn has_place(&self, decision: &Decision) -> bool
+        ensures { IsTrue result ↔ HasPlace self.now decision.now.slot decision.now.after decision.now.before }
+    {
+        match &decision.before {
+            Some(device) => self.slot_of(device.dev_eui) == Some(decision.slot),
+            None => self.takes_next(decision.slot, &decision.after),
+        }
     }
 
     // Whether a new device with this record may have this slot.

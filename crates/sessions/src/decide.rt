@@ -1,49 +1,40 @@
 // A command becomes a decision, or is refused.
-ghost use Rattle.std.specs.Prelude.{◌≡◌, MatchResult};
-ghost use Rattle.std.specs.Option.{option_copied};
+ghost use Rattle.std.specs.Prelude.{◌≡◌, IfOk, MatchResult, slice_get};
 ghost use Rattle.lw_types.specs.declared.refusal.Refusal.TheVariants.{OutOfMemory};
 ghost use Rattle.lw_types.specs.Answer.{Answers};
-ghost use Rattle.sessions.specs.Step.{step1, IsOutcome, provisioned_effects};
-ghost use Rattle.sessions.specs.Table.{place_for};
-ghost use Rattle.sessions.specs.Decision.{Decides};
+ghost use Rattle.devices.specs.declared.command.Command.{Command};
+ghost use Rattle.sessions.specs.Step.{provisioned_effects};
+ghost use Rattle.sessions.specs.Table.{new_slot, slot_of, step};
+ghost use Rattle.sessions.specs.Decision.{AnswersTo, Decides, Fits, IsStepped};
 
 use crate::{Decision, Table};
 use devices::{Command, Device, Effect, Effects, Provisioning, Report};
-use lw_types::{NetId, Refusal};
+use lw_types::Refusal;
 use std::alloc::Global;
 
-impl Table {
-    /// The slot at which a command works: for a new device the next one. Refused with `DevEuiTaken`
-    /// where a device has the DevEUI already, else with `TableFull` where no slot is left.
-    pub fn place_for(&self, command: &Command) -> Result<u16, Refusal>
-        ensures { result ≡ place_for self.now command.now }
-    {
-        match command {
-            Command::Provision(provisioning) => {
-                if self.slot_of(provisioning.dev_eui).is_some() {
-                    return Err(Refusal::DevEuiTaken);
-                }
-                let next = self.devices().len();
-                if next as u64 >= self.slots().get() {
-                    return Err(Refusal::TableFull);
-                }
-                Ok(next as u16)
-            }
-        }
-    }
+// What a command does in a table: the record that it leaves at a slot, and its effects.
+#[derive(Drop)]
+pub(crate) struct Stepped {
+    pub slot: u16,
+    pub after: Device,
+    pub effects: Effects,
+}
 
-    /// Decides a command on this table, as the decision of this sequence number. A refusal is answered
-    /// exactly where the command's step is refused; else only want of memory is.
+impl Table {
+    /// Decides a command on this table, as the decision of this sequence number. A refusal of the command is
+    /// answered where its step is refused; for want of memory `OutOfMemory` is, for a frame that was heard also
+    /// where another refusal is due.
     pub fn decide(&self, alloc: Global, seq: u64, command: Command) -> Result<Decision, Refusal>
-        ensures { Decides self.now seq command result }
+        ensures decides { Decides self.now seq command result }
+        ensures fits { IfOk result (λ decision. Fits self.now decision) }
     {
-        let slot = self.place_for(&command)?;
-        let found = self.devices().get(slot as usize);
-        let (after, effects) = step(alloc, self.net_id(), slot, found, &command)?;
-        let before = match found {
-            Some(device) => Some(device.copy()?),
-            None => None,
-        };
+        let Stepped {
+            slot,
+            after,
+            effects,
+        } = self.step(alloc, seq, &command)?;
+        let before = self.record_at(slot)?;
+        let _ = self.devices();
         Ok(Decision {
             net_id: self.net_id(),
             seq,
@@ -54,26 +45,64 @@ impl Table {
             effects,
         })
     }
-}
 
-// What the command does to the record of a slot, or to an empty slot.
-fn step(
-    alloc: Global,
-    _net_id: NetId,
-    slot: u16,
-    found: Option<&Device>,
-    command: &Command,
-) -> Result<(Device, Effects), Refusal>
-    ensures { Answers (step1 _net_id slot (option_copied found.entry) command.now) IsOutcome result }
-{
-    match command {
-        Command::Provision(provisioning) => {
-            if found.is_some() {
-                return Err(Refusal::DevEuiTaken);
-            }
-            let effects = provisioned(alloc, slot, provisioning)?;
-            Ok((Device::provisioned(alloc, provisioning), effects))
+    /// Whether the command would be decided under this sequence number; nothing is decided. A refusal of the command
+    /// is answered as [`Table::decide`] answers it.
+    pub fn weigh(&self, alloc: Global, seq: u64, command: &Command) -> Result<(), Refusal>
+        ensures { AnswersTo command.now (step self.now command.now) (λ _ _. Unit {0}) result }
+    {
+        let _stepped = self.step(alloc, seq, command)?;
+        Ok(())
+    }
+
+    // A copy of the record at a slot, if there is one.
+    fn record_at(&self, slot: u16) -> Result<Option<Device>, Refusal>
+        ensures { MatchResult result
+            (λ found. found ≡ slice_get self.now.devices slot)
+            (λ e. e ≡ OutOfMemory) }
+    {
+        match self.devices().get(slot as usize) {
+            Some(device) => Ok(Some(device.copy()?)),
+            None => Ok(None),
         }
+    }
+
+    // What the command does in this table.
+    fn step(&self, alloc: Global, seq: u64, command: &Command) -> Result<Stepped, Refusal>
+        ensures { AnswersTo command.now (step self.now command.now) IsStepped result }
+    {
+        match command {
+            Command::Provision(provisioning) => self.provision(alloc, provisioning),
+            Command::Heard(heard) => self.hear(alloc, seq, heard),
+            Command::Queue(queueing) => self.queue(alloc, queueing),
+            Command::QueueMac(queueing) => self.queue_mac(alloc, queueing),
+        }
+    }
+
+    // A device is brought.
+    fn provision(&self, alloc: Global, provisioning: &Provisioning) -> Result<Stepped, Refusal>
+        ensures { Answers (step self.now (Command.Provision provisioning.now)) IsStepped result }
+    {
+        let slot = self.new_slot(provisioning)?;
+        Ok(Stepped {
+            slot,
+            after: Device::provisioned(alloc, provisioning),
+            effects: provisioned(alloc, slot, provisioning)?,
+        })
+    }
+
+    // The slot of a new device, which is the next one.
+    fn new_slot(&self, provisioning: &Provisioning) -> Result<u16, Refusal>
+        ensures { result ≡ new_slot self.now (slot_of provisioning.now.dev_eui.0 self.now.devices) }
+    {
+        if self.slot_of(provisioning.dev_eui).is_some() {
+            return Err(Refusal::DevEuiTaken);
+        }
+        let next = self.devices().len();
+        if next as u64 >= self.slots().get() {
+            return Err(Refusal::TableFull);
+        }
+        Ok(next as u16)
     }
 }
 

@@ -1,10 +1,11 @@
 //! Laws on the definitions that the contracts of this crate cite. Nothing here is of use but its contracts.
-ghost use Rattle.std.specs.Prelude.{◌≡◌, ◌++◌, ◌↔◌, ◌≤◌, ◌+◌, ℕ, List, SomeIff, length};
+ghost use Rattle.std.specs.Prelude.{◌≡◌, ◌++◌, ◌↔◌, ◌≤◌, ◌+◌, ℕ, List, [], SomeIff, length};
 ghost use Rattle.devices.specs.declared.command.Command.{Command};
 ghost use Rattle.devices.specs.declared.effect.Effect.{Effect};
-ghost use Rattle.sessions.specs.Marks.{AreOnce, IsSubsequence};
-ghost use Rattle.sessions.specs.Table.{TableState, CanPut, folded, effects_of};
-ghost use Rattle.sessions.specs.Decision.{Decides, Fits, FitAll, ContinueAll, applied_all, taken_back_all, commands_of, effects_in};
+ghost use Rattle.devices.specs.declared.mark.Mark.{Mark};
+ghost use Rattle.sessions.specs.Marks.{AreOnce, HasUsedUp, IsSubsequence, marks_of};
+ghost use Rattle.sessions.specs.Table.{TableState, CanPut, empty_table, folded, effects_of};
+ghost use Rattle.sessions.specs.Decision.{Fits, FitAll, ContinueAll, applied_all, taken_back_all, commands_of, effects_in};
 ghost use Rattle.sessions.specs.declared.decision.Decision.{Decision};
 
 use crate::Slots;
@@ -16,11 +17,6 @@ pub fn folding()
         folded t (commands_of ds) ≡ applied_all t ds }
     ensures effects { (t : TableState) (ds : List Decision) → FitAll t ds →
         effects_of t (commands_of ds) ≡ effects_in ds }
-{}
-
-/// What a table decides was made of it, under the number that was asked for.
-pub fn deciding()
-    ensures { (t : TableState) (seq : ℕ) (command : Command) (d : Decision) → Decides t seq command (Ok d) → Fits t d × (d.seq ≡ seq) }
 {}
 
 /// Two runs of commands, one after the other, leave the table that the second leaves on the table of
@@ -53,9 +49,18 @@ pub fn taking_back()
     ensures { (t : TableState) (ds : List Decision) → FitAll t ds → taken_back_all (applied_all t ds) ds ≡ t }
 {}
 
-/// No mark is used up twice by the effects of commands, and none by a part of effects of which that is so.
+/// No mark is used up twice by the effects of commands. Commands use up none of those that a network
+/// has used up before, which is none at first. And of effects that use up marks once, a part does.
 pub fn no_mark_stands_twice()
     ensures commands { (t : TableState) (commands : List Command) → AreOnce (effects_of t commands) }
+    ensures from_empty { (net_id slots : ℕ) (commands : List Command) →
+        AreOnce (effects_of (empty_table net_id slots) commands) }
+    ensures at_first { (net_id slots : ℕ) → HasUsedUp (empty_table net_id slots) [] }
+    ensures after { (t : TableState) (marks : List Mark) (commands : List Command) → HasUsedUp t marks →
+        HasUsedUp (folded t commands) (marks ++ marks_of (effects_of t commands)) }
+    ensures what_left { (t : TableState) (marks : List Mark) (effects left : List Effect) →
+        IsSubsequence left effects → HasUsedUp t (marks ++ marks_of effects) →
+        HasUsedUp t (marks ++ marks_of left) }
     ensures part { (effects left : List Effect) → IsSubsequence left effects → AreOnce effects → AreOnce left }
 {}
 

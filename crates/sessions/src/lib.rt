@@ -8,8 +8,10 @@ mod batch;
 mod continuation;
 mod decide;
 mod decision;
+mod join;
 pub mod laws;
 mod overlay;
+mod queueing;
 mod records;
 mod table;
 

@@ -2,7 +2,7 @@
 ghost use Rattle.std.specs.Prelude.{◌≡◌, ◌≤◌, ◌+◌, ◌↔◌, IsTrue, MatchOption, None, length, slice_get};
 ghost use Rattle.std.specs.Option.{option_copied};
 ghost use Rattle.sessions.specs.Table.{TakesNext, slot_of};
-ghost use Rattle.sessions.specs.Decision.{Fits, FitAll, Continues, ContinueAll, applied_all};
+ghost use Rattle.sessions.specs.Decision.{Fits, FitAll, HasPlace, Continues, ContinueAll, applied_all};
 
 use crate::continuation::is_record;
 use crate::{Decision, Table};
@@ -39,15 +39,28 @@ impl Table {
     }
 
     // Whether the decision was made of what earlier ones leave of this table.
-    #[tactic(auto, using(crate::proofs::Placing::same_net))]
+    #[tactic(auto, using(crate::proofs::Placing::same_net, crate::proofs::Placing::same_slots))]
     fn fits_behind(&self, earlier: &[Decision], decision: &Decision) -> bool
         requires { FitAll self.now earlier.now }
         ensures { IsTrue result ↔ Fits (applied_all self.now earlier.now) decision.now }
     {
-        let found = self.device_behind(earlier, decision.slot);
-        self.net_id() == decision.net_id
-            && is_record(&decision.before, found)
-            && (found.is_some() || self.takes_next_behind(earlier, decision.slot, &decision.after))
+        self.has_slot(decision)
+            && is_record(&decision.before, self.device_behind(earlier, decision.slot))
+            && self.has_place_behind(earlier, decision)
+    }
+
+    // Whether the record that the decision leaves has its place in what earlier ones leave of this table, where it
+    // was made on the record there.
+    fn has_place_behind(&self, earlier: &[Decision], decision: &Decision) -> bool
+        requires fit { FitAll self.now earlier.now }
+        requires found { decision.now.before ≡ slice_get (applied_all self.now earlier.now).devices decision.now.slot }
+        ensures { IsTrue result ↔ HasPlace (applied_all self.now earlier.now) decision.now.slot decision.now.after decision.now.before }
+    {
+        self.devices_are_apart();
+        match &decision.before {
+            Some(_) => true,
+            None => self.takes_next_behind(earlier, decision.slot, &decision.after),
+        }
     }
 
     // What earlier decisions leave at a slot of this table.

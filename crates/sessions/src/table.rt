@@ -38,6 +38,7 @@ impl Model for Table {
 }
 
 impl Table {
+    ghost use Rattle.sessions.specs.Index.{HaveOwnSlots};
     ghost use Rattle.sessions.specs.Table.{empty_table, slot_of, placed, CanPlace, CanPut};
 
     /// A table without devices.
@@ -81,6 +82,13 @@ impl Table {
         ensures { result ≡ slot_of dev_eui.0 self.now.devices }
     {
         self.index.get(&dev_eui.0).copied()
+    }
+
+    // Each device is found at its own slot, so no two have one DevEUI.
+    pub(crate) fn devices_are_apart(&self)
+        ensures { HaveOwnSlots self.now.devices }
+    {
+        let _ = &self.index;
     }
 
     /// Puts a record at a slot: of its own device at a slot in use, of a new device at the next slot.

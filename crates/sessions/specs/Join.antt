@@ -1,0 +1,134 @@
+-- A device is granted a session (TS001-1.0.4 §6.2).
+use Rattle.std.specs.Prelude.{ℕ, ◌==◌, ◌+◌, ◌*◌, ◌%◌, ◌^◌, if◌then◌else◌, List, [], ◌∷◌, Option, Some, None, Result, Ok, Err}
+use Rattle.lw_types.specs.declared.identifiers.DevAddr.{DevAddr}
+use Rattle.lw_types.specs.declared.identifiers.Eui.{Eui}
+use Rattle.lw_types.specs.declared.refusal.Refusal.{Refusal}
+use Rattle.lw_types.specs.declared.refusal.Refusal.TheVariants.{NotServed, UnknownDevEui, WrongJoinEui, BadMic, DevNonceUsed, JoinNonceSpent, BadMessage}
+use Rattle.phy_payload.specs.declared.phy.Phy.{Phy}
+use Rattle.phy_payload.specs.declared.phy.Phy.TheVariants.{JoinRequest}
+use Rattle.phy_payload.specs.Reading.{phy_at}
+use Rattle.backend_json.specs.declared.join_ans.Cause.{Cause}
+use Rattle.backend_json.specs.declared.join_ans.Cause.TheVariants as causes
+use Rattle.join_server.specs.Request.{dev_eui_of}
+use Rattle.join_server.specs.Join.{answered, next_join_nonce}
+use Rattle.join_server.specs.declared.ask.JoinAsk.{JoinAsk}
+use Rattle.join_server.specs.declared.grant.JoinGrant.{JoinGrant}
+use Rattle.join_server.specs.declared.state.JoinState.{JoinState}
+use Rattle.devices.specs.Activation.{with_grant}
+use Rattle.devices.specs.Heard.{best_of}
+use Rattle.devices.specs.declared.activation.Session.{Session}
+use Rattle.devices.specs.declared.device.Device.{Device}
+use Rattle.devices.specs.declared.heard.Heard.{Heard}
+use Rattle.devices.specs.declared.heard.Hearing.{Hearing}
+use Rattle.devices.specs.declared.mark.SessionName.{SessionName}
+use Rattle.devices.specs.declared.effect.Downlink.{Downlink}
+use Rattle.devices.specs.declared.effect.Windows.TheVariants.{Rx1OrRx2}
+use Rattle.devices.specs.declared.effect.Effect.{Effect}
+use Rattle.devices.specs.declared.effect.Effect.TheVariants.{Accept}
+use Rattle.sessions.specs.Chain.{◌>>=◌}
+use Rattle.sessions.specs.Outcome.{Outcome, outcome}
+
+-- ---- the request
+
+-- of the frames that there are, the Join-Request is served so far
+abbrev pub if_request : List ℕ → Phy → Result (List ℕ) Refusal
+if_request bytes (JoinRequest r) = Ok bytes
+if_request bytes frame = Err NotServed
+
+-- the Join-Request that these bytes are
+abbrev pub request_in : List ℕ → Result (List ℕ) Refusal
+request_in bytes = phy_at bytes >>= if_request bytes
+
+-- ---- the question to the join server
+
+-- the part of an address by which a network tells its devices apart: the slot, and 13 bits of the JoinNonce, so that a
+-- device has another address after each join
+abbrev pub nwk_addr : ℕ → ℕ → ℕ
+nwk_addr slot join_nonce = slot * 8192 + join_nonce % 8192
+
+-- a DevAddr: the low six bits of the NetID above the NwkAddr, which has 25
+abbrev pub dev_addr : ℕ → ℕ → ℕ → DevAddr
+dev_addr net_id slot join_nonce = record { 0 = net_id % 64 * 2 ^ 25 + nwk_addr slot join_nonce }
+
+-- what the join server keeps of a device
+abbrev pub join_state : Device → JoinState
+join_state d =
+    record {
+      dev_eui = d.dev_eui;
+      join_eui = d.join_eui;
+      app_key = d.app_key;
+      dev_nonce = d.last_dev_nonce;
+      join_nonce = d.activation.granted;
+    }
+
+-- a question is numbered as the decision that it would lead to, in 32 bits
+abbrev pub transaction_of : ℕ → ℕ
+transaction_of seq = seq % 2 ^ 32
+
+-- the question for the device at a slot, under the address that its next session has; RX2 has data rate 0
+abbrev pub join_ask : ℕ → ℕ → Device → List ℕ → ℕ → JoinAsk
+join_ask net_id slot d request transaction =
+    record {
+      net_id = net_id;
+      dev_addr = dev_addr net_id slot (next_join_nonce d.activation.granted);
+      dl_settings = d.rx1_offset * 16;
+      rx_delay = d.rx_delay;
+      request = request;
+      transaction = transaction;
+    }
+
+-- a refusal of the join server, from the cause that its text tells
+abbrev pub refusal_of : Cause → Refusal
+refusal_of causes.UnknownDevEui = UnknownDevEui
+refusal_of causes.WrongJoinEui = WrongJoinEui
+refusal_of causes.BadMic = BadMic
+refusal_of causes.DevNonceUsed = DevNonceUsed
+refusal_of causes.JoinNonceSpent = JoinNonceSpent
+refusal_of causes.BadMessage = BadMessage
+
+-- ---- what is granted
+
+abbrev pub session_of : JoinGrant → Session
+session_of grant = record { join_nonce = grant.join_nonce; nwk_skey = grant.nwk_skey; app_skey = grant.app_skey }
+
+-- the device's record after a grant: the DevNonce is used, and the session waits for its first uplink
+abbrev pub with_session : Device → JoinState × JoinGrant → Device
+with_session d granted =
+    record d { last_dev_nonce = granted.0.dev_nonce; activation = with_grant d.activation (session_of granted.1) }
+
+-- the Join-Accept is sent by the gateway that heard the request best, 5 s after it at its frequency and data rate, or a
+-- second later in RX2 (TS001-1.0.4 §6.2.6)
+abbrev pub accept_downlink : Hearing → List ℕ → Downlink
+accept_downlink best frame =
+    record {
+      gateway = best.reception.gateway;
+      stamp = best.stamp;
+      frequency = best.reception.frequency;
+      data_rate = best.reception.data_rate;
+      delay = 5;
+      windows = Rx1OrRx2;
+      frame = frame;
+    }
+
+abbrev pub session_name : Eui → JoinGrant → SessionName
+session_name dev_eui grant = record { dev_eui = dev_eui; join_nonce = grant.join_nonce }
+
+abbrev pub accept_effects : Eui → JoinGrant → Option Hearing → List Effect
+accept_effects dev_eui grant None = []
+accept_effects dev_eui grant (Some best) = Accept (session_name dev_eui grant) (accept_downlink best grant.accept) ∷ []
+
+abbrev pub granted_to : Device → List Hearing → JoinState × JoinGrant → Outcome
+granted_to d hearings granted = outcome (with_session d granted) (accept_effects d.dev_eui granted.1 (best_of hearings))
+
+-- what comes of the answer to a question
+abbrev pub joined_by : Device → List Hearing → JoinAsk → Result Outcome Refusal
+joined_by d hearings ask = answered (join_state d) ask >>= λ granted. Ok (granted_to d hearings granted)
+
+-- the device that asks is granted a session, or refused one; the number of the question has no part in it
+abbrev pub join_at : ℕ → ℕ → Device → List Hearing → List ℕ → Result Outcome Refusal
+join_at net_id slot d hearings request =
+    if dev_eui_of request == d.dev_eui.0 then joined_by d hearings (join_ask net_id slot d request 0) else Err UnknownDevEui
+
+-- what the device at a slot does of a frame that was heard
+abbrev pub heard_at : ℕ → ℕ → Device → Heard → Result Outcome Refusal
+heard_at net_id slot d h = request_in h.phy_payload >>= λ request. join_at net_id slot d h.hearings request

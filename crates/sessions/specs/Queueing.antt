@@ -1,0 +1,72 @@
+-- An application queues an item, or MAC commands, for its device (TS001-1.0.4 §4.3.2, §5).
+use Rattle.std.specs.Prelude.{◌==◌, ◌&&◌, ◌+◌, ℕ, Bool, nat_lt, if◌then◌else◌, List, [], ◌∷◌, ◌++◌, Result, Ok, Err, length}
+use Rattle.lw_types.specs.declared.identifiers.Eui.{Eui}
+use Rattle.lw_types.specs.declared.refusal.Refusal.{Refusal}
+use Rattle.lw_types.specs.declared.refusal.Refusal.TheVariants.{UnknownDevEui, TooLong, BadPort, QueueFull, BadMac, MacQueueFull}
+use Rattle.devices.specs.MacQueue.{may_queue}
+use Rattle.devices.specs.declared.command.Queueing.{Queueing}
+use Rattle.devices.specs.declared.command.MacQueueing.{MacQueueing}
+use Rattle.devices.specs.declared.device.Device.{Device}
+use Rattle.devices.specs.declared.queue.Item.{Item}
+use Rattle.devices.specs.declared.effect.Effect.{Effect}
+use Rattle.devices.specs.declared.effect.Effect.TheVariants as effects
+use Rattle.devices.specs.declared.effect.Report.{Report}
+use Rattle.devices.specs.declared.effect.Report.TheVariants.{Queued, MacQueued}
+use Rattle.sessions.specs.Outcome.{Outcome, outcome}
+
+-- whether this is the device that an application asks for, and its own
+abbrev pub is_theirs : ℕ → Eui → Device → Bool
+is_theirs application dev_eui d = (dev_eui.0 == d.dev_eui.0) && (application == d.application)
+
+-- the device's application is told something of it
+abbrev pub told : Device → Report → List Effect
+told d report = effects.Report d.application d.dev_eui report ∷ []
+
+-- ---- items
+
+abbrev pub item_of : Queueing → Item
+item_of q = record { tag = q.tag; port = q.port; confirmed = q.confirmed; payload = q.payload }
+
+-- the item waits behind the others
+abbrev pub with_item : Device → Queueing → Device
+with_item d q = record d { items = d.items ++ item_of q ∷ [] }
+
+abbrev pub item_queued : Device → Queueing → Outcome
+item_queued d q = outcome (with_item d q) (told d (Queued q.tag))
+
+-- at most 16 items wait
+abbrev pub if_room : Device → Queueing → Result Outcome Refusal
+if_room d q = if nat_lt (length d.items) 16 then Ok (item_queued d q) else Err QueueFull
+
+-- the port is from 1 to 223
+abbrev pub if_port : Device → Queueing → Result Outcome Refusal
+if_port d q = if nat_lt 0 q.port && nat_lt q.port 224 then if_room d q else Err BadPort
+
+-- the payload has at most 242 bytes
+abbrev pub if_short : Device → Queueing → Result Outcome Refusal
+if_short d q = if nat_lt 242 (length q.payload) then Err TooLong else if_port d q
+
+-- an item is queued for a device, or refused
+abbrev pub queue_at : Device → Queueing → Result Outcome Refusal
+queue_at d q = if is_theirs q.application q.dev_eui d then if_short d q else Err UnknownDevEui
+
+-- ---- MAC commands
+
+-- the commands wait behind the others
+abbrev pub with_commands : Device → List ℕ → Device
+with_commands d commands = record d { mac_queue = d.mac_queue ++ commands }
+
+abbrev pub commands_queued : Device → List ℕ → Outcome
+commands_queued d commands = outcome (with_commands d commands) (told d (MacQueued commands))
+
+-- at most 64 bytes wait
+abbrev pub if_mac_room : Device → List ℕ → Result Outcome Refusal
+if_mac_room d commands = if nat_lt 64 (length d.mac_queue + length commands) then Err MacQueueFull else Ok (commands_queued d commands)
+
+-- the bytes are whole commands that may be queued
+abbrev pub if_commands : Device → List ℕ → Result Outcome Refusal
+if_commands d commands = if may_queue commands then if_mac_room d commands else Err BadMac
+
+-- MAC commands are queued for a device, or refused
+abbrev pub queue_mac_at : Device → MacQueueing → Result Outcome Refusal
+queue_mac_at d q = if is_theirs q.application q.dev_eui d then if_commands d q.commands else Err UnknownDevEui

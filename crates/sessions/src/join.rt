@@ -1,0 +1,264 @@
+// A device is granted a session, by the texts of the join server (TS001-1.0.4 §6.2).
+ghost use Rattle.std.specs.Prelude.{◌≡◌, ◌<◌, None, Some, MatchOption, MatchResult, slice_get, unwrap_or};
+ghost use Rattle.lw_types.specs.Answer.{AnswersWithMemory};
+ghost use Rattle.lw_types.specs.declared.refusal.Refusal.TheVariants.{OutOfMemory};
+ghost use Rattle.join_server.specs.Join.{answered};
+ghost use Rattle.join_server.specs.Request.{dev_eui_of};
+ghost use Rattle.backend_json.specs.Messages.{IsAsk};
+ghost use Rattle.backend_json.specs.Replies.{accepted_of, reply};
+ghost use Rattle.devices.specs.declared.command.Command.{Command};
+ghost use Rattle.sessions.specs.Join.{accept_downlink, accept_effects, dev_addr, granted_to, join_ask, join_state, joined_by, refusal_of, request_in, transaction_of, with_session};
+ghost use Rattle.sessions.specs.Outcome.{IsOutcome};
+ghost use Rattle.sessions.specs.Table.{slot_of, step};
+ghost use Rattle.sessions.specs.Decision.{IsStepped};
+
+use crate::Table;
+use crate::decide::Stepped;
+use backend_json::{Accepted, Cause, JoinAns, answer_text, join_req_text, read_join_ans};
+use devices::{
+    Device, Downlink, Effect, Effects, Heard, Hearing, Hearings, RxDelay, Session, SessionName,
+    Windows,
+};
+use join_server::{JoinAsk, JoinGrant, JoinRequest, JoinState, SealedAccept};
+use lw_types::{DevAddr, Eui, JoinNonce, NetId, PhyPayload, Refusal};
+use phy_payload::{Phy, decode};
+use std::alloc::Global;
+
+// The delay from the end of a Join-Request to RX1, in seconds (TS001-1.0.4 §6.2.6).
+const JOIN_ACCEPT_DELAY: u64 = 5;
+
+impl Table {
+    // What is done of a frame that gateways heard.
+    pub(crate) fn hear(&self, alloc: Global, seq: u64, heard: &Heard) -> Result<Stepped, Refusal>
+        ensures { AnswersWithMemory (step self.now (Command.Heard heard.now)) IsStepped result }
+    {
+        let request = read_request(alloc, heard.phy_payload.as_slice())?;
+        match self.device_of(request.dev_eui()) {
+            Some((slot, device)) => {
+                let ask = join_ask(self.net_id(), slot, device, request, seq);
+                match join(alloc, device, &ask, &heard.hearings) {
+                    Ok((after, effects)) => Ok(Stepped {
+                        slot,
+                        after,
+                        effects,
+                    }),
+                    Err(refusal) => Err(refusal),
+                }
+            }
+            None => Err(Refusal::UnknownDevEui),
+        }
+    }
+
+    // The device with this DevEUI, behind its slot.
+    #[tactic(auto, using(crate::proofs::Placing::found_within, crate::proofs::Placing::found_name))]
+    pub(crate) fn device_of(&self, dev_eui: Eui) -> Option<(u16, &Device)>
+        ensures { MatchOption result
+            (slot_of dev_eui.0 self.now.devices ≡ None)
+            (λ found. (slot_of dev_eui.0 self.now.devices ≡ Some found.0)
+            × (slice_get self.now.devices found.0 ≡ Some found.1.now) × (found.1.now.dev_eui.0 ≡ dev_eui.0)) }
+    {
+        let slot = self.slot_of(dev_eui)?;
+        Some((slot, &self.devices()[slot as usize]))
+    }
+}
+
+// The Join-Request that a frame is. No other frame is served so far.
+fn read_request(alloc: Global, bytes: &[u8]) -> Result<JoinRequest, Refusal>
+    ensures { AnswersWithMemory (request_in bytes.now) (λ request found. found ≡ request) result }
+{
+    match decode(alloc, bytes)? {
+        Phy::JoinRequest(_) => {
+            phy_payload::laws::a_join_request_has_23_bytes();
+            let bytes: Result<[u8; 23], _> = bytes.try_into();
+            Ok(JoinRequest::new(bytes.unwrap()).unwrap())
+        }
+        Phy::JoinAccept(_) | Phy::DataFrame(_) => Err(Refusal::NotServed),
+    }
+}
+
+// The question for the device at a slot, which would lead to the decision of this number.
+fn join_ask(net_id: NetId, slot: u16, device: &Device, request: JoinRequest, seq: u64) -> JoinAsk
+    ensures { result ≡ join_ask net_id slot device.now request (transaction_of seq) }
+{
+    let granted = device.activation.granted().map_or(0, JoinNonce::get);
+    JoinAsk {
+        net_id,
+        dev_addr: dev_addr(net_id, slot, granted + 1),
+        dl_settings: device.rx1_offset.get() as u8 * 16,
+        rx_delay: device.rx_delay,
+        request,
+        transaction: (seq % (1 << 32)) as u32,
+    }
+}
+
+// The address of a session.
+fn dev_addr(net_id: NetId, slot: u16, join_nonce: u32) -> DevAddr
+    ensures { result ≡ dev_addr net_id slot join_nonce }
+{
+    let nwk_addr = u32::from(slot) * 8192 + join_nonce % 8192;
+    DevAddr(u32::from(net_id.get() % 64) * (1 << 25) + nwk_addr)
+}
+
+// What the join server keeps of a device.
+fn join_state(device: &Device) -> JoinState
+    ensures { result ≡ join_state device.now }
+{
+    JoinState {
+        dev_eui: device.dev_eui,
+        join_eui: device.join_eui,
+        app_key: device.app_key,
+        dev_nonce: device.last_dev_nonce,
+        join_nonce: device.activation.granted(),
+    }
+}
+
+// The device's record after the answer to its question, and the accept.
+fn join(
+    alloc: Global,
+    device: &Device,
+    ask: &JoinAsk,
+    hearings: &Hearings,
+) -> Result<(Device, Effects), Refusal>
+    requires { dev_eui_of ask.now.request ≡ device.now.dev_eui.0 }
+    ensures { AnswersWithMemory (joined_by device.now hearings.now ask.now) IsOutcome result }
+{
+    match ask_join_server(alloc, &join_state(device), ask) {
+        Ok((state, grant)) => grant_to(alloc, device, hearings, &state, &grant),
+        Err(refusal) => Err(refusal),
+    }
+}
+
+// The device's record with a session that is granted, and the accept.
+fn grant_to(
+    alloc: Global,
+    device: &Device,
+    hearings: &Hearings,
+    state: &JoinState,
+    grant: &JoinGrant,
+) -> Result<(Device, Effects), Refusal>
+    requires { unwrap_or device.now.activation.granted 0 < grant.now.join_nonce }
+    ensures { MatchResult result
+        (IsOutcome (granted_to device.now hearings.now (state.now, grant.now)))
+        (λ e. e ≡ OutOfMemory) }
+{
+    let effects = accept_effects(alloc, device.dev_eui, grant, hearings.best())?;
+    Ok((with_session(device.copy()?, state, grant), effects))
+}
+
+// The answer of the join server to a question, by the texts of both.
+fn ask_join_server(
+    alloc: Global,
+    state: &JoinState,
+    ask: &JoinAsk,
+) -> Result<(JoinState, JoinGrant), Refusal>
+    requires { dev_eui_of ask.now.request ≡ state.now.dev_eui.0 }
+    ensures { AnswersWithMemory (answered state.now ask.now) (λ granted found. found ≡ granted) result }
+{
+    let (ans, after) = exchange(alloc, state, ask)?;
+    match ans.result {
+        Ok(accepted) => {
+            let after = after.unwrap();
+            Ok((after, grant_of(after.join_nonce.unwrap(), accepted)))
+        }
+        Err(cause) => Err(refusal_of(cause)),
+    }
+}
+
+// The grant of this JoinNonce.
+fn grant_of(join_nonce: JoinNonce, accepted: Accepted) -> JoinGrant
+    ensures join_nonce { result.join_nonce ≡ join_nonce }
+    ensures accepted { accepted ≡ accepted_of result }
+{
+    let accept = accepted.accept;
+    JoinGrant {
+        join_nonce,
+        nwk_skey: accepted.nwk_skey,
+        app_skey: accepted.app_skey,
+        accept,
+    }
+}
+
+// The question as a text, and the answer read of the text that the join server gives back.
+fn exchange(
+    alloc: Global,
+    state: &JoinState,
+    ask: &JoinAsk,
+) -> Result<(JoinAns, Option<JoinState>), Refusal>
+    ensures { MatchResult result (λ found. found ≡ reply state.now ask.now) (λ e. e ≡ OutOfMemory) }
+{
+    backend_json::laws::each_text_is_of_one_message();
+    in_range(*ask);
+    let question = join_req_text(alloc, ask)?;
+    let (answer, after) = answer_text(alloc, state, &question)?;
+    Ok((read_join_ans(alloc, &answer)?, after))
+}
+
+// What a question has by its types.
+fn in_range(_ask: JoinAsk)
+    ensures { IsAsk _ask }
+{}
+
+// The refusal of a cause.
+fn refusal_of(cause: Cause) -> Refusal
+    ensures { result ≡ refusal_of cause }
+{
+    match cause {
+        Cause::UnknownDevEui => Refusal::UnknownDevEui,
+        Cause::WrongJoinEui => Refusal::WrongJoinEui,
+        Cause::BadMic => Refusal::BadMic,
+        Cause::DevNonceUsed => Refusal::DevNonceUsed,
+        Cause::JoinNonceSpent => Refusal::JoinNonceSpent,
+        Cause::BadMessage => Refusal::BadMessage,
+    }
+}
+
+// The record with the session that was granted.
+fn with_session(mut device: Device, state: &JoinState, grant: &JoinGrant) -> Device
+    requires { unwrap_or device.activation.granted 0 < grant.now.join_nonce }
+    ensures { result ≡ with_session device (state.now, grant.now) }
+{
+    device.last_dev_nonce = state.dev_nonce;
+    device.activation.grant(Session {
+        join_nonce: grant.join_nonce,
+        nwk_skey: grant.nwk_skey,
+        app_skey: grant.app_skey,
+    });
+    device
+}
+
+// The accept, for the gateway that heard the request best.
+fn accept_effects(
+    alloc: Global,
+    dev_eui: Eui,
+    grant: &JoinGrant,
+    best: Hearing,
+) -> Result<Effects, Refusal>
+    ensures { MatchResult result
+        (λ effects. effects ≡ accept_effects dev_eui grant.now (Some best))
+        (λ e. e ≡ OutOfMemory) }
+{
+    let session = SessionName {
+        dev_eui,
+        join_nonce: grant.join_nonce,
+    };
+    let downlink = accept_downlink(alloc, best, &grant.accept)?;
+    let mut effects = Effects::empty(alloc);
+    effects.push(Effect::Accept { session, downlink })?;
+    Ok(effects)
+}
+
+fn accept_downlink(alloc: Global, best: Hearing, frame: &SealedAccept) -> Result<Downlink, Refusal>
+    ensures { MatchResult result
+        (λ downlink. downlink ≡ accept_downlink best frame.now)
+        (λ e. e ≡ OutOfMemory) }
+{
+    Ok(Downlink {
+        gateway: best.reception.gateway,
+        stamp: best.stamp,
+        frequency: best.reception.frequency,
+        data_rate: best.reception.data_rate,
+        delay: RxDelay::new(JOIN_ACCEPT_DELAY).unwrap(),
+        windows: Windows::Rx1OrRx2,
+        frame: PhyPayload::from_slice(alloc, frame)?,
+    })
+}
