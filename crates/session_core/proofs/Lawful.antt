@@ -1,43 +1,139 @@
 -- The state of a core stays lawful.
-use Rattle.std.proofs.Common.{◌≡◌, ◌+◌, ◌<◌, ◌≤◌, ◌∙◌, ◌↔◌, ℕ, zero, suc, min, List, [], ◌∷◌, ◌++◌, length, take, drop, ◌&&◌, cond, nat_lt, Result, Ok, Err, sym, ap, subst, arith}
-use Rattle.std.proofs.lemmas.Bool.{lt-ltb}
+use Rattle.std.proofs.Common.{inl, inr, ◌≡◌, ◌+◌, ◌<◌, ◌≤◌, ◌∙◌, ◌↔◌, ℕ, zero, suc, min, Bool, true, false, List, [], ◌∷◌, ◌++◌, length, take, drop, ◌&&◌, cond, nat_lt, Result, Ok, Err, refl, sym, ap, subst, arith}
+use Rattle.std.specs.Bool.{MatchBool}
+use Rattle.std.specs.Result.{IsErrAnd}
+use Rattle.std.proofs.lemmas.Result.{err_from_is_err_and}
+use Rattle.std.proofs.lemmas.Bool.{false≢true, ltb-true}
 use Rattle.std.proofs.lemmas.List.{length_push, length-append, length-take-le, take-append-drop, take_min}
-use Rattle.lw_types.specs.Answer.{Answers}
+use Rattle.lw_types.specs.Answer.{Answers, AnswersWithMemory}
 use Rattle.lw_types.specs.declared.refusal.Refusal.{Refusal}
-use Rattle.lw_types.specs.declared.refusal.Refusal.TheVariants.{Backlog}
+use Rattle.lw_types.specs.declared.refusal.Refusal.TheVariants.{Backlog, OutOfMemory}
 use Rattle.devices.specs.declared.command.Command.{Command}
 use Rattle.sessions.specs.Table.{TableState, Step, step}
-use Rattle.sessions.specs.Decision.{ContinueAll, Decides, IsDecision, Fits, FitAll, applied, applied_all, taken_back_all}
+use Rattle.sessions.specs.Decision.{AnswersTo, is_frugal, ContinueAll, Decides, IsDecision, Fits, FitAll, applied, applied_all, taken_back_all}
 use Rattle.sessions.specs.declared.decision.Decision.{Decision}
 use Rattle.session_core.specs.declared.decisions.TheConstants.{LAST_NUMBER, MOST_UNTAKEN}
 use Rattle.session_core.specs.State.{CoreState, IsLawful, now_of, last_number}
-use Rattle.session_core.specs.Events.{wanted, Makes, taken_from}
+use Rattle.session_core.specs.Events.{has_room, wanted, Lacks, Makes, taken_from}
 
 abbrev pub with_decision : CoreState → Decision → CoreState
 with_decision s d = record s { log = s.log ++ d ∷ []; made = s.made + 1 }
 
+both_true : (a b : Bool) → (a && b) ≡ true → (a ≡ true) × (b ≡ true)
+both_true true b h = (refl, h)
+both_true false b h = absurd (false≢true h)
+
+-- there is room where few wait and a number is left
+pub room-few : (s : CoreState) → has_room s ≡ true → (length s.log < MOST_UNTAKEN) × (last_number s < LAST_NUMBER)
+room-few s room =
+    let parts = both_true (nat_lt (length s.log) MOST_UNTAKEN) (nat_lt (last_number s) LAST_NUMBER) room in
+    (ltb-true (length s.log) MOST_UNTAKEN parts.0, ltb-true (last_number s) LAST_NUMBER parts.1)
+
 -- what is wanted while there is room
-pub wanted-room : (s : CoreState) (c : Command) → length s.log < MOST_UNTAKEN → last_number s < LAST_NUMBER → wanted s c ≡ step (now_of s) c
-wanted-room s c room below =
-    ap (λ b. cond (b && nat_lt (last_number s) LAST_NUMBER) (step (now_of s) c) (Err Backlog)) (lt-ltb (length s.log) MOST_UNTAKEN room)
-    ∙ ap (λ b. cond b (step (now_of s) c) (Err Backlog)) (lt-ltb (last_number s) LAST_NUMBER below)
+pub wanted-room : (s : CoreState) (c : Command) → has_room s ≡ true → wanted s c ≡ step (now_of s) c
+wanted-room s c room = ap (λ b. cond b (step (now_of s) c) (Err Backlog)) room
 
 -- a command was decided
 abbrev pub decided : Result (Unit {0}) Refusal
 decided = Ok tt
 
-no_decision : (d : Decision) (e : Refusal) → ◌≡◌ {A = Result Decision Refusal} (Ok d) (Err e) → ⊥
-no_decision d e h = cc
+not_both : {A : Type 0} (x : A) (e : Refusal) → ◌≡◌ {A = Result A Refusal} (Ok x) (Err e) → ⊥
+not_both x e h = cc
+
+-- what is answered with a value is wanted
+answered_ok : {A B : Type 0} (b : Bool) (w : Result A Refusal) (Is : A → B → Type 0) (y : B)
+    → MatchBool b (Answers w Is (Ok y)) (AnswersWithMemory w Is (Ok y)) → (x : A) × (w ≡ Ok x) × Is x y
+answered_ok true (Ok x) Is y h = (x, refl, h)
+answered_ok true (Err e) Is y h = absurd (not_both y e h)
+answered_ok false (Ok x) Is y h = (x, refl, h)
+answered_ok false (Err e) Is y h = absurd h
+
+-- a value that is wanted is answered
+answers_ok : {A B : Type 0} (b : Bool) (Is : A → B → Type 0) (x : A) (y : B) → Is x y
+    → MatchBool b (Answers (Ok x) Is (Ok y)) (AnswersWithMemory (Ok x) Is (Ok y))
+answers_ok true Is x y h = h
+answers_ok false Is x y h = h
+
+-- the step of a decision that was made
+pub step-made : (t : TableState) (seq : ℕ) (c : Command) (d : Decision) → Decides t seq c (Ok d)
+    → (st : Step) × (step t c ≡ Ok st) × IsDecision t seq c st d
+step-made t seq c d made = answered_ok (is_frugal c) (step t c) (IsDecision t seq c) d made
 
 -- a decided command was wanted
-pub decided-made : (s : CoreState) (c : Command) (d : Decision) → length s.log < MOST_UNTAKEN → last_number s < LAST_NUMBER
-    → Decides (now_of s) (last_number s + 1) c (Ok d) → (new : CoreState) → new ≡ with_decision s d → Answers (wanted s c) (λ st _. Makes s c st new) decided
-decided-made s c d room below made new is =
-    subst (λ w. Answers w (λ st _. Makes s c st new) decided) (sym (wanted-room s c room below)) (at (step (now_of s) c) made)
+pub decided-made : (s : CoreState) (c : Command) (d : Decision) → has_room s ≡ true → Decides (now_of s) (last_number s + 1) c (Ok d) → (new : CoreState)
+    → new ≡ with_decision s d → AnswersTo c (wanted s c) (λ st _. Makes s c st new) decided
+decided-made s c d room made new is =
+    let st = step-made (now_of s) (last_number s + 1) c d made in
+    subst (λ w. AnswersTo c w (λ st _. Makes s c st new) decided) (sym (wanted-room s c room ∙ st.1))
+    (answers_ok (is_frugal c) (λ st _. Makes s c st new) st.0 (tt {0}) (record { decision = d; is_step = st.2; new_is = is }))
+
+-- ---- where there is no memory
+
+same_Err : {A B : Type 0} (x e : Refusal) → ◌≡◌ {A = Result A Refusal} (Err x) (Err e) → ◌≡◌ {A = Result B Refusal} (Err x) (Err e)
+same_Err {A} {B} x e h = ap (λ (y : Refusal). Err y) (same x e h)
   where
-    at : (r : Result Step Refusal) → Answers r (IsDecision (now_of s) (last_number s + 1) c) (Ok d) → Answers r (λ st _. Makes s c st new) decided
-    at (Ok st) found = record { decision = d; is_step = found; new_is = is }
-    at (Err e) refused = absurd (no_decision d e refused)
+    same : (x e : Refusal) → ◌≡◌ {A = Result A Refusal} (Err x) (Err e) → x ≡ e
+    same x e h = cc
+
+-- a refusal is answered whatever a value would be
+refused_as : {B C : Type 0} (Is : Step → B → Type 0) (Is' : Step → C → Type 0) (b : Bool) (w : Result Step Refusal) (e : Refusal)
+    → MatchBool b (Answers w Is (Err e)) (AnswersWithMemory w Is (Err e)) → MatchBool b (Answers w Is' (Err e)) (AnswersWithMemory w Is' (Err e))
+refused_as {B} {C} Is Is' true (Ok x) e h = h
+refused_as {B} {C} Is Is' true (Err e') e h = same_Err e e' h
+refused_as {B} {C} Is Is' false w e h = h
+
+no_memory : (Is : Step → Unit {0} → Type 0) (b : Bool) (x : Step) → MatchBool b (Answers (Ok x) Is (Err OutOfMemory)) (AnswersWithMemory (Ok x) Is (Err OutOfMemory))
+no_memory Is true x = refl
+no_memory Is false x = inl refl
+
+no_room : (Is : Step → Unit {0} → Type 0) (b : Bool) → MatchBool b (Answers (Err Backlog) Is (Err Backlog)) (AnswersWithMemory (Err Backlog) Is (Err Backlog))
+no_room Is true = refl
+no_room Is false = inr refl
+
+abbrev AnyStep : Step → Unit {0} → Type 0
+AnyStep _ _ = Unit {0}
+
+abbrev NoStep : Step → Unit {0} → Type 0
+NoStep _ _ = ⊥
+
+pub lacks-full : (s : CoreState) (c : Command) → has_room s ≡ false → Lacks s c Backlog
+lacks-full s c full =
+    subst (λ w. AnswersTo c w NoStep (Err Backlog)) (sym (ap (λ b. cond b (step (now_of s) c) (Err Backlog)) full)) (no_room NoStep (is_frugal c))
+
+module _ (s : CoreState) (t : TableState) (c : Command) (now : t ≡ now_of s) (room : has_room s ≡ true) where
+  here : wanted s c ≡ step t c
+  here = wanted-room s c room ∙ ap (λ (t : TableState). step t c) (sym now)
+
+  -- a refusal of the table is handed on
+  pub refused-there : (seq : ℕ) (Is : Step → Unit {0} → Type 0) (e : Refusal) (result : Result (Unit {0}) Refusal) → IsErrAnd result (λ x. x ≡ e)
+      → Decides t seq c (Err e) → AnswersTo c (wanted s c) Is result
+  refused-there seq Is e result handed answer =
+      let r = err_from_is_err_and result handed in
+      subst (AnswersTo c (wanted s c) Is) (sym (r.1 ∙ ap Err r.2))
+      (subst (λ w. AnswersTo c w Is (Err e)) (sym here) (refused_as (IsDecision t seq c) Is (is_frugal c) (step t c) e answer))
+
+  -- and there is no memory to keep what was decided
+  pub not-kept : (seq : ℕ) (Is : Step → Unit {0} → Type 0) (d : Decision) (result : Result (Unit {0}) Refusal) → IsErrAnd result (λ x. x ≡ OutOfMemory)
+      → Decides t seq c (Ok d) → AnswersTo c (wanted s c) Is result
+  not-kept seq Is d result none made =
+      let r = err_from_is_err_and result none in
+      let st = answered_ok (is_frugal c) (step t c) (IsDecision t seq c) d made in
+      subst (AnswersTo c (wanted s c) Is) (sym (r.1 ∙ ap Err r.2))
+      (subst (λ w. AnswersTo c w Is (Err OutOfMemory)) (sym (here ∙ st.1)) (no_memory Is (is_frugal c) st.0))
+
+  -- a command that would be decided
+  pub lacks-ok : AnswersTo c (step t c) AnyStep (Ok tt) → Lacks s c OutOfMemory
+  lacks-ok weighed =
+      let st = answered_ok (is_frugal c) (step t c) AnyStep tt weighed in
+      subst (λ w. AnswersTo c w NoStep (Err OutOfMemory)) (sym (here ∙ st.1)) (no_memory NoStep (is_frugal c) st.0)
+
+  -- and one that wouldn't
+  pub lacks-err : (e : Refusal) → AnswersTo c (step t c) AnyStep (Err e) → Lacks s c e
+  lacks-err e weighed = subst (λ w. AnswersTo c w NoStep (Err e)) (sym here) (refused_as AnyStep NoStep (is_frugal c) (step t c) e weighed)
+
+-- so its turn is refused so
+pub lacks-turned : (s : CoreState) (c : Command) (Is : Step → Unit {0} → Type 0) (e : Refusal) → Lacks s c e → AnswersTo c (wanted s c) Is (Err e)
+lacks-turned s c Is e lacks = refused_as NoStep Is (is_frugal c) (wanted s c) e lacks
 
 drop_min : {X : Type 0} (n : ℕ) (xs : List X) → drop (min n (length xs)) xs ≡ drop n xs
 drop_min zero xs = let on : min zero (length xs) ≡ zero = omega arith in ap (λ k. drop k xs) on
@@ -118,3 +214,30 @@ taken-min s n most least =
     ap (λ l. record s { base = applied_all s.base l; taken = s.taken + length l; log = drop n s.log }) (ap (λ k. take k s.log) least ∙ take_min most s.log)
     ∙ ap (λ l. record s { base = applied_all s.base (take most s.log); taken = s.taken + length (take most s.log); log = l })
     (ap (λ k. drop k s.log) least ∙ drop_min most s.log)
+
+-- one element more leaves the front of a list
+moved-suc : {X : Type 0} (n : ℕ) (xs : List X) (x : X) (rest : List X) → drop n xs ≡ x ∷ rest
+    → (take (suc n) xs ≡ take n xs ++ x ∷ []) × (drop (suc n) xs ≡ rest)
+moved-suc zero [] x rest h = absurd (not_both x rest h)
+  where
+    not_both : {X : Type 0} (x : X) (rest : List X) → [] ≡ x ∷ rest → ⊥
+    not_both x rest h = cc
+moved-suc zero (y ∷ ys) x rest h = (ap (λ z. z ∷ []) (same_head h), same_tail h)
+  where
+    same_head : y ∷ ys ≡ x ∷ rest → y ≡ x
+    same_head h = cc
+
+    same_tail : y ∷ ys ≡ x ∷ rest → ys ≡ rest
+    same_tail h = cc
+moved-suc (suc n) [] x rest h = absurd (not_both x rest h)
+  where
+    not_both : {X : Type 0} (x : X) (rest : List X) → [] ≡ x ∷ rest → ⊥
+    not_both x rest h = cc
+moved-suc (suc n) (y ∷ ys) x rest h = let more = moved-suc n ys x rest h in (ap (λ l. y ∷ l) more.0, more.1)
+
+pub moved-one : {X : Type 0} (n : ℕ) (xs : List X) (x : X) (rest : List X) → drop n xs ≡ x ∷ rest
+    → (take (n + 1) xs ≡ take n xs ++ x ∷ []) × (drop (n + 1) xs ≡ rest)
+moved-one n xs x rest h =
+    let next : n + 1 ≡ suc n = omega arith in
+    let more = moved-suc n xs x rest h in
+    (ap (λ k. take k xs) next ∙ more.0, ap (λ k. drop k xs) next ∙ more.1)

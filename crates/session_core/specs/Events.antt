@@ -1,21 +1,22 @@
 -- What the calls of a core do.
-use Rattle.std.specs.Prelude.{◌≡◌, ◌+◌, ℕ, [], ◌∷◌, ◌++◌, length, take, drop, nat_lt, ◌&&◌, if◌then◌else◌, Option, Some, None, Result, Ok, Err, OnErr}
-use Rattle.lw_types.specs.Answer.{Answers}
+use Rattle.std.specs.Prelude.{◌≡◌, ◌+◌, ℕ, Bool, false, [], ◌∷◌, ◌++◌, length, take, drop, nat_lt, ◌&&◌, if◌then◌else◌, Option, Some, None, Result, Ok, Err, OnErr}
 use Rattle.lw_types.specs.declared.refusal.Refusal.{Refusal}
 use Rattle.lw_types.specs.declared.refusal.Refusal.TheVariants.{Backlog}
 use Rattle.devices.specs.declared.command.Command.{Command}
 use Rattle.sessions.specs.Table.{Step, step}
-use Rattle.sessions.specs.Decision.{IsDecision, applied_all}
+use Rattle.sessions.specs.Decision.{AnswersTo, IsDecision, applied_all}
 use Rattle.sessions.specs.declared.decision.Decision.{Decision}
 use Rattle.session_core.specs.declared.decisions.TheConstants.{LAST_NUMBER, MOST_UNTAKEN}
 use Rattle.session_core.specs.declared.turn.Turn.{Turn}
 use Rattle.session_core.specs.State.{CoreState, now_of, last_number}
 
--- what a command is to get: while there is room for a decision and a number for it, its step in the
--- table as it is now
+-- whether there is room for one decision more that waits, and a number for it
+abbrev pub has_room : CoreState → Bool
+has_room s = nat_lt (length s.log) MOST_UNTAKEN && nat_lt (last_number s) LAST_NUMBER
+
+-- what a command is to get: while there is room, its step in the table as it is now
 abbrev pub wanted : CoreState → Command → Result Step Refusal
-wanted s command =
-    if nat_lt (length s.log) MOST_UNTAKEN && nat_lt (last_number s) LAST_NUMBER then step (now_of s) command else Err Backlog
+wanted s command = if has_room s then step (now_of s) command else Err Backlog
 
 -- one decision more, which is this step of the command
 pub record Makes (old : CoreState) (command : Command) (s : Step) (new : CoreState) : Type 0 where
@@ -33,10 +34,16 @@ abbrev pub verdict_of : Option Refusal → Result (Unit {0}) Refusal
 verdict_of None = Ok tt
 verdict_of (Some refusal) = Err refusal
 
--- The turn of one command: it is decided, or exactly its refusal is answered and nothing changes.
+-- this is answered to a command that there is no memory for
+abbrev pub Lacks : CoreState → Command → Refusal → Type 0
+Lacks s command refusal = AnswersTo {B = Unit {0}} command (wanted s command) (λ _ _. ⊥) (Err refusal)
+
+-- The turn of one command: it is decided, or its refusal is answered and nothing changes. That there is no room is known
+-- before any memory is taken.
 pub record Turns (old : CoreState) (command : Command) (turn : Turn) (new : CoreState) : Type 0 where
   pub from : turn.from ≡ old.made
-  pub decided : Answers (wanted old command) (λ s _. (turn.to ≡ turn.from + 1) × Makes old command s new) (verdict_of turn.refused)
+  pub full : has_room old ≡ false → turn.refused ≡ Some Backlog
+  pub decided : AnswersTo command (wanted old command) (λ s _. (turn.to ≡ turn.from + 1) × Makes old command s new) (verdict_of turn.refused)
   pub refused : OnErr (verdict_of turn.refused) (Stays old turn new)
 
 -- the first n decisions leave the log, and the base moves past them

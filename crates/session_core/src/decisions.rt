@@ -1,9 +1,10 @@
 // The decisions of one life.
-ghost use Rattle.std.specs.Prelude.{◌≡◌, ◌≤◌, MatchResult, OnErr, SomeIff, take, drop, length, []};
-ghost use Rattle.lw_types.specs.declared.refusal.Refusal.TheVariants.{OutOfMemory};
+ghost use Rattle.std.specs.Prelude.{◌≡◌, ◌≤◌, MatchResult, OnErr, SomeIff, Err, false, take, drop, length, []};
+ghost use Rattle.lw_types.specs.declared.refusal.Refusal.TheVariants.{Backlog, OutOfMemory};
+ghost use Rattle.devices.specs.declared.command.Command.{Command};
 ghost use Rattle.session_core.specs.State.{IsLawful, now_of, opened, last_number};
-ghost use Rattle.session_core.specs.Events.{Turns, Makes, wanted, taken_from};
-ghost use Rattle.lw_types.specs.Answer.{Answers};
+ghost use Rattle.session_core.specs.Events.{Turns, Makes, Lacks, has_room, wanted, taken_from};
+ghost use Rattle.sessions.specs.Decision.{AnswersTo};
 
 use crate::{Moment, Turn};
 use devices::Command;
@@ -99,7 +100,7 @@ impl Core {
     }
 
     /// Decides a command that comes at this moment. Refused with `Backlog` where 4,096 decisions wait or
-    /// no number is left, then as [`Table::decide`] refuses it; with `OutOfMemory` for want of memory. A
+    /// no number is left, whether or not there is memory, and then as [`Table::decide`] refuses it. A
     /// refusal changes nothing.
     pub fn decide(&mut self, _moment: Moment, command: Command) -> Turn
         ensures turns { Turns self.old command result self.new }
@@ -118,6 +119,40 @@ impl Core {
                 refused: Some(refusal),
             },
         }
+    }
+
+    /// The turn of a command that can't be handed in for want of memory: its refusal, if one is due, else `OutOfMemory`.
+    pub fn starve(&self, command: &Command) -> Turn
+        ensures turns { Turns self.now command.now result self.now }
+        ensures lawful { IsLawful self.now }
+    {
+        let from = self.made;
+        Turn {
+            from,
+            to: from,
+            refused: Some(self.lack(command)),
+        }
+    }
+
+    // What a command is refused where there is no memory for it.
+    fn lack(&self, command: &Command) -> Refusal
+        ensures full { has_room self.now ≡ false → result ≡ Backlog }
+        ensures lack { Lacks self.now command.now result }
+    {
+        if !self.has_room() {
+            return Refusal::Backlog;
+        }
+        match self.table.weigh(self.alloc, self.seq() + 1, command) {
+            Ok(()) => Refusal::OutOfMemory,
+            Err(refusal) => refusal,
+        }
+    }
+
+    // Whether there is room for one decision more that waits, and a number for it.
+    fn has_room(&self) -> bool
+        ensures { result ≡ has_room self.now }
+    {
+        (self.log.len() as u64) < MOST_UNTAKEN && self.seq() < LAST_NUMBER
     }
 
     /// Takes the oldest untaken decisions, at most `max` of them. After an `Err`, which is want of
@@ -140,15 +175,15 @@ impl Core {
 
     // Decides a command on the table as it is now, and keeps the decision.
     fn keep(&mut self, command: Command) -> Result<(), Refusal>
-        ensures made { Answers (wanted self.old command) (λ s _. Makes self.old command s self.new) result }
+        ensures full { has_room self.old ≡ false → result ≡ Err Backlog }
+        ensures made { AnswersTo command (wanted self.old command) (λ s _. Makes self.old command s self.new) result }
         ensures same { OnErr result (self.new ≡ self.old) }
     {
-        if self.log.len() as u64 >= MOST_UNTAKEN || self.seq() >= LAST_NUMBER {
+        if !self.has_room() {
             return Err(Refusal::Backlog);
         }
         let decision = self.table.decide(self.alloc, self.seq() + 1, command)?;
         self.log.reserve(1)?;
-        sessions::laws::deciding();
         sessions::laws::joining();
         sessions::laws::taking_back();
         self.table.apply(&decision)?;

@@ -1,14 +1,15 @@
-use Rattle.std.proofs.Common.{◌≡◌, ◌+◌, ◌<◌, ◌∙◌, List, ◌∷◌, ◌++◌, [], length, Ok, sym, ap, subst, arith}
-use Rattle.lw_types.specs.Answer.{Answers}
+use Rattle.std.proofs.Common.{◌≡◌, ◌+◌, ◌∙◌, List, ◌∷◌, ◌++◌, [], Ok, Bool, true, sym, ap, subst}
 use Rattle.sessions.specs.Table.{TableState}
-use Rattle.sessions.specs.Decision.{Decides, Fits, applied, taken_back_all}
+use Rattle.sessions.specs.Decision.{AnswersTo, Decides, Fits, applied, taken_back_all}
 use Rattle.sessions.specs.declared.decision.Decision.{Decision}
-use Rattle.session_core.specs.declared.decisions.TheConstants.{LAST_NUMBER, MOST_UNTAKEN}
 use Rattle.session_core.specs.State.{CoreState, IsLawful, now_of, last_number}
-use Rattle.session_core.specs.Events.{Makes, wanted}
+use Rattle.session_core.specs.Events.{Makes, has_room, wanted}
 use Rattle.session_core.specs.Kept.{state_of}
-use Rattle.session_core.proofs.Lawful.{lawful-made, now-made, state-made, decided-made, decided}
+use Rattle.session_core.proofs.Lawful.{not-kept, refused-there, room-few, step-made, lawful-made, now-made, state-made, decided-made, decided}
 use Rattle.session_core.proofs.decisions.Core.keep.Goals as goal
+
+room_is : {a b found : Bool} → a ≡ b → found ≡ b → found ≡ true → a ≡ true
+room_is same is held = same ∙ (sym is ∙ held)
 
 pub invariant_of-self-2 : goal.invariant_of-self-2
 invariant_of-self-2 c =
@@ -16,13 +17,16 @@ invariant_of-self-2 c =
     let d = c.in_ok-decision.decision in
     let log : c.push_back_reserved.new.self.items ≡ s.log ++ d ∷ [] = c.push_back_reserved.ensures.items ∙ ap (λ (l : List Decision). l ++ d ∷ []) c.reserve.ensures.items in
     let table : c.apply.new.self ≡ applied (now_of s) d = c.in_ok-apply.ensures ∙ ap (λ (t : TableState). applied t d) c.self.invariant.table in
-    let room : length s.log < MOST_UNTAKEN = omega (arith, c.self.inside.log.ok.0) in
-    let number = c.seq-2.ensures.number ∙ ap last_number (sym c.self.view_is) in
-    let below : last_number s < LAST_NUMBER = omega (arith, c.seq.ensures.number ∙ ap last_number (sym c.self.view_is)) in
-    let fits = c.deciding.ensures c.self.inside.table (c.seq-2.result + 1) c.args.command d c.in_ok-decision.ensures in
+    let roomy : has_room s ≡ true = room_is (ap has_room c.self.view_is) c.has_room.ensures c.if-not-has_room.false in
+    let room = room-few s roomy in
+    let number = c.seq.ensures.number ∙ ap last_number (sym c.self.view_is) in
+    let made : Decides (now_of s) (last_number s + 1) c.args.command (Ok d) =
+    subst (λ (t : TableState). Decides t (last_number s + 1) c.args.command (Ok d)) c.self.invariant.table
+    (subst (λ n. Decides c.self.inside.table (n + 1) c.args.command (Ok d)) number c.in_ok-decision.ensures.decides) in
+    let fits : Fits (now_of s) d = subst (λ (t : TableState). Fits t d) c.self.invariant.table c.in_ok-decision.ensures.fits in
     let lawful =
-    lawful-made c.joining.ensures.continues c.joining.ensures.table c.taking_back.ensures s d c.self.invariant.lawful room below
-    (subst (λ (t : TableState). Fits t d) c.self.invariant.table fits.0) (fits.1 ∙ ap (λ n. n + 1) number) in
+    lawful-made c.joining.ensures.continues c.joining.ensures.table c.taking_back.ensures s d c.self.invariant.lawful room.0 room.1 fits
+    (step-made (now_of s) (last_number s + 1) c.args.command d made).2.number in
     let same =
     state-made c.joining.ensures.continues c.joining.ensures.table c.taking_back.ensures s d c.apply.new.self c.push_back_reserved.new.self.items lawful table log in
     record {
@@ -36,16 +40,28 @@ returns-clause-made c =
     let d = c.in_ok-decision.decision in
     let log : c.push_back_reserved.new.self.items ≡ s.log ++ d ∷ [] = c.push_back_reserved.ensures.items ∙ ap (λ (l : List Decision). l ++ d ∷ []) c.reserve.ensures.items in
     let table : c.apply.new.self ≡ applied (now_of s) d = c.in_ok-apply.ensures ∙ ap (λ (t : TableState). applied t d) c.self.invariant.table in
-    let room : length s.log < MOST_UNTAKEN = omega (arith, c.self.inside.log.ok.0) in
-    let number = c.seq-2.ensures.number ∙ ap last_number (sym c.self.view_is) in
-    let below : last_number s < LAST_NUMBER = omega (arith, c.seq.ensures.number ∙ ap last_number (sym c.self.view_is)) in
+    let roomy : has_room s ≡ true = room_is (ap has_room c.self.view_is) c.has_room.ensures c.if-not-has_room.false in
+    let room = room-few s roomy in
+    let number = c.seq.ensures.number ∙ ap last_number (sym c.self.view_is) in
     let made : Decides (now_of s) (last_number s + 1) c.args.command (Ok d) =
     subst (λ (t : TableState). Decides t (last_number s + 1) c.args.command (Ok d)) c.self.invariant.table
-    (subst (λ n. Decides c.self.inside.table (n + 1) c.args.command (Ok d)) number c.in_ok-decision.ensures) in
-    let fits = c.deciding.ensures (now_of s) (last_number s + 1) c.args.command d made in
-    let lawful = lawful-made c.joining.ensures.continues c.joining.ensures.table c.taking_back.ensures s d c.self.invariant.lawful room below fits.0 fits.1 in
+    (subst (λ n. Decides c.self.inside.table (n + 1) c.args.command (Ok d)) number c.in_ok-decision.ensures.decides) in
+    let fits : Fits (now_of s) d = subst (λ (t : TableState). Fits t d) c.self.invariant.table c.in_ok-decision.ensures.fits in
+    let lawful =
+    lawful-made c.joining.ensures.continues c.joining.ensures.table c.taking_back.ensures s d c.self.invariant.lawful room.0 room.1 fits
+    (step-made (now_of s) (last_number s + 1) c.args.command d made).2.number in
     let same =
     state-made c.joining.ensures.continues c.joining.ensures.table c.taking_back.ensures s d c.apply.new.self c.push_back_reserved.new.self.items lawful table log in
     let new : CoreState = record s { base = taken_back_all c.apply.new.self c.push_back_reserved.new.self.items; made = s.made + 1; log = c.push_back_reserved.new.self.items } in
-    subst (λ (old : CoreState). Answers (wanted old c.args.command) (λ st _. Makes old c.args.command st new) decided) c.self.view_is
-    (decided-made s c.args.command d room below made new same)
+    subst (λ (old : CoreState). AnswersTo c.args.command (wanted old c.args.command) (λ st _. Makes old c.args.command st new) decided) c.self.view_is
+    (decided-made s c.args.command d roomy made new same)
+
+pub returns-in_err-decision-clause-made : goal.returns-in_err-decision-clause-made
+returns-in_err-decision-clause-made c =
+    refused-there c.args.self.now c.self.inside.table c.args.command (c.self.invariant.table ∙ ap now_of c.self.view_is) (sym c.has_room.ensures ∙ c.if-not-has_room.false)
+    (c.seq.result + 1) _ c.in_err-decision.field-0.0 c.from_residual.result c.from_residual.ensures.1 c.in_err-decision.ensures.decides
+
+pub returns-in_err-reserve-clause-made : goal.returns-in_err-reserve-clause-made
+returns-in_err-reserve-clause-made c =
+    not-kept c.args.self.now c.self.inside.table c.args.command (c.self.invariant.table ∙ ap now_of c.self.view_is) (sym c.has_room.ensures ∙ c.if-not-has_room.false)
+    (c.seq.result + 1) _ c.in_ok-decision.decision c.from_residual-in_err-reserve.result c.from_residual-in_err-reserve.ensures.1 c.in_ok-decision.ensures.decides

@@ -1,6 +1,5 @@
-use Rattle.std.proofs.Common.{◌≡◌, ◌≤◌, ◌∙◌, min, List, length, take, sym, ap, subst, arith}
+use Rattle.std.proofs.Common.{◌≡◌, ◌≤◌, ◌∙◌, min, length, take, sym, ap, subst, arith}
 use Rattle.std.proofs.lemmas.List.{take_min}
-use Rattle.sessions.specs.declared.decision.Decision.{Decision}
 use Rattle.session_core.specs.State.{CoreState, IsLawful, now_of}
 use Rattle.session_core.specs.Events.{taken_from}
 use Rattle.session_core.specs.Kept.{state_of}
