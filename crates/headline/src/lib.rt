@@ -6,6 +6,7 @@ ghost use Rattle.store.specs.State.{seen};
 ghost use Rattle.world.specs.Answers.{AreRight};
 ghost use Rattle.world.specs.Calls.{AreForetold, passed_some};
 ghost use Rattle.world.specs.Course.{beginning, course_of, formatted};
+ghost use Rattle.sessions.specs.Marks.{AreOnce};
 ghost use Rattle.headline.specs.Recovers.{Recovers};
 
 use disk::{Image, Sim};
@@ -20,7 +21,8 @@ use world::{Answer, Step, World, run};
 ///
 /// Where it isn't refused, each answer is the right one, a failed call of the disk comes where it is due, and the store
 /// has the table and the number that a beginning of the decided commands leaves. That beginning holds every command of
-/// which an effect has left.
+/// which an effect has left. And over all lives no mark was used up twice by what has left: no JoinNonce of a device stands
+/// in two accepts.
 pub fn crash_after<D: Sim + Drop>(
     alloc: Global,
     disk: D,
@@ -36,8 +38,11 @@ pub fn crash_after<D: Sim + Drop>(
     ensures recovers { IfOk result (λ found. Recovers (formatted net_id slots)
         (course_of (formatted net_id slots) (beginning (formatted net_id slots)) steps.now found.0.items)
         (seen D.state found.1).table (seen D.state found.1).seq) }
+    ensures once { IfOk result (λ found. AreOnce
+        (course_of (formatted net_id slots) (beginning (formatted net_id slots)) steps.now found.0.items).left) }
 {
     world::laws::what_a_crash_leaves();
+    sessions::laws::no_mark_stands_twice();
     let mut world = World::format(alloc, disk, net_id, slots)?;
     match run(&mut world, alloc, steps) {
         Ok(answers) => {

@@ -1,10 +1,10 @@
 -- Which answers are right in a course. Whether a call of the disk fails is told by `Calls`.
-use Rattle.std.specs.Prelude.{◌≡◌, ◌≢◌, ◌⊎◌, ℕ, List, [], ◌∷◌, ◌++◌, length, take, slice_get, MatchBool}
+use Rattle.std.specs.Prelude.{◌≡◌, ◌≢◌, ◌⊎◌, ℕ, false, List, [], ◌∷◌, ◌++◌, length, take, slice_get, Some, MatchBool}
 use Rattle.std.specs.Option.{MatchOption}
-use Rattle.lw_types.specs.Answer.{Answers}
 use Rattle.lw_types.specs.declared.refusal.Refusal.TheVariants as refusals
 use Rattle.devices.specs.declared.command.Command.{Command}
 use Rattle.sessions.specs.Table.{effects_of}
+use Rattle.sessions.specs.Decision.{AnswersTo}
 use Rattle.session_core.specs.Events.{verdict_of}
 use Rattle.session_core.specs.declared.turn.Turn.{Turn}
 use Rattle.gateway_wire.specs.Emission.{emission}
@@ -12,15 +12,16 @@ use Rattle.world.specs.declared.step.Step.{Step}
 use Rattle.world.specs.declared.step.Step.TheVariants as steps
 use Rattle.world.specs.declared.answer.Answer.{Answer}
 use Rattle.world.specs.declared.answer.Answer.TheVariants as answers
-use Rattle.world.specs.Course.{Origin, Course, Flight, Stage, decided, table_from, number_from, wanted, admit, gone_through, after}
+use Rattle.world.specs.Course.{Origin, Course, Flight, Stage, decided, table_from, number_from, has_room, wanted, admit, gone_through, after}
 use Rattle.world.specs.Course.Stage.{Opened, Durable, Stopped, Unsure}
 
--- the turn of one command: it counts the decisions of this life, and the command is decided, or refused exactly as it
--- has to be
+-- the turn of one command: it counts the decisions of this life, and the command is decided, or refused as it has to
+-- be; that there is no room is known before any memory is taken
 pub record IsTurn (origin : Origin) (c : Course) (command : Command) (turn : Turn) : Type 0 where
   pub from : turn.from ≡ c.made
   pub to : turn.to ≡ (admit origin c (gone_through (command ∷ []) turn.refused)).made
-  pub refused : Answers (wanted origin c command) (λ _ _. Unit {0}) (verdict_of turn.refused)
+  pub full : has_room origin c ≡ false → turn.refused ≡ Some refusals.Backlog
+  pub refused : AnswersTo command (wanted origin c command) (λ _ _. Unit {0}) (verdict_of turn.refused)
 
 abbrev pub AnswersEvent : Origin → Course → Command → Answer → Type 0
 AnswersEvent origin c command (answers.Turn turn) = IsTurn origin c command turn

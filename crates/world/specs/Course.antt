@@ -95,13 +95,13 @@ flying (flight ∷ flights) = flight.commands ++ flying flights
 abbrev pub decided : Course → List Command
 decided c = c.settled ++ (flying c.flights ++ (c.given_up ++ c.untaken))
 
--- what a command is to get: its step in the table after every decided command, while there is room for one more that
--- waits and a number is left
+-- whether there is room for one command more that waits, and a number for it
+abbrev pub has_room : Origin → Course → Bool
+has_room origin c = nat_lt (length c.untaken) MOST_UNTAKEN && nat_lt (number_from origin (decided c)) LAST_NUMBER
+
+-- what a command is to get: while there is room, its step in the table after every decided command
 abbrev pub wanted : Origin → Course → Command → Result TableStep Refusal
-wanted origin c command =
-    if nat_lt (length c.untaken) MOST_UNTAKEN && nat_lt (number_from origin (decided c)) LAST_NUMBER
-    then step (table_from origin (decided c)) command
-    else Err Backlog
+wanted origin c command = if has_room origin c then step (table_from origin (decided c)) command else Err Backlog
 
 -- a command that is to get this is decided, or changes nothing
 abbrev pub went : Course → Command → Result TableStep Refusal → Course

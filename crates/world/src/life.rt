@@ -1,5 +1,6 @@
 // One life of a network server: from an opening of its store to the next crash.
-ghost use Rattle.std.specs.Prelude.{◌≡◌, ◌++◌, ◌+◌, ◌≤◌, length, vec_capacity};
+ghost use Rattle.std.specs.Prelude.{◌≡◌, ◌++◌, ◌+◌, ◌≤◌, MatchResult, length, vec_capacity};
+ghost use Rattle.lw_types.specs.declared.refusal.Refusal.TheVariants.{OutOfMemory};
 
 use crate::commit::Commit;
 use crate::{Answer, Step, laws};
@@ -20,8 +21,7 @@ pub(crate) struct Life<D: Sim> {
 }
 
 impl<D: Sim> Life<D> {
-    ghost use Rattle.std.specs.Prelude.{◌≢◌, ◌<◌, ◌^◌, ℕ, [], IfOk, IfErr, MatchResult};
-    ghost use Rattle.lw_types.specs.declared.refusal.Refusal.TheVariants.{OutOfMemory};
+    ghost use Rattle.std.specs.Prelude.{◌≢◌, ◌<◌, ◌^◌, ℕ, [], IfOk, IfErr};
     ghost use Rattle.session_core.specs.State.{opened};
     ghost use Rattle.store.specs.State.{seen, disk_of, IsRoomy};
     ghost use Rattle.world.specs.declared.commit.Commit.TheVariants as commits;
@@ -79,7 +79,7 @@ impl<D: Sim> Life<D> {
         }
     }
 
-    /// An application asks for a command.
+    /// A command comes. Where it can't be copied for want of memory, it is refused.
     pub(crate) fn request(&mut self, moment: Moment, command: &Command) -> Answer
         requires { IsSoundLife D.state self.old }
         ensures sound { IsSoundLife D.state self.new }
@@ -88,7 +88,10 @@ impl<D: Sim> Life<D> {
         ensures calls { Foretells D.failures D.outlook (disk_of self.old.store) (steps.Request moment command.now) result (disk_of self.new.store) }
     {
         laws::of_runs();
-        Answer::Turn(self.core.decide(moment, copy_of(command)))
+        match copy_of(command) {
+            Ok(own) => Answer::Turn(self.core.decide(moment, own)),
+            Err(_) => Answer::Turn(self.core.starve(command)),
+        }
     }
 
     /// The flusher takes a batch and begins its commit. `Full` comes only where the journal has no room
@@ -255,13 +258,16 @@ impl<D: Sim> Life<D> {
     }
 }
 
-// The same command. It takes no memory, so that a refusal is exact without any.
-fn copy_of(command: &Command) -> Command
-    ensures { result ≡ command.now }
+// The same command, in memory of its own.
+fn copy_of(command: &Command) -> Result<Command, Refusal>
+    ensures { MatchResult result (λ copy. copy ≡ command.now) (λ e. e ≡ OutOfMemory) }
 {
-    match command {
+    Ok(match command {
         Command::Provision(provisioning) => Command::Provision(*provisioning),
-    }
+        Command::Heard(heard) => Command::Heard(heard.clone()?),
+        Command::Queue(queueing) => Command::Queue(queueing.clone()?),
+        Command::QueueMac(queueing) => Command::QueueMac(queueing.clone()?),
+    })
 }
 
 // Adds effects behind others.

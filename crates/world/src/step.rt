@@ -7,7 +7,8 @@ use session_core::{Moment, Most};
 /// call but a crash itself, which opens the store.
 #[derive(Debug, PartialEq, Eq, Drop)]
 pub enum Step {
-    /// An application asks for this command at this moment.
+    /// This command comes at this moment: what an application asks for, or a frame that gateways heard, as a
+    /// whole. Scripts can't hand a frame in yet.
     Request { moment: Moment, command: Command },
     /// The flusher takes the oldest decisions, at most so many, and begins their commit.
     Take(Most),

@@ -1,6 +1,7 @@
 use Rattle.std.proofs.Common.{sym}
 use Rattle.world.specs.Calls.{Calls, passed_some}
 use Rattle.world.specs.Course.{beginning, course_of, formatted, table_from, number_from}
+use Rattle.sessions.specs.Table.{effects_of}
 use Rattle.headline.proofs.crash_after.Goals as goal
 
 pub returns-in_ok-store-in-Ok-clause-answers : goal.returns-in_ok-store-in-Ok-clause-answers
@@ -31,3 +32,12 @@ returns-in_ok-store-in-Ok-clause-recovers g c =
       table_is = sym only.0;
       number_is = sym only.1;
     }
+
+pub returns-in_ok-store-in-Ok-clause-once : goal.returns-in_ok-store-in-Ok-clause-once
+returns-in_ok-store-in-Ok-clause-once g c =
+    let origin = formatted c.args.net_id c.args.slots in
+    let course = course_of origin (beginning origin) c.args.steps.now c.in-Ok.answers.items in
+    let followed = (c.in-Ok.ensures.course origin (beginning origin) c.in_ok-world.ensures.course).1 in
+    let closed = c.close-disk.ensures.course origin course followed in
+    c.no_mark_stands_twice.ensures.part (effects_of origin.table course.settled) course.left closed.1
+    (c.no_mark_stands_twice.ensures.from_empty c.args.net_id c.args.slots course.settled)
