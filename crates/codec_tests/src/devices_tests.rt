@@ -2,10 +2,10 @@ use crate::fixtures::{
     DEVICE, application, brought, current, empty_downlink, item, items, name, session,
 };
 use devices::{
-    Activation, Application, CurrentSession, Device, Effect, Effects, Heard, Hearing, ItemQueue,
+    Activation, Application, CurrentSession, Device, Effect, Effects, Hearing, Hearings, ItemQueue,
     MacQueue, Mark, NextDown, Port, Report, RxDelay, Session, Tag,
 };
-use lw_types::{Eui, JoinNonce, PhyPayload, Reception, read_hex};
+use lw_types::{Eui, JoinNonce, Reception, read_hex};
 use mac_commands::are_queueable;
 use std::alloc::Global;
 use std::test::Fail;
@@ -278,9 +278,8 @@ fn hearings(alloc: Global, count: u64) -> Result<Vec<Hearing>, Fail> {
 }
 
 // A frame that so many gateways heard.
-fn heard(alloc: Global, count: u64) -> Result<Option<Heard>, Fail> {
-    let frame = PhyPayload::from_slice(alloc, &[0x40; 12])?;
-    Ok(Heard::new(frame, hearings(alloc, count)?))
+fn heard(alloc: Global, count: u64) -> Result<Option<Hearings>, Fail> {
+    Ok(Hearings::new(hearings(alloc, count)?))
 }
 
 #[test]
@@ -291,17 +290,14 @@ fn from_1_to_32_gateways_hear_a_frame(rt: HostRuntime) -> Result<(), Fail> {
     Ok(())
 }
 
-// Whether it is of these copies of twelve bytes.
-fn is_of(heard: &Heard, hearings: &[Hearing]) -> bool {
-    heard.phy_payload() == [0x40; 12].as_slice() && heard.hearings() == hearings
-}
-
 #[test]
-fn what_was_heard_is_kept(rt: HostRuntime) -> Result<(), Fail> {
+fn copies_keep_their_order(rt: HostRuntime) -> Result<(), Fail> {
     for count in [1, 32] {
-        let hearings = hearings(rt.alloc(), count)?;
         let heard = heard(rt.alloc(), count)?.ok_or("at most 32")?;
-        assert!(rt; is_of(&heard, hearings.as_slice()), "{count}");
+        assert!(rt;
+            heard.as_slice() == hearings(rt.alloc(), count)?.as_slice(),
+            "{count}"
+        );
     }
     Ok(())
 }
@@ -310,7 +306,7 @@ fn what_was_heard_is_kept(rt: HostRuntime) -> Result<(), Fail> {
 fn may_be_heard(alloc: Global, last: Hearing) -> Result<bool, Fail> {
     let mut hearings = hearings(alloc, 2)?;
     hearings.push(last).ok().ok_or("memory")?;
-    Ok(Heard::new(PhyPayload::empty(alloc), hearings).is_some())
+    Ok(Hearings::new(hearings).is_some())
 }
 
 #[test]
@@ -327,6 +323,31 @@ fn copies_are_of_different_gateways_on_channels(rt: HostRuntime) -> Result<(), F
             may_be_heard(rt.alloc(), last)? == may,
             "{frequency} {data_rate} {gateway}"
         );
+    }
+    Ok(())
+}
+
+// The best of the copies that these gateways have, of these SNR and RSSI.
+fn best(alloc: Global, copies: &[(u64, i16, i16)]) -> Result<Option<u64>, Fail> {
+    let mut hearings = Vec::new(alloc);
+    for (gateway, snr, rssi) in copies {
+        let mut hearing = hearing(*gateway, 868_100_000, 0);
+        hearing.reception.snr = *snr;
+        hearing.reception.rssi = *rssi;
+        hearings.push(hearing).ok().ok_or("memory")?;
+    }
+    Ok(Hearings::new(hearings).map(|hearings| hearings.best().reception.gateway.0))
+}
+
+#[test]
+fn the_best_copy_is_the_clearest(rt: HostRuntime) -> Result<(), Fail> {
+    for (copies, wanted) in [
+        ([(2, -20, -100), (1, -20, -100), (3, -20, -100)], 1),
+        ([(1, -20, -100), (2, -20, -99), (3, -20, -100)], 2),
+        ([(1, -20, -90), (2, -20, -99), (3, -19, -120)], 3),
+        ([(9, 7, -90), (2, 7, -90), (3, 6, -20)], 2),
+    ] {
+        assert!(rt; best(rt.alloc(), &copies)? == Some(wanted), "{wanted}");
     }
     Ok(())
 }

@@ -6,6 +6,10 @@ pub mod fixture;
 #[cfg(test)]
 mod flusher_tests;
 #[cfg(test)]
+mod join_tests;
+#[cfg(test)]
+mod queueing_tests;
+#[cfg(test)]
 mod session_core_tests;
 #[cfg(test)]
 mod sessions_tests;

@@ -1,6 +1,7 @@
-use crate::fixture::provision;
+use crate::fixture::{JOINER, REQUESTS, heard, joining, provision};
 use crate::tables::new_table;
-use lw_types::Refusal;
+use devices::Command;
+use lw_types::{Eui, Refusal};
 use session_core::{Core, Moment, Most, Turn};
 use std::alloc::Global;
 use std::process::Abort;
@@ -22,6 +23,17 @@ fn answers(rt: &impl Abort, core: &mut Core, dev_eui: u64, wanted: Turn) -> Resu
         wanted
     );
     Ok(())
+}
+
+// A frame was heard, and the core answers so.
+fn hears(alloc: Global, core: &mut Core, frame: &str, wanted: Turn) -> Result<bool, Refusal> {
+    let moment = Moment::new(0).ok_or(Refusal::Malformed)?;
+    Ok(core.decide(moment, heard(alloc, frame)?) == wanted)
+}
+
+// The DevNonce that the core has seen last of the device at this slot.
+fn dev_nonce(core: &Core, slot: usize) -> Option<u16> {
+    core.now().devices().get(slot)?.last_dev_nonce
 }
 
 // A take gives decisions of these numbers.
@@ -55,10 +67,49 @@ fn decisions_are_made_and_taken_in_order(rt: HostRuntime) -> Result<(), Fail> {
 }
 
 #[test]
+fn a_device_joins_behind_its_provisioning(rt: HostRuntime) -> Result<(), Fail> {
+    let alloc = rt.alloc();
+    let mut core = new_core(alloc, 8, 6)?;
+    let unknown = turn(0, 0, Some(Refusal::UnknownDevEui));
+    assert!(rt; hears(alloc, &mut core, REQUESTS[1], unknown)?);
+    answers(&rt, &mut core, 50, turn(0, 1, None))?;
+    let bring = Command::Provision(joining().ok_or("a device")?);
+    assert_eq!(rt;
+        core.decide(Moment::new(0).ok_or("moment")?, bring),
+        turn(1, 2, None)
+    );
+    assert_eq!(rt; core.now().slot_of(Eui(JOINER)), Some(1));
+    assert!(rt; hears(alloc, &mut core, REQUESTS[1], turn(2, 3, None))?);
+    let used = turn(3, 3, Some(Refusal::DevNonceUsed));
+    assert!(rt; hears(alloc, &mut core, REQUESTS[1], used)?);
+    assert_eq!(rt; dev_nonce(&core, 1), Some(1));
+    assert!(rt; hears(alloc, &mut core, REQUESTS[2], turn(3, 4, None))?);
+    assert_eq!(rt; dev_nonce(&core, 1), Some(2));
+    assert_eq!(rt; core.now().devices().len(), 2);
+    takes(&rt, &mut core, 64, 7..11)
+}
+
+// Whether the command that brings a device has this turn where there is no memory for it.
+fn starves(core: &Core, dev_eui: u64, wanted: Turn) -> bool {
+    provision(dev_eui).is_some_and(|command| core.starve(&command) == wanted)
+}
+
+#[test]
+fn a_refusal_is_known_without_memory(rt: HostRuntime) -> Result<(), Fail> {
+    let mut core = new_core(rt.alloc(), 1, 0)?;
+    answers(&rt, &mut core, 50, turn(0, 1, None))?;
+    assert!(rt; starves(&core, 50, turn(1, 1, Some(Refusal::DevEuiTaken))));
+    assert!(rt; starves(&core, 40, turn(1, 1, Some(Refusal::TableFull))));
+    Ok(())
+}
+
+#[test]
 fn no_number_is_left(rt: HostRuntime) -> Result<(), Fail> {
     let mut last = new_core(rt.alloc(), 8, (1 << 63) - 2)?;
+    assert!(rt; starves(&last, 50, turn(0, 0, Some(Refusal::OutOfMemory))));
     answers(&rt, &mut last, 50, turn(0, 1, None))?;
     answers(&rt, &mut last, 40, turn(1, 1, Some(Refusal::Backlog)))?;
+    assert!(rt; starves(&last, 40, turn(1, 1, Some(Refusal::Backlog))));
     let mut beyond = new_core(rt.alloc(), 8, u64::MAX)?;
     answers(&rt, &mut beyond, 50, turn(0, 0, Some(Refusal::Backlog)))
 }
@@ -75,6 +126,9 @@ fn as_many_decisions_wait_as_there_is_room_for(rt: HostRuntime) -> Result<(), Fa
         5000,
         turn(4096, 4096, Some(Refusal::Backlog)),
     )?;
+    let full = turn(4096, 4096, Some(Refusal::Backlog));
+    assert!(rt; hears(rt.alloc(), &mut core, REQUESTS[1], full)?);
+    assert!(rt; starves(&core, 5000, full));
     assert_eq!(rt; core.untaken(), 4096);
     for batch in 0..64 {
         takes(&rt, &mut core, 64, batch * 64 + 1..batch * 64 + 65)?;

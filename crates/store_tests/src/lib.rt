@@ -10,6 +10,8 @@ mod gate_log_tests;
 #[cfg(test)]
 mod store_images_tests;
 #[cfg(test)]
+mod store_joins_tests;
+#[cfg(test)]
 mod store_layout_tests;
 #[cfg(test)]
 mod store_tests;

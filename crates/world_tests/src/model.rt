@@ -1,6 +1,8 @@
 // The world told plainly: whole lists of commands, and the table made anew from all of them each time
 // that one is wanted.
-ghost use Rattle.std.specs.Prelude.{◌≡◌, ◌++◌, ℕ, true, IfOk};
+ghost use Rattle.std.specs.Prelude.{◌≡◌, ◌≢◌, ◌++◌, ℕ, true, Err, IfOk, IfErr, MatchResult};
+ghost use Rattle.lw_types.specs.declared.refusal.Refusal.TheVariants.{OutOfMemory};
+ghost use Rattle.sessions.specs.Decision.{Fits, IsDecision};
 ghost use Rattle.disk.specs.Outlook.Outlook.{AllSucceed};
 ghost use Rattle.sessions.specs.Table.{folded, effects_of, step, stepped, step_effects};
 ghost use Rattle.world.specs.declared.step.Step.TheVariants as steps;
@@ -14,7 +16,7 @@ use disk::Image;
 use gateway_wire::Emission;
 use lw_types::{NetId, Refusal};
 use session_core::{LAST_NUMBER, MOST_UNTAKEN, Most, Turn};
-use sessions::{Slots, Table};
+use sessions::{Decision, Slots, Table};
 use std::alloc::Global;
 use std::marker::Model;
 use std::mem;
@@ -141,11 +143,7 @@ impl Plain {
             return Ok(Some(Refusal::Backlog));
         }
         let table = self.table(alloc, &all)?;
-        match table.decide(alloc, 1, command.clone()?) {
-            Ok(_) => Ok(None),
-            Err(Refusal::OutOfMemory) => Err(Refusal::OutOfMemory),
-            Err(refusal) => Ok(Some(refusal)),
-        }
+        refusal_on(alloc, &table, command)
     }
 
     fn take(&mut self, most: Most) -> Result<Answer, Refusal>
@@ -368,12 +366,33 @@ fn fold(alloc: Global, table: &mut Table, commands: &[Command]) -> Result<Vec<Ef
     Ok(effects)
 }
 
+// The decision of a command on a table, or its refusal; `OutOfMemory` is want of memory.
+fn decision_of(alloc: Global, table: &Table, command: &Command) -> Result<Decision, Refusal>
+    ensures decided { IfOk result (λ d. MatchResult (step table.now command.now)
+        (λ s. IsDecision table.now 1 command.now s d) (λ _. ⊥)) }
+    ensures refused { IfErr result (λ e. e ≢ OutOfMemory → step table.now command.now ≡ Err e) }
+    ensures fits { IfOk result (λ d. Fits table.now d) }
+{
+    table.decide(alloc, 1, command.clone()?)
+}
+
+// Why the command is not decided on this table, if it is not.
+fn refusal_on(alloc: Global, table: &Table, command: &Command) -> Result<Option<Refusal>, Refusal>
+    ensures { IfOk result (λ refused. IsRefusal (step table.now command.now) refused) }
+{
+    match decision_of(alloc, table, command) {
+        Ok(_) => Ok(None),
+        Err(Refusal::OutOfMemory) => Err(Refusal::OutOfMemory),
+        Err(refusal) => Ok(Some(refusal)),
+    }
+}
+
 // Decides a command on the table, and gives its effects. One that is refused changes nothing.
 fn decide(alloc: Global, table: &mut Table, command: &Command) -> Result<Vec<Effect>, Refusal>
     ensures table { IfOk result (λ _. table.new ≡ stepped table.old (step table.old command.now)) }
     ensures effects { IfOk result (λ effects. effects.items ≡ step_effects (step table.old command.now)) }
 {
-    match table.decide(alloc, 1, command.clone()?) {
+    match decision_of(alloc, table, command) {
         Ok(decision) => {
             table.apply(&decision)?;
             Ok(decision.effects.into_vec())

@@ -3,8 +3,9 @@ ghost use Rattle.disk.specs.MemDisk.{state_of};
 ghost use Rattle.world.specs.Sound.{IsSound};
 
 use crate::model::Plain;
+use devices::Command;
 use disk::{Image, MemDisk};
-use lw_types::NetId;
+use lw_types::{NetId, Refusal};
 use session_core::{Moment, Most};
 use session_tests::fixture;
 use sessions::Slots;
@@ -206,5 +207,76 @@ fn a_store_of_4096_devices_is_opened(rt: HostRuntime) -> Result<(), Fail> {
         )
     });
     assert_eq!(rt; opened.count(), 1);
+    Ok(())
+}
+
+// A command of the device that joins, by a letter: it is brought, or its Join-Request of that DevNonce is heard.
+fn joining(alloc: Global, letter: char) -> Result<Option<Command>, Refusal> {
+    let frame = match letter {
+        'p' => return Ok(fixture::joining().map(Command::Provision)),
+        '1' => fixture::REQUESTS[1],
+        '2' => fixture::REQUESTS[2],
+        '3' => fixture::REQUESTS[3],
+        'x' => "40F17DBE4900020001954378762B11FF0D",
+        _ => return Ok(None),
+    };
+    Ok(Some(fixture::heard(alloc, frame)?))
+}
+
+// The steps of a script, with those of the device that joins among them.
+fn joins(alloc: Global, script: &str) -> Result<Vec<Step>, Fail> {
+    let mut steps = Vec::new(alloc);
+    for letter in script.chars() {
+        let step = match joining(alloc, letter)? {
+            None => step_of('a', letter)?,
+            Some(command) => Step::Request {
+                moment: Moment::new(0).ok_or("moment")?,
+                command,
+            },
+        };
+        steps.push(step)?;
+    }
+    Ok(steps)
+}
+
+// The table and the number that the last step has shown: whose DevNonce was seen last at slot 0, and the number.
+fn shown(answers: &[Answer]) -> Option<(Option<u16>, u64)> {
+    match answers.last()? {
+        Answer::Listed { table, seq } => Some((table.devices().first()?.last_dev_nonce, *seq)),
+        _ => None,
+    }
+}
+
+// What a world shows at the end of a script.
+fn shown_by(alloc: Global, script: &str) -> Result<Option<(Option<u16>, u64)>, Fail> {
+    let steps = joins(alloc, script)?;
+    let mut world = new_world(alloc, 3)?;
+    let answers = run(&mut world, alloc, &steps);
+    let _ = world.close();
+    Ok(shown(&answers?))
+}
+
+// Joins replace the record of a slot in use, and a crash leaves the old one or the new one.
+#[test]
+fn devices_join(rt: HostRuntime) -> Result<(), Fail> {
+    let alloc = rt.alloc();
+    for (script, dev_nonce, seq) in [
+        ("1xpx1l", Some(1), 2),
+        ("p1TccccreeeTol", Some(1), 2),
+        ("pTccccr1Tccccrool", Some(1), 2),
+        ("pTccccr1Tcccol", None, 1),
+        ("pTccccr1Tcccnl", Some(1), 2),
+        ("pTccccr1Tcfcnl", None, 1),
+        ("pTccccr112p1Tccccreeeol", Some(2), 3),
+        ("p1Tccccr2Tccccr3Tccccreeeeeol", Some(3), 4),
+        ("p1Tccccr23Tccccrol3l", Some(3), 4),
+        ("p1ta1tTccccrbol", None, 1),
+    ] {
+        compare(&rt, alloc, 3, &joins(alloc, script)?, script)?;
+        assert!(rt;
+            shown_by(alloc, script)? == Some((dev_nonce, seq)),
+            "{script}"
+        );
+    }
     Ok(())
 }
