@@ -1,2 +1,3 @@
 pub mod Counter
 pub mod FirstFrom
+pub mod Rebuilt

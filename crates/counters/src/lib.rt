@@ -4,6 +4,9 @@
 ghost use Rattle.std.specs.Prelude.{◌≡◌, ◌↔◌, ◌<◌, ◌≤◌, ℕ, ◌%◌, ◌^◌};
 ghost use Rattle.counters.specs.Counter.{IsRepeat, IsLeast, distance};
 ghost use Rattle.counters.specs.FirstFrom.{FirstFrom};
+ghost use Rattle.counters.specs.Rebuilt.{if_near, least_from, rebuilt};
+
+pub mod laws;
 
 /// What the low bits of a counter stand for.
 #[derive(Clone, Copy, Debug, PartialEq, Eq)]
@@ -28,6 +31,7 @@ pub fn rebuild(last: Option<u32>, low: u16) -> Rebuilt
         ↔ (¬ IsRepeat last low × IsLeast last low n × (distance last n ≤ MAX_GAP)) }
     ensures gap { (result ≡ Rebuilt.Gap)
         ↔ (¬ IsRepeat last low × ((n : ℕ) → IsLeast last low n → MAX_GAP < distance last n)) }
+    ensures value { result ≡ rebuilt last low }
 {
     match last {
         Some(last) if low_bits(last) == low => Rebuilt::Repeat,
@@ -46,7 +50,8 @@ fn low_bits(counter: u32) -> u16
 // The least counter from `first` on with these low bits, where it is below `first + MAX_GAP`.
 fn from(first: u64, low: u16) -> Rebuilt
     requires { first ≤ 2 ^ 32 }
-    ensures { FirstFrom first low result }
+    ensures first { FirstFrom first low result }
+    ensures value { result ≡ if_near first (least_from first low) }
 {
     let above = (u64::from(low) + (1 << 16) - first % (1 << 16)) % (1 << 16);
     let counter = first + above;

@@ -1,12 +1,17 @@
 -- Queues of commands, as reading finds them.
-use Rattle.std.proofs.Common.{◌≡◌, ℕ, List, [], ◌∷◌, ◌++◌, take, drop, refl, sym, ap, ◌∙◌, subst, true}
-use Rattle.std.specs.List.{AllByRecursion}
+use Rattle.std.proofs.Common.{◌≡◌, ℕ, List, [], ◌∷◌, ◌++◌, take, drop, refl, sym, ap, ◌∙◌, subst}
+use Rattle.std.specs.Prelude.{◌==◌, ◌&&◌, ◌↔◌, Bool, true, false, length, IsTrue}
+use Rattle.std.specs.List.{AllByRecursion, list_all}
+use Rattle.std.proofs.Math.Seq.{take-length}
+use Rattle.std.proofs.lemmas.Bool.{and_parts, eq-eqb, eqb-true}
 use Rattle.std.proofs.lemmas.List.{append-nil, take-append-drop}
 use Rattle.lw_types.specs.declared.direction.Direction.TheVariants.{Down}
 use Rattle.mac_commands.specs.declared.command.MacCommand.{MacCommand}
 use Rattle.mac_commands.specs.Commands.{IsWhole, command_bytes, spelling, Spells, BeginsWhole, IsBeginning}
-use Rattle.mac_commands.specs.Queueable.{IsQueueable, AreQueueable}
-use Rattle.mac_commands.proofs.Reading.{HasRead, goes_on, no_more, none_begins, parted, reads_more}
+use Rattle.mac_commands.specs.Queueable.{may_be_queued, IsQueueable, AreQueueable}
+use Rattle.mac_commands.specs.Reading.{commands_in, is_queue}
+use Rattle.mac_commands.proofs.CommandsIn.{are_commands, read_is}
+use Rattle.mac_commands.proofs.Reading.{HasRead, goes_on, no_more, none_begins, parted, read_to_the_end, reads_more}
 
 -- commands that may be queued stand before the rest
 pub record HasQueued (bytes rest : List ℕ) : Type 0 where
@@ -73,3 +78,47 @@ parted_queue queue n q b =
       record { commands = first; spelled = b.whole.1; each = all_front IsQueueable first second.0 all },
       record { commands = second.0; spelled = second.2; each = all_behind IsQueueable first second.0 all },
     )
+
+-- ---- as a function
+
+all_may : (commands : List MacCommand) → AllByRecursion IsQueueable commands → list_all (λ (c : MacCommand). may_be_queued c.cid) commands ≡ true
+all_may [] each = refl
+all_may (c ∷ commands) each = ap (λ (b : Bool). b && list_all (λ (d : MacCommand). may_be_queued d.cid) commands) each.0 ∙ all_may commands each.1
+
+each_may : (commands : List MacCommand) → list_all (λ (c : MacCommand). may_be_queued c.cid) commands ≡ true → AllByRecursion IsQueueable commands
+each_may [] all = tt
+each_may (c ∷ commands) all =
+    let both = and_parts (may_be_queued c.cid) (list_all (λ (d : MacCommand). may_be_queued d.cid) commands) all in
+    (both.0, each_may commands both.1)
+
+to_queue : (bytes : List ℕ) → IsTrue (is_queue bytes) → AreQueueable bytes
+to_queue bytes is =
+    let commands = commands_in Down bytes in
+    let both = and_parts (length (spelling commands) == length bytes) (list_all (λ (c : MacCommand). may_be_queued c.cid) commands) is in
+    let long = eqb-true (length (spelling commands)) (length bytes) both.0 in
+    let whole = ap (λ n. take n bytes) long ∙ take-length bytes in
+    record {
+      commands = commands;
+      spelled = subst (λ (bs : List ℕ). Spells Down bs commands) whole (are_commands Down bytes).before;
+      each = each_may commands both.1;
+    }
+
+from_queue : (bytes : List ℕ) → AreQueueable bytes → IsTrue (is_queue bytes)
+from_queue bytes q =
+    let commands = commands_in Down bytes in
+    let same : q.commands ≡ commands = read_is Down bytes q.commands (length bytes) (read_to_the_end Down bytes q.commands q.spelled) in
+    let long : (length (spelling commands) == length bytes) ≡ true = eq-eqb _ _ (ap (λ (cs : List MacCommand). length (spelling cs)) (sym same) ∙ ap length (sym q.spelled.spelled)) in
+    let all = all_may commands (subst (AllByRecursion IsQueueable) same q.each) in
+    ap (λ (b : Bool). b && list_all (λ (c : MacCommand). may_be_queued c.cid) commands) long ∙ all
+
+pub is_queue_so : (bytes : List ℕ) → IsTrue (is_queue bytes) ↔ AreQueueable bytes
+is_queue_so bytes = (to_queue bytes, from_queue bytes)
+
+-- a test that says the one says the other
+pub tested : (bytes : List ℕ) (test : Bool) → (IsTrue test ↔ AreQueueable bytes) → test ≡ is_queue bytes
+tested bytes true is = sym (from_queue bytes (is.0 refl))
+tested bytes false is = by (is_queue bytes) refl
+  where
+    by : (b : Bool) → is_queue bytes ≡ b → false ≡ b
+    by false h = refl
+    by true h = is.1 (to_queue bytes h)

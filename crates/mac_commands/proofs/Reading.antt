@@ -1,6 +1,5 @@
 -- Commands are read from the front, one after another, in one way.
-use Rattle.std.proofs.Common.{◌≡◌, ℕ, ◌-◌, ◌≤◌, List, [], ◌∷◌, ◌++◌, length, take, drop, min, refl, sym, ap, ◌∙◌, append_assoc, subst, arith, Option, Some, None}
-use Rattle.std.specs.Prelude.{◌==◌, if◌then◌else◌}
+use Rattle.std.proofs.Common.{◌≡◌, ℕ, ◌-◌, ◌≤◌, List, [], ◌∷◌, ◌++◌, length, take, drop, min, refl, sym, ap, ◌∙◌, append_assoc, subst, arith, Some}
 use Rattle.std.specs.List.{AllByRecursion}
 use Rattle.std.proofs.lemmas.Grind.{flat_map-append}
 use Rattle.std.proofs.Math.Seq.{take-append_seam, drop-append_seam, take-length, drop-length}
@@ -12,32 +11,28 @@ use Rattle.lw_types.specs.declared.direction.Direction.TheVariants.{Down}
 use Rattle.mac_commands.specs.declared.command.MacCommand.{MacCommand}
 use Rattle.mac_commands.specs.Table.{number_of, payload_len}
 use Rattle.mac_commands.specs.Commands.{IsWhole, command_bytes, spelling, Spells, BeginsWhole, AreCommands, IsLongestFit}
+use Rattle.mac_commands.specs.Reading.{cid_of}
 
 -- ---- one command
 
-abbrev numbered : ℕ → Option Cid
-numbered n =
-    if n == 2 then Some LinkCheck else (if n == 3 then Some LinkAdr else (if n == 4 then Some DutyCycle else (if n == 5 then Some RxParamSetup else (if n == 6 then Some DevStatus
-    else (if n == 7 then Some NewChannel else (if n == 8 then Some RxTimingSetup else (if n == 9 then Some TxParamSetup else (if n == 10 then Some DlChannel else (if n == 13 then Some DeviceTime else None)))))))))
-
-numbered-number_of : (cid : Cid) → numbered (number_of cid) ≡ Some cid
-numbered-number_of LinkCheck = refl
-numbered-number_of LinkAdr = refl
-numbered-number_of DutyCycle = refl
-numbered-number_of RxParamSetup = refl
-numbered-number_of DevStatus = refl
-numbered-number_of NewChannel = refl
-numbered-number_of RxTimingSetup = refl
-numbered-number_of TxParamSetup = refl
-numbered-number_of DlChannel = refl
-numbered-number_of DeviceTime = refl
+pub known : (cid : Cid) → cid_of (number_of cid) ≡ Some cid
+known LinkCheck = refl
+known LinkAdr = refl
+known DutyCycle = refl
+known RxParamSetup = refl
+known DevStatus = refl
+known NewChannel = refl
+known RxTimingSetup = refl
+known TxParamSetup = refl
+known DlChannel = refl
+known DeviceTime = refl
 
 same_some : (a b : Cid) → Some a ≡ Some b → a ≡ b
 same_some a b e = cc
 
 -- no two identifiers share a number
 pub number_of-injective : (a b : Cid) → number_of a ≡ number_of b → a ≡ b
-number_of-injective a b e = same_some a b (sym (numbered-number_of a) ∙ (ap numbered e ∙ numbered-number_of b))
+number_of-injective a b e = same_some a b (sym (known a) ∙ (ap cid_of e ∙ known b))
 
 -- two fronts of one length
 pub fronts : (a b x y : List ℕ) → length a ≡ length b → a ++ x ≡ b ++ y → (a ≡ b) × (x ≡ y)

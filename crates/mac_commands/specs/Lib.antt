@@ -2,3 +2,4 @@ pub mod Table
 pub mod Commands
 pub mod Front
 pub mod Queueable
+pub mod Reading

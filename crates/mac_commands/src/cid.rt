@@ -22,6 +22,7 @@ pub enum Cid {
 impl Cid {
     ghost use Rattle.mac_commands.specs.declared.cid.Cid.{Cid};
     ghost use Rattle.mac_commands.specs.Queueable.{may_be_queued};
+    ghost use Rattle.mac_commands.specs.Reading.{is_link_check_cid, is_told_cid};
     ghost use Rattle.mac_commands.specs.Table.{number_of, payload_len};
 
     /// The byte that stands for the identifier.
@@ -56,6 +57,21 @@ impl Cid {
         ensures { result ≡ may_be_queued self }
     {
         matches!(self, Cid::LinkAdr | Cid::DutyCycle | Cid::DevStatus)
+    }
+
+    /// Whether the application is told the uplink command: all but LinkCheckReq and DeviceTimeReq, which the network
+    /// answers or passes over.
+    pub fn is_told(self) -> bool
+        ensures { result ≡ is_told_cid self }
+    {
+        !matches!(self, Cid::LinkCheck | Cid::DeviceTime)
+    }
+
+    /// Whether it is LinkCheckReq or LinkCheckAns.
+    pub fn is_link_check(self) -> bool
+        ensures { result ≡ is_link_check_cid self }
+    {
+        matches!(self, Cid::LinkCheck)
     }
 
     /// How many bytes of payload follow the identifier in a frame of this direction, at most 5.

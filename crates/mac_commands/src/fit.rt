@@ -1,16 +1,18 @@
 // What of a queue of MAC commands a downlink has room for.
-ghost use Rattle.std.specs.Prelude.{List};
+ghost use Rattle.std.specs.Prelude.{◌≡◌, List};
 ghost use Rattle.mac_commands.specs.declared.command.MacCommand.{MacCommand};
 ghost use Rattle.mac_commands.specs.Commands.{AreCommands, IsLongestFit};
+ghost use Rattle.mac_commands.specs.Reading.{fitting};
 
 use crate::front::read_front;
 use lw_types::Direction;
 
 /// How many bytes of a queue of downlink commands, from its front and in whole commands, fit the room
 /// that is left of the 15 bytes of FOpts (TS001-1.0.4 §4.3.1.6): as many as possible. Takes no memory.
-#[tactic(auto, using(crate::proofs::Reading::is_longest))]
+#[tactic(auto, using(crate::proofs::Reading::is_longest, crate::proofs::CommandsIn::is_fitting))]
 pub fn fit15(queue: &[u8], room: u8) -> usize
-    ensures { IsLongestFit queue.now room result }
+    ensures longest { IsLongestFit queue.now room result }
+    ensures value { result ≡ fitting queue.now room }
 {
     let within = queue.len().min(usize::from(room));
     whole_len(Direction::Down, &queue[..within])

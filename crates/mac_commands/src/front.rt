@@ -29,6 +29,8 @@ pub(crate) fn read_front(direction: Direction, bytes: &[u8]) -> Option<Front<'_>
 }
 
 impl Front<'_> {
+    ghost use Rattle.std.specs.Prelude.{◌++◌, OnOk};
+    ghost use Rattle.mac_commands.specs.Commands.{command_bytes};
     ghost use Rattle.mac_commands.specs.Front.{command_of};
 
     /// The command with a payload of its own.
@@ -40,5 +42,14 @@ impl Front<'_> {
             cid: self.cid,
             payload: CommandPayload::from_slice(alloc, self.payload)?,
         })
+    }
+
+    /// Appends the bytes of the command.
+    pub fn put(self, out: &mut Vec<u8>) -> Result<(), AllocError>
+        ensures { OnOk result (out.new.items ≡ out.old.items ++ command_bytes (command_of self.entry)) }
+    {
+        out.push(self.cid.number())?;
+        out.extend_from_slice(self.payload)?;
+        Ok(())
     }
 }

@@ -1,9 +1,10 @@
 //! Laws of MAC commands as bytes, for crates that queue and send them.
-ghost use Rattle.std.specs.Prelude.{◌≡◌, ◌++◌, List, drop, length, take, ℕ};
+ghost use Rattle.std.specs.Prelude.{◌≡◌, ◌≤◌, ◌++◌, ◌↔◌, IsTrue, List, drop, length, take, ℕ};
 ghost use Rattle.lw_types.specs.declared.direction.Direction.{Direction};
 ghost use Rattle.mac_commands.specs.declared.command.MacCommand.{MacCommand};
-ghost use Rattle.mac_commands.specs.Commands.{AreCommands, IsLongestFit, Spells};
+ghost use Rattle.mac_commands.specs.Commands.{AreCommands, IsLongestFit, Spells, spelling};
 ghost use Rattle.mac_commands.specs.Queueable.{AreQueueable};
+ghost use Rattle.mac_commands.specs.Reading.{commands_in, fitting, is_queue, told_bytes};
 
 /// Bytes are read in one way: as one list of commands, up to one place.
 pub fn bytes_are_read_in_one_way()
@@ -11,6 +12,17 @@ pub fn bytes_are_read_in_one_way()
         → AreCommands direction bytes a m → AreCommands direction bytes b n → a ≡ b }
     ensures stop { (direction : Direction) (bytes : List ℕ) (a : List MacCommand) (b : List MacCommand) (m : ℕ) (n : ℕ)
         → AreCommands direction bytes a m → AreCommands direction bytes b n → m ≡ n }
+{}
+
+/// Bytes are read as `commands_in` says, up to where these commands end.
+pub fn bytes_begin_with_these_commands()
+    ensures { (direction : Direction) (bytes : List ℕ) → let commands = commands_in direction bytes in
+        AreCommands direction bytes commands (length (spelling commands)) }
+{}
+
+/// What an application is told of an uplink is no longer than the uplink's commands.
+pub fn what_is_told_is_short()
+    ensures { (bytes : List ℕ) → length (told_bytes bytes) ≤ length bytes }
 {}
 
 /// What is written in whole commands is read again, all of it.
@@ -27,6 +39,16 @@ pub fn whole_commands_join_and_part()
     ensures part { (direction : Direction) (a : List ℕ) (b : List ℕ) (all : List MacCommand) (first : List MacCommand)
         → Spells direction (a ++ b) all → Spells direction a first
         → (second : List MacCommand) × (all ≡ first ++ second) × Spells direction b second }
+{}
+
+/// `is_queue` finds the bytes that may be queued.
+pub fn queues_are_found()
+    ensures { (bytes : List ℕ) → IsTrue (is_queue bytes) ↔ AreQueueable bytes }
+{}
+
+/// As many bytes of a queue as `fitting` says are the longest beginning in whole commands that fits the room.
+pub fn what_fits_is_the_longest()
+    ensures { (queue : List ℕ) (room : ℕ) → IsLongestFit queue room (fitting queue room) }
 {}
 
 /// What `fit15` takes from the front of a queue is a queue, and so is what it leaves.

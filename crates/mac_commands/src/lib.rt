@@ -10,6 +10,7 @@ mod fit;
 mod front;
 pub mod laws;
 mod queueable;
+mod uplink;
 
 pub use cid::Cid;
 pub use command::{CommandPayload, Decoded, LONGEST_COMMAND_PAYLOAD, MacCommand};
@@ -17,3 +18,4 @@ pub use decode::{decode_down, decode_up};
 pub use encode::encode_down;
 pub use fit::fit15;
 pub use queueable::are_queueable;
+pub use uplink::{asks_link_check, read_told};

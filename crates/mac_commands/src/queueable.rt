@@ -1,6 +1,7 @@
 // Queues of MAC commands.
-ghost use Rattle.std.specs.Prelude.{◌↔◌, IsTrue};
+ghost use Rattle.std.specs.Prelude.{◌≡◌, ◌↔◌, IsTrue};
 ghost use Rattle.mac_commands.specs.Queueable.{AreQueueable};
+ghost use Rattle.mac_commands.specs.Reading.{is_queue};
 
 use crate::front::read_front;
 use lw_types::Direction;
@@ -8,7 +9,8 @@ use lw_types::Direction;
 /// Whether the bytes are whole commands that an application may queue for a device: LinkADRReq,
 /// DutyCycleReq and DevStatusReq, one after another. Takes no memory.
 pub fn are_queueable(bytes: &[u8]) -> bool
-    ensures { IsTrue result ↔ AreQueueable bytes.now }
+    ensures queue { IsTrue result ↔ AreQueueable bytes.now }
+    ensures value { result ≡ is_queue bytes.now }
 {
     let mut rest = bytes;
     while let Some(front) = read_front(Direction::Down, rest) {

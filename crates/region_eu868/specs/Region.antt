@@ -1,6 +1,5 @@
 -- The channels and data rates of EU868 (RP002-1.0.4, EU863-870): DR 0 to 5 are SF12 to SF7 at 125 kHz.
-use Rattle.std.specs.Prelude.{◌≡◌, ◌+◌, ◌*◌, ℕ, List, [], ◌∷◌, slice_index, pos, ℤ, ◌+ℤ◌, ◌≤ℤ◌, neg_ℤ}
-use Rattle.std.specs.Prelude.{◌<ℤ◌}
+use Rattle.std.specs.Prelude.{◌≡◌, ◌+◌, ◌*◌, ◌/◌, ℕ, min, List, [], ◌∷◌, slice_index, ℤ, pos, negsuc, ◌+ℤ◌, ◌-ℤ◌, ◌<ℤ◌, ◌≤ℤ◌, neg_ℤ}
 
 -- the channels that each device has from the start, in Hz
 abbrev pub channels : List ℕ
@@ -24,3 +23,12 @@ pub record IsMargin (snr : ℤ) (dr m : ℕ) : Type 0 where
   pub above : (snr_floor dr +ℤ pos (4 * 254)) ≤ℤ snr → m ≡ 254
   pub between : snr_floor dr ≤ℤ snr → snr <ℤ (snr_floor dr +ℤ pos (4 * 255))
       → ((snr_floor dr +ℤ pos (4 * m)) ≤ℤ snr) × (snr <ℤ (snr_floor dr +ℤ pos (4 * m + 4)))
+
+-- the whole dB in a number of quarter dB, from 0 to 254
+abbrev pub whole_db : ℤ → ℕ
+whole_db (pos quarters) = min (quarters / 4) 254
+whole_db (negsuc below) = 0
+
+-- by how many whole dB an SNR is above the floor of its data rate
+abbrev pub margin_of : ℤ → ℕ → ℕ
+margin_of snr dr = whole_db (snr -ℤ snr_floor dr)

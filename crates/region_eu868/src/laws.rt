@@ -1,6 +1,6 @@
 //! Laws of the region's tables. Each stands on a function that does nothing.
 ghost use Rattle.std.specs.Prelude.{◌≤◌, ℕ, ℤ, slice_index};
-ghost use Rattle.region_eu868.specs.Region.{max_payloads, IsMargin};
+ghost use Rattle.region_eu868.specs.Region.{margin_of, max_payloads, IsMargin};
 
 /// No MACPayload is longer than 250 bytes.
 pub fn payloads_are_short()
@@ -9,5 +9,6 @@ pub fn payloads_are_short()
 
 /// No margin is above 254, so that 255 is free (TS001-1.0.4 §5.1).
 pub fn margins_are_small()
-    ensures { (snr : ℤ) (data_rate m : ℕ) → IsMargin snr data_rate m → m ≤ 254 }
+    ensures of_any { (snr : ℤ) (data_rate m : ℕ) → IsMargin snr data_rate m → m ≤ 254 }
+    ensures computed { (snr : ℤ) (data_rate : ℕ) → margin_of snr data_rate ≤ 254 }
 {}

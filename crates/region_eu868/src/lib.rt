@@ -3,7 +3,7 @@
 #![tactic(auto)]
 
 ghost use Rattle.std.specs.Prelude.{◌≡◌, ◌≤◌, ◌-◌, ◌↔◌, IsTrue, Contains, slice_index};
-ghost use Rattle.region_eu868.specs.Region.{channels, max_payloads, snr_depths, IsMargin};
+ghost use Rattle.region_eu868.specs.Region.{channels, max_payloads, snr_depths, margin_of, IsMargin};
 
 pub mod laws;
 
@@ -64,7 +64,8 @@ pub fn is_channel(frequency: u32) -> bool
 /// The whole dB by which an SNR, in quarter dB, is above the floor of its data rate, from 0 to 254.
 pub fn margin(snr: i16, data_rate: u8) -> u8
     requires { data_rate ≤ 5 }
-    ensures { IsMargin snr data_rate result }
+    ensures margin { IsMargin snr data_rate result }
+    ensures value { result ≡ margin_of snr data_rate }
 {
     let above = i32::from(snr) + i32::from(snr_depth(data_rate));
     if above < 0 {
