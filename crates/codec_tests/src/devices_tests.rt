@@ -3,9 +3,9 @@ use crate::fixtures::{
 };
 use devices::{
     Activation, Application, CurrentSession, Device, Effect, Effects, Hearing, Hearings, ItemQueue,
-    MacQueue, Mark, NextDown, Port, Report, RxDelay, Session, Tag,
+    MacQueue, Mark, NextDown, Port, Report, RxDelay, Session, Tag, dev_addr, slot_at,
 };
-use lw_types::{Eui, JoinNonce, Reception, read_hex};
+use lw_types::{DevAddr, Eui, JoinNonce, NetId, Reception, read_hex};
 use mac_commands::are_queueable;
 use std::alloc::Global;
 use std::test::Fail;
@@ -74,6 +74,43 @@ fn a_mac_queue_is_made_of_a_slice(rt: HostRuntime) -> Result<(), Fail> {
     assert!(rt; are_queueable(&bytes));
     let copy = MacQueue::from_slice(rt.alloc(), &bytes)?;
     assert!(rt; copy.as_slice() == bytes.as_slice());
+    Ok(())
+}
+
+// How many bytes fit the room, and what is left of the queue where they leave it.
+fn left(alloc: Global, hex: &str, room: u8) -> Result<(usize, Vec<u8>), Fail> {
+    let mut queue = MacQueue::new(read_hex(alloc, hex)?).ok().ok_or("a queue")?;
+    let fits = queue.fitting(room);
+    queue.leave(room);
+    Ok((fits, Vec::from_slice(alloc, queue.as_slice())?))
+}
+
+#[test]
+fn whole_commands_leave_the_queue(rt: HostRuntime) -> Result<(), Fail> {
+    for (hex, room, fits, rest) in [
+        ("035007000103500700010350070001", 12, 10, "0350070001"),
+        ("035007000103500700010350070001", 15, 15, ""),
+        ("0350070001", 4, 0, "0350070001"),
+        ("06040F06", 2, 1, "040F06"),
+        ("", 15, 0, ""),
+    ] {
+        let (fitting, left) = left(rt.alloc(), hex, room)?;
+        assert!(rt; fitting == fits, "{hex}");
+        assert!(rt; left == read_hex(rt.alloc(), rest)?, "{hex}");
+    }
+    Ok(())
+}
+
+#[test]
+fn items_leave_in_order(rt: HostRuntime) -> Result<(), Fail> {
+    let queue = ItemQueue::new(items(rt.alloc(), 3, 1)?);
+    let mut queue = queue.ok().ok_or("at most 16")?;
+    for tag in 0..3 {
+        assert!(rt; queue.first().is_some_and(|item| item.tag == Tag(tag)));
+        assert!(rt; queue.pop_first().is_some_and(|item| item.tag == Tag(tag)));
+    }
+    assert!(rt; queue.is_empty());
+    assert!(rt; queue.pop_first().is_none());
     Ok(())
 }
 
@@ -156,6 +193,64 @@ fn an_activation_has_its_parts(rt: HostRuntime) -> Result<(), Fail> {
     assert!(rt; activation.granted() == JoinNonce::new(2));
     assert!(rt; activation.current() == in_use(Some(1))?);
     assert!(rt; activation.pending() == waiting(Some(2))?);
+    Ok(())
+}
+
+// The counters of a session in use.
+fn counters(activation: &Activation) -> Option<(u32, u64)> {
+    let current = activation.current()?;
+    Some((current.last_up, current.next_down.get()))
+}
+
+// What is left of sessions 1 and 2 after the first uplink under session 2.
+fn begun(up: u32) -> Result<Activation, Fail> {
+    let mut activation = activation(2, Some(1), Some(2))?.ok_or("in order")?;
+    let session = activation.pending().ok_or("one waits")?;
+    activation.begin(session, up);
+    Ok(activation)
+}
+
+#[test]
+fn a_session_begins_with_its_first_uplink(rt: HostRuntime) -> Result<(), Fail> {
+    let activation = begun(7)?;
+    assert!(rt; activation.pending() == None);
+    assert!(rt; activation.granted() == JoinNonce::new(2));
+    assert!(rt; counters(&activation) == Some((7, 0)));
+    Ok(())
+}
+
+// The activation after an uplink of this counter and an answer to it.
+fn answered(mut activation: Activation, up: u32) -> Result<Activation, Fail> {
+    let current = activation.current().ok_or("one is in use")?;
+    activation.advance(current, up);
+    let current = activation.current().ok_or("one is in use")?;
+    if current.next_down.get() < 1 << 32 {
+        activation.use_down(current);
+    }
+    Ok(activation)
+}
+
+#[test]
+fn counters_of_a_session_grow(rt: HostRuntime) -> Result<(), Fail> {
+    let activation = answered(answered(begun(7)?, 8)?, 4_000_000_000)?;
+    assert!(rt; counters(&activation) == Some((4_000_000_000, 2)));
+    Ok(())
+}
+
+#[test]
+fn addresses_have_network_slot_and_join(rt: HostRuntime) -> Result<(), Fail> {
+    for (network, slot, join_nonce, address) in [
+        (42, 1, 1, 0x5400_2001),
+        (0, 0, 8191, 0x0000_1FFF),
+        (0, 0, 8192, 0x0000_0000),
+        (63, 4095, 16_777_215, 0x7FFF_FFFF),
+    ] {
+        let network = NetId::new(network).ok_or("below 64")?;
+        let found = dev_addr(network, slot, join_nonce);
+        assert!(rt; found == DevAddr(address), "slot {slot}");
+        assert!(rt; slot_at(found) == slot, "slot {slot}");
+    }
+    assert!(rt; slot_at(DevAddr(0x49BE_7DF1)) == 3571);
     Ok(())
 }
 

@@ -1,7 +1,7 @@
-use lw_types::{Direction, Refusal};
+use lw_types::{Direction, Payload, Refusal, read_hex};
 use mac_commands::{
-    Cid, CommandPayload, Decoded, MacCommand, are_queueable, decode_down, decode_up, encode_down,
-    fit15,
+    Cid, CommandPayload, Decoded, MacCommand, are_queueable, asks_link_check, decode_down,
+    decode_up, encode_down, fit15, read_told,
 };
 use std::alloc::Global;
 use std::process::Abort;
@@ -237,5 +237,58 @@ fn queues_end_with_a_command(rt: HostRuntime) -> Result<(), Fail> {
         let bytes = requests(rt.alloc(), len)?;
         assert!(rt; are_queueable(bytes.as_slice()) == whole, "{len}");
     }
+    Ok(())
+}
+
+// The commands in an uplink, those that its application is told, and whether a LinkCheckReq is among them: none; one command;
+// LinkCheckReq twice; DeviceTimeReq; a payload that is an identifier; an identifier that isn't known; a cut DevStatusAns.
+const UPLINKS: [(&str, &str, bool); 10] = [
+    ("", "", false),
+    ("0307", "0307", false),
+    ("0202", "", true),
+    ("0D", "", false),
+    ("020307", "0307", true),
+    ("03070D06FF140A03", "030706FF140A03", false),
+    ("0702", "0702", false),
+    ("03070E02", "0307", false),
+    ("03070602", "0307", false),
+    ("0408020E0702", "0408", true),
+];
+
+// The bytes of an uplink's commands.
+fn uplink(alloc: Global, hex: &str) -> Result<Payload, Fail> {
+    let bytes = Payload::new(read_hex(alloc, hex)?);
+    Ok(bytes.ok().ok_or("at most 242 bytes")?)
+}
+
+// Whether this is what the application is told of these commands.
+fn is_told(alloc: Global, commands: &str, wanted: &str) -> Result<bool, Fail> {
+    let told = read_told(alloc, uplink(alloc, commands)?.as_slice())?;
+    Ok(told == uplink(alloc, wanted)?)
+}
+
+#[test]
+fn applications_are_told_what_devices_answer(rt: HostRuntime) -> Result<(), Fail> {
+    for (commands, told, _) in UPLINKS {
+        assert!(rt; is_told(rt.alloc(), commands, told)?, "{commands}");
+    }
+    Ok(())
+}
+
+#[test]
+fn a_link_check_is_asked_among_others(rt: HostRuntime) -> Result<(), Fail> {
+    for (commands, _, asks) in UPLINKS {
+        let bytes = uplink(rt.alloc(), commands)?;
+        assert!(rt; asks_link_check(bytes.as_slice()) == asks, "{commands}");
+    }
+    Ok(())
+}
+
+#[test]
+fn many_commands_are_told(rt: HostRuntime) -> Result<(), Fail> {
+    let alloc = rt.alloc();
+    let bytes = Payload::new(vec![in alloc; 0x04; 242]?);
+    let bytes = bytes.ok().ok_or("at most 242 bytes")?;
+    assert!(rt; read_told(alloc, bytes.as_slice())? == bytes);
     Ok(())
 }

@@ -6,8 +6,9 @@ use Rattle.std.proofs.lemmas.Bool.{cases_lt, false≢true}
 use Rattle.std.proofs.lemmas.Bool.Decides.{nat_tests}
 use Rattle.std.proofs.lemmas.List.{get_or_default}
 use Rattle.std.proofs.lemmas.List.Elements.{All-cons, All-head, All-tail, All-nil, All-contains, All-weaker}
+use Rattle.std.proofs.lemmas.Option.{none-some, same_Some}
 use Rattle.devices.specs.declared.heard.Hearing.{Hearing}
-use Rattle.devices.specs.Heard.{gateway_of, best_of, best_with, better_of, is_better, AreApart, IsBest, IsBetter}
+use Rattle.devices.specs.Heard.{gateway_of, best_of, best_with, better_of, is_better, AreApart, AreHearings, IsBest, IsBetter, IsReceivable}
 
 pub better_is : (a b : Hearing) → IsTrue (is_better a b) → IsBetter a b
 better_is a b h = grind (arith, ints, nat_tests)
@@ -151,3 +152,12 @@ only_best (x ∷ xs) h apart best =
     let good : AsGood r h = All-contains (AsGood r) (x ∷ xs) h i.good best.one in
     let none : ¬ (IsBetter r h) = All-contains (λ y. ¬ (IsBetter y h)) (x ∷ xs) r best.greatest i.one in
     ap Some (one_copy (x ∷ xs) r h apart i.one best.one (one_gateway r h good none))
+
+-- the best copy was heard on a channel, as all were
+pub best_receivable : (hs : List Hearing) (b : Hearing) → AreHearings hs → Some b ≡ best_of hs → IsReceivable b.reception
+best_receivable [] b hearings is = absurd (none-some b (sym is))
+best_receivable (x ∷ xs) b hearings is =
+    let best : best_with x xs ≡ b = same_Some (best_with x xs) b (sym is) in
+    let among : Contains (x ∷ xs) (best_with x xs) = (best_with_is x xs).one in
+    subst (λ (h : Hearing). IsReceivable h.reception) best
+    (All-contains (λ h. IsReceivable h.reception) (x ∷ xs) (best_with x xs) hearings.receivable among)

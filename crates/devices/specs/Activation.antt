@@ -1,5 +1,5 @@
 -- What a device was granted, and which sessions it has.
-use Rattle.std.specs.Prelude.{◌≤◌, ◌<◌, ℕ, Option, Some, None, IfSome, unwrap_or}
+use Rattle.std.specs.Prelude.{◌≤◌, ◌<◌, ◌+◌, ℕ, Option, Some, None, IfSome, unwrap_or}
 use Rattle.devices.specs.declared.activation.Session.{Session}
 use Rattle.devices.specs.declared.activation.CurrentSession.{CurrentSession}
 
@@ -30,3 +30,15 @@ grants_of granted current pending = record { granted = granted; current = curren
 -- a session is granted: it waits for its first uplink, in the place of one that waited, and the one in use stays
 abbrev pub with_grant : Grants → Session → Grants
 with_grant g s = record g { granted = Some s.join_nonce; pending = Some s }
+
+-- the session that waited is in use since the uplink with this counter, and its downlinks count from 0
+abbrev pub begun : Grants → Session → ℕ → Grants
+begun g s up = record g { current = Some (record { session = s; last_up = up; next_down = 0 }); pending = None }
+
+-- the session in use had an uplink with this counter
+abbrev pub advanced : Grants → CurrentSession → ℕ → Grants
+advanced g c up = record g { current = Some (record c { last_up = up }) }
+
+-- the session in use had a downlink
+abbrev pub used_down : Grants → CurrentSession → Grants
+used_down g c = record g { current = Some (record c { next_down = c.next_down + 1 }) }

@@ -3,3 +3,5 @@ pub mod Device
 pub mod Mark
 pub mod Heard
 pub mod MacQueue
+pub mod Address
+pub mod Outcome

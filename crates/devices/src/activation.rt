@@ -44,8 +44,8 @@ impl Model for Activation {
 }
 
 impl Activation {
-    ghost use Rattle.std.specs.Prelude.{◌≡◌, SomeIff};
-    ghost use Rattle.devices.specs.Activation.{AreInOrder, grants_of, no_grants, with_grant};
+    ghost use Rattle.std.specs.Prelude.{◌≡◌, ◌^◌, Some, SomeIff};
+    ghost use Rattle.devices.specs.Activation.{advanced, begun, grants_of, no_grants, used_down, with_grant, AreInOrder};
 
     /// Nothing granted yet.
     pub fn none() -> Self
@@ -103,6 +103,43 @@ impl Activation {
     {
         self.granted = Some(session.join_nonce);
         self.pending = Some(session);
+    }
+
+    /// The session that waited is in use from its first uplink on, which has this counter. Its downlinks count from 0.
+    pub fn begin(&mut self, session: Session, up: u32)
+        requires { self.old.pending ≡ Some session }
+        ensures { self.new ≡ begun self.old session up }
+    {
+        self.current = Some(CurrentSession {
+            session,
+            last_up: up,
+            next_down: NextDown::new(0).unwrap(),
+        });
+        self.pending = None;
+    }
+
+    /// The session in use had an uplink with this counter.
+    pub fn advance(&mut self, current: CurrentSession, up: u32)
+        requires { self.old.current ≡ Some current }
+        ensures { self.new ≡ advanced self.old current up }
+    {
+        self.current = Some(CurrentSession {
+            last_up: up,
+            ..current
+        });
+    }
+
+    /// The session in use had a downlink, which used its next counter up.
+    pub fn use_down(&mut self, current: CurrentSession)
+        requires in_use { self.old.current ≡ Some current }
+        requires is_left { current.next_down < 2 ^ 32 }
+        ensures { self.new ≡ used_down self.old current }
+    {
+        let next_down = NextDown::new(current.next_down.get() + 1).unwrap();
+        self.current = Some(CurrentSession {
+            next_down,
+            ..current
+        });
     }
 
     /// The session that waits for its first uplink.

@@ -1,7 +1,8 @@
 // The effects of one decision.
 ghost use Rattle.std.specs.Prelude.{◌≡◌, ◌≤◌, ◌<◌, [], ◌∷◌, ◌++◌, length, OnOk, OnErr};
+ghost use Rattle.devices.specs.Outcome.{told};
 
-use crate::Effect;
+use crate::{Device, Effect, Report};
 use std::alloc::{AllocError, Global};
 use std::fmt;
 use std::marker::Model;
@@ -45,6 +46,19 @@ impl Effects {
     {
         self.items.push(effect)?;
         Ok(())
+    }
+
+    /// The device's application is told something of it. After an `Err` the list is as before.
+    pub fn tell(&mut self, device: &Device, report: Report) -> Result<(), AllocError>
+        requires { length self.old < Self.MOST }
+        ensures ok { OnOk result (self.new ≡ self.old ++ told device.now report) }
+        ensures err { OnErr result (self.new ≡ self.old) }
+    {
+        self.push(Effect::Report {
+            application: device.application,
+            dev_eui: device.dev_eui,
+            report,
+        })
     }
 
     /// The effects in order.

@@ -2,6 +2,7 @@
 ghost use Rattle.std.specs.Prelude.{◌≡◌, ◌≤◌, ◌<◌, ◌↔◌, All, AllPairs, Any, IsTrue, MatchOption, Some, length};
 ghost use Rattle.devices.specs.Heard.{best_of, gateway_of, is_better, AreApart, AreHearings, IsReceivable};
 
+use crate::Copies;
 use lw_types::{Eui, PhyPayload, Reception};
 use region_eu868::is_channel;
 use std::alloc::AllocError;
@@ -65,9 +66,26 @@ impl Hearings {
         self.items.as_slice()
     }
 
+    /// How many copies there are, which is of how many gateways.
+    pub fn copies(&self) -> Copies
+        ensures { result ≡ length self.now }
+    {
+        Copies::new(self.items.len() as u64).unwrap()
+    }
+
     /// The copy that was heard best: of the greatest SNR, of these of the greatest RSSI, and of these of the least
     /// gateway.
+    #[tactic(auto, using(crate::proofs::Best::best_receivable))]
     pub fn best(&self) -> Hearing
+        ensures best { Some result ≡ best_of self.now }
+        ensures receivable { IsReceivable result.reception }
+        ensures in_range { AreHearings self.now }
+    {
+        self.heard_best()
+    }
+
+    // The copy that is better than those before it and that none behind it betters.
+    fn heard_best(&self) -> Hearing
         ensures best { Some result ≡ best_of self.now }
         ensures in_range { AreHearings self.now }
     {

@@ -1,7 +1,8 @@
-//! The ranges of the types: each is what its name says, and no neighbour is let in or left out. And which copy of a frame
-//! is the best one.
-ghost use Rattle.std.specs.Prelude.{◌≡◌, ◌≤◌, ◌^◌, ◌↔◌, IsTrue, List, [], MatchOption, Some, SomeIff};
+//! The ranges of the types: each is what its name says, and no neighbour is let in or left out. Which copy of a frame is the
+//! best one, and that addresses lead to their devices.
+ghost use Rattle.std.specs.Prelude.{◌≡◌, ◌≤◌, ◌<◌, ◌^◌, ◌↔◌, ℕ, IsTrue, List, [], MatchOption, Some, SomeIff};
 ghost use Rattle.devices.specs.declared.heard.Hearing.{Hearing};
+ghost use Rattle.devices.specs.Address.{dev_addr, slot_at};
 ghost use Rattle.devices.specs.Heard.{best_of, is_better, AreApart, IsBest, IsBetter};
 
 use crate::{
@@ -65,4 +66,9 @@ pub fn the_best_copy_is_heard_best()
         MatchOption (best_of hearings) (hearings ≡ []) (λ best. IsBest hearings best) }
     ensures only { (hearings : List Hearing) (h : Hearing) → AreApart hearings → IsBest hearings h →
         best_of hearings ≡ Some h }
+{}
+
+/// An address leads to the slot of its device: slots are below 4,096.
+pub fn addresses_lead_to_their_slots()
+    ensures { (net_id slot join_nonce : ℕ) → slot < 4096 → slot_at (dev_addr net_id slot join_nonce).0 ≡ slot }
 {}

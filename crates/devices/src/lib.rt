@@ -5,6 +5,7 @@
 #![tactic(auto)]
 
 mod activation;
+mod address;
 mod command;
 mod device;
 mod effect;
@@ -16,6 +17,7 @@ mod mark;
 mod queue;
 
 pub use activation::{Activation, CurrentSession, Session};
+pub use address::{dev_addr, slot_at};
 pub use command::{Command, MacQueueing, Provisioning, Queueing};
 pub use device::Device;
 pub use effect::{Downlink, Effect, Report, Windows};

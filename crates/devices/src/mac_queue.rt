@@ -1,12 +1,13 @@
 // The MAC commands that wait for a device's next downlink.
-ghost use Rattle.std.specs.Prelude.{◌≡◌, ◌≢◌, ◌≤◌, ◌<◌, ◌+◌, ◌++◌, ◌↔◌, true, List, [], ℕ, IsTrue, length, IfOk, MatchResult, OnErr, OnOk, Some, nat_eq};
+ghost use Rattle.std.specs.Prelude.{◌≡◌, ◌≢◌, ◌≤◌, ◌<◌, ◌+◌, ◌++◌, ◌↔◌, true, List, [], ℕ, IsTrue, drop, length, IfOk, MatchResult, OnErr, OnOk, Some, nat_eq};
 ghost use Rattle.std.specs.Cmp.{partial_equiv_from_equiv};
 ghost use Rattle.std.specs.Cmp.Lexicographic.{pointwise, nat_list_eq_equiv};
 ghost use Rattle.std.specs.Fmt.{debug_list, decimal};
 ghost use Rattle.mac_commands.specs.Queueable.{AreQueueable};
+ghost use Rattle.mac_commands.specs.Reading.{fitting};
 ghost use Rattle.devices.specs.MacQueue.{may_queue};
 
-use mac_commands::are_queueable;
+use mac_commands::{are_queueable, fit15};
 use std::alloc::{AllocError, Global};
 use std::fmt;
 use std::marker::Model;
@@ -84,8 +85,35 @@ impl MacQueue {
         ensures err { OnErr result (self.new ≡ self.old) }
     {
         mac_commands::laws::whole_commands_join_and_part();
+        mac_commands::laws::queues_are_found();
         self.bytes.extend_from_slice(commands)?;
         Ok(())
+    }
+
+    /// How many bytes from the front, in whole commands, fit the room that is left of a downlink's FOpts: as many as
+    /// possible. Takes no memory.
+    pub fn fitting(&self, room: u8) -> usize
+        ensures value { result ≡ fitting self.now room }
+        ensures within { result ≤ length self.now }
+        ensures fits { result ≤ room }
+    {
+        fit15(self.bytes.as_slice(), room)
+    }
+
+    /// The commands that fit the room leave the front. Takes no memory.
+    pub fn leave(&mut self, room: u8)
+        ensures { self.new ≡ drop (fitting self.old room) self.old }
+    {
+        mac_commands::laws::what_fits_leaves_a_queue();
+        let fits = fit15(self.bytes.as_slice(), room);
+        self.bytes.drain(..fits);
+    }
+
+    /// Whether no commands wait.
+    pub fn is_empty(&self) -> bool
+        ensures { IsTrue result ↔ (self.now ≡ []) }
+    {
+        self.bytes.is_empty()
     }
 
     /// The bytes of the commands, at most 64.

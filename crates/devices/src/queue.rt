@@ -1,5 +1,5 @@
 // The items that applications queued for a device.
-ghost use Rattle.std.specs.Prelude.{◌≡◌, ◌≤◌, ◌<◌, ◌∷◌, ◌++◌, [], length, MatchResult, OnErr, OnOk};
+ghost use Rattle.std.specs.Prelude.{◌≡◌, ◌≤◌, ◌<◌, ◌∷◌, ◌++◌, ◌↔◌, [], IsTrue, drop, length, MatchOption, MatchResult, OnErr, OnOk};
 
 use crate::{Payload, Port, Tag};
 use std::alloc::{AllocError, Global};
@@ -67,6 +67,32 @@ impl ItemQueue {
     {
         self.items.push(item)?;
         Ok(())
+    }
+
+    /// The oldest item, where one waits.
+    pub fn first(&self) -> Option<&Item>
+        ensures { MatchOption result (self.now ≡ []) (λ item. self.now ≡ item.now ∷ drop 1 self.now) }
+    {
+        self.items.first()
+    }
+
+    /// The oldest item leaves, where one waits. Takes no memory.
+    pub fn pop_first(&mut self) -> Option<Item>
+        ensures item { MatchOption result (self.old ≡ []) (λ item. self.old ≡ item ∷ self.new) }
+        ensures rest { self.new ≡ drop 1 self.old }
+    {
+        if self.items.is_empty() {
+            None
+        } else {
+            Some(self.items.remove(0))
+        }
+    }
+
+    /// Whether no items wait.
+    pub fn is_empty(&self) -> bool
+        ensures { IsTrue result ↔ (self.now ≡ []) }
+    {
+        self.items.is_empty()
     }
 
     /// The items, the oldest first.

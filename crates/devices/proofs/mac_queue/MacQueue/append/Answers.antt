@@ -11,5 +11,5 @@ invariant_of-self-2 c =
     let long = length-append was c.args.commands.now in
     let same : length was ≡ length c.args.self.now = ap length c.self.view_is in (
       rw items (omega (arith, long, same, c.requires.room)),
-      subst AreQueueable (sym items) (queues_joined c.whole_commands_join_and_part.ensures.join was c.args.commands.now c.self.invariant.1 (queueable c.args.commands.now c.requires.whole)),
+      subst AreQueueable (sym items) (queues_joined c.whole_commands_join_and_part.ensures.join was c.args.commands.now c.self.invariant.1 (queueable c.queues_are_found.ensures c.args.commands.now c.requires.whole)),
     )

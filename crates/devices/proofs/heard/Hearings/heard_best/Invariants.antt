@@ -1,6 +1,6 @@
 use Rattle.std.proofs.Common.{◌≡◌, drop}
 use Rattle.devices.specs.Heard.{best_with}
-use Rattle.devices.proofs.heard.Hearings.best.Given as goal
+use Rattle.devices.proofs.heard.Hearings.heard_best.Given as goal
 
 -- the best copy is the best of those that are left and of those before them
 abbrev pub invariant-loop-hearing : goal.invariant-loop-hearing
