@@ -14,6 +14,13 @@ port_len : (sent : Option Message) → length (port_and_payload sent) ≤ payloa
 port_len None = omega arith
 port_len (Some sent) = omega arith
 
+-- the message of a data frame has at most 251 bytes
+pub message_len : (d : DataFrame) → length d.contents.f_opts + payload_len d.contents.message ≤ 242 → length (data_message d) ≤ 251
+message_len d fits =
+    let rest = length-append d.contents.f_opts (port_and_payload d.contents.message) in
+    let port = port_len d.contents.message in
+    omega arith
+
 pub has_spelling : (frame : Phy) → Fits frame → (12 ≤ length (spelling frame)) × (length (spelling frame) ≤ 255)
 unfolding spelling
 has_spelling (phy.JoinRequest r) h =

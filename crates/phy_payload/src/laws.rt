@@ -8,6 +8,8 @@ ghost use Rattle.phy_payload.specs.declared.join.JoinRequest.{JoinRequest};
 ghost use Rattle.phy_payload.specs.Frame.{data_message, request_message, spelling, Fits, IsPhy};
 ghost use Rattle.phy_payload.specs.Reading.{phy_at};
 
+use crate::DataFrame;
+
 /// No frame has two spellings.
 pub fn each_frame_has_one_spelling()
     ensures { (a : List ℕ) (b : List ℕ) (frame : Phy) → IsPhy a frame → IsPhy b frame → a ≡ b }
@@ -23,6 +25,14 @@ pub fn frames_are_short()
     ensures least { (bytes : List ℕ) (frame : Phy) → IsPhy bytes frame → 12 ≤ length bytes }
     ensures most { (bytes : List ℕ) (frame : Phy) → IsPhy bytes frame → length bytes ≤ 255 }
 {}
+
+/// The message of which the MIC of a data frame is made has at most 251 bytes.
+#[tactic(auto, using(crate::proofs::Lengths::message_len))]
+pub fn messages_are_short(frame: &DataFrame)
+    ensures { length (data_message frame.now) ≤ 251 }
+{
+    let _ = frame.contents.message();
+}
 
 /// The last four bytes of a data frame or of a Join-Request are its MIC, and those before them the message
 /// that the MIC is made of.

@@ -1,5 +1,5 @@
 // From frames to bytes.
-ghost use Rattle.std.specs.Prelude.{◌≡◌, ◌<◌, ◌^◌, ◌∷◌, ◌++◌, MatchResult, OnOk};
+ghost use Rattle.std.specs.Prelude.{◌≡◌, ◌<◌, ◌^◌, ◌∷◌, ◌++◌, ◌≤◌, MatchResult, OnOk, length};
 ghost use Rattle.std.specs.Int.{w64, to_le_bytes};
 ghost use Rattle.lw_types.specs.Hex.{IsBytes};
 ghost use Rattle.lw_types.specs.declared.refusal.Refusal.TheVariants.{OutOfMemory};
@@ -9,6 +9,7 @@ use crate::contents::{Contents, Message};
 use crate::control::Control;
 use crate::data_frame::DataFrame;
 use crate::join::{JoinAccept, JoinRequest};
+use crate::laws::messages_are_short;
 use crate::mhdr;
 use crate::phy::{Mic, Phy};
 use lw_types::{Eui, Refusal};
@@ -127,13 +128,15 @@ fn put_frame(out: &mut Vec<u8>, frame: &Phy) -> Result<(), AllocError>
 }
 
 /// Appends the message of a data frame, which is what its MIC is made of: all of its bytes but the last four.
-/// The MIC that the frame has isn't looked at. For want of memory it is refused as `OutOfMemory`, and then
-/// nothing is appended.
+/// They are at most 251. The MIC that the frame has isn't looked at. For want of memory it is refused as
+/// `OutOfMemory`, and then nothing is appended.
 pub fn encode_message(alloc: Global, frame: &DataFrame, out: &mut Vec<u8>) -> Result<(), Refusal>
-    ensures { MatchResult result
+    ensures written { MatchResult result
         (λ _. out.new.items ≡ out.old.items ++ data_message frame.now)
         (λ e. (e ≡ OutOfMemory) × (out.new.items ≡ out.old.items)) }
+    ensures short { OnOk result (length (data_message frame.now) ≤ 251) }
 {
+    messages_are_short(frame);
     let mut bytes = Vec::new(alloc);
     put_data_message(&mut bytes, frame)?;
     out.extend_from_slice(bytes.as_slice())?;
