@@ -1,0 +1,49 @@
+-- The frame of a downlink (TS001-1.0.4 §4.3, §4.4).
+use Rattle.std.specs.Prelude.{ℕ, ◌%◌, ◌^◌, Bool, false, List, [], Option, Some, None}
+use Rattle.lw_types.specs.declared.direction.Direction.TheVariants.{Down}
+use Rattle.lw_types.specs.declared.identifiers.DevAddr.{DevAddr}
+use Rattle.frame_crypt.specs.Frames.{crypted, data_mic}
+use Rattle.phy_payload.specs.declared.contents.Message.{Message}
+use Rattle.phy_payload.specs.declared.control.Control.TheVariants.{Downlink}
+use Rattle.phy_payload.specs.declared.data_frame.DataFrame.{DataFrame}
+use Rattle.phy_payload.specs.declared.phy.Mic.{Mic}
+use Rattle.phy_payload.specs.Contents.{carried}
+use Rattle.phy_payload.specs.Frame.{data_message}
+use Rattle.devices.specs.declared.activation.CurrentSession.{CurrentSession}
+use Rattle.devices.specs.declared.queue.Item.{Item}
+pub use Rattle.downlinks.specs.declared.frame.Letter.{Letter}
+
+-- a confirmed item makes a confirmed frame (§4.2.1)
+abbrev pub is_confirmed : Option Item → Bool
+is_confirmed None = false
+is_confirmed (Some item) = item.confirmed
+
+-- FPort, and the item's payload under the AppSKey (§4.3.3)
+abbrev pub message_of : DevAddr → CurrentSession → Option Item → Option Message
+message_of addr c None = None
+message_of addr c (Some item) =
+    Some (record { f_port = item.port; frm_payload = crypted c.session.app_skey.0 Down addr.0 c.next_down item.payload })
+
+-- the frame under the session's next counter, of which it has the low 16 bits; ADR is never set
+abbrev pub frame_with : Mic → DevAddr → CurrentSession → Letter → DataFrame
+frame_with mic addr c letter =
+    record {
+      confirmed = is_confirmed letter.item;
+      dev_addr = addr;
+      control = Downlink false letter.ack letter.f_pending;
+      f_cnt = c.next_down % 2 ^ 16;
+      contents = carried letter.f_opts (message_of addr c letter.item);
+      mic = mic;
+    }
+
+-- what the MIC is made of: all of the frame but the MIC
+abbrev pub message_bytes : DevAddr → CurrentSession → Letter → List ℕ
+message_bytes addr c letter = data_message (frame_with (record { 0 = [] }) addr c letter)
+
+-- the frame's MIC, under the NwkSKey and the whole counter (§4.4)
+abbrev pub mic_of : DevAddr → CurrentSession → Letter → Mic
+mic_of addr c letter = record { 0 = data_mic c.session.nwk_skey.0 Down addr.0 c.next_down (message_bytes addr c letter) }
+
+-- the frame of a letter
+unfoldable pub frame_of : DevAddr → CurrentSession → Letter → DataFrame
+frame_of addr c letter = frame_with (mic_of addr c letter) addr c letter

@@ -1,0 +1,3 @@
+pub mod Load
+pub mod Frame
+pub mod Reply

@@ -1,0 +1,119 @@
+// The frame of a downlink (TS001-1.0.4 §4.3, §4.4).
+ghost use Rattle.std.specs.Prelude.{◌≡◌, ◌≤◌, ◌<◌, ◌+◌, ◌^◌, [], ◌∷◌, length, MatchResult};
+ghost use Rattle.lw_types.specs.declared.refusal.Refusal.TheVariants.{OutOfMemory};
+ghost use Rattle.phy_payload.specs.Frame.{spelling};
+ghost use Rattle.phy_payload.specs.declared.phy.Phy.{Phy};
+ghost use Rattle.downlinks.specs.Frame.{frame_of, frame_with, is_confirmed, message_of};
+ghost use Rattle.downlinks.specs.Load.{item_len};
+
+use devices::{CurrentSession, Item};
+use frame_crypt::{crypt_payload, data_mic};
+use lw_types::{DevAddr, Direction, LONGEST_PAYLOAD, Payload, PhyPayload, Refusal};
+use phy_payload::{Contents, Control, DataFrame, FOpts, Message, Mic, encode_message};
+use std::alloc::Global;
+
+/// What a downlink says besides its counter.
+#[derive(Drop)]
+pub(crate) struct Letter {
+    pub(crate) f_opts: FOpts,
+    pub(crate) item: Option<Item>,
+    /// The uplink was confirmed.
+    pub(crate) ack: bool,
+    /// More waits for the device.
+    pub(crate) f_pending: bool,
+}
+
+impl Letter {
+    /// The frame of the letter, under the session's keys and its next counter. For want of memory it is refused as
+    /// `OutOfMemory`.
+    #[tactic(auto, unfolding(crate::specs::Frame::frame_of, phy_payload::specs::Frame::spelling))]
+    pub(crate) fn into_phy_payload(
+        self,
+        alloc: Global,
+        addr: DevAddr,
+        current: &CurrentSession,
+    ) -> Result<PhyPayload, Refusal>
+        requires left { current.now.next_down < 2 ^ 32 }
+        requires short { length self.f_opts + item_len self.item ≤ LONGEST_PAYLOAD }
+        ensures { MatchResult result
+            (λ frame. frame ≡ spelling (Phy.DataFrame (frame_of addr current.now self)))
+            (λ e. e ≡ OutOfMemory) }
+    {
+        let counter = next_counter(current);
+        let frame = self.into_frame(addr, current);
+        let mut bytes = Vec::new(alloc);
+        encode_message(alloc, &frame, &mut bytes)?;
+        let key = current.session.nwk_skey;
+        let mic = data_mic(&key, Direction::Down, addr, counter, bytes.as_slice());
+        bytes.extend_from_slice(&mic)?;
+        Ok(PhyPayload::new(bytes).unwrap())
+    }
+
+    // The frame with zeros in the place of its MIC.
+    fn into_frame(self, addr: DevAddr, current: &CurrentSession) -> DataFrame
+        requires left { current.now.next_down < 2 ^ 32 }
+        requires short { length self.f_opts + item_len self.item ≤ LONGEST_PAYLOAD }
+        ensures { result ≡ frame_with (record { 0 = 0 ∷ 0 ∷ 0 ∷ 0 ∷ [] }) addr current.now self }
+    {
+        let Letter {
+            f_opts,
+            item,
+            ack,
+            f_pending,
+        } = self;
+        let counter = next_counter(current);
+        let confirmed = is_confirmed(&item);
+        let message = match item {
+            None => None,
+            Some(item) => Some(message_of(addr, current, item)),
+        };
+        DataFrame {
+            confirmed,
+            dev_addr: addr,
+            control: Control::Downlink {
+                adr: false,
+                ack,
+                f_pending,
+            },
+            f_cnt: (counter % (1 << 16)) as u16,
+            contents: Contents::new(f_opts, message),
+            mic: Mic([0; 4]),
+        }
+    }
+}
+
+/// The counter of the session's next downlink.
+pub(crate) fn next_counter(current: &CurrentSession) -> u32
+    requires { current.now.next_down < 2 ^ 32 }
+    ensures { result ≡ current.now.next_down }
+{
+    current.next_down.get() as u32
+}
+
+// Whether the frame is confirmed.
+fn is_confirmed(item: &Option<Item>) -> bool
+    ensures { result ≡ is_confirmed item.now }
+{
+    match item {
+        None => false,
+        Some(item) => item.confirmed,
+    }
+}
+
+// FPort, and the item's payload, encrypted in place.
+fn message_of(addr: DevAddr, current: &CurrentSession, item: Item) -> Message
+    requires { current.now.next_down < 2 ^ 32 }
+    ensures message { Some result ≡ message_of addr current.now (Some item) }
+    ensures length { length result.frm_payload ≡ length item.payload }
+{
+    frame_crypt::laws::a_crypted_payload_has_the_length();
+    let f_port = item.port.get() as u8;
+    let key = current.session.app_skey;
+    let counter = next_counter(current);
+    let mut payload = item.payload.into_vec();
+    crypt_payload(&key, Direction::Down, addr, counter, payload.as_mut_slice());
+    Message {
+        f_port,
+        frm_payload: Payload::new(payload).unwrap(),
+    }
+}

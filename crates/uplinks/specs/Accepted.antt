@@ -1,0 +1,114 @@
+-- What a new uplink does (TS001-1.0.4 §4.3, §5).
+use Rattle.std.specs.Prelude.{ℕ, ◌==◌, ◌&&◌, Bool, false, nat_lt, if◌then◌else◌, List, [], ◌∷◌, ◌++◌, Option, Some, None}
+use Rattle.lw_types.specs.declared.direction.Direction.TheVariants.{Up}
+use Rattle.lw_types.specs.declared.identifiers.DevAddr.{DevAddr}
+use Rattle.frame_crypt.specs.Frames.{crypted}
+use Rattle.mac_commands.specs.Reading.{asks_link_check, told_bytes}
+use Rattle.phy_payload.specs.declared.contents.Message.{Message}
+use Rattle.devices.specs.Activation.{Grants, advanced, begun}
+use Rattle.devices.specs.Outcome.{Outcome, outcome, told}
+use Rattle.devices.specs.declared.activation.CurrentSession.{CurrentSession}
+use Rattle.devices.specs.declared.device.Device.{Device}
+use Rattle.devices.specs.declared.effect.Effect.{Effect}
+use Rattle.devices.specs.declared.effect.Effect.TheVariants.{Forward}
+use Rattle.devices.specs.declared.effect.Report.TheVariants.{Acked, Lost, Mac}
+use Rattle.devices.specs.declared.heard.Hearing.{Hearing}
+use Rattle.devices.specs.declared.Tag.{Tag}
+use Rattle.downlinks.specs.declared.load.Asked.{Asked}
+use Rattle.downlinks.specs.Reply.{answered, name_of}
+use Rattle.uplinks.specs.declared.fit.Fit.{Fit}
+use Rattle.uplinks.specs.declared.fit.Fit.TheVariants.{First, Next, Again}
+use Rattle.uplinks.specs.declared.uplink.Uplink.{Uplink}
+
+-- ---- the session
+
+-- the session in which the device is after an uplink
+abbrev pub session_after : Fit → CurrentSession
+session_after (First s counter) = record { session = s; last_up = counter; next_down = 0 }
+session_after (Next c counter) = record c { last_up = counter }
+session_after (Again c) = c
+
+-- the device's sessions after an uplink: one that waited is in use from now on
+abbrev pub grants_after : Grants → Fit → Grants
+grants_after g (First s counter) = begun g s counter
+grants_after g (Next c counter) = advanced g c counter
+grants_after g (Again c) = g
+
+-- the device's record with the uplink's session and counter; no item is awaited any more
+abbrev pub with_uplink : Device → Fit → Device
+with_uplink d fit = record d { activation = grants_after d.activation fit; awaited = None }
+
+-- ---- the item that was awaited
+
+-- whether the uplink acknowledges the last confirmed downlink, which was of the same session
+abbrev pub acknowledges : Fit → Uplink → Bool
+acknowledges (First s counter) u = false
+acknowledges (Next c counter) u = u.ack
+acknowledges (Again c) u = false
+
+abbrev pub of_awaited : Device → Bool → Option Tag → List Effect
+of_awaited d acked None = []
+of_awaited d acked (Some tag) = told d (if acked then Acked tag else Lost tag)
+
+-- ---- MAC commands
+
+-- the MAC commands of the uplink: on port 0 they are encrypted under the NwkSKey (§4.3.2), else they stand in FOpts
+abbrev pub mac_bytes : DevAddr → CurrentSession → List ℕ → Option Message → List ℕ
+mac_bytes addr c opts None = opts
+mac_bytes addr c opts (Some sent) =
+    if sent.f_port == 0 then crypted c.session.nwk_skey.0 Up addr.0 c.last_up sent.frm_payload else opts
+
+abbrev pub commands_of : CurrentSession → Uplink → List ℕ
+commands_of c u = mac_bytes u.frame.dev_addr c u.frame.contents.f_opts u.frame.contents.message
+
+-- the application is told of those that the network doesn't answer itself, if there are any
+abbrev pub mac_report : Device → CurrentSession → List ℕ → List Effect
+mac_report d c [] = []
+mac_report d c (byte ∷ bytes) = told d (Mac c.session.join_nonce (byte ∷ bytes))
+
+-- ---- the payload
+
+-- whether a port is one of applications (§4.3.2)
+abbrev pub is_application : ℕ → Bool
+is_application port = nat_lt 0 port && nat_lt port 224
+
+-- the payload on an application's port is decrypted under the AppSKey and handed on, with the number of copies and the
+-- best of them
+abbrev pub forwarded : DevAddr → Device → CurrentSession → ℕ → Hearing → Option Message → List Effect
+forwarded addr d c copies best None = []
+forwarded addr d c copies best (Some sent) =
+    if is_application sent.f_port
+    then Forward d.application (name_of d c) c.last_up sent.f_port (crypted c.session.app_skey.0 Up addr.0 c.last_up sent.frm_payload) copies
+    best.reception
+    ∷ []
+    else []
+
+-- ---- all of it
+
+-- what the uplink asks of the network
+abbrev pub asked_by : CurrentSession → Uplink → ℕ → Hearing → Asked
+asked_by c u heard by =
+    record {
+      confirmed = u.frame.confirmed;
+      adr_ack_req = u.adr_ack_req;
+      link_check = asks_link_check (commands_of c u);
+      best = by;
+      copies = heard;
+    }
+
+-- the effects before the answer, in their order
+abbrev pub told_by : Device → Fit → Uplink → ℕ → Hearing → List Effect
+told_by d fit u copies best =
+    let c = session_after fit in
+    of_awaited d (acknowledges fit u) d.awaited
+    ++ (mac_report d c (told_bytes (commands_of c u))
+    ++ forwarded u.frame.dev_addr d c copies best u.frame.contents.message)
+
+abbrev pub with_effects : List Effect → Outcome → Outcome
+with_effects before o = outcome o.device (before ++ o.effects)
+
+-- a new uplink is taken: its session and counter are kept, then the device is answered
+abbrev pub taken : ℕ → ℕ → Device → Fit → Uplink → ℕ → Hearing → Outcome
+taken net_id slot d fit u copies best =
+    let c = session_after fit in
+    with_effects (told_by d fit u copies best) (answered net_id slot (with_uplink d fit) c (asked_by c u copies best))

@@ -1,0 +1,19 @@
+// Where an uplink arrives, and how.
+use devices::{Copies, Hearing};
+use lw_types::NetId;
+
+/// A slot of a network.
+#[derive(Clone, Copy, Debug, PartialEq, Eq)]
+pub(crate) struct Place {
+    pub net_id: NetId,
+    pub slot: u16,
+}
+
+/// How an uplink was heard.
+#[derive(Clone, Copy, Debug, PartialEq, Eq)]
+pub(crate) struct Reach {
+    /// How many gateways heard it.
+    pub copies: Copies,
+    /// The copy that was heard best.
+    pub best: Hearing,
+}

@@ -1,0 +1,179 @@
+// Which session an uplink is of, and under which counter (TS001-1.0.4 §4.3.1.5, §4.4).
+ghost use Rattle.std.specs.Prelude.{◌≡◌, IfOk, None, Some};
+ghost use Rattle.counters.specs.Rebuilt.{rebuilt};
+ghost use Rattle.uplinks.specs.Fit.{current_at, fit_of, further, if_signed, is_for, try_current, try_waiting, verdict, waiting_at, IsOf};
+ghost use Rattle.uplinks.specs.Arrival.{IsMessageOf};
+
+use crate::arrival::Place;
+use crate::laws::a_fit_is_of_its_device;
+use counters::{Rebuilt, rebuild};
+use devices::{Activation, CurrentSession, Session, dev_addr};
+use frame_crypt::data_mic;
+use lw_types::{Direction, Refusal};
+use phy_payload::DataFrame;
+
+/// The session of which an uplink is.
+#[derive(Clone, Copy, Debug, PartialEq, Eq)]
+pub enum Fit {
+    /// The session that waited for its first uplink, and the uplink's counter.
+    First {
+        session: Session,
+        counter: u32,
+    },
+    /// The session in use, and the uplink's counter, which is a later one.
+    Next {
+        session: CurrentSession,
+        counter: u32,
+    },
+    /// The session in use: its last uplink comes again.
+    Again {
+        session: CurrentSession,
+    },
+}
+
+/// How far an uplink came into a session.
+#[derive(Clone, Copy, Debug, PartialEq, Eq)]
+pub enum Trial {
+    /// It has another address.
+    Elsewhere,
+    /// Its counter is too far above the last one.
+    TooFar,
+    /// Its MIC isn't the session's.
+    Forged,
+    /// It is of the session.
+    Fits(Fit),
+}
+
+impl Trial {
+    // The first that fits, else the one that came further.
+    fn further(self, other: Trial) -> Trial
+        ensures { result ≡ further self other }
+    {
+        match (self, other) {
+            (Trial::Fits(_), _) => self,
+            (_, Trial::Elsewhere) => self,
+            (Trial::Forged, Trial::TooFar) => self,
+            (_, _) => other,
+        }
+    }
+
+    // The session of which the uplink is, or its refusal.
+    fn verdict(self) -> Result<Fit, Refusal>
+        ensures { result ≡ verdict self }
+    {
+        match self {
+            Trial::Elsewhere => Err(Refusal::UnknownDevAddr),
+            Trial::TooFar => Err(Refusal::CounterGap),
+            Trial::Forged => Err(Refusal::BadMic),
+            Trial::Fits(fit) => Ok(fit),
+        }
+    }
+}
+
+impl Place {
+    // The session of the device of which the uplink is: the one that waits, or the one in use.
+    pub fn fit(
+        &self,
+        activation: &Activation,
+        frame: &DataFrame,
+        message: &[u8],
+    ) -> Result<Fit, Refusal>
+        requires { IsMessageOf frame.now message.now }
+        ensures value { result ≡ fit_of self.now.net_id self.now.slot activation.now frame.now }
+        ensures of_device { IfOk result (λ fit. IsOf activation.now fit) }
+    {
+        a_fit_is_of_its_device();
+        let (waiting, current) = (activation.pending(), activation.current());
+        let first = self.try_waiting(waiting, frame, message);
+        let next = self.try_current(current, frame, message);
+        first.further(next).verdict()
+    }
+
+    // How far the uplink comes into the session that waits, which has had no counter yet.
+    fn try_waiting(&self, waiting: Option<Session>, frame: &DataFrame, message: &[u8]) -> Trial
+        requires { IsMessageOf frame.now message.now }
+        ensures { result ≡ try_waiting self.now.net_id self.now.slot waiting frame.now }
+    {
+        match waiting {
+            Some(session) if self.is_of(&session, frame) => try_first(session, frame, message),
+            Some(_) => Trial::Elsewhere,
+            None => Trial::Elsewhere,
+        }
+    }
+
+    // How far the uplink comes into the session in use.
+    fn try_current(
+        &self,
+        current: Option<CurrentSession>,
+        frame: &DataFrame,
+        message: &[u8],
+    ) -> Trial
+        requires { IsMessageOf frame.now message.now }
+        ensures { result ≡ try_current self.now.net_id self.now.slot current frame.now }
+    {
+        match current {
+            Some(session) if self.is_of(&session.session, frame) => {
+                try_next(session, frame, message)
+            }
+            Some(_) => Trial::Elsewhere,
+            None => Trial::Elsewhere,
+        }
+    }
+
+    // Whether the frame has exactly the address of a session.
+    fn is_of(&self, session: &Session, frame: &DataFrame) -> bool
+        ensures { result ≡ is_for self.now.net_id self.now.slot session.now frame.now }
+    {
+        frame.dev_addr.0 == dev_addr(self.net_id, self.slot, session.join_nonce.get()).0
+    }
+}
+
+// How far an uplink comes into a session that waits and has its address.
+fn try_first(session: Session, frame: &DataFrame, message: &[u8]) -> Trial
+    requires { IsMessageOf frame.now message.now }
+    ensures { result ≡ waiting_at session frame.now (rebuilt None frame.now.f_cnt) }
+{
+    match rebuild(None, frame.f_cnt) {
+        Rebuilt::New(counter) => {
+            let fit = Fit::First { session, counter };
+            if_signed(&session, counter, frame, message, fit)
+        }
+        Rebuilt::Repeat => Trial::TooFar,
+        Rebuilt::Gap => Trial::TooFar,
+    }
+}
+
+// How far an uplink comes into a session in use that has its address. One that comes again has the last counter.
+fn try_next(current: CurrentSession, frame: &DataFrame, message: &[u8]) -> Trial
+    requires { IsMessageOf frame.now message.now }
+    ensures { result ≡ current_at current frame.now (rebuilt (Some current.last_up) frame.now.f_cnt) }
+{
+    match rebuild(Some(current.last_up), frame.f_cnt) {
+        Rebuilt::New(counter) => {
+            let fit = Fit::Next {
+                session: current,
+                counter,
+            };
+            if_signed(&current.session, counter, frame, message, fit)
+        }
+        Rebuilt::Repeat => {
+            let fit = Fit::Again { session: current };
+            if_signed(&current.session, current.last_up, frame, message, fit)
+        }
+        Rebuilt::Gap => Trial::TooFar,
+    }
+}
+
+// The fit, where the frame's MIC is that of the session under this counter.
+fn if_signed(session: &Session, counter: u32, frame: &DataFrame, message: &[u8], fit: Fit) -> Trial
+    requires { IsMessageOf frame.now message.now }
+    ensures { result ≡ if_signed session.now counter frame.now fit }
+{
+    let key = &session.nwk_skey;
+    let mic = data_mic(key, Direction::Up, frame.dev_addr, counter, message);
+    if frame.mic.0 == mic {
+        Trial::Fits(fit)
+    } else {
+        Trial::Forged
+    }
+}

@@ -1,0 +1,14 @@
+//! Uplinks: what a data frame of a class A device does to its record, and what is sent and told of it
+//! (TS001-1.0.4 §4.3, §5).
+#![tactic(auto)]
+
+mod accepted;
+mod arrival;
+mod fit;
+pub mod laws;
+mod step;
+mod uplink;
+
+pub use fit::Fit;
+pub use step::hear;
+pub use uplink::Uplink;

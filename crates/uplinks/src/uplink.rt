@@ -1,0 +1,56 @@
+// Data frames from devices (TS001-1.0.4 §4.3).
+ghost use Rattle.std.specs.Prelude.{◌≡◌};
+ghost use Rattle.std.specs.Option.{option_copied};
+ghost use Rattle.uplinks.specs.Uplink.{has_both, is_on_port_0, uplink_of};
+
+use lw_types::Refusal;
+use phy_payload::{Control, DataFrame, Message};
+
+/// A data frame from a device. Its MAC commands stand in FOpts or on port 0, and not in both.
+#[derive(Clone, Debug, PartialEq, Eq, Drop)]
+pub struct Uplink {
+    pub frame: DataFrame,
+    /// The device wants to know whether it is still heard (TS001-1.0.4 §4.3.1.1).
+    pub adr_ack_req: bool,
+    /// The last confirmed downlink was received (TS001-1.0.4 §4.3.1.2).
+    pub ack: bool,
+}
+
+impl Uplink {
+    /// The uplink that a data frame is. A downlink is refused as `NotServed`, and then FOpts together with port 0
+    /// as `MacBoth` (TS001-1.0.4 §4.3.1.6).
+    pub fn new(frame: DataFrame) -> Result<Self, Refusal>
+        ensures { result ≡ uplink_of frame }
+    {
+        match frame.control {
+            Control::Downlink { .. } => Err(Refusal::NotServed),
+            Control::Uplink { .. } if has_both(&frame) => Err(Refusal::MacBoth),
+            Control::Uplink {
+                adr_ack_req,
+                ack,
+                ..
+            } => Ok(Uplink {
+                frame,
+                adr_ack_req,
+                ack,
+            }),
+        }
+    }
+}
+
+// Whether MAC commands stand in FOpts and on port 0 at once.
+fn has_both(frame: &DataFrame) -> bool
+    ensures { result ≡ has_both frame.now.contents.f_opts frame.now.contents.message }
+{
+    !frame.contents.f_opts().is_empty() && is_on_port_0(frame.contents.message())
+}
+
+// Whether a message is on port 0.
+fn is_on_port_0(message: Option<&Message>) -> bool
+    ensures { result ≡ is_on_port_0 (option_copied message.entry) }
+{
+    match message {
+        None => false,
+        Some(message) => message.f_port == 0,
+    }
+}
