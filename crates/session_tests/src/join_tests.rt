@@ -252,7 +252,10 @@ fn what_is_no_join_is_refused(rt: HostRuntime) {
             "010807060504030201181716151413121101009E7419CE",
             Refusal::Malformed,
         ),
-        ("40F17DBE4900020001954378762B11FF0D", Refusal::NotServed),
+        (
+            "40F17DBE4900020001954378762B11FF0D",
+            Refusal::UnknownDevAddr,
+        ),
         ("2040A8AE29D75BA396C02EF9C963CAD8BE", Refusal::NotServed),
         (
             "C00807060504030201181716151413121101009E7419CE",

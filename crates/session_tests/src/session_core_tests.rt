@@ -1,7 +1,7 @@
-use crate::fixture::{JOINER, REQUESTS, heard, joining, provision};
+use crate::fixture::{REQUESTS, heard, joining, provision};
 use crate::tables::new_table;
 use devices::Command;
-use lw_types::{Eui, Refusal};
+use lw_types::Refusal;
 use session_core::{Core, Moment, Most, Turn};
 use std::alloc::Global;
 use std::process::Abort;
@@ -23,12 +23,6 @@ fn answers(rt: &impl Abort, core: &mut Core, dev_eui: u64, wanted: Turn) -> Resu
         wanted
     );
     Ok(())
-}
-
-// A frame was heard, and the core answers so.
-fn hears(alloc: Global, core: &mut Core, frame: &str, wanted: Turn) -> Result<bool, Refusal> {
-    let moment = Moment::new(0).ok_or(Refusal::Malformed)?;
-    Ok(core.decide(moment, heard(alloc, frame)?) == wanted)
 }
 
 // The DevNonce that the core has seen last of the device at this slot.
@@ -66,26 +60,60 @@ fn decisions_are_made_and_taken_in_order(rt: HostRuntime) -> Result<(), Fail> {
     takes(&rt, &mut core, 1, 10..10)
 }
 
+// What comes to a core.
+#[derive(Clone, Copy)]
+enum Comes {
+    /// Another device is brought.
+    Other,
+    /// The device that joins is brought.
+    Joiner,
+    /// Its Join-Request with this DevNonce is heard.
+    Request(usize),
+}
+
+fn command(alloc: Global, comes: &Comes) -> Result<Command, Refusal> {
+    match comes {
+        Comes::Other => provision(50).ok_or(Refusal::Malformed),
+        Comes::Joiner => Ok(Command::Provision(joining().ok_or(Refusal::Malformed)?)),
+        Comes::Request(dev_nonce) => {
+            heard(alloc, REQUESTS.get(*dev_nonce).ok_or(Refusal::Malformed)?)
+        }
+    }
+}
+
+// What comes has this turn, and then this is the last DevNonce of the device at slot 1.
+fn goes_on(
+    alloc: Global,
+    core: &mut Core,
+    comes: &Comes,
+    wanted: Turn,
+    nonce: Option<u16>,
+) -> Result<bool, Refusal> {
+    let moment = Moment::new(0).ok_or(Refusal::Malformed)?;
+    let answered = core.decide(moment, command(alloc, comes)?) == wanted;
+    Ok(answered && dev_nonce(core, 1) == nonce)
+}
+
 #[test]
 fn a_device_joins_behind_its_provisioning(rt: HostRuntime) -> Result<(), Fail> {
-    let alloc = rt.alloc();
-    let mut core = new_core(alloc, 8, 6)?;
-    let unknown = turn(0, 0, Some(Refusal::UnknownDevEui));
-    assert!(rt; hears(alloc, &mut core, REQUESTS[1], unknown)?);
-    answers(&rt, &mut core, 50, turn(0, 1, None))?;
-    let bring = Command::Provision(joining().ok_or("a device")?);
-    assert_eq!(rt;
-        core.decide(Moment::new(0).ok_or("moment")?, bring),
-        turn(1, 2, None)
-    );
-    assert_eq!(rt; core.now().slot_of(Eui(JOINER)), Some(1));
-    assert!(rt; hears(alloc, &mut core, REQUESTS[1], turn(2, 3, None))?);
-    let used = turn(3, 3, Some(Refusal::DevNonceUsed));
-    assert!(rt; hears(alloc, &mut core, REQUESTS[1], used)?);
-    assert_eq!(rt; dev_nonce(&core, 1), Some(1));
-    assert!(rt; hears(alloc, &mut core, REQUESTS[2], turn(3, 4, None))?);
-    assert_eq!(rt; dev_nonce(&core, 1), Some(2));
-    assert_eq!(rt; core.now().devices().len(), 2);
+    let mut core = new_core(rt.alloc(), 8, 6)?;
+    for (comes, from, to, refused, nonce) in [
+        (Comes::Request(1), 0, 0, Some(Refusal::UnknownDevEui), None),
+        (Comes::Other, 0, 1, None, None),
+        (Comes::Joiner, 1, 2, None, None),
+        (Comes::Request(1), 2, 3, None, Some(1)),
+        (
+            Comes::Request(1),
+            3,
+            3,
+            Some(Refusal::DevNonceUsed),
+            Some(1),
+        ),
+        (Comes::Request(2), 3, 4, None, Some(2)),
+    ] {
+        let wanted = turn(from, to, refused);
+        assert!(rt; goes_on(rt.alloc(), &mut core, &comes, wanted, nonce)?);
+    }
     takes(&rt, &mut core, 64, 7..11)
 }
 
@@ -127,7 +155,7 @@ fn as_many_decisions_wait_as_there_is_room_for(rt: HostRuntime) -> Result<(), Fa
         turn(4096, 4096, Some(Refusal::Backlog)),
     )?;
     let full = turn(4096, 4096, Some(Refusal::Backlog));
-    assert!(rt; hears(rt.alloc(), &mut core, REQUESTS[1], full)?);
+    assert!(rt; goes_on(rt.alloc(), &mut core, &Comes::Request(1), full, None)?);
     assert!(rt; starves(&core, 5000, full));
     assert_eq!(rt; core.untaken(), 4096);
     for batch in 0..64 {

@@ -31,6 +31,12 @@ all-placed P n x xs within holds all k d inside = at (get_or (with_device n x xs
         let was : slice_get xs k ≡ Some y = sym (get-other n k x xs within (eqb-false n k there)) ∙ is in
         subst P (get_or_from_slice_get xs k y y was) (all k y (slice_get_within xs k y was)))
 
+-- the grants of a device of a sound table are in order
+pub order_at : (t : TableState) (slot : ℕ) (d : Device) → IsSound t → slice_get t.devices slot ≡ Some d → AreInOrder d.activation
+order_at t slot d sound at =
+    subst (λ (d : Device). AreInOrder d.activation) (get_or_from_slice_get t.devices slot d d at)
+    (sound.in_order slot d (slice_get_within t.devices slot d at))
+
 -- ---- a record at the slot of its own device
 
 -- the device's grants pass to those of this record, and use up these marks of its own
@@ -91,9 +97,7 @@ module _ (t : TableState) (slot : ℕ) (x : Device) (marks : List Mark) (r : Reg
 
   sound_used : IsSound t → IsSound (placed t slot x)
   sound_used sound =
-      let was : AreInOrder r.device.activation =
-      subst (λ (d : Device). AreInOrder d.activation) (get_or_from_slice_get t.devices slot r.device r.device r.at)
-      (sound.in_order slot r.device (slice_get_within t.devices slot r.device r.at)) in
+      let was : AreInOrder r.device.activation = order_at t slot r.device sound r.at in
       record {
         own = own_names-replaced name slot x r.device t.devices sound.own r.at (ap (λ (u : Eui). u.0) r.named);
         in_order = all-placed (λ d. AreInOrder d.activation) slot x t.devices within (r.passes.in_order was) sound.in_order;

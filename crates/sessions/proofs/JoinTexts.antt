@@ -2,7 +2,7 @@
 use Rattle.std.proofs.Common.{◌≡◌, ◌<◌, arith, ◌∙◌, ◌⊎◌, inl, inr, ℕ, Bool, true, false, cond, List, Option, Some, None, Result, Ok, Err, sym, ap, subst, refl}
 use Rattle.std.specs.Option.{unwrap_or}
 use Rattle.std.specs.Result.{MatchResult, result_and}
-use Rattle.lw_types.specs.Answer.{AnswersWithMemory}
+use Rattle.lw_types.specs.Answer.{Answers, AnswersWithMemory}
 use Rattle.std.proofs.lemmas.Bool.{eq-eqb}
 use Rattle.lw_types.specs.declared.refusal.Refusal.{Refusal}
 use Rattle.lw_types.specs.declared.refusal.Refusal.TheVariants.{OutOfMemory, WrongJoinEui, BadMic, DevNonceUsed, JoinNonceSpent}
@@ -20,7 +20,7 @@ use Rattle.backend_json.specs.Messages.{IsAsk, IsJoinReq}
 use Rattle.backend_json.specs.Replies.{IsReply, accepted_of, ans_to, cause_of, reply, told}
 use Rattle.devices.specs.declared.device.Device.{Device}
 use Rattle.devices.specs.declared.heard.Hearing.{Hearing}
-use Rattle.sessions.specs.Chain.{◌>>=◌}
+use Rattle.uplinks.specs.Chain.{◌>>=◌}
 use Rattle.sessions.specs.Join.{granted_to, join_state, joined_by, refusal_of}
 use Rattle.sessions.proofs.Joins.{no_ok, ok_is}
 
@@ -172,3 +172,17 @@ pub memory-found : {A B : Type 0} (wanted : Result A Refusal) (Is : A → B → 
     → (x : A) × (wanted ≡ Ok x) × Is x found
 memory-found {A} {B} (Ok x) Is found is = (x, refl, is)
 memory-found {A} {B} (Err e) Is found none = absurd none
+
+-- an exact answer is one in memory
+pub exact-found : {A B : Type 0} (wanted : Result A Refusal) (Is : A → B → Type 0) (found : B) → Answers wanted Is (Ok found)
+    → (x : A) × (wanted ≡ Ok x) × Is x found
+exact-found {A} {B} (Ok x) Is found is = (x, refl, is)
+exact-found {A} {B} (Err e) Is found refused = no_ok e found _ (sym refused)
+
+pub exact-err : {A B : Type 0} (wanted : Result A Refusal) (Is : A → B → Type 0) (e : Refusal) → Answers wanted Is (Err e)
+    → (e ≡ OutOfMemory) ⊎ (wanted ≡ Err e)
+exact-err {A} {B} (Ok x) Is e none = inl none
+exact-err {A} {B} (Err e') Is e refused = inr (ap (λ (r : Refusal). Err r) (same e' e (sym refused)))
+  where
+    same : (x y : Refusal) → ◌≡◌ {A = Result B Refusal} (Err x) (Err y) → x ≡ y
+    same x y h = cc

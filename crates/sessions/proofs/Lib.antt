@@ -1,5 +1,7 @@
 pub mod Joins
 pub mod JoinTexts
+pub mod Uplinks
+pub mod Frames
 pub mod Queues
 pub mod Runs
 pub mod CopyState

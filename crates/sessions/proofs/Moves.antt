@@ -1,8 +1,10 @@
 -- What a change of state does to the marks that its states cover, one change after another.
-use Rattle.std.proofs.Common.{◌≢◌, List, [], ◌∷◌, ◌++◌, subst}
+use Rattle.std.proofs.Common.{◌≡◌, ◌≢◌, List, [], ◌∷◌, ◌++◌, Option, Some, None, refl, ap, subst}
 use Rattle.std.specs.List.{AllByRecursion}
+use Rattle.devices.specs.declared.effect.Effect.{Effect}
 use Rattle.devices.specs.declared.mark.Mark.{Mark}
-use Rattle.sessions.specs.Marks.{AreDistinct}
+use Rattle.devices.specs.Mark.{mark_of}
+use Rattle.sessions.specs.Marks.{AreDistinct, marks_of}
 
 -- these marks are used up from one state to the next: what was covered still is, none of them was, all of them are
 -- now, and none stands twice
@@ -63,3 +65,15 @@ moves_then Covers before between after first second one two =
           (all_then (λ m. Covers between m) (λ m. Covers after m) first two.keeps one.covered) two.covered;
       distinct = distinct_append (λ m. Covers between m) first second one.covered two.fresh one.distinct two.distinct;
     }
+
+-- ---- the marks of effects
+
+more_marks : (mark : Option Mark) (effect : Effect) (effects more : List Effect) → mark_of effect ≡ mark
+    → marks_of (effects ++ more) ≡ marks_of effects ++ marks_of more
+    → marks_of ((effect ∷ effects) ++ more) ≡ marks_of (effect ∷ effects) ++ marks_of more
+more_marks None effect effects more is h = rw is h
+more_marks (Some mark) effect effects more is h = rw is (ap (λ (ms : List Mark). mark ∷ ms) h)
+
+pub marks_of-append : (effects more : List Effect) → marks_of (effects ++ more) ≡ marks_of effects ++ marks_of more
+marks_of-append [] more = refl
+marks_of-append (effect ∷ effects) more = more_marks (mark_of effect) effect effects more refl (marks_of-append effects more)

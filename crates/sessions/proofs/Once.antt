@@ -7,11 +7,11 @@ use Rattle.std.proofs.lemmas.Option.{none-some, slice_get_past}
 use Rattle.lw_types.specs.declared.identifiers.Eui.{Eui}
 use Rattle.lw_types.specs.declared.refusal.Refusal.{Refusal}
 use Rattle.lw_types.specs.declared.refusal.Refusal.TheVariants.{DevEuiTaken, TableFull}
-use Rattle.join_server.specs.Request.{dev_eui_of}
 use Rattle.join_server.specs.declared.grant.JoinGrant.{JoinGrant}
 use Rattle.devices.specs.Activation.{with_grant}
 use Rattle.devices.specs.Device.{provisioned}
 use Rattle.devices.specs.Heard.{best_of}
+use Rattle.devices.specs.Outcome.{Outcome, outcome}
 use Rattle.devices.specs.declared.command.Command.{Command}
 use Rattle.devices.specs.declared.command.Command.TheVariants.{Heard, Provision, Queue, QueueMac}
 use Rattle.devices.specs.declared.device.Device.{Device}
@@ -20,18 +20,22 @@ use Rattle.devices.specs.declared.heard.Hearing.{Hearing}
 use Rattle.devices.specs.declared.mark.Mark.{Mark}
 use Rattle.devices.specs.declared.mark.Mark.TheVariants.{Granted}
 use Rattle.devices.specs.Mark.{mark_of}
-use Rattle.sessions.specs.Join.{accept_effects, join_ask, join_state, request_in, session_name, session_of}
+use Rattle.sessions.specs.Join.{accept_effects, join_ask, join_state, session_name, session_of}
 use Rattle.sessions.specs.Marks.{AreDistinct, AreOnce, Covers, HasUsedUp, IsSound, IsSubsequence, marks_of, session_in}
-use Rattle.sessions.specs.Outcome.{Outcome, outcome}
+use Rattle.sessions.specs.Served.{frame_in, served_at}
 use Rattle.sessions.specs.Step.{provisioned_effects, step1}
-use Rattle.sessions.specs.Table.{TableState, Step, effects_of, empty_table, folded, known_slot, new_slot, place_for, slot_of, step, step_effects, stepped}
-use Rattle.sessions.proofs.Covering.{Changes, Regrants, moves_changed, sound_changed}
+use Rattle.sessions.specs.Table.{TableState, Step, effects_of, empty_table, folded, new_slot, place_for, sender_slot, slot_of, step, step_effects, stepped}
+use Rattle.sessions.specs.declared.served.Served.{Served}
+use Rattle.sessions.specs.declared.served.Served.TheVariants.{Request, Uplink}
+use Rattle.sessions.proofs.Covering.{Changes, Regrants, moves_changed, order_at, sound_changed}
 use Rattle.sessions.proofs.Grants.{Passes, answered-next, order_none, passes_grant, passes_nothing, passes_unmarked}
-use Rattle.sessions.proofs.Joins.{IsGranted, both_ok, heard-ok, no_ok, ok_is}
-use Rattle.sessions.proofs.Moves.{Moves, all_append, all_then, distinct_append, moves_nowhere, moves_then}
+use Rattle.sessions.proofs.Joins.{IsGranted, both_ok, join-ok, no_ok, ok_is}
+use Rattle.sessions.proofs.Moves.{Moves, all_append, all_then, distinct_append, marks_of-append, moves_nowhere, moves_then}
 use Rattle.sessions.proofs.Queues.{IsQueued, queue-ok, queue_mac-ok}
-use Rattle.sessions.proofs.Runs.{known-device, step-carried, step-parts}
+use Rattle.sessions.proofs.Runs.{known-device, sender-device, step-carried, step-parts}
+use Rattle.sessions.proofs.Frames.{heard-ok, uplink-ok}
 use Rattle.sessions.proofs.Slots.{split}
+use Rattle.sessions.proofs.Uplinks.{Carries, FitsAreOf, uplink-carries}
 
 -- ---- one command
 
@@ -85,88 +89,11 @@ queue-changes t slot d dev_eui o own at q =
     subst (Regrants t slot o.device) (sym q.unmarked)
     (record { device = d; own = own; at = at; named = q.named; theirs = tt; passes = passes_nothing d.activation o.device.activation q.same })
 
-carried-changes : (t : TableState) (c : Command) (slot : ℕ) (o : Outcome) → place_for t c ≡ Ok slot
-    → step1 t.net_id slot (slice_get t.devices slot) c ≡ Ok o → Changes t slot o.device (marks_of o.effects)
-carried-changes t (Provision p) slot o place is =
-    let next = new_slot-is t (slot_of p.dev_eui.0 t.devices) slot place in
-    let empty = slice_get_past t.devices slot (let last = next.1 in omega arith) in
-    let carried : step1 t.net_id slot None (Provision p) ≡ Ok o = ap (λ b. step1 t.net_id slot b (Provision p)) (sym empty) ∙ is in
-    subst (λ (o : Outcome). Changes t slot o.device (marks_of o.effects)) (ok_is (outcome (provisioned p) (provisioned_effects slot p)) o carried)
-    (inr (record { next = next.1; is_new = next.0; in_order = order_none }, refl))
-carried-changes t (Heard h) slot o place is =
-    let request = both_ok (request_in h.phy_payload) (λ request. known_slot (slot_of (dev_eui_of request) t.devices)) slot place in
-    let found = known-device t (dev_eui_of request.0) slot request.2 in
-    let carried : step1 t.net_id slot (Some found.0) (Heard h) ≡ Ok o = ap (λ b. step1 t.net_id slot b (Heard h)) (sym found.1) ∙ is in
-    let joined = heard-ok t.net_id slot found.0 h o carried in
-    inl (join-changes t slot found.0 h.hearings joined.0 o found.2 found.1 joined.2)
-carried-changes t (Queue q) slot o place is =
-    let found = known-device t q.dev_eui.0 slot place in
-    let carried : step1 t.net_id slot (Some found.0) (Queue q) ≡ Ok o = ap (λ b. step1 t.net_id slot b (Queue q)) (sym found.1) ∙ is in
-    inl (queue-changes t slot found.0 q.dev_eui o found.2 found.1 (queue-ok found.0 q o carried))
-carried-changes t (QueueMac q) slot o place is =
-    let found = known-device t q.dev_eui.0 slot place in
-    let carried : step1 t.net_id slot (Some found.0) (QueueMac q) ≡ Ok o = ap (λ b. step1 t.net_id slot b (QueueMac q)) (sym found.1) ∙ is in
-    inl (queue-changes t slot found.0 q.dev_eui o found.2 found.1 (queue_mac-ok found.0 q o carried))
-
--- ---- a step of a table
-
-step-changes : (t : TableState) (c : Command) (s : Step) → step t c ≡ Ok s → Changes t s.slot s.after (marks_of s.effects)
-step-changes t c s is = carried-changes t c s.slot (outcome s.after s.effects) (step-parts t c s is).0 (step-carried t c s is)
-
-moves-stepped : (t : TableState) (c : Command) → Moves Covers t (stepped t (step t c)) (marks_of (step_effects (step t c)))
-moves-stepped t c = at (step t c) refl
-  where
-    at : (r : Result Step Refusal) → step t c ≡ r → Moves Covers t (stepped t r) (marks_of (step_effects r))
-    at (Ok s) is = moves_changed t s.slot s.after (marks_of s.effects) (step-changes t c s is)
-    at (Err e) is = moves_nowhere Covers t
-
-sound-stepped : (t : TableState) (c : Command) → IsSound t → IsSound (stepped t (step t c))
-sound-stepped t c sound = at (step t c) refl
-  where
-    at : (r : Result Step Refusal) → step t c ≡ r → IsSound (stepped t r)
-    at (Ok s) is = sound_changed t s.slot s.after (marks_of s.effects) (step-changes t c s is) sound
-    at (Err e) is = sound
-
--- ---- commands
-
-more_marks : (mark : Option Mark) (effect : Effect) (effects more : List Effect) → mark_of effect ≡ mark
-    → marks_of (effects ++ more) ≡ marks_of effects ++ marks_of more
-    → marks_of ((effect ∷ effects) ++ more) ≡ marks_of (effect ∷ effects) ++ marks_of more
-more_marks None effect effects more is h = rw is h
-more_marks (Some mark) effect effects more is h = rw is (ap (λ (ms : List Mark). mark ∷ ms) h)
-
-marks_of-append : (effects more : List Effect) → marks_of (effects ++ more) ≡ marks_of effects ++ marks_of more
-marks_of-append [] more = refl
-marks_of-append (effect ∷ effects) more = more_marks (mark_of effect) effect effects more refl (marks_of-append effects more)
-
-moves-folded : (t : TableState) (commands : List Command) → Moves Covers t (folded t commands) (marks_of (effects_of t commands))
-moves-folded t [] = moves_nowhere Covers t
-moves-folded t (c ∷ commands) =
-    let then = stepped t (step t c) in
-    subst (λ ms. Moves Covers t (folded then commands) ms) (sym (marks_of-append (step_effects (step t c)) (effects_of then commands)))
-    (moves_then Covers t then (folded then commands) (marks_of (step_effects (step t c))) (marks_of (effects_of then commands)) (moves-stepped t c)
-    (moves-folded then commands))
-
-sound-folded : (t : TableState) (commands : List Command) → IsSound t → IsSound (folded t commands)
-sound-folded t [] sound = sound
-sound-folded t (c ∷ commands) sound = sound-folded (stepped t (step t c)) commands (sound-stepped t c sound)
-
-pub once_in_commands : (t : TableState) (commands : List Command) → AreOnce (effects_of t commands)
-once_in_commands t commands = (moves-folded t commands).distinct
-
-pub used_up_by_commands : (t : TableState) (marks : List Mark) (commands : List Command) → HasUsedUp t marks
-    → HasUsedUp (folded t commands) (marks ++ marks_of (effects_of t commands))
-used_up_by_commands t marks commands used =
-    let moves = moves-folded t commands in
-    let more = marks_of (effects_of t commands) in
-    let after = folded t commands in
-    let before : AllByRecursion (λ m. Covers t m) marks = recursion_from_All (λ m. Covers t m) marks used.covered in
-    record {
-      sound = sound-folded t commands used.sound;
-      covered = All-from_recursion (λ m. Covers after m) (marks ++ more)
-          (all_append (λ m. Covers after m) marks more (all_then (λ m. Covers t m) (λ m. Covers after m) marks moves.keeps before) moves.covered);
-      distinct = distinct_append (λ m. Covers t m) marks more before moves.fresh used.distinct moves.distinct;
-    }
+-- an uplink that was carried out uses up marks of the device
+uplink-changes : (t : TableState) (slot : ℕ) (d : Device) (o : Outcome) → slot_of d.dev_eui.0 t.devices ≡ Some slot → slice_get t.devices slot ≡ Some d
+    → Carries d o → Regrants t slot o.device (marks_of o.effects)
+uplink-changes t slot d o own at carries =
+    record { device = d; own = own; at = at; named = carries.named; theirs = carries.theirs; passes = carries.passes }
 
 -- nothing has left a network without devices
 pub empty_used_up : (net_id slots : ℕ) → HasUsedUp (empty_table net_id slots) []
@@ -177,9 +104,93 @@ empty_used_up net_id slots =
       distinct = tt;
     }
 
--- from then on no mark is used up twice
-pub once_from_empty : (net_id slots : ℕ) (commands : List Command) → AreOnce (effects_of (empty_table net_id slots) commands)
-once_from_empty net_id slots commands = (used_up_by_commands (empty_table net_id slots) [] commands (empty_used_up net_id slots)).distinct
+-- An uplink fits into a session of its own device alone.
+module _ (fits : FitsAreOf) where
+  served-changes : (t : TableState) (slot : ℕ) (d : Device) (hearings : List Hearing) (served : Served) (o : Outcome) → IsSound t
+      → slot_of d.dev_eui.0 t.devices ≡ Some slot → slice_get t.devices slot ≡ Some d → served_at t.net_id slot d hearings served ≡ Ok o
+      → Regrants t slot o.device (marks_of o.effects)
+  served-changes t slot d hearings (Request bytes) o sound own at is =
+      join-changes t slot d hearings bytes o own at (join-ok t.net_id slot d hearings bytes o is)
+  served-changes t slot d hearings (Uplink u) o sound own at is =
+      uplink-changes t slot d o own at
+      (uplink-carries fits t.net_id slot d hearings u o (order_at t slot d sound at) (uplink-ok t.net_id slot d hearings u o is).1)
+
+  carried-changes : (t : TableState) (c : Command) (slot : ℕ) (o : Outcome) → IsSound t → place_for t c ≡ Ok slot
+      → step1 t.net_id slot (slice_get t.devices slot) c ≡ Ok o → Changes t slot o.device (marks_of o.effects)
+  carried-changes t (Provision p) slot o sound place is =
+      let next = new_slot-is t (slot_of p.dev_eui.0 t.devices) slot place in
+      let empty = slice_get_past t.devices slot (let last = next.1 in omega arith) in
+      let carried : step1 t.net_id slot None (Provision p) ≡ Ok o = ap (λ b. step1 t.net_id slot b (Provision p)) (sym empty) ∙ is in
+      subst (λ (o : Outcome). Changes t slot o.device (marks_of o.effects)) (ok_is (outcome (provisioned p) (provisioned_effects slot p)) o carried)
+      (inr (record { next = next.1; is_new = next.0; in_order = order_none }, refl))
+  carried-changes t (Heard h) slot o sound place is =
+      let served = both_ok (frame_in h.phy_payload) (sender_slot t) slot place in
+      let found = sender-device t served.0 slot sound.own served.2 in
+      let carried : step1 t.net_id slot (Some found.0) (Heard h) ≡ Ok o = ap (λ b. step1 t.net_id slot b (Heard h)) (sym found.1) ∙ is in
+      let heard = heard-ok t.net_id slot found.0 h o carried in
+      inl (served-changes t slot found.0 h.hearings heard.0 o sound found.2 found.1 heard.2)
+  carried-changes t (Queue q) slot o sound place is =
+      let found = known-device t q.dev_eui.0 slot place in
+      let carried : step1 t.net_id slot (Some found.0) (Queue q) ≡ Ok o = ap (λ b. step1 t.net_id slot b (Queue q)) (sym found.1) ∙ is in
+      inl (queue-changes t slot found.0 q.dev_eui o found.2 found.1 (queue-ok found.0 q o carried))
+  carried-changes t (QueueMac q) slot o sound place is =
+      let found = known-device t q.dev_eui.0 slot place in
+      let carried : step1 t.net_id slot (Some found.0) (QueueMac q) ≡ Ok o = ap (λ b. step1 t.net_id slot b (QueueMac q)) (sym found.1) ∙ is in
+      inl (queue-changes t slot found.0 q.dev_eui o found.2 found.1 (queue_mac-ok found.0 q o carried))
+
+  -- ---- a step of a table
+
+  step-changes : (t : TableState) (c : Command) (s : Step) → IsSound t → step t c ≡ Ok s → Changes t s.slot s.after (marks_of s.effects)
+  step-changes t c s sound is = carried-changes t c s.slot (outcome s.after s.effects) sound (step-parts t c s is).0 (step-carried t c s is)
+
+  moves-stepped : (t : TableState) (c : Command) → IsSound t → Moves Covers t (stepped t (step t c)) (marks_of (step_effects (step t c)))
+  moves-stepped t c sound = at (step t c) refl
+    where
+      at : (r : Result Step Refusal) → step t c ≡ r → Moves Covers t (stepped t r) (marks_of (step_effects r))
+      at (Ok s) is = moves_changed t s.slot s.after (marks_of s.effects) (step-changes t c s sound is)
+      at (Err e) is = moves_nowhere Covers t
+
+  sound-stepped : (t : TableState) (c : Command) → IsSound t → IsSound (stepped t (step t c))
+  sound-stepped t c sound = at (step t c) refl
+    where
+      at : (r : Result Step Refusal) → step t c ≡ r → IsSound (stepped t r)
+      at (Ok s) is = sound_changed t s.slot s.after (marks_of s.effects) (step-changes t c s sound is) sound
+      at (Err e) is = sound
+
+  -- ---- commands
+
+  moves-folded : (t : TableState) (commands : List Command) → IsSound t → Moves Covers t (folded t commands) (marks_of (effects_of t commands))
+  moves-folded t [] sound = moves_nowhere Covers t
+  moves-folded t (c ∷ commands) sound =
+      let then = stepped t (step t c) in
+      subst (λ ms. Moves Covers t (folded then commands) ms) (sym (marks_of-append (step_effects (step t c)) (effects_of then commands)))
+      (moves_then Covers t then (folded then commands) (marks_of (step_effects (step t c))) (marks_of (effects_of then commands)) (moves-stepped t c sound)
+      (moves-folded then commands (sound-stepped t c sound)))
+
+  sound-folded : (t : TableState) (commands : List Command) → IsSound t → IsSound (folded t commands)
+  sound-folded t [] sound = sound
+  sound-folded t (c ∷ commands) sound = sound-folded (stepped t (step t c)) commands (sound-stepped t c sound)
+
+  pub once_in_commands : (t : TableState) (commands : List Command) → IsSound t → AreOnce (effects_of t commands)
+  once_in_commands t commands sound = (moves-folded t commands sound).distinct
+
+  pub used_up_by_commands : (t : TableState) (marks : List Mark) (commands : List Command) → HasUsedUp t marks
+      → HasUsedUp (folded t commands) (marks ++ marks_of (effects_of t commands))
+  used_up_by_commands t marks commands used =
+      let moves = moves-folded t commands used.sound in
+      let more = marks_of (effects_of t commands) in
+      let after = folded t commands in
+      let before : AllByRecursion (λ m. Covers t m) marks = recursion_from_All (λ m. Covers t m) marks used.covered in
+      record {
+        sound = sound-folded t commands used.sound;
+        covered = All-from_recursion (λ m. Covers after m) (marks ++ more)
+            (all_append (λ m. Covers after m) marks more (all_then (λ m. Covers t m) (λ m. Covers after m) marks moves.keeps before) moves.covered);
+        distinct = distinct_append (λ m. Covers t m) marks more before moves.fresh used.distinct moves.distinct;
+      }
+
+  -- from then on no mark is used up twice
+  pub once_from_empty : (net_id slots : ℕ) (commands : List Command) → AreOnce (effects_of (empty_table net_id slots) commands)
+  once_from_empty net_id slots commands = (used_up_by_commands (empty_table net_id slots) [] commands (empty_used_up net_id slots)).distinct
 
 -- ---- parts
 

@@ -1,17 +1,16 @@
 -- What is known of an item, or of MAC commands, that were queued for a device.
-use Rattle.std.proofs.Common.{◌≡◌, ◌&&◌, ℕ, Bool, true, false, cond, nat_eq, nat_lt, [], length, ◌+◌, Result, Ok, Err, refl, subst}
+use Rattle.std.proofs.Common.{◌≡◌, ◌&&◌, ℕ, Bool, true, false, nat_eq, nat_lt, [], length, ◌+◌, Ok, refl, subst}
 use Rattle.std.proofs.lemmas.Bool.{eqb-true, false≢true}
 use Rattle.lw_types.specs.declared.identifiers.Eui.{Eui}
-use Rattle.lw_types.specs.declared.refusal.Refusal.{Refusal}
 use Rattle.lw_types.specs.declared.refusal.Refusal.TheVariants.{BadMac, BadPort, MacQueueFull, QueueFull, TooLong, UnknownDevEui}
 use Rattle.devices.specs.MacQueue.{may_queue}
 use Rattle.devices.specs.declared.command.MacQueueing.{MacQueueing}
 use Rattle.devices.specs.declared.command.Queueing.{Queueing}
 use Rattle.devices.specs.declared.device.Device.{Device}
 use Rattle.sessions.specs.Marks.{marks_of}
-use Rattle.sessions.specs.Outcome.{Outcome}
+use Rattle.devices.specs.Outcome.{Outcome}
 use Rattle.sessions.specs.Queueing.{commands_queued, if_commands, if_mac_room, if_port, if_room, if_short, is_theirs, item_queued, queue_at, queue_mac_at}
-use Rattle.sessions.proofs.Joins.{no_ok, ok_is}
+use Rattle.sessions.proofs.Joins.{ok_is, where_false, where_true}
 
 -- ---- what was queued
 
@@ -25,14 +24,6 @@ pub record IsQueued (d : Device) (dev_eui : Eui) (o : Outcome) : Type 0 where
 first_of : (a b : Bool) → a && b ≡ true → a ≡ true
 first_of true b h = refl
 first_of false b h = absurd (false≢true h)
-
-where_true : {A : Type 0} (b : Bool) (r : Result A Refusal) (e : Refusal) (x : A) → cond b r (Err e) ≡ Ok x → (b ≡ true) × (r ≡ Ok x)
-where_true {A} true r e x h = (refl, h)
-where_true {A} false r e x h = no_ok e x _ h
-
-where_false : {A : Type 0} (b : Bool) (r : Result A Refusal) (e : Refusal) (x : A) → cond b (Err e) r ≡ Ok x → r ≡ Ok x
-where_false {A} true r e x h = no_ok e x _ h
-where_false {A} false r e x h = h
 
 asked_so : (application : ℕ) (dev_eui : Eui) (d : Device) → is_theirs application dev_eui d ≡ true → dev_eui.0 ≡ d.dev_eui.0
 asked_so application dev_eui d theirs =

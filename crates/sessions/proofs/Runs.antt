@@ -9,7 +9,7 @@ use Rattle.std.specs.Result.{IsErrAnd}
 use Rattle.std.proofs.lemmas.Result.{err_from_is_err_and}
 use Rattle.std.specs.Prelude.{MatchBool}
 use Rattle.devices.specs.declared.device.Device.{Device}
-use Rattle.lw_types.specs.declared.refusal.Refusal.TheVariants.{TableFull, DevEuiTaken, OutOfMemory, UnknownDevEui}
+use Rattle.lw_types.specs.declared.refusal.Refusal.TheVariants.{TableFull, DevEuiTaken, OutOfMemory, UnknownDevAddr, UnknownDevEui}
 use Rattle.devices.specs.Device.{provisioned}
 use Rattle.devices.specs.declared.command.Provisioning.{Provisioning}
 use Rattle.devices.specs.declared.command.Command.{Command}
@@ -18,15 +18,20 @@ use Rattle.std.specs.List.{slice_get}
 use Rattle.lw_types.specs.declared.refusal.Refusal.{Refusal}
 use Rattle.lw_types.specs.Answer.{Answers, AnswersWithMemory}
 use Rattle.lw_types.specs.declared.identifiers.Eui.{Eui}
+use Rattle.uplinks.specs.Chain.{◌>>=◌}
+use Rattle.devices.specs.Outcome.{Outcome, outcome}
+use Rattle.devices.specs.Address.{slot_at}
 use Rattle.join_server.specs.Request.{dev_eui_of}
-use Rattle.sessions.specs.Chain.{◌>>=◌}
-use Rattle.sessions.specs.Outcome.{Outcome, outcome}
-use Rattle.sessions.specs.Join.{request_in}
 use Rattle.sessions.specs.Step.{step1, provisioned_effects}
-use Rattle.sessions.proofs.Joins.{both_ok, heard-name, heard-ok, no_ok}
+use Rattle.sessions.specs.Served.{frame_in}
+use Rattle.sessions.specs.declared.served.Served.{Served}
+use Rattle.sessions.specs.declared.served.Served.TheVariants.{Request, Uplink}
+use Rattle.sessions.specs.Index.{HaveOwnSlots}
+use Rattle.sessions.proofs.Joins.{both_ok, no_ok}
+use Rattle.sessions.proofs.Frames.{heard-name, heard-sender}
 use Rattle.sessions.proofs.Queues.{queue-ok, queue_mac-ok}
 use Rattle.sessions.proofs.Slots.{place-found, split}
-use Rattle.sessions.specs.Table.{TableState, Step, TakesNext, CanPlace, CanPut, place_for, known_slot, new_slot, slot_of, with_device, step, step_at, stepped, step_effects, folded, effects_of}
+use Rattle.sessions.specs.Table.{TableState, Step, TakesNext, CanPlace, CanPut, place_for, known_slot, new_slot, sender_slot, slot_of, used_slot, with_device, step, step_at, stepped, step_effects, folded, effects_of}
 use Rattle.sessions.specs.Decision.{Continues, AnswersTo, HasPlace, is_frugal, IsDecision, IsStepped, Fits, FitAll, AreNumbered, ContinueAll, applied, applied_all, back_at, taken_back, taken_back_all, commands_of, effects_in}
 use Rattle.sessions.specs.declared.decide.Stepped.{Stepped}
 use Rattle.sessions.specs.declared.decision.Decision.{Decision}
@@ -84,29 +89,26 @@ keeps_name net_id slot d (QueueMac q) o is = (queue_mac-ok d q o is).named
 
 -- the slot of a command that was carried out on what is at a slot
 place-carried : (t : TableState) (slot : ℕ) (c : Command) (before : Option Device) (o : Outcome) → step1 t.net_id slot before c ≡ Ok o
-    → HasPlace t slot o.device before → place_for t c ≡ Ok slot
-place-carried t slot (Provision p) (Some d) o is place = not_provisioned t.net_id slot d p o _ is
-place-carried t slot (Provision p) None o is place =
+    → before ≡ slice_get t.devices slot → HasPlace t slot o.device before → place_for t c ≡ Ok slot
+place-carried t slot (Provision p) (Some d) o is at place = not_provisioned t.net_id slot d p o _ is
+place-carried t slot (Provision p) None o is at place =
     let name = name_provisioned t.net_id slot p o is in
     let within : nat_lt (length t.devices) t.slots ≡ true = lt-ltb (length t.devices) t.slots (omega (arith, place.0, place.1)) in
     ap (new_slot t) (ap (λ e. slot_of e t.devices) (sym name) ∙ place.2)
     ∙ (ap (λ b. cond b (Ok (length t.devices)) (Err TableFull)) within ∙ ap Ok (sym place.0))
-place-carried t slot (Heard h) None o is place = no_ok UnknownDevEui o _ is
-place-carried t slot (Heard h) (Some d) o is place =
-    let found = heard-ok t.net_id slot d h o is in
-    ap (λ (r : Result (List ℕ) Refusal). r >>= λ request. known_slot (slot_of (dev_eui_of request) t.devices)) found.1
-    ∙ ap known_slot (ap (λ e. slot_of e t.devices) found.2.asks ∙ place)
-place-carried t slot (Queue q) None o is place = no_ok UnknownDevEui o _ is
-place-carried t slot (Queue q) (Some d) o is place = ap known_slot (ap (λ e. slot_of e t.devices) (queue-ok d q o is).asked ∙ place)
-place-carried t slot (QueueMac q) None o is place = no_ok UnknownDevEui o _ is
-place-carried t slot (QueueMac q) (Some d) o is place = ap known_slot (ap (λ e. slot_of e t.devices) (queue_mac-ok d q o is).asked ∙ place)
+place-carried t slot (Heard h) None o is at place = no_ok UnknownDevEui o _ is
+place-carried t slot (Heard h) (Some d) o is at place = heard-sender t slot d h o is place (sym at)
+place-carried t slot (Queue q) None o is at place = no_ok UnknownDevEui o _ is
+place-carried t slot (Queue q) (Some d) o is at place = ap known_slot (ap (λ e. slot_of e t.devices) (queue-ok d q o is).asked ∙ place)
+place-carried t slot (QueueMac q) None o is at place = no_ok UnknownDevEui o _ is
+place-carried t slot (QueueMac q) (Some d) o is at place = ap known_slot (ap (λ e. slot_of e t.devices) (queue_mac-ok d q o is).asked ∙ place)
 
 -- a decision that was made of a table is the step of its command there
 step-fits : (t : TableState) (d : Decision) → Fits t d
     → step t d.command ≡ Ok (step_at d.slot (slice_get t.devices d.slot) (outcome d.after d.effects))
 step-fits t d fits =
     let carried : step1 t.net_id d.slot d.before d.command ≡ Ok (outcome d.after d.effects) = ap (λ n. step1 n d.slot d.before d.command) (sym fits.net) ∙ d.is_step in
-    let place = place-carried t d.slot d.command d.before (outcome d.after d.effects) carried fits.place in
+    let place = place-carried t d.slot d.command d.before (outcome d.after d.effects) carried fits.before fits.place in
     ap (λ (p : Result ℕ Refusal). p >>= λ slot. step1 t.net_id slot (slice_get t.devices slot) d.command >>= λ o. Ok (step_at slot (slice_get t.devices slot) o)) place
     ∙ ap (λ p. p >>= λ o. Ok (step_at d.slot (slice_get t.devices d.slot) o))
     (ap (λ b. step1 t.net_id d.slot b d.command) (sym fits.before) ∙ carried)
@@ -344,33 +346,55 @@ known-device t dev_eui slot known =
     let here : slot ≡ f.0 = (let h = f.2 in omega arith) in
     (f.1, ap (slice_get t.devices) here ∙ f.3, ap (λ e. slot_of e t.devices) f.4 ∙ found)
 
--- it is in its place
+-- the device to which an address leads
+used-device : (t : TableState) (found slot : ℕ) → HaveOwnSlots t.devices → used_slot found (slice_get t.devices found) ≡ Ok slot
+    → (d : Device) × (slice_get t.devices slot ≡ Some d) × (slot_of d.dev_eui.0 t.devices ≡ Some slot)
+used-device t found slot own used = at (slice_get t.devices found) refl used
+  where
+    at : (o : Option Device) → slice_get t.devices found ≡ o → used_slot found o ≡ Ok slot
+        → (d : Device) × (slice_get t.devices slot ≡ Some d) × (slot_of d.dev_eui.0 t.devices ≡ Some slot)
+    at (Some d) is same = let there = ap (slice_get t.devices) (sym (same_Ok found slot same)) ∙ is in (d, there, own slot d there)
+    at None is none = no_ok UnknownDevAddr slot _ none
+
+-- the device that sent a frame
+pub sender-device : (t : TableState) (served : Served) (slot : ℕ) → HaveOwnSlots t.devices → sender_slot t served ≡ Ok slot
+    → (d : Device) × (slice_get t.devices slot ≡ Some d) × (slot_of d.dev_eui.0 t.devices ≡ Some slot)
+sender-device t (Request bytes) slot own sender = known-device t (dev_eui_of bytes) slot sender
+sender-device t (Uplink u) slot own sender = used-device t (slot_at u.frame.dev_addr.0) slot own sender
+
+-- a device that is there is in its place
+device-place : (t : TableState) (slot : ℕ) (after d : Device) → length t.devices ≤ t.slots → slice_get t.devices slot ≡ Some d
+    → slot_of d.dev_eui.0 t.devices ≡ Some slot → (slot < t.slots) × HasPlace t slot after (slice_get t.devices slot)
+device-place t slot after d few at own =
+    let within = slice_get_within t.devices slot d at in
+    (omega arith, MatchOption-of_some (slice_get t.devices slot) d _ _ at own)
+
 known-place : (t : TableState) (dev_eui slot : ℕ) (after : Device) → length t.devices ≤ t.slots → known_slot (slot_of dev_eui t.devices) ≡ Ok slot
     → (slot < t.slots) × HasPlace t slot after (slice_get t.devices slot)
 known-place t dev_eui slot after few known =
     let found = known-device t dev_eui slot known in
-    let within = slice_get_within t.devices slot found.0 found.1 in
-    (omega arith, MatchOption-of_some (slice_get t.devices slot) found.0 _ _ found.1 found.2)
+    device-place t slot after found.0 few found.1 found.2
 
 -- a record that a step leaves has its place
-pub place-stepped : (t : TableState) (c : Command) (slot : ℕ) (o : Outcome) → length t.devices ≤ t.slots → place_for t c ≡ Ok slot
+pub place-stepped : (t : TableState) (c : Command) (slot : ℕ) (o : Outcome) → length t.devices ≤ t.slots → HaveOwnSlots t.devices → place_for t c ≡ Ok slot
     → step1 t.net_id slot (slice_get t.devices slot) c ≡ Ok o → (slot < t.slots) × HasPlace t slot o.device (slice_get t.devices slot)
-place-stepped t (Provision p) slot o few place is =
+place-stepped t (Provision p) slot o few own place is =
     new_slot-ok t (slot_of p.dev_eui.0 t.devices) slot ((slot < t.slots) × HasPlace t slot o.device (slice_get t.devices slot)) place (λ new last room.
     let past : length t.devices ≤ slot = omega arith in
     let empty = slice_get_past t.devices slot past in
     let name = name_provisioned t.net_id slot p o (ap (λ b. step1 t.net_id slot b (Provision p)) (sym empty) ∙ is) in
     (room, MatchOption-of_none (slice_get t.devices slot) _ _ empty (last, room, ap (λ e. slot_of e t.devices) name ∙ new)))
-place-stepped t (Heard h) slot o few place is =
-    let request = both_ok (request_in h.phy_payload) (λ request. known_slot (slot_of (dev_eui_of request) t.devices)) slot place in
-    known-place t (dev_eui_of request.0) slot o.device few request.2
-place-stepped t (Queue q) slot o few place is = known-place t q.dev_eui.0 slot o.device few place
-place-stepped t (QueueMac q) slot o few place is = known-place t q.dev_eui.0 slot o.device few place
+place-stepped t (Heard h) slot o few own place is =
+    let served = both_ok (frame_in h.phy_payload) (sender_slot t) slot place in
+    let found = sender-device t served.0 slot own served.2 in
+    device-place t slot o.device found.0 few found.1 found.2
+place-stepped t (Queue q) slot o few own place is = known-place t q.dev_eui.0 slot o.device few place
+place-stepped t (QueueMac q) slot o few own place is = known-place t q.dev_eui.0 slot o.device few place
 
 -- a decision that is a step of a table was made of it
-pub Fits-decision : (t : TableState) (seq : ℕ) (c : Command) (s : Step) (d : Decision) → length t.devices ≤ t.slots → step t c ≡ Ok s
+pub Fits-decision : (t : TableState) (seq : ℕ) (c : Command) (s : Step) (d : Decision) → length t.devices ≤ t.slots → HaveOwnSlots t.devices → step t c ≡ Ok s
     → IsDecision t seq c s d → Fits t d
-Fits-decision t seq c s d few is made =
+Fits-decision t seq c s d few own is made =
     let parts = step-parts t c s is in
     let at : slice_get t.devices s.slot ≡ slice_get t.devices d.slot = ap (slice_get t.devices) (sym made.slot) in
     let before = made.before ∙ (parts.1 ∙ at) in
@@ -378,7 +402,7 @@ Fits-decision t seq c s d few is made =
     let carried : step1 t.net_id d.slot (slice_get t.devices d.slot) c ≡ Ok (outcome d.after d.effects) =
     ap (λ n. step1 n d.slot (slice_get t.devices d.slot) c) (sym made.net)
     ∙ (ap (λ b. step1 d.net_id d.slot b c) (sym before) ∙ (ap (step1 d.net_id d.slot d.before) (sym made.command) ∙ d.is_step)) in
-    let place = place-stepped t c d.slot (outcome d.after d.effects) few placed_at carried in
+    let place = place-stepped t c d.slot (outcome d.after d.effects) few own placed_at carried in
     record {
       net = made.net;
       before = before;

@@ -1,12 +1,8 @@
 -- A device is granted a session (TS001-1.0.4 §6.2).
-use Rattle.std.specs.Prelude.{ℕ, ◌==◌, ◌+◌, ◌*◌, ◌%◌, ◌^◌, if◌then◌else◌, List, [], ◌∷◌, Option, Some, None, Result, Ok, Err}
-use Rattle.lw_types.specs.declared.identifiers.DevAddr.{DevAddr}
+use Rattle.std.specs.Prelude.{ℕ, ◌==◌, ◌*◌, ◌%◌, ◌^◌, if◌then◌else◌, List, [], ◌∷◌, Option, Some, None, Result, Ok, Err}
 use Rattle.lw_types.specs.declared.identifiers.Eui.{Eui}
 use Rattle.lw_types.specs.declared.refusal.Refusal.{Refusal}
-use Rattle.lw_types.specs.declared.refusal.Refusal.TheVariants.{NotServed, UnknownDevEui, WrongJoinEui, BadMic, DevNonceUsed, JoinNonceSpent, BadMessage}
-use Rattle.phy_payload.specs.declared.phy.Phy.{Phy}
-use Rattle.phy_payload.specs.declared.phy.Phy.TheVariants.{JoinRequest}
-use Rattle.phy_payload.specs.Reading.{phy_at}
+use Rattle.lw_types.specs.declared.refusal.Refusal.TheVariants.{UnknownDevEui, WrongJoinEui, BadMic, DevNonceUsed, JoinNonceSpent, BadMessage}
 use Rattle.backend_json.specs.declared.join_ans.Cause.{Cause}
 use Rattle.backend_json.specs.declared.join_ans.Cause.TheVariants as causes
 use Rattle.join_server.specs.Request.{dev_eui_of}
@@ -15,40 +11,20 @@ use Rattle.join_server.specs.declared.ask.JoinAsk.{JoinAsk}
 use Rattle.join_server.specs.declared.grant.JoinGrant.{JoinGrant}
 use Rattle.join_server.specs.declared.state.JoinState.{JoinState}
 use Rattle.devices.specs.Activation.{with_grant}
+use Rattle.devices.specs.Address.{dev_addr}
 use Rattle.devices.specs.Heard.{best_of}
+use Rattle.devices.specs.Outcome.{Outcome, outcome}
 use Rattle.devices.specs.declared.activation.Session.{Session}
 use Rattle.devices.specs.declared.device.Device.{Device}
-use Rattle.devices.specs.declared.heard.Heard.{Heard}
 use Rattle.devices.specs.declared.heard.Hearing.{Hearing}
 use Rattle.devices.specs.declared.mark.SessionName.{SessionName}
 use Rattle.devices.specs.declared.effect.Downlink.{Downlink}
 use Rattle.devices.specs.declared.effect.Windows.TheVariants.{Rx1OrRx2}
 use Rattle.devices.specs.declared.effect.Effect.{Effect}
 use Rattle.devices.specs.declared.effect.Effect.TheVariants.{Accept}
-use Rattle.sessions.specs.Chain.{◌>>=◌}
-use Rattle.sessions.specs.Outcome.{Outcome, outcome}
-
--- ---- the request
-
--- of the frames that there are, the Join-Request is served so far
-abbrev pub if_request : List ℕ → Phy → Result (List ℕ) Refusal
-if_request bytes (JoinRequest r) = Ok bytes
-if_request bytes frame = Err NotServed
-
--- the Join-Request that these bytes are
-abbrev pub request_in : List ℕ → Result (List ℕ) Refusal
-request_in bytes = phy_at bytes >>= if_request bytes
+use Rattle.uplinks.specs.Chain.{◌>>=◌}
 
 -- ---- the question to the join server
-
--- the part of an address by which a network tells its devices apart: the slot, and 13 bits of the JoinNonce, so that a
--- device has another address after each join
-abbrev pub nwk_addr : ℕ → ℕ → ℕ
-nwk_addr slot join_nonce = slot * 8192 + join_nonce % 8192
-
--- a DevAddr: the low six bits of the NetID above the NwkAddr, which has 25
-abbrev pub dev_addr : ℕ → ℕ → ℕ → DevAddr
-dev_addr net_id slot join_nonce = record { 0 = net_id % 64 * 2 ^ 25 + nwk_addr slot join_nonce }
 
 -- what the join server keeps of a device
 abbrev pub join_state : Device → JoinState
@@ -128,7 +104,3 @@ joined_by d hearings ask = answered (join_state d) ask >>= λ granted. Ok (grant
 abbrev pub join_at : ℕ → ℕ → Device → List Hearing → List ℕ → Result Outcome Refusal
 join_at net_id slot d hearings request =
     if dev_eui_of request == d.dev_eui.0 then joined_by d hearings (join_ask net_id slot d request 0) else Err UnknownDevEui
-
--- what the device at a slot does of a frame that was heard
-abbrev pub heard_at : ℕ → ℕ → Device → Heard → Result Outcome Refusal
-heard_at net_id slot d h = request_in h.phy_payload >>= λ request. join_at net_id slot d h.hearings request

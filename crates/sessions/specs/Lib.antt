@@ -1,6 +1,5 @@
-pub mod Chain
-pub mod Outcome
 pub mod Join
+pub mod Served
 pub mod Queueing
 pub mod Step
 pub mod Table

@@ -4,23 +4,16 @@ use Rattle.lw_types.specs.declared.identifiers.Eui.{Eui}
 use Rattle.lw_types.specs.declared.refusal.Refusal.{Refusal}
 use Rattle.lw_types.specs.declared.refusal.Refusal.TheVariants.{UnknownDevEui, TooLong, BadPort, QueueFull, BadMac, MacQueueFull}
 use Rattle.devices.specs.MacQueue.{may_queue}
+use Rattle.devices.specs.Outcome.{Outcome, outcome, told}
 use Rattle.devices.specs.declared.command.Queueing.{Queueing}
 use Rattle.devices.specs.declared.command.MacQueueing.{MacQueueing}
 use Rattle.devices.specs.declared.device.Device.{Device}
 use Rattle.devices.specs.declared.queue.Item.{Item}
-use Rattle.devices.specs.declared.effect.Effect.{Effect}
-use Rattle.devices.specs.declared.effect.Effect.TheVariants as effects
-use Rattle.devices.specs.declared.effect.Report.{Report}
 use Rattle.devices.specs.declared.effect.Report.TheVariants.{Queued, MacQueued}
-use Rattle.sessions.specs.Outcome.{Outcome, outcome}
 
 -- whether this is the device that an application asks for, and its own
 abbrev pub is_theirs : ℕ → Eui → Device → Bool
 is_theirs application dev_eui d = (dev_eui.0 == d.dev_eui.0) && (application == d.application)
-
--- the device's application is told something of it
-abbrev pub told : Device → Report → List Effect
-told d report = effects.Report d.application d.dev_eui report ∷ []
 
 -- ---- items
 

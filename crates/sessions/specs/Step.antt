@@ -3,6 +3,7 @@ use Rattle.std.specs.Prelude.{ℕ, List, [], ◌∷◌, Option, Some, None, Resu
 use Rattle.lw_types.specs.declared.refusal.Refusal.{Refusal}
 use Rattle.lw_types.specs.declared.refusal.Refusal.TheVariants.{DevEuiTaken, UnknownDevEui}
 use Rattle.devices.specs.Device.{provisioned}
+use Rattle.devices.specs.Outcome.{Outcome, outcome}
 use Rattle.devices.specs.declared.device.Device.{Device}
 use Rattle.devices.specs.declared.command.Provisioning.{Provisioning}
 use Rattle.devices.specs.declared.command.Command.{Command}
@@ -10,8 +11,7 @@ use Rattle.devices.specs.declared.command.Command.TheVariants.{Provision, Heard,
 use Rattle.devices.specs.declared.effect.Effect.{Effect}
 use Rattle.devices.specs.declared.effect.Effect.TheVariants.{Report}
 use Rattle.devices.specs.declared.effect.Report.TheVariants.{Provisioned}
-use Rattle.sessions.specs.Outcome.{Outcome, outcome}
-use Rattle.sessions.specs.Join.{heard_at}
+use Rattle.sessions.specs.Served.{heard_at}
 use Rattle.sessions.specs.Queueing.{queue_at, queue_mac_at}
 
 -- a new device's application is told the slot

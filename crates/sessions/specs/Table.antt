@@ -3,16 +3,19 @@ use Rattle.std.specs.Prelude.{◌≡◌, ◌==◌, ◌<◌, ◌≤◌, ℕ, List
 use Rattle.std.specs.List.{position_from}
 use Rattle.std.specs.Option.{MatchOption}
 use Rattle.lw_types.specs.declared.refusal.Refusal.{Refusal}
-use Rattle.lw_types.specs.declared.refusal.Refusal.TheVariants.{DevEuiTaken, TableFull, UnknownDevEui}
+use Rattle.lw_types.specs.declared.refusal.Refusal.TheVariants.{DevEuiTaken, TableFull, UnknownDevAddr, UnknownDevEui}
 use Rattle.devices.specs.declared.device.Device.{Device}
 use Rattle.devices.specs.declared.command.Command.{Command}
 use Rattle.devices.specs.declared.command.Command.TheVariants.{Provision, Heard, Queue, QueueMac}
 use Rattle.devices.specs.declared.effect.Effect.{Effect}
+use Rattle.devices.specs.Address.{slot_at}
+use Rattle.devices.specs.Outcome.{Outcome}
 use Rattle.join_server.specs.Request.{dev_eui_of}
-use Rattle.sessions.specs.Chain.{◌>>=◌}
-use Rattle.sessions.specs.Outcome.{Outcome}
-use Rattle.sessions.specs.Join.{request_in}
+use Rattle.uplinks.specs.Chain.{◌>>=◌}
+use Rattle.sessions.specs.Served.{frame_in}
 use Rattle.sessions.specs.Step.{step1}
+use Rattle.sessions.specs.declared.served.Served.{Served}
+use Rattle.sessions.specs.declared.served.Served.TheVariants.{Request, Uplink}
 
 -- a network's devices by slot, and how many slots there are
 pub record TableState : Type 0 where
@@ -42,10 +45,21 @@ abbrev pub known_slot : Option ℕ → Result ℕ Refusal
 known_slot (Some slot) = Ok slot
 known_slot None = Err UnknownDevEui
 
--- the slot at which a command works: the next one for a new device, else that of a DevEUI, which a Join-Request has
+-- a slot where a device is there
+abbrev pub used_slot : ℕ → Option Device → Result ℕ Refusal
+used_slot slot (Some device) = Ok slot
+used_slot slot None = Err UnknownDevAddr
+
+-- the slot of the device that sent a frame: that of the DevEUI of a Join-Request, and that to which the address of an
+-- uplink leads
+abbrev pub sender_slot : TableState → Served → Result ℕ Refusal
+sender_slot t (Request bytes) = known_slot (slot_of (dev_eui_of bytes) t.devices)
+sender_slot t (Uplink u) = used_slot (slot_at u.frame.dev_addr.0) (slice_get t.devices (slot_at u.frame.dev_addr.0))
+
+-- the slot at which a command works: the next one for a new device, else that of the device for which or from which it is
 abbrev pub place_for : TableState → Command → Result ℕ Refusal
 place_for t (Provision p) = new_slot t (slot_of p.dev_eui.0 t.devices)
-place_for t (Heard h) = request_in h.phy_payload >>= λ request. known_slot (slot_of (dev_eui_of request) t.devices)
+place_for t (Heard h) = frame_in h.phy_payload >>= sender_slot t
 place_for t (Queue q) = known_slot (slot_of q.dev_eui.0 t.devices)
 place_for t (QueueMac q) = known_slot (slot_of q.dev_eui.0 t.devices)
 

@@ -35,6 +35,7 @@ impl Table {
         } = self.step(alloc, seq, &command)?;
         let before = self.record_at(slot)?;
         let _ = self.devices();
+        self.devices_are_apart();
         Ok(Decision {
             net_id: self.net_id(),
             seq,

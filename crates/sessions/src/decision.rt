@@ -1,7 +1,7 @@
 // One command, carried out on one device.
 ghost use Rattle.std.specs.Prelude.{◌≡◌, Ok};
+ghost use Rattle.devices.specs.Outcome.{outcome};
 ghost use Rattle.sessions.specs.Step.{step1};
-ghost use Rattle.sessions.specs.Outcome.{outcome};
 
 use devices::{Command, Device, Effects};
 use lw_types::NetId;

@@ -1,83 +1,34 @@
 // A device is granted a session, by the texts of the join server (TS001-1.0.4 §6.2).
-ghost use Rattle.std.specs.Prelude.{◌≡◌, ◌<◌, None, Some, MatchOption, MatchResult, slice_get, unwrap_or};
+ghost use Rattle.std.specs.Prelude.{◌≡◌, ◌<◌, Some, MatchResult, unwrap_or};
 ghost use Rattle.lw_types.specs.Answer.{AnswersWithMemory};
 ghost use Rattle.lw_types.specs.declared.refusal.Refusal.TheVariants.{OutOfMemory};
 ghost use Rattle.join_server.specs.Join.{answered};
 ghost use Rattle.join_server.specs.Request.{dev_eui_of};
 ghost use Rattle.backend_json.specs.Messages.{IsAsk};
 ghost use Rattle.backend_json.specs.Replies.{accepted_of, reply};
-ghost use Rattle.devices.specs.declared.command.Command.{Command};
-ghost use Rattle.sessions.specs.Join.{accept_downlink, accept_effects, dev_addr, granted_to, join_ask, join_state, joined_by, refusal_of, request_in, transaction_of, with_session};
-ghost use Rattle.sessions.specs.Outcome.{IsOutcome};
-ghost use Rattle.sessions.specs.Table.{slot_of, step};
-ghost use Rattle.sessions.specs.Decision.{IsStepped};
+ghost use Rattle.devices.specs.Outcome.{IsOutcome};
+ghost use Rattle.sessions.specs.Join.{accept_downlink, accept_effects, granted_to, join_ask, join_state, joined_by, refusal_of, transaction_of, with_session};
 
-use crate::Table;
-use crate::decide::Stepped;
 use backend_json::{Accepted, Cause, JoinAns, answer_text, join_req_text, read_join_ans};
 use devices::{
-    Device, Downlink, Effect, Effects, Heard, Hearing, Hearings, RxDelay, Session, SessionName,
-    Windows,
+    Device, Downlink, Effect, Effects, Hearing, Hearings, RxDelay, Session, SessionName, Windows,
+    dev_addr,
 };
 use join_server::{JoinAsk, JoinGrant, JoinRequest, JoinState, SealedAccept};
-use lw_types::{DevAddr, Eui, JoinNonce, NetId, PhyPayload, Refusal};
-use phy_payload::{Phy, decode};
+use lw_types::{Eui, JoinNonce, NetId, PhyPayload, Refusal};
 use std::alloc::Global;
 
 // The delay from the end of a Join-Request to RX1, in seconds (TS001-1.0.4 §6.2.6).
 const JOIN_ACCEPT_DELAY: u64 = 5;
 
-impl Table {
-    // What is done of a frame that gateways heard.
-    pub(crate) fn hear(&self, alloc: Global, seq: u64, heard: &Heard) -> Result<Stepped, Refusal>
-        ensures { AnswersWithMemory (step self.now (Command.Heard heard.now)) IsStepped result }
-    {
-        let request = read_request(alloc, heard.phy_payload.as_slice())?;
-        match self.device_of(request.dev_eui()) {
-            Some((slot, device)) => {
-                let ask = join_ask(self.net_id(), slot, device, request, seq);
-                match join(alloc, device, &ask, &heard.hearings) {
-                    Ok((after, effects)) => Ok(Stepped {
-                        slot,
-                        after,
-                        effects,
-                    }),
-                    Err(refusal) => Err(refusal),
-                }
-            }
-            None => Err(Refusal::UnknownDevEui),
-        }
-    }
-
-    // The device with this DevEUI, behind its slot.
-    #[tactic(auto, using(crate::proofs::Placing::found_within, crate::proofs::Placing::found_name))]
-    pub(crate) fn device_of(&self, dev_eui: Eui) -> Option<(u16, &Device)>
-        ensures { MatchOption result
-            (slot_of dev_eui.0 self.now.devices ≡ None)
-            (λ found. (slot_of dev_eui.0 self.now.devices ≡ Some found.0)
-            × (slice_get self.now.devices found.0 ≡ Some found.1.now) × (found.1.now.dev_eui.0 ≡ dev_eui.0)) }
-    {
-        let slot = self.slot_of(dev_eui)?;
-        Some((slot, &self.devices()[slot as usize]))
-    }
-}
-
-// The Join-Request that a frame is. No other frame is served so far.
-fn read_request(alloc: Global, bytes: &[u8]) -> Result<JoinRequest, Refusal>
-    ensures { AnswersWithMemory (request_in bytes.now) (λ request found. found ≡ request) result }
-{
-    match decode(alloc, bytes)? {
-        Phy::JoinRequest(_) => {
-            phy_payload::laws::a_join_request_has_23_bytes();
-            let bytes: Result<[u8; 23], _> = bytes.try_into();
-            Ok(JoinRequest::new(bytes.unwrap()).unwrap())
-        }
-        Phy::JoinAccept(_) | Phy::DataFrame(_) => Err(Refusal::NotServed),
-    }
-}
-
 // The question for the device at a slot, which would lead to the decision of this number.
-fn join_ask(net_id: NetId, slot: u16, device: &Device, request: JoinRequest, seq: u64) -> JoinAsk
+pub(crate) fn join_ask(
+    net_id: NetId,
+    slot: u16,
+    device: &Device,
+    request: JoinRequest,
+    seq: u64,
+) -> JoinAsk
     ensures { result ≡ join_ask net_id slot device.now request (transaction_of seq) }
 {
     let granted = device.activation.granted().map_or(0, JoinNonce::get);
@@ -89,14 +40,6 @@ fn join_ask(net_id: NetId, slot: u16, device: &Device, request: JoinRequest, seq
         request,
         transaction: (seq % (1 << 32)) as u32,
     }
-}
-
-// The address of a session.
-fn dev_addr(net_id: NetId, slot: u16, join_nonce: u32) -> DevAddr
-    ensures { result ≡ dev_addr net_id slot join_nonce }
-{
-    let nwk_addr = u32::from(slot) * 8192 + join_nonce % 8192;
-    DevAddr(u32::from(net_id.get() % 64) * (1 << 25) + nwk_addr)
 }
 
 // What the join server keeps of a device.
@@ -113,7 +56,7 @@ fn join_state(device: &Device) -> JoinState
 }
 
 // The device's record after the answer to its question, and the accept.
-fn join(
+pub(crate) fn join(
     alloc: Global,
     device: &Device,
     ask: &JoinAsk,

@@ -3,7 +3,7 @@ ghost use Rattle.std.specs.Prelude.{◌≡◌, ◌++◌, ◌↔◌, ◌≤◌, �
 ghost use Rattle.devices.specs.declared.command.Command.{Command};
 ghost use Rattle.devices.specs.declared.effect.Effect.{Effect};
 ghost use Rattle.devices.specs.declared.mark.Mark.{Mark};
-ghost use Rattle.sessions.specs.Marks.{AreOnce, HasUsedUp, IsSubsequence, marks_of};
+ghost use Rattle.sessions.specs.Marks.{AreOnce, HasUsedUp, IsSound, IsSubsequence, marks_of};
 ghost use Rattle.sessions.specs.Table.{TableState, CanPut, empty_table, folded, effects_of};
 ghost use Rattle.sessions.specs.Decision.{Fits, FitAll, ContinueAll, applied_all, taken_back_all, commands_of, effects_in};
 ghost use Rattle.sessions.specs.declared.decision.Decision.{Decision};
@@ -49,10 +49,11 @@ pub fn taking_back()
     ensures { (t : TableState) (ds : List Decision) → FitAll t ds → taken_back_all (applied_all t ds) ds ≡ t }
 {}
 
-/// No mark is used up twice by the effects of commands. Commands use up none of those that a network
+/// No mark is used up twice by the effects of commands, where the table is sound: a session that waits under a JoinNonce
+/// that isn't the last one granted would be granted, and used, again. Commands use up none of the marks that a network
 /// has used up before, which is none at first. And of effects that use up marks once, a part does.
 pub fn no_mark_stands_twice()
-    ensures commands { (t : TableState) (commands : List Command) → AreOnce (effects_of t commands) }
+    ensures commands { (t : TableState) (commands : List Command) → IsSound t → AreOnce (effects_of t commands) }
     ensures from_empty { (net_id slots : ℕ) (commands : List Command) →
         AreOnce (effects_of (empty_table net_id slots) commands) }
     ensures at_first { (net_id slots : ℕ) → HasUsedUp (empty_table net_id slots) [] }
@@ -62,7 +63,9 @@ pub fn no_mark_stands_twice()
         IsSubsequence left effects → HasUsedUp t (marks ++ marks_of effects) →
         HasUsedUp t (marks ++ marks_of left) }
     ensures part { (effects left : List Effect) → IsSubsequence left effects → AreOnce effects → AreOnce left }
-{}
+{
+    uplinks::laws::a_fit_is_of_its_device();
+}
 
 /// A table has from 1 to 4,096 slots.
 pub fn slots_of(number: u64) -> Option<Slots>

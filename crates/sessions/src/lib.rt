@@ -8,11 +8,13 @@ mod batch;
 mod continuation;
 mod decide;
 mod decision;
+mod hear;
 mod join;
 pub mod laws;
 mod overlay;
 mod queueing;
 mod records;
+mod served;
 mod table;
 
 pub use batch::Batch;

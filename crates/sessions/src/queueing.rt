@@ -3,9 +3,9 @@ ghost use Rattle.std.specs.Prelude.{◌≡◌, ◌≤◌, ◌<◌, ◌+◌, Matc
 ghost use Rattle.lw_types.specs.Answer.{Answers};
 ghost use Rattle.lw_types.specs.declared.refusal.Refusal.TheVariants.{OutOfMemory};
 ghost use Rattle.devices.specs.MacQueue.{may_queue};
+ghost use Rattle.devices.specs.Outcome.{IsOutcome, told};
 ghost use Rattle.devices.specs.declared.command.Command.{Command};
-ghost use Rattle.sessions.specs.Queueing.{commands_queued, if_room, queue_at, queue_mac_at, told};
-ghost use Rattle.sessions.specs.Outcome.{IsOutcome};
+ghost use Rattle.sessions.specs.Queueing.{commands_queued, if_room, queue_at, queue_mac_at};
 ghost use Rattle.sessions.specs.Table.{step};
 ghost use Rattle.sessions.specs.Decision.{IsStepped};
 

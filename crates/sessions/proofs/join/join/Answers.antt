@@ -3,7 +3,7 @@ use Rattle.join_server.specs.Join.{answered}
 use Rattle.join_server.specs.declared.grant.JoinGrant.{JoinGrant}
 use Rattle.join_server.specs.declared.state.JoinState.{JoinState}
 use Rattle.sessions.specs.Join.{granted_to, joined_by}
-use Rattle.sessions.specs.Outcome.{IsOutcome}
+use Rattle.devices.specs.Outcome.{IsOutcome}
 use Rattle.sessions.proofs.JoinTexts.{above-last, joined-err, joined-ok, memory-err, memory-ok, memory-value}
 use Rattle.sessions.proofs.join.join.Goals as goal
 

@@ -29,7 +29,7 @@ pub returns-clause-fits : goal.returns-clause-fits
 returns-clause-fits c =
     let t = c.args.self.now in
     let s = AnswersTo-ok c.args.command (step t c.args.command) IsStepped c.in_ok-slot.field-0 c.in_ok-slot.ensures in
-    Fits-decision t c.args.seq c.args.command s.0 _ c.devices.ensures.few s.1
+    Fits-decision t c.args.seq c.args.command s.0 _ c.devices.ensures.few c.devices_are_apart.ensures s.1
     (record {
       net = c.net_id.ensures;
       number = refl;

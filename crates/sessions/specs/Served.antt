@@ -1,0 +1,38 @@
+-- Frames that are served: Join-Requests and uplinks.
+use Rattle.std.specs.Prelude.{ℕ, ◌==◌, if◌then◌else◌, List, Result, Ok, Err}
+use Rattle.lw_types.specs.declared.refusal.Refusal.{Refusal}
+use Rattle.lw_types.specs.declared.refusal.Refusal.TheVariants.{NotServed, UnknownDevAddr}
+use Rattle.phy_payload.specs.declared.phy.Phy.{Phy}
+use Rattle.phy_payload.specs.declared.phy.Phy.TheVariants.{JoinRequest, JoinAccept, DataFrame}
+use Rattle.phy_payload.specs.Reading.{phy_at}
+use Rattle.devices.specs.Address.{slot_at}
+use Rattle.devices.specs.Outcome.{Outcome}
+use Rattle.devices.specs.declared.device.Device.{Device}
+use Rattle.devices.specs.declared.heard.Heard.{Heard}
+use Rattle.devices.specs.declared.heard.Hearing.{Hearing}
+use Rattle.uplinks.specs.Chain.{◌>>=◌}
+use Rattle.uplinks.specs.Step.{uplink_at}
+use Rattle.uplinks.specs.Uplink.{uplink_of}
+use Rattle.sessions.specs.Join.{join_at}
+use Rattle.sessions.specs.declared.served.Served.{Served}
+use Rattle.sessions.specs.declared.served.Served.TheVariants.{Request, Uplink}
+
+-- of the frames that there are, the Join-Request and the uplink are served
+abbrev pub served_in : List ℕ → Phy → Result Served Refusal
+served_in bytes (JoinRequest request) = Ok (Request bytes)
+served_in bytes (JoinAccept accept) = Err NotServed
+served_in bytes (DataFrame frame) = uplink_of frame >>= λ u. Ok (Uplink u)
+
+-- the frame that these bytes are
+abbrev pub frame_in : List ℕ → Result Served Refusal
+frame_in bytes = phy_at bytes >>= served_in bytes
+
+-- what the device at a slot does of a frame: an uplink is its own only where the address leads to the slot
+abbrev pub served_at : ℕ → ℕ → Device → List Hearing → Served → Result Outcome Refusal
+served_at net_id slot d hearings (Request bytes) = join_at net_id slot d hearings bytes
+served_at net_id slot d hearings (Uplink u) =
+    if slot_at u.frame.dev_addr.0 == slot then uplink_at net_id slot d hearings u else Err UnknownDevAddr
+
+-- what the device at a slot does of a frame that was heard
+abbrev pub heard_at : ℕ → ℕ → Device → Heard → Result Outcome Refusal
+heard_at net_id slot d h = frame_in h.phy_payload >>= served_at net_id slot d h.hearings
