@@ -5,7 +5,7 @@ use std::{fmt, io};
 /// Why nothing was measured.
 #[derive(Drop)]
 pub enum Unmeasured {
-    /// A table was not made, or a join not granted.
+    /// A table was not made, or an event was refused.
     Refused(Refusal),
     /// The clock can't be read.
     NoClock,
