@@ -2,3 +2,4 @@ pub mod Best
 pub mod Equal
 pub mod Gateways
 mod MacCommands
+pub mod OneMore

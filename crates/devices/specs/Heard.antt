@@ -1,6 +1,9 @@
 -- A frame with all the copies of it.
-use Rattle.std.specs.Prelude.{◌≡◌, ◌≢◌, ◌≤◌, ◌<◌, ◌<ℤ◌, ◌⊎◌, ℕ, Bool, true, false, nat_lt, int_lt, if◌then◌else◌, List, [], ◌∷◌, Option, Some, None, length, All, AllPairs, Contains}
+use Rattle.std.specs.Prelude.{◌≡◌, ◌≢◌, ◌≤◌, ◌<◌, ◌<ℤ◌, ◌⊎◌, ℕ, Bool, true, false, ◌==◌, nat_le, nat_lt, int_lt, if◌then◌else◌, List, [], ◌∷◌, ◌++◌, Option, Some, None, Result, Ok, Err, length, All, AllPairs, Contains}
+use Rattle.std.specs.List.{list_any}
 use Rattle.lw_types.specs.declared.frame_copy.Reception.{Reception}
+use Rattle.lw_types.specs.declared.refusal.Refusal.{Refusal}
+use Rattle.lw_types.specs.declared.refusal.Refusal.TheVariants.{SameGateway, CopiesFull}
 use Rattle.region_eu868.specs.Region.{channels}
 use Rattle.devices.specs.declared.heard.Hearing.{Hearing}
 use Rattle.devices.specs.declared.heard.TheConstants.Hearings.{MOST}
@@ -22,6 +25,17 @@ pub record AreHearings (hearings : List Hearing) : Type 0 where
   pub few : length hearings ≤ MOST
   pub receivable : All (λ h. IsReceivable h.reception) hearings
   pub apart : AreApart hearings
+
+-- a copy is of this gateway
+abbrev pub has_gateway : List Hearing → ℕ → Bool
+has_gateway hearings gateway = list_any (λ h. gateway_of h == gateway) hearings
+
+-- the copies with one more: one of each gateway, and 32 at most
+abbrev pub with_hearing : List Hearing → Hearing → Result (List Hearing) Refusal
+with_hearing hearings hearing =
+    if has_gateway hearings (gateway_of hearing) then Err SameGateway
+    else if nat_le MOST (length hearings) then Err CopiesFull
+    else Ok (hearings ++ hearing ∷ [])
 
 -- whether a copy was heard better than another: with a greater SNR, else with a greater RSSI, else by a smaller gateway
 abbrev pub is_better : Hearing → Hearing → Bool

@@ -1,11 +1,13 @@
 // A frame with all the copies of it.
-ghost use Rattle.std.specs.Prelude.{◌≡◌, ◌≤◌, ◌<◌, ◌↔◌, All, AllPairs, Any, IsTrue, MatchOption, Some, length};
-ghost use Rattle.devices.specs.Heard.{best_of, gateway_of, is_better, AreApart, AreHearings, IsReceivable};
+ghost use Rattle.std.specs.Prelude.{◌≡◌, ◌≤◌, ◌<◌, ◌↔◌, [], ◌∷◌, All, AllPairs, Any, IsTrue, MatchOption, MatchResult, OnErr, Some, length};
+ghost use Rattle.lw_types.specs.Answer.{Answers};
+ghost use Rattle.lw_types.specs.declared.refusal.Refusal.TheVariants.{OutOfMemory};
+ghost use Rattle.devices.specs.Heard.{best_of, gateway_of, has_gateway, is_better, with_hearing, AreApart, AreHearings, IsReceivable};
 
 use crate::Copies;
-use lw_types::{Eui, PhyPayload, Reception};
+use lw_types::{Eui, PhyPayload, Reception, Refusal};
 use region_eu868::is_channel;
-use std::alloc::AllocError;
+use std::alloc::{AllocError, Global};
 use std::fmt;
 use std::marker::Model;
 
@@ -56,6 +58,33 @@ impl Hearings {
         } else {
             None
         }
+    }
+
+    /// The first copy of a frame. Want of memory is refused as `OutOfMemory`.
+    pub fn of(alloc: Global, first: Hearing) -> Result<Self, Refusal>
+        requires { IsReceivable first.reception }
+        ensures { MatchResult result (λ h. h ≡ first ∷ []) (λ e. e ≡ OutOfMemory) }
+    {
+        let mut items = Vec::new(alloc);
+        items.push(first)?;
+        Ok(Hearings { items })
+    }
+
+    /// Adds a copy at the end. Refused as `SameGateway` where a copy of its gateway is there, then as `CopiesFull` where there
+    /// are 32, both whether or not there is memory; then want of memory as `OutOfMemory`. After an `Err` the copies are as before.
+    pub fn add(&mut self, hearing: Hearing) -> Result<(), Refusal>
+        requires { IsReceivable hearing.reception }
+        ensures added { Answers (with_hearing self.old hearing) (λ hearings _. self.new ≡ hearings) result }
+        ensures same { OnErr result (self.new ≡ self.old) }
+    {
+        if has_gateway(self.items.as_slice(), hearing.reception.gateway) {
+            return Err(Refusal::SameGateway);
+        }
+        if self.items.len() >= Self::MOST {
+            return Err(Refusal::CopiesFull);
+        }
+        self.items.push(hearing)?;
+        Ok(())
     }
 
     /// The copies in the order in which they came.
@@ -168,8 +197,8 @@ fn are_hearings(hearings: &[Hearing]) -> bool
     are_apart(hearings)
 }
 
-// Whether a gateway may have heard a frame so: on a channel, at a data rate from 0 to 5.
-fn is_receivable(reception: &Reception) -> bool
+/// Whether a gateway may have heard a frame so: on a channel, at a data rate from 0 to 5.
+pub fn is_receivable(reception: &Reception) -> bool
     ensures { IsTrue result ↔ IsReceivable reception.now }
 {
     is_channel(reception.frequency) && reception.data_rate <= 5
@@ -188,7 +217,8 @@ fn are_receivable(hearings: &[Hearing]) -> bool
 
 // Whether a copy is of this gateway.
 fn has_gateway(hearings: &[Hearing], gateway: Eui) -> bool
-    ensures { IsTrue result ↔ Any (λ h. gateway_of h ≡ gateway.0) hearings.now }
+    ensures any { IsTrue result ↔ Any (λ h. gateway_of h ≡ gateway.0) hearings.now }
+    ensures tested { result ≡ has_gateway hearings.now gateway.0 }
 {
     hearings
         .iter()

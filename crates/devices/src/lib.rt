@@ -22,7 +22,7 @@ pub use command::{Command, MacQueueing, Provisioning, Queueing};
 pub use device::Device;
 pub use effect::{Downlink, Effect, Report, Windows};
 pub use effects::Effects;
-pub use heard::{Heard, Hearing, Hearings};
+pub use heard::{Heard, Hearing, Hearings, is_receivable};
 pub use lw_types::{Bytes, Payload, Ranged};
 pub use mac_queue::MacQueue;
 pub use mark::{Mark, SessionName};

@@ -3,9 +3,13 @@ ghost use Rattle.std.specs.Prelude.{◌≡◌, ◌≤◌, ◌<◌, ◌↔◌, Is
 ghost use Rattle.std.specs.Fmt.{debug_list, decimal};
 ghost use Rattle.std.specs.Cmp.{partial_equiv_from_equiv};
 ghost use Rattle.std.specs.Cmp.Lexicographic.{pointwise, nat_list_eq_equiv};
+ghost use Rattle.std.specs.Hash as fed;
+ghost use Rattle.std.specs.Cmp.Rules.{hashing};
+ghost use Rattle.std.proofs.Common.{rules};
 
 use std::alloc::{AllocError, Global};
 use std::fmt;
+use std::hash::{Hash, Hasher};
 use std::marker::Model;
 
 /// A byte string of at most `MOST` bytes. In contracts it is the list of them.
@@ -109,6 +113,16 @@ impl<const MOST: usize> PartialEq for Bytes<MOST> {
 
 impl<const MOST: usize> Eq for Bytes<MOST> {
     ghost laws = { nat_list_eq_equiv };
+}
+
+impl<const MOST: usize> Hash for Bytes<MOST> {
+    ghost hash_input = { λ b. fed.slice fed.u8 b };
+
+    ghost respects_eq = { Prim.search (hashing, rules) };
+
+    fn hash<H: Hasher>(&self, state: &mut H) {
+        self.items.hash(state);
+    }
 }
 
 /// Shows the bytes as decimals, as in `[64, 1]`.

@@ -9,13 +9,13 @@ pub returns-then-has_gateway : goal.returns-then-has_gateway
 returns-then-has_gateway c =
     let xs = c.args.hearings.now in
     let lt = c.loop-i-test.true in
-    (λ no. absurd (false≢true no), λ apart. absurd (not_apart xs c.loop-i.i _ lt (λ d. ap gateway_of (get_or_default xs c.loop-i.i d _ lt)) (c.has_gateway.ensures.0 c.if-has_gateway.true) apart))
+    (λ no. absurd (false≢true no), λ apart. absurd (not_apart xs c.loop-i.i _ lt (λ d. ap gateway_of (get_or_default xs c.loop-i.i d _ lt)) (c.has_gateway.ensures.any.0 c.if-has_gateway.true) apart))
 
 pub loop-i-preserved : goal.loop-i-preserved
 loop-i-preserved c =
     let xs = c.args.hearings.now in
     let lt = c.loop-i-test.true in
-    apart_more xs c.loop-i.i _ lt (λ d. ap gateway_of (get_or_default xs c.loop-i.i d _ lt)) c.loop-i.invariant (λ any. false≢true (sym c.if-has_gateway.false ∙ c.has_gateway.ensures.1 any))
+    apart_more xs c.loop-i.i _ lt (λ d. ap gateway_of (get_or_default xs c.loop-i.i d _ lt)) c.loop-i.invariant (λ any. false≢true (sym c.if-has_gateway.false ∙ c.has_gateway.ensures.any.1 any))
 
 pub returns : goal.returns
 returns c = (λ yes. apart_all c.args.hearings.now c.loop-i.i c.loop-i-test.false c.loop-i.invariant, λ apart. refl)
