@@ -1,0 +1,4 @@
+pub mod GroupLemmas
+pub mod Standing
+pub mod Keeping
+pub mod Refusing

@@ -1,0 +1,155 @@
+// The windows that are open, the oldest first.
+ghost use Rattle.std.specs.Prelude.{◌≡◌, ◌<◌, ◌↔◌, [], drop, false, length, IsTrue, MatchOption, OnErr};
+ghost use Rattle.std.specs.List.{list_any};
+ghost use Rattle.lw_types.specs.Answer.{Answers};
+ghost use Rattle.devices.specs.Heard.{IsReceivable};
+ghost use Rattle.dedup.specs.Windows.{added, heard_now, is_of, IsCurrent, IsOldestDue, NoneDue};
+ghost use Rattle.dedup.specs.Kept.{joined_at, opened_too};
+
+use crate::{MOST_WINDOWS, WAIT};
+use devices::{Heard, Hearing, Hearings};
+use indexmap::IndexMap;
+use lw_types::{FrameCopy, PhyPayload, Refusal};
+use std::alloc::Global;
+use std::marker::Model;
+
+// The copies of a frame so far, and when the first came.
+#[derive(Drop)]
+struct Gathering {
+    opened: u64,
+    hearings: Hearings,
+}
+
+/// The windows that are open: at most 1,024, each of another frame. In contracts it is the list of them, in the order
+/// in which they opened.
+#[derive(Drop)]
+pub struct Windows {
+    gatherings: IndexMap<PhyPayload, Gathering>,
+}
+
+impl Model for Windows {
+    ghost use Rattle.std.specs.Prelude.{List, map};
+    ghost use Rattle.dedup.specs.Windows.{Window};
+    ghost use Rattle.dedup.specs.Kept.{window_of, AreKept};
+
+    ghost Value = { List Window };
+
+    ghost view = { λ w. map window_of w.gatherings.entries };
+
+    ghost invariant = { λ w. AreKept (map window_of w.gatherings.entries) };
+}
+
+impl Windows {
+    /// No windows. Takes no memory.
+    pub fn new(alloc: Global) -> Self
+        ensures { result ≡ [] }
+    {
+        Windows {
+            gatherings: IndexMap::new(alloc),
+        }
+    }
+
+    /// Puts a copy that came at the moment `now` into the window of its bytes, or opens one. Refused as `WindowsFull`
+    /// where 1,024 windows are open and none has these bytes, as `SameGateway` where the window has a copy of this
+    /// gateway, as `CopiesFull` where it has 32 copies, each whether or not there is memory; then want of memory as
+    /// `OutOfMemory`. After an `Err` the windows are as before.
+    pub fn add(&mut self, now: u64, copy: FrameCopy) -> Result<(), Refusal>
+        requires receivable { IsReceivable copy.reception }
+        requires current { IsCurrent now self.old }
+        ensures added { Answers (added self.old now copy) (λ ws _. self.new ≡ ws) result }
+        ensures same { OnErr result (self.new ≡ self.old) }
+    {
+        let FrameCopy {
+            reception,
+            stamp,
+            phy_payload,
+        } = copy;
+        let hearing = Hearing { reception, stamp };
+        match self.gatherings.get_index_of(&phy_payload) {
+            Some(index) => self.join(index, hearing),
+            None => self.open_window(now, phy_payload, hearing),
+        }
+    }
+
+    /// The oldest window where it is due: the frame's bytes, and how it was heard. `None` where no window is due. Takes
+    /// no memory.
+    pub fn due(&self, now: u64) -> Option<(&PhyPayload, &Hearings)>
+        ensures { MatchOption result (NoneDue now self.now)
+            (λ r. IsOldestDue now self.now (heard_now r.0.now r.1.now) (drop 1 self.now)) }
+    {
+        let (phy_payload, gathering) = self.gatherings.first()?;
+        if now.saturating_sub(gathering.opened) < WAIT {
+            return None;
+        }
+        Some((phy_payload, &gathering.hearings))
+    }
+
+    /// Takes the oldest window out where it is due, and gives what was heard in it. `None`, and nothing is changed,
+    /// where no window is due. Takes no memory.
+    pub fn close(&mut self, now: u64) -> Option<Heard>
+        ensures { MatchOption result ((self.new ≡ self.old) × NoneDue now self.old)
+            (λ heard. IsOldestDue now self.old heard self.new) }
+    {
+        if self.due(now).is_none() {
+            return None;
+        }
+        let (phy_payload, gathering) = self.gatherings.shift_remove_index(0)?;
+        let Gathering {
+            opened: _,
+            hearings,
+        } = gathering;
+        Some(Heard {
+            phy_payload,
+            hearings,
+        })
+    }
+
+    /// How many windows are open.
+    pub fn len(&self) -> usize
+        ensures { result ≡ length self.now }
+    {
+        self.gatherings.len()
+    }
+
+    /// Whether no window is open.
+    pub fn is_empty(&self) -> bool
+        ensures { IsTrue result ↔ (self.now ≡ []) }
+    {
+        self.gatherings.is_empty()
+    }
+
+    // The window at this place takes the copy, or refuses it.
+    fn join(&mut self, index: usize, hearing: Hearing) -> Result<(), Refusal>
+        requires there { index < length self.old }
+        requires receivable { IsReceivable hearing.reception }
+        ensures joined { Answers (joined_at self.old index hearing) (λ ws _. self.new ≡ ws) result }
+        ensures same { OnErr result (self.new ≡ self.old) }
+    {
+        self.gatherings[index].hearings.add(hearing)
+    }
+
+    // A window of these bytes, which have none, opens at the end.
+    fn open_window(
+        &mut self,
+        now: u64,
+        phy_payload: PhyPayload,
+        hearing: Hearing,
+    ) -> Result<(), Refusal>
+        requires receivable { IsReceivable hearing.reception }
+        requires current { IsCurrent now self.old }
+        requires none { list_any (is_of phy_payload) self.old ≡ false }
+        ensures opened { Answers (opened_too self.old now phy_payload hearing) (λ ws _. self.new ≡ ws) result }
+        ensures same { OnErr result (self.new ≡ self.old) }
+    {
+        if self.gatherings.len() >= MOST_WINDOWS {
+            return Err(Refusal::WindowsFull);
+        }
+        let hearings = Hearings::of(*self.gatherings.allocator(), hearing)?;
+        let gathering = Gathering {
+            opened: now,
+            hearings,
+        };
+        self.gatherings.insert(phy_payload, gathering)?;
+        Ok(())
+    }
+}
