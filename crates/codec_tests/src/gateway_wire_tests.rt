@@ -3,8 +3,9 @@ use crate::fixtures::{
     nonce, provisioning,
 };
 use devices::{
-    Activation, Application, Command, Copies, Device, Downlink, Effect, ItemQueue, Mark, Payload,
-    Port, Provisioning, Report, Rx1Offset, RxDelay, Tag, Windows,
+    Activation, Application, AskedBytes, Command, Copies, Device, Downlink, Effect, ItemQueue,
+    MacQueueing, Mark, Payload, Port, Provisioning, Queueing, Report, Rx1Offset, RxDelay, Tag,
+    Windows,
 };
 use gateway_wire::{
     Emission, Request, app_line, gateway_bytes, list_text, next_ranged, next_value, read_line,
@@ -122,6 +123,13 @@ fn downlinks_are_frames_of_the_wire(rt: HostRuntime) -> Result<(), Fail> {
             "",
             "01131100000000000000B10000C35033BE27A0000102",
             255,
+        ),
+        (
+            5,
+            Windows::Rx1OrRx2,
+            "",
+            "002D1100000000000000B10000C35033BE27A0050102",
+            25,
         ),
     ] {
         sends(&rt, rt.alloc(), data_rate, windows, hex, wire, count)?;
@@ -301,6 +309,71 @@ fn a_provisioning_is_read_of_its_words(rt: HostRuntime) -> Result<(), Fail> {
     Ok(())
 }
 
+// Whether the line asks for this command.
+fn asks(alloc: Global, line: &str, command: &Command) -> Result<bool, Fail> {
+    Ok(read_line(alloc, line)?.into_command(application()?) == *command)
+}
+
+fn queueing(tag: u32, port: u8, confirmed: bool, payload: Vec<u8>) -> Result<Command, Fail> {
+    let payload = AskedBytes::new(payload);
+    Ok(Command::Queue(Queueing {
+        application: application()?,
+        dev_eui: DEVICE,
+        tag: Tag(tag),
+        port,
+        confirmed,
+        payload: payload.ok().ok_or("payload")?,
+    }))
+}
+
+#[test]
+fn items_are_read_of_their_lines(rt: HostRuntime) -> Result<(), Fail> {
+    let alloc = rt.alloc();
+    for (line, tag, port, confirmed, hex) in [
+        ("queue 1112131415161718 9 7 u AA", 9, 7, false, "AA"),
+        ("queue 1112131415161718 0 0 c -", 0, 0, true, ""),
+        (
+            "queue 1112131415161718 4294967295 255 c 00FF",
+            4_294_967_295,
+            255,
+            true,
+            "00FF",
+        ),
+    ] {
+        let command = queueing(tag, port, confirmed, read_hex(alloc, hex)?)?;
+        assert!(rt; asks(alloc, line, &command)?, "{line}");
+    }
+    Ok(())
+}
+
+#[test]
+fn an_item_of_any_length_is_read(rt: HostRuntime) -> Result<(), Fail> {
+    let alloc = rt.alloc();
+    let hex = write_hex(alloc, &[0xA5; 243])?;
+    let line = format!(in alloc; "queue 1112131415161718 9 7 u {hex}")?;
+    let command = queueing(9, 7, false, vec![in alloc; 0xA5; 243]?)?;
+    assert!(rt; asks(alloc, line.as_str(), &command)?);
+    Ok(())
+}
+
+#[test]
+fn commands_are_read_of_their_lines(rt: HostRuntime) -> Result<(), Fail> {
+    let alloc = rt.alloc();
+    for (line, hex) in [
+        ("mac 1112131415161718 06", "06"),
+        ("mac 1112131415161718 -", ""),
+    ] {
+        let commands = AskedBytes::new(read_hex(alloc, hex)?);
+        let asked = Command::QueueMac(MacQueueing {
+            application: application()?,
+            dev_eui: DEVICE,
+            commands: commands.ok().ok_or("commands")?,
+        });
+        assert!(rt; asks(alloc, line, &asked)?, "{line}");
+    }
+    Ok(())
+}
+
 #[test]
 fn a_provisioning_is_a_command(rt: HostRuntime) -> Result<(), Fail> {
     let asked = Provisioning {
@@ -332,8 +405,27 @@ fn other_lines_are_refused(rt: HostRuntime) {
         "provision 1112131415161718 0102030405060708 2B7E151628AED2A6ABF7158809CF4F3 0 1",
         "provision 1112131415161718 010203040506070 2B7E151628AED2A6ABF7158809CF4F3C 0 1",
         "provision - 0102030405060708 2B7E151628AED2A6ABF7158809CF4F3C 0 1",
-        "queue 1112131415161718 9 7 u AA",
-        "mac 1112131415161718 06",
+        "queue 1112131415161718 9 7 u",
+        "queue 1112131415161718 9 7 u AA AA",
+        "queue 1112131415161718 9 7 u  AA",
+        "queue 1112131415161718 9 7 u A",
+        "queue 1112131415161718 9 7 u aa",
+        "queue 1112131415161718 9 7 u ",
+        "queue 1112131415161718 9 7 U AA",
+        "queue 1112131415161718 9 7 uc AA",
+        "queue 1112131415161718 9 256 u AA",
+        "queue 1112131415161718 9 07 u AA",
+        "queue 1112131415161718 4294967296 7 u AA",
+        "queue 1112131415161718 -9 7 u AA",
+        "queue 11121314151617 9 7 u AA",
+        "Queue 1112131415161718 9 7 u AA",
+        "mac 1112131415161718",
+        "mac 1112131415161718 ",
+        "mac 1112131415161718 06 06",
+        "mac 1112131415161718 0",
+        "mac 1112131415161718 0x06",
+        "mac - 06",
+        "macqueue 1112131415161718 06",
     ];
     for line in lines {
         assert!(rt;

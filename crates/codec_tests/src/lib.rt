@@ -5,6 +5,8 @@
 #[cfg(test)]
 mod devices_tests;
 #[cfg(test)]
+mod feeder_tests;
+#[cfg(test)]
 mod fixtures;
 #[cfg(test)]
 mod gateway_wire_tests;

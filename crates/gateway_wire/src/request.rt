@@ -1,12 +1,18 @@
 // What applications ask for.
-ghost use Rattle.std.specs.Prelude.{◌≡◌, ◌↔◌, ◌∷◌, ◌⊎◌, ℕ, List, [], IfSome, IfOk, IfErr, Some, Err, MatchResult, codes};
+ghost use Rattle.std.specs.Prelude.{◌≡◌, ◌↔◌, ◌∷◌, ◌⊎◌, ◌<◌, ◌^◌, Bool, ℕ, List, [], IfSome, IfOk, IfErr, Some, Err, MatchResult, codes};
 ghost use Rattle.lw_types.specs.declared.refusal.Refusal.TheVariants.{BadMessage, OutOfMemory};
 ghost use Rattle.lw_types.specs.WordsLeft.{words_left};
 ghost use Rattle.gateway_wire.specs.declared.request.Request.{Request};
-ghost use Rattle.gateway_wire.specs.Request.{command_of, request_words, request_line, IsRequest, IsRequestLine, AreRequestWords};
+ghost use Rattle.lw_types.specs.declared.identifiers.Eui.{Eui};
+ghost use Rattle.lw_types.specs.declared.key.Key.{Key};
+ghost use Rattle.devices.specs.declared.Tag.{Tag};
+ghost use Rattle.gateway_wire.specs.Request.{command_of, request_words, request_line, IsRequest, IsRequestLine, IsRequestOf, AreRequestWords};
+ghost use Rattle.gateway_wire.specs.Finding.{item_words, AreItemFields, Finds};
 
-use crate::word_values::{next_ranged, next_value};
-use devices::{Application, Command, Provisioning, Rx1Offset, RxDelay};
+use crate::word_values::{Confirmed, last_bytes, next_ranged, next_value};
+use devices::{
+    Application, AskedBytes, Command, MacQueueing, Provisioning, Queueing, Rx1Offset, RxDelay, Tag,
+};
 use lw_types::{Eui, Key, Refusal, Words, laws};
 use std::alloc::Global;
 
@@ -20,6 +26,19 @@ pub enum Request {
         app_key: Key,
         rx1_offset: Rx1Offset,
         rx_delay: RxDelay,
+    },
+    /// `queue`: an item is queued for a device.
+    Queue {
+        dev_eui: Eui,
+        tag: Tag,
+        port: u8,
+        confirmed: bool,
+        payload: AskedBytes,
+    },
+    /// `mac`: MAC commands are queued for a device.
+    Mac {
+        dev_eui: Eui,
+        commands: AskedBytes,
     },
 }
 
@@ -42,6 +61,25 @@ impl Request {
                 app_key,
                 rx1_offset,
                 rx_delay,
+            }),
+            Request::Queue {
+                dev_eui,
+                tag,
+                port,
+                confirmed,
+                payload,
+            } => Command::Queue(Queueing {
+                application,
+                dev_eui,
+                tag,
+                port,
+                confirmed,
+                payload,
+            }),
+            Request::Mac { dev_eui, commands } => Command::QueueMac(MacQueueing {
+                application,
+                dev_eui,
+                commands,
             }),
         }
     }
@@ -67,25 +105,35 @@ pub fn read_line(alloc: Global, line: &str) -> Result<Request, Refusal>
 
 /// The request of this name with these fields, each a word. Anything else is refused as
 /// `BadMessage`, whether or not there is memory.
-pub fn read_request(_alloc: Global, name: &str, fields: Words<'_>) -> Result<Request, Refusal>
+pub fn read_request(alloc: Global, name: &str, fields: Words<'_>) -> Result<Request, Refusal>
     ensures found { IfOk result (λ r. IsRequest r × (name.now ∷ words_left fields.entry ≡ request_words r)) }
     ensures only { (r : Request) → IsRequest r → name.now ∷ words_left fields.entry ≡ request_words r
         → MatchResult result (λ x. x ≡ r) (λ e. e ≡ OutOfMemory) }
     ensures malformed { (result ≡ Err BadMessage) ↔ ¬ (AreRequestWords (name.now ∷ words_left fields.entry)) }
     ensures refused { IfErr result (λ e. (e ≡ BadMessage) ⊎ (e ≡ OutOfMemory)) }
 {
-    let request = match name {
-        "provision" => provision(fields),
-        _ => None,
-    };
-    request.ok_or(Refusal::BadMessage)
+    laws::each_text_is_of_one_value();
+    find_request(alloc, name, fields)
+}
+
+fn find_request(alloc: Global, name: &str, fields: Words<'_>) -> Result<Request, Refusal>
+    ensures { Finds (IsRequestOf (name.now ∷ words_left fields.entry)) result }
+{
+    match name {
+        "provision" => provision(fields).ok_or(Refusal::BadMessage),
+        "queue" => queue(alloc, fields),
+        "mac" => mac(alloc, fields),
+        _ => Err(Refusal::BadMessage),
+    }
 }
 
 // The device that is brought: DevEUI, JoinEUI, AppKey, RX1DROffset and RX1's delay.
 fn provision(mut fields: Words<'_>) -> Option<Request>
     ensures found { IfSome result (λ r. IsRequest r × (codes "provision" ∷ words_left fields.entry ≡ request_words r)) }
-    ensures only { (r : Request) → IsRequest r → codes "provision" ∷ words_left fields.entry ≡ request_words r
-        → result ≡ Some r }
+    ensures only { (dev_eui : Eui) (join_eui : Eui) (app_key : Key) (rx1_offset : ℕ) (rx_delay : ℕ)
+        → IsRequest (Request.Provision dev_eui join_eui app_key rx1_offset rx_delay)
+        → codes "provision" ∷ words_left fields.entry ≡ request_words (Request.Provision dev_eui join_eui app_key rx1_offset rx_delay)
+        → result ≡ Some (Request.Provision dev_eui join_eui app_key rx1_offset rx_delay) }
 {
     let dev_eui = next_value(&mut fields)?;
     let join_eui = next_value(&mut fields)?;
@@ -115,5 +163,51 @@ fn brought(
         app_key,
         rx1_offset,
         rx_delay,
+    }
+}
+
+// The item that is queued: DevEUI, tag, port, whether it is confirmed, and its payload.
+fn queue(alloc: Global, mut fields: Words<'_>) -> Result<Request, Refusal>
+    ensures { Finds (IsRequestOf (codes "queue" ∷ words_left fields.entry)) result }
+{
+    match item_fields(&mut fields) {
+        None => Err(Refusal::BadMessage),
+        Some((dev_eui, tag, port, confirmed)) => match last_bytes(alloc, fields) {
+            Err(e) => Err(e),
+            Ok(payload) => Ok(Request::Queue {
+                dev_eui,
+                tag,
+                port,
+                confirmed,
+                payload,
+            }),
+        },
+    }
+}
+
+fn item_fields(fields: &mut Words<'_>) -> Option<(Eui, Tag, u8, bool)>
+    ensures found { IfSome result (λ x. AreItemFields x.0 x.1 x.2
+        × (words_left fields.old ≡ item_words x.0 x.1 x.2 x.3 (words_left fields.new))) }
+    ensures only { (dev_eui : Eui) (tag : Tag) (port : ℕ) (confirmed : Bool) (rest : List (List ℕ))
+        → AreItemFields dev_eui tag port → words_left fields.old ≡ item_words dev_eui tag port confirmed rest
+        → (result ≡ Some (dev_eui, tag, port, confirmed)) × (words_left fields.new ≡ rest) }
+{
+    let dev_eui = next_value(fields)?;
+    let tag: u32 = next_value(fields)?;
+    let port = next_value(fields)?;
+    let confirmed: Confirmed = next_value(fields)?;
+    Some((dev_eui, Tag(tag), port, confirmed.0))
+}
+
+// The MAC commands that are queued: DevEUI and the commands.
+fn mac(alloc: Global, mut fields: Words<'_>) -> Result<Request, Refusal>
+    ensures { Finds (IsRequestOf (codes "mac" ∷ words_left fields.entry)) result }
+{
+    match next_value(&mut fields) {
+        None => Err(Refusal::BadMessage),
+        Some(dev_eui) => match last_bytes(alloc, fields) {
+            Err(e) => Err(e),
+            Ok(commands) => Ok(Request::Mac { dev_eui, commands }),
+        },
     }
 }

@@ -1,13 +1,18 @@
 // Values that are words of a line.
-ghost use Rattle.std.specs.Prelude.{◌≡◌, ◌≤◌, ◌∷◌, ℕ, List, Some, IfSome};
+ghost use Rattle.std.specs.Prelude.{◌≡◌, ◌≤◌, ◌∷◌, ◌⊎◌, ◌↔◌, ℕ, Err, List, Some, IfErr, IfOk, IfSome};
 ghost use Rattle.std.specs.Fmt.{decimal};
+ghost use Rattle.lw_types.specs.Hex.{field_text, IsBytes, IsFieldText};
 ghost use Rattle.lw_types.specs.WordsLeft.{words_left};
+ghost use Rattle.lw_types.specs.declared.refusal.Refusal.TheVariants.{BadMessage, OutOfMemory};
+ghost use Rattle.gateway_wire.specs.Finding.{AreLast, Finds};
 
-use devices::Ranged;
-use lw_types::{FromText, Words};
+use devices::{AskedBytes, Ranged};
+use lw_types::{FromText, Refusal, Words, read_field};
+use std::alloc::Global;
 
 /// The value whose text the next word is; `None` for any other word, and where no word is left.
 pub fn next_value<T: FromText>(words: &mut Words<'_>) -> Option<T>
+    ensures value { IfSome result T.is_value }
     ensures found { IfSome result (λ x. words_left words.old ≡ T.text_of x ∷ words_left words.new) }
     ensures only { (x : T) (rest : List (List ℕ)) → T.is_value x → words_left words.old ≡ T.text_of x ∷ rest
         → (result ≡ Some x) × (words_left words.new ≡ rest) }
@@ -25,4 +30,49 @@ pub fn next_ranged<const LEAST: u64, const MOST: u64>(
         → (result ≡ Some n) × (words_left words.new ≡ rest) }
 {
     Ranged::new(next_value(words)?)
+}
+
+/// Whether an item is confirmed: `c` for yes, and `u` for no.
+#[derive(Clone, Copy, Debug, PartialEq, Eq)]
+pub(crate) struct Confirmed(pub bool);
+
+impl FromText for Confirmed {
+    ghost use Rattle.gateway_wire.specs.Request.{confirmed_text};
+
+    ghost text_of = { λ confirmed. confirmed_text confirmed.0 };
+
+    #[tactic(auto, unfolding(crate::specs::Request::confirmed_text))]
+    fn from_text(text: &str) -> Option<Self> {
+        match text {
+            "c" => Some(Confirmed(true)),
+            "u" => Some(Confirmed(false)),
+            _ => None,
+        }
+    }
+}
+
+/// The bytes whose text the last word is, `-` where there are none. Any other word is refused as
+/// `BadMessage`, as are no word and more than one, whether or not there is memory.
+pub(crate) fn last_bytes(alloc: Global, mut words: Words<'_>) -> Result<AskedBytes, Refusal>
+    ensures { Finds (AreLast (words_left words.entry)) result }
+{
+    match (words.next(), words.next()) {
+        (Some(word), None) => bytes_of(alloc, word),
+        _ => Err(Refusal::BadMessage),
+    }
+}
+
+// The bytes whose text this is.
+fn bytes_of(alloc: Global, text: &str) -> Result<AskedBytes, Refusal>
+    ensures found { IfOk result (λ bytes. IsBytes bytes × (text.now ≡ field_text bytes)) }
+    ensures malformed { (result ≡ Err BadMessage) ↔ ¬ (IsFieldText text.now) }
+    ensures refused { IfErr result (λ e. (e ≡ BadMessage) ⊎ (e ≡ OutOfMemory)) }
+{
+    match read_field(alloc, text) {
+        Err(e) => Err(e),
+        Ok(bytes) => {
+            let asked: Result<AskedBytes, _> = AskedBytes::new(bytes);
+            Ok(asked.unwrap())
+        }
+    }
 }

@@ -3,7 +3,7 @@ use Rattle.gateway_wire.specs.declared.request.Request.TheVariants.{Provision}
 use Rattle.gateway_wire.proofs.request.provision.Goals as goal
 
 pub returns-in_err-rx_delay-clause-only : goal.returns-in_err-rx_delay-clause-only
-returns-in_err-rx_delay-clause-only c (Provision dev_eui join_eui app_key offset delay) ranges is =
+returns-in_err-rx_delay-clause-only c dev_eui join_eui app_key offset delay ranges is =
     let one = c.next_value.ensures.only dev_eui _ ranges.0 (ap (drop 1) is) in
     let two = c.next_value-2.ensures.only join_eui _ ranges.1 one.1 in
     let three = c.next_value-3.ensures.only app_key _ ranges.2 two.1 in
@@ -25,7 +25,7 @@ returns-in-None-clause-found c =
     (c.brought.ensures.in_range, rw made cc)
 
 pub returns-in-None-clause-only : goal.returns-in-None-clause-only
-returns-in-None-clause-only c (Provision dev_eui join_eui app_key offset delay) ranges is =
+returns-in-None-clause-only c dev_eui join_eui app_key offset delay ranges is =
     let one = c.next_value.ensures.only dev_eui _ ranges.0 (ap (drop 1) is) in
     let two = c.next_value-2.ensures.only join_eui _ ranges.1 one.1 in
     let three = c.next_value-3.ensures.only app_key _ ranges.2 two.1 in

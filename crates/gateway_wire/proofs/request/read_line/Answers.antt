@@ -17,6 +17,7 @@ texts c =
       words = c.a_line_is_its_words.ensures.words;
       euis = c.each_text_is_a_word.ensures.euis;
       keys = c.each_text_is_a_word.ensures.keys;
+      fields = c.each_text_is_a_word.ensures.fields;
       decimals = c.each_text_is_a_word.ensures.decimals;
     }
 
@@ -47,6 +48,7 @@ some_words c r ranges is =
       words = c.a_line_is_its_words.ensures.words;
       euis = c.each_text_is_a_word.ensures.euis;
       keys = c.each_text_is_a_word.ensures.keys;
+      fields = c.each_text_is_a_word.ensures.fields;
       decimals = c.each_text_is_a_word.ensures.decimals;
     } in
     has_words r (sym c.in-None.ensures.steps.0 ∙ (c.of-words.ensures ∙ request_line_words texts c.args.line.now r ranges is))

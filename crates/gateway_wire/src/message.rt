@@ -1,0 +1,34 @@
+// What is said on the links of a network.
+use crate::line::Line;
+use devices::Application;
+use lw_types::{Eui, FrameCopy};
+
+/// Who is at the other end of a link.
+#[derive(Clone, Copy, Debug, PartialEq, Eq)]
+pub enum Peer {
+    Gateway(Eui),
+    Application(Application),
+}
+
+/// What a gateway or an application says on its link.
+#[derive(Clone, Debug, PartialEq, Eq, Drop)]
+pub enum Message {
+    /// Who it is: the first message of each link, and no later one.
+    Greeting(Peer),
+    /// A gateway's copy of a frame.
+    Copy(FrameCopy),
+    /// What an application asks for, in ASCII and without a newline.
+    Line(Line),
+}
+
+// What each content begins with.
+pub(crate) const GATEWAY_GREETING: u8 = 0x00;
+
+pub(crate) const UPLINK_COPY: u8 = 0x01;
+
+pub(crate) const APPLICATION_GREETING: u8 = 0x02;
+
+pub(crate) const REQUEST: u8 = 0x03;
+
+/// The most bytes of content of a frame.
+pub(crate) const LONGEST_CONTENT: usize = 700;
