@@ -13,10 +13,10 @@ use Rattle.sessions.specs.Table.{TableState, Step, step}
 use Rattle.sessions.specs.Decision.{AnswersTo, is_frugal, ContinueAll, Decides, IsDecision, Fits, FitAll, applied, applied_all, taken_back_all}
 use Rattle.sessions.specs.declared.decision.Decision.{Decision}
 use Rattle.session_core.specs.declared.decisions.TheConstants.{LAST_NUMBER, MOST_UNTAKEN}
-use Rattle.session_core.specs.State.{CoreState, IsLawful, now_of, last_number}
-use Rattle.session_core.specs.Events.{has_room, wanted, Lacks, Makes, taken_from}
+use Rattle.session_core.specs.State.{DecisionsState, IsLawful, now_of, last_number}
+use Rattle.session_core.specs.Deciding.{has_room, wanted, Lacks, Makes, taken_from}
 
-abbrev pub with_decision : CoreState → Decision → CoreState
+abbrev pub with_decision : DecisionsState → Decision → DecisionsState
 with_decision s d = record s { log = s.log ++ d ∷ []; made = s.made + 1 }
 
 both_true : (a b : Bool) → (a && b) ≡ true → (a ≡ true) × (b ≡ true)
@@ -24,13 +24,13 @@ both_true true b h = (refl, h)
 both_true false b h = absurd (false≢true h)
 
 -- there is room where few wait and a number is left
-pub room-few : (s : CoreState) → has_room s ≡ true → (length s.log < MOST_UNTAKEN) × (last_number s < LAST_NUMBER)
+pub room-few : (s : DecisionsState) → has_room s ≡ true → (length s.log < MOST_UNTAKEN) × (last_number s < LAST_NUMBER)
 room-few s room =
     let parts = both_true (nat_lt (length s.log) MOST_UNTAKEN) (nat_lt (last_number s) LAST_NUMBER) room in
     (ltb-true (length s.log) MOST_UNTAKEN parts.0, ltb-true (last_number s) LAST_NUMBER parts.1)
 
 -- what is wanted while there is room
-pub wanted-room : (s : CoreState) (c : Command) → has_room s ≡ true → wanted s c ≡ step (now_of s) c
+pub wanted-room : (s : DecisionsState) (c : Command) → has_room s ≡ true → wanted s c ≡ step (now_of s) c
 wanted-room s c room = ap (λ b. cond b (step (now_of s) c) (Err Backlog)) room
 
 -- a command was decided
@@ -60,7 +60,7 @@ pub step-made : (t : TableState) (seq : ℕ) (c : Command) (d : Decision) → De
 step-made t seq c d made = answered_ok (is_frugal c) (step t c) (IsDecision t seq c) d made
 
 -- a decided command was wanted
-pub decided-made : (s : CoreState) (c : Command) (d : Decision) → has_room s ≡ true → Decides (now_of s) (last_number s + 1) c (Ok d) → (new : CoreState)
+pub decided-made : (s : DecisionsState) (c : Command) (d : Decision) → has_room s ≡ true → Decides (now_of s) (last_number s + 1) c (Ok d) → (new : DecisionsState)
     → new ≡ with_decision s d → AnswersTo c (wanted s c) (λ st _. Makes s c st new) decided
 decided-made s c d room made new is =
     let st = step-made (now_of s) (last_number s + 1) c d made in
@@ -96,11 +96,11 @@ AnyStep _ _ = Unit {0}
 abbrev NoStep : Step → Unit {0} → Type 0
 NoStep _ _ = ⊥
 
-pub lacks-full : (s : CoreState) (c : Command) → has_room s ≡ false → Lacks s c Backlog
+pub lacks-full : (s : DecisionsState) (c : Command) → has_room s ≡ false → Lacks s c Backlog
 lacks-full s c full =
     subst (λ w. AnswersTo c w NoStep (Err Backlog)) (sym (ap (λ b. cond b (step (now_of s) c) (Err Backlog)) full)) (no_room NoStep (is_frugal c))
 
-module _ (s : CoreState) (t : TableState) (c : Command) (now : t ≡ now_of s) (room : has_room s ≡ true) where
+module _ (s : DecisionsState) (t : TableState) (c : Command) (now : t ≡ now_of s) (room : has_room s ≡ true) where
   here : wanted s c ≡ step t c
   here = wanted-room s c room ∙ ap (λ (t : TableState). step t c) (sym now)
 
@@ -132,7 +132,7 @@ module _ (s : CoreState) (t : TableState) (c : Command) (now : t ≡ now_of s) (
   lacks-err e weighed = subst (λ w. AnswersTo c w NoStep (Err e)) (sym here) (refused_as AnyStep NoStep (is_frugal c) (step t c) e weighed)
 
 -- so its turn is refused so
-pub lacks-turned : (s : CoreState) (c : Command) (Is : Step → Unit {0} → Type 0) (e : Refusal) → Lacks s c e → AnswersTo c (wanted s c) Is (Err e)
+pub lacks-turned : (s : DecisionsState) (c : Command) (Is : Step → Unit {0} → Type 0) (e : Refusal) → Lacks s c e → AnswersTo c (wanted s c) Is (Err e)
 lacks-turned s c Is e lacks = refused_as NoStep Is (is_frugal c) (wanted s c) e lacks
 
 drop_min : {X : Type 0} (n : ℕ) (xs : List X) → drop (min n (length xs)) xs ≡ drop n xs
@@ -149,7 +149,7 @@ module _
     (joined : (t : TableState) (first second : List Decision) → applied_all t (first ++ second) ≡ applied_all (applied_all t first) second)
     (back : (t : TableState) (ds : List Decision) → FitAll t ds → taken_back_all (applied_all t ds) ds ≡ t) where
   -- one decision more
-  pub lawful-made : (s : CoreState) (d : Decision) → IsLawful s → length s.log < MOST_UNTAKEN → last_number s < LAST_NUMBER
+  pub lawful-made : (s : DecisionsState) (d : Decision) → IsLawful s → length s.log < MOST_UNTAKEN → last_number s < LAST_NUMBER
       → Fits (now_of s) d → d.seq ≡ last_number s + 1 → IsLawful (with_decision s d)
   lawful-made s d lawful room below fits number =
       let longer = length_push s.log d in
@@ -161,20 +161,20 @@ module _
         numbers = omega arith;
       }
 
-  pub now-made : (s : CoreState) (d : Decision) → now_of (with_decision s d) ≡ applied (now_of s) d
+  pub now-made : (s : DecisionsState) (d : Decision) → now_of (with_decision s d) ≡ applied (now_of s) d
   now-made s d = joined s.base s.log (d ∷ [])
 
   -- what is kept of it
-  pub state-made : (s : CoreState) (d : Decision) (table : TableState) (log : List Decision) → IsLawful (with_decision s d)
+  pub state-made : (s : DecisionsState) (d : Decision) (table : TableState) (log : List Decision) → IsLawful (with_decision s d)
       → table ≡ applied (now_of s) d → log ≡ s.log ++ d ∷ []
       → record s { base = taken_back_all table log; made = s.made + 1; log = log } ≡ with_decision s d
   state-made s d table log lawful table_is log_is =
-      let kept : TableState → List Decision → CoreState = λ t l. record s { base = taken_back_all t l; made = s.made + 1; log = l } in
+      let kept : TableState → List Decision → DecisionsState = λ t l. record s { base = taken_back_all t l; made = s.made + 1; log = l } in
       ap (λ l. kept table l) log_is
       ∙ (ap (λ t. kept t (s.log ++ d ∷ [])) (table_is ∙ sym (now-made s d))
       ∙ ap (λ b. record s { base = b; made = s.made + 1; log = s.log ++ d ∷ [] }) (back s.base (s.log ++ d ∷ []) lawful.continues.fit))
 
-  parts : (s : CoreState) (n : ℕ) → IsLawful s
+  parts : (s : DecisionsState) (n : ℕ) → IsLawful s
       → ContinueAll s.base (s.opening + s.taken) (take n s.log)
       × ContinueAll (applied_all s.base (take n s.log)) ((s.opening + s.taken) + length (take n s.log)) (drop n s.log)
   parts s n lawful =
@@ -182,7 +182,7 @@ module _
       (continues s.base (s.opening + s.taken) (take n s.log) (drop n s.log)).0 (subst P (sym (take-append-drop n s.log)) lawful.continues)
 
   -- the first decisions are taken
-  pub lawful-taken : (s : CoreState) (n : ℕ) → IsLawful s → IsLawful (taken_from s n)
+  pub lawful-taken : (s : DecisionsState) (n : ℕ) → IsLawful s → IsLawful (taken_from s n)
   lawful-taken s n lawful =
       let sum : length (take n s.log) + length (drop n s.log) ≡ length s.log =
       sym (length-append (take n s.log) (drop n s.log)) ∙ ap length (take-append-drop n s.log) in
@@ -194,14 +194,14 @@ module _
         numbers = lawful.numbers;
       }
 
-  pub now-taken : (s : CoreState) (n : ℕ) → now_of (taken_from s n) ≡ now_of s
+  pub now-taken : (s : DecisionsState) (n : ℕ) → now_of (taken_from s n) ≡ now_of s
   now-taken s n = sym (joined s.base (take n s.log) (drop n s.log)) ∙ ap (applied_all s.base) (take-append-drop n s.log)
 
   -- what is kept then
-  pub state-taken : (s : CoreState) (n : ℕ) (table : TableState) (log : List Decision) → IsLawful s → n ≤ length s.log → table ≡ now_of s → log ≡ drop n s.log
+  pub state-taken : (s : DecisionsState) (n : ℕ) (table : TableState) (log : List Decision) → IsLawful s → n ≤ length s.log → table ≡ now_of s → log ≡ drop n s.log
       → record s { base = taken_back_all table log; taken = s.taken + n; log = log } ≡ taken_from s n
   state-taken s n table log lawful within table_is log_is =
-      let kept : TableState → List Decision → CoreState = λ t l. record s { base = taken_back_all t l; taken = s.taken + n; log = l } in
+      let kept : TableState → List Decision → DecisionsState = λ t l. record s { base = taken_back_all t l; taken = s.taken + n; log = l } in
       let front = applied_all s.base (take n s.log) in
       ap (λ l. kept table l) log_is
       ∙ (ap (λ t. kept t (drop n s.log)) (table_is ∙ sym (now-taken s n))
@@ -209,7 +209,7 @@ module _
       ∙ ap (λ k. record s { base = front; taken = s.taken + k; log = drop n s.log }) (sym (length-take-le n s.log within))))
 
 -- as many are taken as there are
-pub taken-min : (s : CoreState) (n most : ℕ) → n ≡ min most (length s.log) → taken_from s n ≡ taken_from s most
+pub taken-min : (s : DecisionsState) (n most : ℕ) → n ≡ min most (length s.log) → taken_from s n ≡ taken_from s most
 taken-min s n most least =
     ap (λ l. record s { base = applied_all s.base l; taken = s.taken + length l; log = drop n s.log }) (ap (λ k. take k s.log) least ∙ take_min most s.log)
     ∙ ap (λ l. record s { base = applied_all s.base (take most s.log); taken = s.taken + length (take most s.log); log = l })

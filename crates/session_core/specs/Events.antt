@@ -1,52 +1,88 @@
--- What the calls of a core do.
-use Rattle.std.specs.Prelude.{◌≡◌, ◌+◌, ℕ, Bool, false, [], ◌∷◌, ◌++◌, length, take, drop, nat_lt, ◌&&◌, if◌then◌else◌, Option, Some, None, Result, Ok, Err, OnErr}
+-- What an event does: the windows that are due are closed, and then its own is done.
+use Rattle.std.specs.Prelude.{◌≡◌, ◌≢◌, ℕ, zero, suc, max, Bool, List, Option, Some, None, Result, Err, OnErr, OnOk, MatchBool}
+use Rattle.std.specs.List.{list_any}
+use Rattle.lw_types.specs.Answer.{Answers}
 use Rattle.lw_types.specs.declared.refusal.Refusal.{Refusal}
-use Rattle.lw_types.specs.declared.refusal.Refusal.TheVariants.{Backlog}
+use Rattle.lw_types.specs.declared.refusal.Refusal.TheVariants.{OutOfMemory, UnknownChannel}
+use Rattle.lw_types.specs.declared.frame_copy.FrameCopy.{FrameCopy}
+use Rattle.devices.specs.Heard.{IsReceivable}
+use Rattle.devices.specs.declared.heard.Heard.{Heard}
 use Rattle.devices.specs.declared.command.Command.{Command}
-use Rattle.sessions.specs.Table.{Step, step}
-use Rattle.sessions.specs.Decision.{AnswersTo, IsDecision, applied_all}
-use Rattle.sessions.specs.declared.decision.Decision.{Decision}
-use Rattle.session_core.specs.declared.decisions.TheConstants.{LAST_NUMBER, MOST_UNTAKEN}
+use Rattle.devices.specs.declared.command.Command.TheVariants as commands
+use Rattle.dedup.specs.Windows.{Window, IsOldestDue, is_due, added}
+use Rattle.session_core.specs.State.{DecisionsState}
+use Rattle.session_core.specs.Deciding.{Keeps, verdict_of}
+use Rattle.session_core.specs.Core.{CoreState, with_outcome}
 use Rattle.session_core.specs.declared.turn.Turn.{Turn}
-use Rattle.session_core.specs.State.{CoreState, now_of, last_number}
 
--- whether there is room for one decision more that waits, and a number for it
-abbrev pub has_room : CoreState → Bool
-has_room s = nat_lt (length s.log) MOST_UNTAKEN && nat_lt (last_number s) LAST_NUMBER
+-- a command was handed in, and this came of it, which is noted
+pub record Handles (old : CoreState) (command : Command) (result : Result (Unit {0}) Refusal) (new : CoreState) : Type 0 where
+  pub decisions : DecisionsState
+  pub kept : Keeps old.decisions command result decisions
+  pub new_is : new ≡ with_outcome old decisions result
 
--- what a command is to get: while there is room, its step in the table as it is now
-abbrev pub wanted : CoreState → Command → Result Step Refusal
-wanted s command = if has_room s then step (now_of s) command else Err Backlog
+-- the oldest window is due, and what was heard in it was handed in
+pub record HandsInOldest (old : CoreState) (result : Result (Unit {0}) Refusal) (new : CoreState) : Type 0 where
+  pub heard : Heard
+  pub rest : List Window
+  pub oldest : IsOldestDue old.clock old.windows heard rest
+  pub handled : Handles old (commands.Heard heard) result new
 
--- one decision more, which is this step of the command
-pub record Makes (old : CoreState) (command : Command) (s : Step) (new : CoreState) : Type 0 where
-  pub decision : Decision
-  pub is_step : IsDecision (now_of old) (last_number old + 1) command s decision
-  pub new_is : new ≡ record old { log = old.log ++ decision ∷ []; made = old.made + 1 }
+-- and the window was closed, since there was memory
+pub record ClosesOldest (old new : CoreState) : Type 0 where
+  pub result : Result (Unit {0}) Refusal
+  pub between : CoreState
+  pub handed_in : HandsInOldest old result between
+  pub there_was_memory : result ≢ Err OutOfMemory
+  pub new_is : new ≡ record between { windows = handed_in.rest }
 
--- nothing was decided
-pub record Stays (old : CoreState) (turn : Turn) (new : CoreState) : Type 0 where
-  pub same : new ≡ old
-  pub none : turn.to ≡ turn.from
+-- so many were closed, one after another
+abbrev pub Closes : ℕ → CoreState → CoreState → Type 0
+Closes zero old new = new ≡ old
+Closes (suc n) old new = (before : CoreState) × Closes n old before × ClosesOldest before new
 
--- whether a command was decided
-abbrev pub verdict_of : Option Refusal → Result (Unit {0}) Refusal
-verdict_of None = Ok tt
-verdict_of (Some refusal) = Err refusal
+-- some were closed, and they were counted
+pub record HasClosed (old new : CoreState) : Type 0 where
+  pub last : CoreState
+  pub closed : Closes new.closings old last
+  pub new_is : new ≡ record last { closings = new.closings }
 
--- this is answered to a command that there is no memory for
-abbrev pub Lacks : CoreState → Command → Refusal → Type 0
-Lacks s command refusal = AnswersTo {B = Unit {0}} command (wanted s command) (λ _ _. ⊥) (Err refusal)
+-- the effective time never falls
+abbrev pub moved : CoreState → ℕ → CoreState
+moved s moment = record s { clock = max s.clock moment; closings = 0 }
 
--- The turn of one command: it is decided, or its refusal is answered and nothing changes. That there is no room is known
--- before any memory is taken.
-pub record Turns (old : CoreState) (command : Command) (turn : Turn) (new : CoreState) : Type 0 where
-  pub from : turn.from ≡ old.made
-  pub full : has_room old ≡ false → turn.refused ≡ Some Backlog
-  pub decided : AnswersTo command (wanted old command) (λ s _. (turn.to ≡ turn.from + 1) × Makes old command s new) (verdict_of turn.refused)
-  pub refused : OnErr (verdict_of turn.refused) (Stays old turn new)
+-- whether a window is due
+abbrev pub has_due : CoreState → Bool
+has_due s = list_any (is_due s.clock) s.windows
 
--- the first n decisions leave the log, and the base moves past them
-abbrev pub taken_from : CoreState → ℕ → CoreState
-taken_from s n =
-    record s { base = applied_all s.base (take n s.log); taken = s.taken + length (take n s.log); log = drop n s.log }
+-- for a closing there was no memory: the windows that are left stay open, and the event's own isn't done
+abbrev pub Starves : CoreState → Option Refusal → CoreState → Type 0
+Starves s refused new = (refused ≡ Some OutOfMemory) × (new ≡ s)
+
+-- An event: at its moment the windows that are due are closed, in the order of opening, and then its own is done. The turn
+-- tells which decisions were made, and why the event's own was refused.
+pub record IsTurn (old : CoreState) (moment : ℕ) (Own : CoreState → Option Refusal → CoreState → Type 0) (turn : Turn) (new : CoreState) : Type 0 where
+  pub between : CoreState
+  pub closed : HasClosed (moved old moment) between
+  pub own : MatchBool (has_due between) (Starves between turn.refused new) (Own between turn.refused new)
+  pub from : turn.from ≡ old.decisions.made
+  pub to : turn.to ≡ new.decisions.made
+
+-- of a command: it is handed in
+abbrev pub Asks : Command → CoreState → Option Refusal → CoreState → Type 0
+Asks command s refused new = Handles s command (verdict_of refused) new
+
+-- of a moment alone: nothing
+abbrev pub Ticks : CoreState → Option Refusal → CoreState → Type 0
+Ticks s refused new = (refused ≡ None) × (new ≡ s)
+
+-- Of a copy of a frame: where it is on a channel at a data rate that a device may use, a window takes it, or is refused as
+-- the windows refuse it.
+pub record IsHeard (copy : FrameCopy) (old : CoreState) (result : Result (Unit {0}) Refusal) (new : CoreState) : Type 0 where
+  pub receivable : IsReceivable copy.reception → Answers (added old.windows old.clock copy) (λ ws _. new ≡ record old { windows = ws }) result
+  pub known : OnOk result (IsReceivable copy.reception)
+  pub unknown : ¬ (IsReceivable copy.reception) → result ≡ Err UnknownChannel
+  pub same : OnErr result (new ≡ old)
+
+abbrev pub Hears : FrameCopy → CoreState → Option Refusal → CoreState → Type 0
+Hears copy s refused new = IsHeard copy s (verdict_of refused) new

@@ -1,11 +1,11 @@
--- How a core is kept.
+-- How the decisions of a life are kept.
 use Rattle.std.specs.Prelude.{◌≡◌}
 use Rattle.sessions.specs.Decision.{taken_back_all}
-use Rattle.session_core.specs.State.{CoreState, IsLawful, now_of}
-use Rattle.session_core.specs.declared.decisions.Core.TheInside.{Inside}
+use Rattle.session_core.specs.State.{DecisionsState, IsLawful, now_of}
+use Rattle.session_core.specs.declared.decisions.Decisions.TheInside.{Inside}
 
 -- the table that the taken decisions leave is the one at hand with the others taken back
-abbrev pub state_of : Inside → CoreState
+abbrev pub state_of : Inside → DecisionsState
 state_of c =
     record { base = taken_back_all c.table c.log.items; opening = c.opening; made = c.made; taken = c.taken; log = c.log.items }
 

@@ -7,7 +7,7 @@ use Rattle.session_core.specs.declared.decisions.TheConstants.{LAST_NUMBER, MOST
 
 -- The table that the taken decisions leave, the number at which this life began, how many decisions were made and
 -- taken in it, and those that were made and not taken, the oldest first.
-pub record CoreState : Type 0 where
+pub record DecisionsState : Type 0 where
   pub base : TableState
   pub opening : ℕ
   pub made : ℕ
@@ -15,20 +15,20 @@ pub record CoreState : Type 0 where
   pub log : List Decision
 
 -- the table after every decision made
-abbrev pub now_of : CoreState → TableState
+abbrev pub now_of : DecisionsState → TableState
 now_of s = applied_all s.base s.log
 
 -- the sequence number of the last decision made
-abbrev pub last_number : CoreState → ℕ
+abbrev pub last_number : DecisionsState → ℕ
 last_number s = s.opening + s.made
 
 -- the log continues what was taken, none is missing from it, and it has its limits
-pub record IsLawful (s : CoreState) : Type 0 where
+pub record IsLawful (s : DecisionsState) : Type 0 where
   pub continues : ContinueAll s.base (s.opening + s.taken) s.log
   pub count : s.taken + length s.log ≡ s.made
   pub few : length s.log ≤ MOST_UNTAKEN
   pub numbers : last_number s ≤ max s.opening LAST_NUMBER
 
--- the core at the beginning of a life
-abbrev pub opened : TableState → ℕ → CoreState
+-- the decisions at the beginning of a life
+abbrev pub opened : TableState → ℕ → DecisionsState
 opened table seq = record { base = table; opening = seq; made = 0; taken = 0; log = [] }

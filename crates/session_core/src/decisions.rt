@@ -1,9 +1,8 @@
 // The decisions of one life.
-ghost use Rattle.std.specs.Prelude.{◌≡◌, ◌≤◌, MatchResult, OnErr, SomeIff, Err, false, take, drop, length, []};
+ghost use Rattle.std.specs.Prelude.{◌≡◌, ◌≤◌, MatchResult, OnErr, Err, false, take, drop, length, []};
 ghost use Rattle.lw_types.specs.declared.refusal.Refusal.TheVariants.{Backlog, OutOfMemory};
-ghost use Rattle.devices.specs.declared.command.Command.{Command};
 ghost use Rattle.session_core.specs.State.{IsLawful, now_of, opened, last_number};
-ghost use Rattle.session_core.specs.Events.{Turns, Makes, Lacks, has_room, wanted, taken_from};
+ghost use Rattle.session_core.specs.Deciding.{Turns, Makes, Lacks, has_room, wanted, taken_from};
 ghost use Rattle.sessions.specs.Decision.{AnswersTo};
 
 use crate::{Moment, Turn};
@@ -26,10 +25,10 @@ pub const MOST_UNTAKEN: u64 = 4096;
 /// The greatest sequence number that a decision gets, 2^63 - 1.
 pub const LAST_NUMBER: u64 = (1 << 63) - 1;
 
-/// The decisions of one life. Its state is lawful whenever it can be seen: the untaken decisions
+/// The decisions of one life. Their state is lawful whenever it can be seen: the untaken decisions
 /// continue what was taken, none is missing, and the table at hand is the one that they leave.
 #[derive(Drop)]
-pub struct Core {
+pub struct Decisions {
     alloc: Global,
     // The table after every decision made. The one that they began at is this with the log taken back,
     // which no call needs.
@@ -40,10 +39,10 @@ pub struct Core {
     log: VecDeque<Decision>,
 }
 
-impl Model for Core {
-    ghost use Rattle.session_core.specs.State.{CoreState};
+impl Model for Decisions {
+    ghost use Rattle.session_core.specs.State.{DecisionsState};
 
-    ghost Value = { CoreState };
+    ghost Value = { DecisionsState };
 
     ghost use Rattle.session_core.specs.Kept.{state_of, IsKept};
 
@@ -52,13 +51,12 @@ impl Model for Core {
     ghost invariant = { IsKept };
 }
 
-impl Core {
-    /// The core at the beginning of a life, over a copy of this table, whose last decision has the
-    /// number `seq`.
+impl Decisions {
+    /// None yet, over a copy of this table, whose last decision has the number `seq`.
     pub fn new(alloc: Global, table: &Table, seq: u64) -> Result<Self, Refusal>
-        ensures { MatchResult result (λ core. core ≡ opened table.now seq) (λ e. e ≡ OutOfMemory) }
+        ensures { MatchResult result (λ decisions. decisions ≡ opened table.now seq) (λ e. e ≡ OutOfMemory) }
     {
-        Ok(Core {
+        Ok(Decisions {
             alloc,
             table: table.copy()?,
             opening: seq,
@@ -86,7 +84,8 @@ impl Core {
 
     /// How many decisions were made in this life.
     pub fn made(&self) -> u64
-        ensures { result ≡ self.now.made }
+        ensures count { result ≡ self.now.made }
+        ensures lawful { IsLawful self.now }
     {
         self.made
     }
@@ -99,9 +98,15 @@ impl Core {
         self.log.len()
     }
 
-    /// Decides a command that comes at this moment. Refused with `Backlog` where 4,096 decisions wait or
-    /// no number is left, whether or not there is memory, and then as [`Table::decide`] refuses it. A
-    /// refusal changes nothing.
+    /// Whether there is room for one decision more that waits, and a number for it.
+    pub(crate) fn has_room(&self) -> bool
+        ensures { result ≡ has_room self.now }
+    {
+        (self.log.len() as u64) < MOST_UNTAKEN && self.seq() < LAST_NUMBER
+    }
+
+    /// Decides a command that comes. Refused with `Backlog` where 4,096 decisions wait or no number is left, whether or
+    /// not there is memory, and then as [`Table::decide`] refuses it. A refusal changes nothing.
     pub fn decide(&mut self, _moment: Moment, command: Command) -> Turn
         ensures turns { Turns self.old command result self.new }
         ensures lawful { IsLawful self.old }
@@ -134,47 +139,9 @@ impl Core {
         }
     }
 
-    // What a command is refused where there is no memory for it.
-    fn lack(&self, command: &Command) -> Refusal
-        ensures full { has_room self.now ≡ false → result ≡ Backlog }
-        ensures lack { Lacks self.now command.now result }
-    {
-        if !self.has_room() {
-            return Refusal::Backlog;
-        }
-        match self.table.weigh(self.alloc, self.seq() + 1, command) {
-            Ok(()) => Refusal::OutOfMemory,
-            Err(refusal) => refusal,
-        }
-    }
-
-    // Whether there is room for one decision more that waits, and a number for it.
-    fn has_room(&self) -> bool
-        ensures { result ≡ has_room self.now }
-    {
-        (self.log.len() as u64) < MOST_UNTAKEN && self.seq() < LAST_NUMBER
-    }
-
-    /// Takes the oldest untaken decisions, at most `max` of them. After an `Err`, which is want of
-    /// memory, the core is as before. Its cost doesn't grow with the number of devices.
-    pub fn take(&mut self, max: Most) -> Result<Batch, Refusal>
-        ensures asked { 1 ≤ max }
-        ensures taken { MatchResult result
-            (λ batch. (batch ≡ take max self.old.log) × (self.new ≡ taken_from self.old max))
-            (λ e. (e ≡ OutOfMemory) × (self.new ≡ self.old)) }
-        ensures lawful { IsLawful self.old }
-    {
-        let count = self.log.len().min(max.get() as usize);
-        let mut batch = Batch::new(self.alloc)?;
-        sessions::laws::joining();
-        sessions::laws::taking_back();
-        move_front(&mut self.log, &mut batch, count);
-        self.taken += count as u64;
-        Ok(batch)
-    }
-
-    // Decides a command on the table as it is now, and keeps the decision.
-    fn keep(&mut self, command: Command) -> Result<(), Refusal>
+    /// Decides a command on the table as it is now, and keeps the decision. Refused with `Backlog` where there is no room,
+    /// and then as [`Table::decide`] refuses it.
+    pub(crate) fn keep(&mut self, command: Command) -> Result<(), Refusal>
         ensures full { has_room self.old ≡ false → result ≡ Err Backlog }
         ensures made { AnswersTo command (wanted self.old command) (λ s _. Makes self.old command s self.new) result }
         ensures same { OnErr result (self.new ≡ self.old) }
@@ -190,6 +157,38 @@ impl Core {
         self.log.push_back_reserved(decision);
         self.made += 1;
         Ok(())
+    }
+
+    /// What a command is refused where there is no memory for it.
+    pub(crate) fn lack(&self, command: &Command) -> Refusal
+        ensures full { has_room self.now ≡ false → result ≡ Backlog }
+        ensures lack { Lacks self.now command.now result }
+    {
+        if !self.has_room() {
+            return Refusal::Backlog;
+        }
+        match self.table.weigh(self.alloc, self.seq() + 1, command) {
+            Ok(()) => Refusal::OutOfMemory,
+            Err(refusal) => refusal,
+        }
+    }
+
+    /// Takes the oldest untaken decisions, at most `max` of them. After an `Err`, which is want of
+    /// memory, nothing has changed.
+    pub fn take(&mut self, max: Most) -> Result<Batch, Refusal>
+        ensures asked { 1 ≤ max }
+        ensures taken { MatchResult result
+            (λ batch. (batch ≡ take max self.old.log) × (self.new ≡ taken_from self.old max))
+            (λ e. (e ≡ OutOfMemory) × (self.new ≡ self.old)) }
+        ensures lawful { IsLawful self.old }
+    {
+        let count = self.log.len().min(max.get() as usize);
+        let mut batch = Batch::new(self.alloc)?;
+        sessions::laws::joining();
+        sessions::laws::taking_back();
+        move_front(&mut self.log, &mut batch, count);
+        self.taken += count as u64;
+        Ok(batch)
     }
 }
 

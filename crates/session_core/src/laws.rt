@@ -1,5 +1,14 @@
 //! Laws of this crate's types. Nothing here is of use but its contracts.
-ghost use Rattle.std.specs.Prelude.{◌≤◌, ◌<◌, ◌^◌, SomeIff};
+ghost use Rattle.std.specs.Prelude.{◌≤◌, ◌<◌, ◌^◌, ◌+◌, ℕ, List, [], SomeIff};
+ghost use Rattle.lw_types.specs.declared.frame_copy.FrameCopy.{FrameCopy};
+ghost use Rattle.devices.specs.declared.command.Command.{Command};
+ghost use Rattle.sessions.specs.Table.{TableState};
+ghost use Rattle.dedup.specs.Groups.{Arrival};
+ghost use Rattle.dedup.specs.Windows.{StandFor};
+ghost use Rattle.session_core.specs.Core.{CoreState, IsLawfulCore, begun};
+ghost use Rattle.session_core.specs.Events.{Asks, Hears, IsTurn, Ticks};
+ghost use Rattle.session_core.specs.Standing.{with_copy};
+ghost use Rattle.session_core.specs.declared.turn.Turn.{Turn};
 
 use crate::{Moment, Most};
 
@@ -15,4 +24,24 @@ pub fn moment_of(milliseconds: u64) -> Option<Moment>
     ensures { SomeIff result (milliseconds < 2 ^ 63) milliseconds }
 {
     Moment::new(milliseconds)
+}
+
+/// The windows of a core stand for the groups of the copies that it accepted in its life, of which the first so many are closed: an
+/// event closes the next of them that are due, and a copy that is accepted goes into its group.
+pub fn windows_stand_for_groups()
+    ensures at_first { (table : TableState) (seq : ℕ) → StandFor (begun table seq).windows [] 0 (begun table seq).clock }
+    ensures asked { (command : Command) (old new : CoreState) (moment closed : ℕ) (turn : Turn) (arrivals : List Arrival) →
+        IsTurn old moment (Asks command) turn new → StandFor old.windows arrivals closed old.clock →
+        StandFor new.windows arrivals (closed + new.closings) new.clock }
+    ensures ticked { (old new : CoreState) (moment closed : ℕ) (turn : Turn) (arrivals : List Arrival) →
+        IsTurn old moment Ticks turn new → StandFor old.windows arrivals closed old.clock →
+        StandFor new.windows arrivals (closed + new.closings) new.clock }
+    ensures heard { (copy : FrameCopy) (old new : CoreState) (moment closed : ℕ) (turn : Turn) (arrivals : List Arrival) →
+        IsTurn old moment (Hears copy) turn new → IsLawfulCore old → StandFor old.windows arrivals closed old.clock →
+        StandFor new.windows (with_copy turn.refused new.clock copy arrivals) (closed + new.closings) new.clock }
+{
+    dedup::laws::no_copies_no_windows();
+    dedup::laws::windows_close_in_order();
+    dedup::laws::windows_stand_later_too();
+    dedup::laws::a_copy_goes_into_its_group();
 }

@@ -1,9 +1,15 @@
-//! The decisions of one life: those made and not yet taken, and the table that they leave.
+//! What decides in one life: the windows in which the copies of a frame are gathered, the decisions that were made
+//! and not yet taken, the table that they leave, and what came of the last commands.
 #![tactic(auto)]
 
+mod closing;
 mod decisions;
+mod events;
 pub mod laws;
+mod outcome;
 mod turn;
 
-pub use decisions::{Core, LAST_NUMBER, MOST_TAKEN, MOST_UNTAKEN, Most};
+pub use decisions::{Decisions, LAST_NUMBER, MOST_TAKEN, MOST_UNTAKEN, Most};
+pub use events::Core;
+pub use outcome::{MOST_OUTCOMES, Outcome};
 pub use turn::{LAST_MOMENT, Moment, Turn};

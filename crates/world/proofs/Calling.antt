@@ -7,7 +7,7 @@ use Rattle.disk.specs.State.{EveryImage}
 use Rattle.sessions.specs.Table.{TableState, folded}
 use Rattle.sessions.specs.Decision.{FitAll, commands_of}
 use Rattle.sessions.specs.declared.decision.Decision.{Decision}
-use Rattle.session_core.specs.State.{CoreState}
+use Rattle.session_core.specs.State.{DecisionsState}
 use Rattle.store.specs.Commit.{Change, IsUnderWay, table_after}
 use Rattle.store.specs.Image.{HoldsTable}
 use Rattle.store.specs.Phases.{HoldsEither}
@@ -114,7 +114,7 @@ still_healthy s s' commits.Failed after call same healthy = absurd call
 still_healthy s s' before commits.Failed call same healthy = tt
 still_healthy s s' before after call same healthy = same ∙ healthy
 
-module _ (laws : RunLaws) (origin : Origin) (c : Course) (s s' : StoreState) (core : CoreState) (commit : Commit) (call : HasCall commit)
+module _ (laws : RunLaws) (origin : Origin) (c : Course) (s s' : StoreState) (core : DecisionsState) (commit : Commit) (call : HasCall commit)
     (f : IsLife origin c s core commit) where
   flights_are : c.flights ≡ flights_in commit
   flights_are = (at_call c.flights (table_from origin c.settled) s commit call f.under_way).0

@@ -12,8 +12,8 @@ use Rattle.sessions.specs.Decision.{is_frugal}
 use Rattle.sessions.specs.declared.decision.Decision.{Decision}
 use Rattle.world.specs.Folding.{RunLaws}
 use Rattle.session_core.specs.declared.decisions.TheConstants.{MOST_UNTAKEN, LAST_NUMBER}
-use Rattle.session_core.specs.State.{CoreState, IsLawful, now_of, last_number}
-use Rattle.session_core.specs.Events.{Makes, Stays, Turns, verdict_of, has_room as core_has_room, wanted as core_wanted}
+use Rattle.session_core.specs.State.{DecisionsState, IsLawful, now_of, last_number}
+use Rattle.session_core.specs.Deciding.{Makes, Stays, Turns, verdict_of, has_room as core_has_room, wanted as core_wanted}
 use Rattle.session_core.specs.declared.turn.Turn.{Turn}
 use Rattle.store.specs.State.{StoreState}
 use Rattle.world.specs.declared.commit.Commit.{Commit}
@@ -45,7 +45,7 @@ refused_stays : (c : Course) (command : Command) (why : Refusal) (refused : Opti
 refused_stays c command why (Some OutOfMemory) = refl
 refused_stays c command why refused = refl
 
-module _ (laws : RunLaws) (origin : Origin) (c : Course) (s : StoreState) (core : CoreState) (commit : Commit) (lawful : IsLawful core)
+module _ (laws : RunLaws) (origin : Origin) (c : Course) (s : StoreState) (core : DecisionsState) (commit : Commit) (lawful : IsLawful core)
     (f : IsLife origin c s core commit) where
   pub waiting : length core.log ≡ length c.untaken
   waiting = sym (length-map core.log (λ (d : Decision). d.command)) ∙ ap length f.untaken
@@ -73,7 +73,7 @@ module _ (laws : RunLaws) (origin : Origin) (c : Course) (s : StoreState) (core 
       ∙ ap (λ (t : TableState). cond (has_room origin c) (step t command) (Err Backlog)) now_is
 
   -- a command was decided
-  made : (command : Command) (st : Step) (new : CoreState) → Makes core command st new → IsLife origin (went c command (Ok st)) s new commit
+  made : (command : Command) (st : Step) (new : DecisionsState) → Makes core command st new → IsLife origin (went c command (Ok st)) s new commit
   made command st new makes =
       let d = makes.decision in
       subst (λ n. IsLife origin (went c command (Ok st)) s n commit) (sym makes.new_is) (record {
@@ -90,32 +90,32 @@ module _ (laws : RunLaws) (origin : Origin) (c : Course) (s : StoreState) (core 
         survives = f.survives;
       })
 
-  same : (new : CoreState) → new ≡ core → IsLife origin c s new commit
+  same : (new : DecisionsState) → new ≡ core → IsLife origin c s new commit
   same new is = subst (λ n. IsLife origin c s n commit) (sym is) f
 
   -- what is known of a turn, of a command that is frugal or not
   abbrev Verdict : {A B : Type 0} → Bool → Result A Refusal → (A → B → Type 0) → Result B Refusal → Type 0
   Verdict frugal outcome Is verdict = MatchBool frugal (Answers outcome Is verdict) (AnswersWithMemory outcome Is verdict)
 
-  abbrev Turned : Bool → Command → CoreState → Turn → Result Step Refusal → Option Refusal → Type 0
+  abbrev Turned : Bool → Command → DecisionsState → Turn → Result Step Refusal → Option Refusal → Type 0
   Turned frugal command new turn outcome refused =
       (turn.to ≡ (turned c command outcome refused).made) × (Verdict frugal outcome (λ _ _. Unit {0}) (verdict_of refused)
       × IsLife origin (turned c command outcome refused) s new commit)
 
   -- memory was out
-  turn_out : (frugal : Bool) (command : Command) (new : CoreState) (turn : Turn) (st : Step) (e : Refusal) → turn.from ≡ core.made → e ≡ OutOfMemory
+  turn_out : (frugal : Bool) (command : Command) (new : DecisionsState) (turn : Turn) (st : Step) (e : Refusal) → turn.from ≡ core.made → e ≡ OutOfMemory
       → Stays core turn new → Verdict frugal (Ok st) (λ (_ : Step) (_ : Unit {0}). Unit {0}) (Err OutOfMemory) → Turned frugal command new turn (Ok st) (Some e)
   turn_out frugal command new turn st e at is kept verdict =
       subst (λ e. Turned frugal command new turn (Ok st) (Some e)) (sym is) (kept.none ∙ (at ∙ f.made), (verdict, same new kept.same))
 
   -- or the command was refused
-  turn_err : (frugal : Bool) (command : Command) (new : CoreState) (turn : Turn) (why e : Refusal) → turn.from ≡ core.made
+  turn_err : (frugal : Bool) (command : Command) (new : DecisionsState) (turn : Turn) (why e : Refusal) → turn.from ≡ core.made
       → Stays core turn new → Verdict frugal (Err why) (λ (_ : Step) (_ : Unit {0}). Unit {0}) (Err e) → Turned frugal command new turn (Err why) (Some e)
   turn_err frugal command new turn why e at kept verdict =
       subst (λ k. (turn.to ≡ k.made) × (Verdict frugal (Err why) (λ (_ : Step) (_ : Unit {0}). Unit {0}) (Err e) × IsLife origin k s new commit)) (refused_stays c command why (Some e))
       (kept.none ∙ (at ∙ f.made), (verdict, same new kept.same))
 
-  turn_by : (frugal : Bool) (command : Command) (new : CoreState) (turn : Turn) (outcome : Result Step Refusal) (refused : Option Refusal) → turn.from ≡ core.made
+  turn_by : (frugal : Bool) (command : Command) (new : DecisionsState) (turn : Turn) (outcome : Result Step Refusal) (refused : Option Refusal) → turn.from ≡ core.made
       → Verdict frugal outcome (λ st _. (turn.to ≡ turn.from + 1) × Makes core command st new) (verdict_of refused)
       → OnErr (verdict_of refused) (Stays core turn new) → Turned frugal command new turn outcome refused
   turn_by true command new turn (Ok st) None at decided kept = (decided.0 ∙ ap (λ n. n + 1) (at ∙ f.made), (tt, made command st new decided.1))
@@ -129,7 +129,7 @@ module _ (laws : RunLaws) (origin : Origin) (c : Course) (s : StoreState) (core 
   turn_by false command new turn (Err why) (Some e) at is kept = turn_err false command new turn why e at kept is
 
   -- the turn of a command of the core is one of the course
-  pub turn_is : (command : Command) (turn : Turn) (new : CoreState) → Turns core command turn new
+  pub turn_is : (command : Command) (turn : Turn) (new : DecisionsState) → Turns core command turn new
       → IsTurn origin c command turn × IsLife origin (admit origin c (gone_through (command ∷ []) turn.refused)) s new commit
   turn_is command turn new turns =
       let is = admitted origin c command turn.refused in

@@ -5,7 +5,7 @@ use Rattle.lw_types.specs.declared.refusal.Refusal.{Refusal}
 use Rattle.devices.specs.declared.command.Command.{Command}
 use Rattle.sessions.specs.Table.{TableState, Step as TableStep, effects_of}
 use Rattle.sessions.specs.Decision.{commands_of, effects_in}
-use Rattle.session_core.specs.State.{CoreState}
+use Rattle.session_core.specs.State.{DecisionsState}
 use Rattle.store.specs.State.{StoreState}
 use Rattle.flusher.specs.declared.durable.Durable.{Durable as Done}
 use Rattle.flusher.specs.declared.released.Released.{Released}
@@ -20,7 +20,7 @@ use Rattle.world.specs.Course.{Origin, Course, Flight, admit, after, gone_throug
 use Rattle.world.specs.Answers.{AnswersRelease, Releases}
 use Rattle.world.specs.Follows.{IsAt, IsLife}
 
-module _ (laws : RunLaws) (origin : Origin) (c : Course) (s : StoreState) (core : CoreState) (durable : Done)
+module _ (laws : RunLaws) (origin : Origin) (c : Course) (s : StoreState) (core : DecisionsState) (durable : Done)
     (f : IsLife origin c s core (commits.Durable durable)) where
   effects : effects_of (table_from origin c.settled) (commands_of (decisions_of durable)) ≡ effects_in (decisions_of durable)
   effects = laws.effects (table_from origin c.settled) (decisions_of durable) f.under_way.1.0

@@ -9,8 +9,8 @@ use Rattle.sessions.specs.Table.{folded}
 use Rattle.sessions.specs.Decision.{ContinueAll, FitAll, AreNumbered, IsLegalContinuation, applied_all, commands_of}
 use Rattle.sessions.specs.declared.decision.Decision.{Decision}
 use Rattle.world.specs.Folding.{RunLaws}
-use Rattle.session_core.specs.State.{CoreState, IsLawful}
-use Rattle.session_core.specs.Events.{taken_from}
+use Rattle.session_core.specs.State.{DecisionsState, IsLawful}
+use Rattle.session_core.specs.Deciding.{taken_from}
 use Rattle.store.specs.State.{StoreState}
 use Rattle.store.specs.declared.phases.Begun.{Begun}
 use Rattle.store.specs.Phases.{IsBegunOn, begun_change}
@@ -61,7 +61,7 @@ behind a g x none =
     (append_assoc a [] x ∙ ap (λ l. a ++ l) (sym (append-nil (x ++ []) ∙ append-nil x)))
 
 -- At rest. The decisions that are taken are those of the commands that are taken.
-module _ (laws : RunLaws) (origin : Origin) (c : Course) (s : StoreState) (core : CoreState) (lawful : IsLawful core) (most : ℕ)
+module _ (laws : RunLaws) (origin : Origin) (c : Course) (s : StoreState) (core : DecisionsState) (lawful : IsLawful core) (most : ℕ)
     (f : IsLife origin (record c { flights = [] }) s core commits.Idle) where
   commands : commands_of (take most core.log) ≡ take most c.untaken
   commands = sym (take-map (λ (d : Decision). d.command) most core.log) ∙ ap (take most) f.untaken
@@ -150,7 +150,7 @@ module _ (laws : RunLaws) (origin : Origin) (c : Course) (s : StoreState) (core 
       }
 
 -- A take of a life with nothing under way, where some decisions wait.
-module _ (laws : RunLaws) (origin : Origin) (c : Course) (s : StoreState) (core : CoreState) (lawful : IsLawful core) (most : ℕ)
+module _ (laws : RunLaws) (origin : Origin) (c : Course) (s : StoreState) (core : DecisionsState) (lawful : IsLawful core) (most : ℕ)
     (f : IsLife origin c s core commits.Idle) (some : core.log ≢ []) where
   resting : IsLife origin (record c { flights = [] }) s core commits.Idle
   resting = to_rest (λ k. IsLife origin k s core commits.Idle) c f.under_way.0 f
@@ -197,7 +197,7 @@ module _ (laws : RunLaws) (origin : Origin) (c : Course) (s : StoreState) (core 
   )
 
 -- the same life, by equal parts
-pub moved : (origin : Origin) (c : Course) (s s' : StoreState) (core core' : CoreState) (commit commit' : Commit)
+pub moved : (origin : Origin) (c : Course) (s s' : StoreState) (core core' : DecisionsState) (commit commit' : Commit)
     → s' ≡ s → core' ≡ core → commit' ≡ commit → IsLife origin c s core commit → IsLife origin c s' core' commit'
 moved origin c s s' core core' commit commit' store core_is commit_is f =
     subst (λ s. IsLife origin c s core' commit') (sym store)

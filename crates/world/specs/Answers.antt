@@ -5,7 +5,7 @@ use Rattle.lw_types.specs.declared.refusal.Refusal.TheVariants as refusals
 use Rattle.devices.specs.declared.command.Command.{Command}
 use Rattle.sessions.specs.Table.{effects_of}
 use Rattle.sessions.specs.Decision.{AnswersTo}
-use Rattle.session_core.specs.Events.{verdict_of}
+use Rattle.session_core.specs.Deciding.{verdict_of}
 use Rattle.session_core.specs.declared.turn.Turn.{Turn}
 use Rattle.gateway_wire.specs.Emission.{emission}
 use Rattle.world.specs.declared.step.Step.{Step}

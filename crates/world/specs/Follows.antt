@@ -1,7 +1,7 @@
 -- What a world is at a place of its course.
 use Rattle.std.specs.Prelude.{◌≡◌, ◌+◌, ◌⊎◌, ℕ, true, false, List, [], ◌∷◌, ◌++◌, length}
 use Rattle.devices.specs.declared.command.Command.{Command}
-use Rattle.session_core.specs.State.{CoreState}
+use Rattle.session_core.specs.State.{DecisionsState}
 use Rattle.disk.specs.declared.sim.Image.{Image}
 use Rattle.disk.specs.State.{State, NothingOpen, EveryImage}
 use Rattle.flusher.specs.declared.released.Released.{Released}
@@ -52,7 +52,7 @@ IsHealthy s commit = s.failed ≡ false
 
 -- The store has the table of what is on the disk, the core that of what was taken and of what waits, and the commit
 -- is where the course says.
-pub record IsLife (origin : Origin) (c : Course) (s : StoreState) (core : CoreState) (commit : Commit) : Type 0 where
+pub record IsLife (origin : Origin) (c : Course) (s : StoreState) (core : DecisionsState) (commit : Commit) : Type 0 where
   pub table : s.table ≡ table_from origin (stored c.settled c.flights)
   pub seq : s.seq ≡ number_from origin (stored c.settled c.flights)
   pub base : core.base ≡ table_from origin (taken c)

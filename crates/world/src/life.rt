@@ -8,7 +8,7 @@ use devices::Command;
 use disk::Sim;
 use flusher::{Durable, MOST_EFFECTS, Released, Room};
 use lw_types::Refusal;
-use session_core::{Core, Moment, Most};
+use session_core::{Decisions, Moment, Most};
 use std::alloc::Global;
 use std::mem;
 use store::Store;
@@ -16,7 +16,7 @@ use store::Store;
 /// A store that is open, the core that decides on its table, and the commit under way.
 pub(crate) struct Life<D: Sim> {
     pub(crate) store: Store<D>,
-    pub(crate) core: Core,
+    pub(crate) core: Decisions,
     pub(crate) commit: Commit,
 }
 
@@ -41,7 +41,7 @@ impl<D: Sim> Life<D> {
         ensures idle { IfOk result (λ life. life.commit ≡ commits.Idle) }
         ensures refused { IfErr result (λ e. (e.0 ≡ disk_of store) × (e.1 ≡ OutOfMemory)) }
     {
-        match Core::new(alloc, store.table(), store.seq()) {
+        match Decisions::new(alloc, store.table(), store.seq()) {
             Ok(core) => Ok(Life {
                 store,
                 core,

@@ -8,7 +8,7 @@ use Rattle.sessions.specs.Table.{TableState, step, stepped, step_effects, placed
 use Rattle.sessions.specs.Decision.{AnswersTo, IsDecision, applied, is_frugal}
 use Rattle.sessions.specs.declared.decision.Decision.{Decision}
 use Rattle.devices.specs.declared.device.Device.{Device}
-use Rattle.session_core.specs.Events.{verdict_of}
+use Rattle.session_core.specs.Deciding.{verdict_of}
 use Rattle.world.specs.Course.{Origin, Course, decided, table_from, admit, gone_through, has_room, wanted, went}
 use Rattle.world_tests.specs.Plain.{IsRefusal}
 

@@ -2,7 +2,7 @@ use Rattle.std.proofs.Common.{rules, ◌≢◌, ◌∙◌, List, Err, length, ap
 use Rattle.lw_types.specs.declared.refusal.Refusal.TheVariants.{OutOfMemory}
 use Rattle.sessions.specs.Decision.{IsLegalContinuation}
 use Rattle.sessions.specs.declared.decision.Decision.{Decision}
-use Rattle.session_core.specs.Events.{taken_from}
+use Rattle.session_core.specs.Deciding.{taken_from}
 use Rattle.store.specs.State.{seen}
 use Rattle.world.specs.declared.commit.Commit.TheVariants as commits
 use Rattle.world.specs.declared.answer.Answer.TheVariants as answers

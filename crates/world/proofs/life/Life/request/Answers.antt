@@ -1,5 +1,5 @@
 use Rattle.std.proofs.Common.{subst}
-use Rattle.session_core.specs.Events.{Turns}
+use Rattle.session_core.specs.Deciding.{Turns}
 use Rattle.store.specs.State.{seen}
 use Rattle.world.proofs.Deciding.{turn_is}
 use Rattle.world.proofs.life.Life.request.Goals as goal

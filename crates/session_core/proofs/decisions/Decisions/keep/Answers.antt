@@ -2,11 +2,11 @@ use Rattle.std.proofs.Common.{◌≡◌, ◌+◌, ◌∙◌, List, ◌∷◌, �
 use Rattle.sessions.specs.Table.{TableState}
 use Rattle.sessions.specs.Decision.{AnswersTo, Decides, Fits, applied, taken_back_all}
 use Rattle.sessions.specs.declared.decision.Decision.{Decision}
-use Rattle.session_core.specs.State.{CoreState, IsLawful, now_of, last_number}
-use Rattle.session_core.specs.Events.{Makes, has_room, wanted}
+use Rattle.session_core.specs.State.{DecisionsState, IsLawful, now_of, last_number}
+use Rattle.session_core.specs.Deciding.{Makes, has_room, wanted}
 use Rattle.session_core.specs.Kept.{state_of}
 use Rattle.session_core.proofs.Lawful.{not-kept, refused-there, room-few, step-made, lawful-made, now-made, state-made, decided-made, decided}
-use Rattle.session_core.proofs.decisions.Core.keep.Goals as goal
+use Rattle.session_core.proofs.decisions.Decisions.keep.Goals as goal
 
 room_is : {a b found : Bool} → a ≡ b → found ≡ b → found ≡ true → a ≡ true
 room_is same is held = same ∙ (sym is ∙ held)
@@ -52,8 +52,8 @@ returns-clause-made c =
     (step-made (now_of s) (last_number s + 1) c.args.command d made).2.number in
     let same =
     state-made c.joining.ensures.continues c.joining.ensures.table c.taking_back.ensures s d c.apply.new.self c.push_back_reserved.new.self.items lawful table log in
-    let new : CoreState = record s { base = taken_back_all c.apply.new.self c.push_back_reserved.new.self.items; made = s.made + 1; log = c.push_back_reserved.new.self.items } in
-    subst (λ (old : CoreState). AnswersTo c.args.command (wanted old c.args.command) (λ st _. Makes old c.args.command st new) decided) c.self.view_is
+    let new : DecisionsState = record s { base = taken_back_all c.apply.new.self c.push_back_reserved.new.self.items; made = s.made + 1; log = c.push_back_reserved.new.self.items } in
+    subst (λ (old : DecisionsState). AnswersTo c.args.command (wanted old c.args.command) (λ st _. Makes old c.args.command st new) decided) c.self.view_is
     (decided-made s c.args.command d roomy made new same)
 
 pub returns-in_err-decision-clause-made : goal.returns-in_err-decision-clause-made

@@ -1,7 +1,7 @@
 use Rattle.std.proofs.Common.{◌∙◌, sym, ap}
 use Rattle.session_core.specs.State.{now_of}
 use Rattle.session_core.proofs.Lawful.{lacks-err, lacks-full, lacks-ok}
-use Rattle.session_core.proofs.decisions.Core.lack.Goals as goal
+use Rattle.session_core.proofs.decisions.Decisions.lack.Goals as goal
 
 pub returns-then-not-has_room-clause-lack : goal.returns-then-not-has_room-clause-lack
 returns-then-not-has_room-clause-lack c = lacks-full c.args.self.now c.args.command.now (sym c.has_room.ensures ∙ c.if-not-has_room.true)

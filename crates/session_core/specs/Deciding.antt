@@ -1,0 +1,59 @@
+-- What becomes of a command, and what a take leaves.
+use Rattle.std.specs.Prelude.{◌≡◌, ◌+◌, ℕ, Bool, false, [], ◌∷◌, ◌++◌, length, take, drop, nat_lt, ◌&&◌, if◌then◌else◌, Option, Some, None, Result, Ok, Err, OnErr}
+use Rattle.lw_types.specs.declared.refusal.Refusal.{Refusal}
+use Rattle.lw_types.specs.declared.refusal.Refusal.TheVariants.{Backlog}
+use Rattle.devices.specs.declared.command.Command.{Command}
+use Rattle.sessions.specs.Table.{Step, step}
+use Rattle.sessions.specs.Decision.{AnswersTo, IsDecision, applied_all}
+use Rattle.sessions.specs.declared.decision.Decision.{Decision}
+use Rattle.session_core.specs.declared.decisions.TheConstants.{LAST_NUMBER, MOST_UNTAKEN}
+use Rattle.session_core.specs.declared.turn.Turn.{Turn}
+use Rattle.session_core.specs.State.{DecisionsState, now_of, last_number}
+
+-- whether there is room for one decision more that waits, and a number for it
+abbrev pub has_room : DecisionsState → Bool
+has_room s = nat_lt (length s.log) MOST_UNTAKEN && nat_lt (last_number s) LAST_NUMBER
+
+-- what a command is to get: while there is room, its step in the table as it is now
+abbrev pub wanted : DecisionsState → Command → Result Step Refusal
+wanted s command = if has_room s then step (now_of s) command else Err Backlog
+
+-- one decision more, which is this step of the command
+pub record Makes (old : DecisionsState) (command : Command) (s : Step) (new : DecisionsState) : Type 0 where
+  pub decision : Decision
+  pub is_step : IsDecision (now_of old) (last_number old + 1) command s decision
+  pub new_is : new ≡ record old { log = old.log ++ decision ∷ []; made = old.made + 1 }
+
+-- this is answered to a command that there is no memory for
+abbrev pub Lacks : DecisionsState → Command → Refusal → Type 0
+Lacks s command refusal = AnswersTo {B = Unit {0}} command (wanted s command) (λ _ _. ⊥) (Err refusal)
+
+-- What came of a command that was handed in: it was decided, or it was refused as it has to be, and nothing changed. That
+-- there is no room is known before any memory is taken.
+pub record Keeps (old : DecisionsState) (command : Command) (result : Result (Unit {0}) Refusal) (new : DecisionsState) : Type 0 where
+  pub full : has_room old ≡ false → result ≡ Err Backlog
+  pub made : AnswersTo command (wanted old command) (λ s _. Makes old command s new) result
+  pub same : OnErr result (new ≡ old)
+
+-- nothing was decided
+pub record Stays (old : DecisionsState) (turn : Turn) (new : DecisionsState) : Type 0 where
+  pub same : new ≡ old
+  pub none : turn.to ≡ turn.from
+
+-- whether a command was decided
+abbrev pub verdict_of : Option Refusal → Result (Unit {0}) Refusal
+verdict_of None = Ok tt
+verdict_of (Some refusal) = Err refusal
+
+-- The turn of one command: it is decided, or its refusal is answered and nothing changes. That there is no room is known
+-- before any memory is taken.
+pub record Turns (old : DecisionsState) (command : Command) (turn : Turn) (new : DecisionsState) : Type 0 where
+  pub from : turn.from ≡ old.made
+  pub full : has_room old ≡ false → turn.refused ≡ Some Backlog
+  pub decided : AnswersTo command (wanted old command) (λ s _. (turn.to ≡ turn.from + 1) × Makes old command s new) (verdict_of turn.refused)
+  pub refused : OnErr (verdict_of turn.refused) (Stays old turn new)
+
+-- the first n decisions leave the log, and the base moves past them
+abbrev pub taken_from : DecisionsState → ℕ → DecisionsState
+taken_from s n =
+    record s { base = applied_all s.base (take n s.log); taken = s.taken + length (take n s.log); log = drop n s.log }

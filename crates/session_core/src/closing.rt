@@ -1,0 +1,143 @@
+// What events are made of: windows are closed, and commands and copies are handed in.
+ghost use Rattle.std.specs.Prelude.{◌≡◌, ◌≢◌, ◌∷◌, ◌+◌, ℕ, List, true, false, length, max, Err, Some, MatchBool, MatchResult, IfOk};
+ghost use Rattle.std.specs.Option.{MatchOption};
+ghost use Rattle.lw_types.specs.declared.refusal.Refusal.TheVariants.{OutOfMemory};
+ghost use Rattle.devices.specs.declared.command.Command.TheVariants as commands;
+ghost use Rattle.session_core.specs.Core.{CoreState, IsLawfulCore, with_outcome};
+ghost use Rattle.session_core.specs.Events.{Asks, Closes, ClosesOldest, Handles, HandsInOldest, HasClosed, IsHeard, has_due, moved};
+
+use crate::{Core, Moment, Outcome};
+use devices::{Command, Heard, Hearings, is_receivable};
+use lw_types::{FrameCopy, PhyPayload, Refusal};
+use std::alloc::AllocError;
+
+impl Core {
+    /// Moves the effective time and closes the windows that are due. Where there is no memory for one of them,
+    /// it and those behind it stay open.
+    pub(crate) fn begin(&mut self, moment: Moment) -> Result<(), Refusal>
+        ensures closed { HasClosed (moved self.old moment) self.new }
+        ensures due { MatchResult result
+            (λ _. has_due self.new ≡ false)
+            (λ e. (e ≡ OutOfMemory) × (has_due self.new ≡ true)) }
+    {
+        self.clock = later(self.clock, moment);
+        self.closings = 0;
+        let open = self.windows.len();
+        let result = self.close_due();
+        self.closings = open - self.windows.len();
+        result
+    }
+
+    // Closes the windows that are due, the oldest first.
+    fn close_due(&mut self) -> Result<(), Refusal>
+        ensures closed { (count : ℕ) × Closes count self.old self.new }
+        ensures due { MatchResult result
+            (λ _. has_due self.new ≡ false)
+            (λ e. (e ≡ OutOfMemory) × (has_due self.new ≡ true)) }
+    {
+        for _i in 0..self.windows.len() {
+            if !self.close_oldest()? {
+                return Ok(());
+            }
+        }
+        Ok(())
+    }
+
+    // Closes the oldest window if it is due, and says whether it was.
+    fn close_oldest(&mut self) -> Result<bool, Refusal>
+        ensures { MatchResult result
+            (λ done. MatchBool done (ClosesOldest self.old self.new) ((self.new ≡ self.old) × (has_due self.old ≡ false)))
+            (λ e. (e ≡ OutOfMemory) × ((self.new ≡ self.old) × (has_due self.old ≡ true))) }
+    {
+        let Some(answer) = self.hand_in_oldest() else {
+            return Ok(false);
+        };
+        if is_starved(&answer) {
+            return Err(Refusal::OutOfMemory);
+        }
+        let _ = self.windows.close(self.clock.get());
+        Ok(true)
+    }
+
+    // Hands the frame of the oldest window in, if that is due. On a full log it is refused whether or not there is memory.
+    fn hand_in_oldest(&mut self) -> Option<Result<(), Refusal>>
+        ensures { MatchOption result
+            ((self.new ≡ self.old) × (has_due self.old ≡ false))
+            (λ answer. HandsInOldest self.old answer self.new) }
+    {
+        let (phy_payload, hearings) = self.windows.due(self.clock.get())?;
+        if !self.decisions.has_room() {
+            return Some(self.noted(Err(Refusal::Backlog)));
+        }
+        match frame_of(phy_payload, hearings) {
+            Ok(heard) => Some(self.hand_in(Command::Heard(heard))),
+            Err(_) => Some(Err(Refusal::OutOfMemory)),
+        }
+    }
+
+    /// Hands a command in to be decided, and notes what comes of it.
+    pub(crate) fn hand_in(&mut self, command: Command) -> Result<(), Refusal>
+        ensures { Handles self.old command result self.new }
+    {
+        let answer = self.decisions.keep(command);
+        self.noted(answer)
+    }
+
+    /// Notes the refusal of a command for which there is no memory.
+    pub(crate) fn pass_over(&mut self, command: &Command) -> Refusal
+        ensures { Handles self.old command.now (Err result) self.new }
+    {
+        let refusal = self.decisions.lack(command);
+        let _ = self.noted(Err(refusal));
+        refusal
+    }
+
+    /// A copy of a frame joins its window, or opens one.
+    pub(crate) fn listen(&mut self, copy: FrameCopy) -> Result<(), Refusal>
+        requires { has_due self.old ≡ false }
+        ensures { IsHeard copy self.old result self.new }
+    {
+        if !is_receivable(&copy.reception) {
+            return Err(Refusal::UnknownChannel);
+        }
+        self.windows.add(self.clock.get(), copy)
+    }
+
+    // Keeps what came of a command with the last outcomes, and gives it back.
+    fn noted(&mut self, answer: Result<(), Refusal>) -> Result<(), Refusal>
+        ensures same { result ≡ answer }
+        ensures noted { self.new ≡ with_outcome self.old self.old.decisions answer }
+    {
+        let outcome = match answer {
+            Ok(()) => Outcome::Decided(self.decisions.seq()),
+            Err(Refusal::OutOfMemory) => return answer,
+            Err(refusal) => Outcome::Refused(refusal),
+        };
+        let _ = self.outcomes.push_back(outcome);
+        answer
+    }
+}
+
+// The later one of two moments.
+fn later(a: Moment, b: Moment) -> Moment
+    ensures { result ≡ max a b }
+{
+    if a.get() < b.get() { b } else { a }
+}
+
+// Whether there was no memory for a command.
+fn is_starved(answer: &Result<(), Refusal>) -> bool
+    ensures { MatchBool result (answer.now ≡ Err OutOfMemory) (answer.now ≢ Err OutOfMemory) }
+{
+    matches!(answer, Err(Refusal::OutOfMemory))
+}
+
+// A frame with its copies, in memory of its own.
+fn frame_of(phy_payload: &PhyPayload, hearings: &Hearings) -> Result<Heard, AllocError>
+    ensures { IfOk result (λ heard. (heard.phy_payload ≡ phy_payload.now) × (heard.hearings ≡ hearings.now)) }
+{
+    Ok(Heard {
+        phy_payload: phy_payload.clone()?,
+        hearings: hearings.clone()?,
+    })
+}

@@ -1,0 +1,219 @@
+// The core, and what comes to it.
+ghost use Rattle.std.specs.Prelude.{◌≡◌, ◌≤◌, MatchResult, take, length};
+ghost use Rattle.lw_types.specs.declared.refusal.Refusal.TheVariants.{OutOfMemory};
+ghost use Rattle.devices.specs.declared.command.Command.TheVariants as commands;
+ghost use Rattle.session_core.specs.State.{now_of, last_number};
+ghost use Rattle.session_core.specs.Deciding.{taken_from};
+ghost use Rattle.session_core.specs.Core.{IsLawfulCore, begun};
+ghost use Rattle.session_core.specs.Events.{IsTurn, Asks, Hears, Starves, Ticks};
+
+use crate::decisions::Decisions;
+use crate::{MOST_OUTCOMES, Moment, Most, Outcome, Turn};
+use circular_buffer::HeapCircularBuffer;
+use dedup::Windows;
+use devices::{Command, MacQueueing, Provisioning, Queueing};
+use lw_types::{FrameCopy, Refusal};
+use sessions::{Batch, Table};
+use std::alloc::Global;
+use std::marker::Model;
+
+/// What decides in one life of a network server: the decisions, and the windows in which the copies of a
+/// frame are gathered. Each event moves the effective time, closes the windows that are due, in the order
+/// of opening, and then does its own.
+#[derive(Drop)]
+pub struct Core {
+    pub(crate) alloc: Global,
+    pub(crate) decisions: Decisions,
+    pub(crate) clock: Moment,
+    pub(crate) windows: Windows,
+    pub(crate) closings: usize,
+    pub(crate) outcomes: HeapCircularBuffer<Outcome>,
+}
+
+impl Model for Core {
+    ghost use Rattle.session_core.specs.Core.{CoreState};
+
+    ghost Value = { CoreState };
+
+    ghost use Rattle.session_core.specs.KeptCore.{core_of, IsKeptCore};
+
+    ghost view = { core_of };
+
+    ghost invariant = { IsKeptCore };
+}
+
+impl Core {
+    /// The core at the beginning of a life, over a copy of this table, whose last decision has the
+    /// number `seq`.
+    pub fn new(alloc: Global, table: &Table, seq: u64) -> Result<Self, Refusal>
+        ensures { MatchResult result (λ core. core ≡ begun table.now seq) (λ e. e ≡ OutOfMemory) }
+    {
+        Ok(Core {
+            alloc,
+            decisions: Decisions::new(alloc, table, seq)?,
+            clock: Moment::new(0).unwrap(),
+            windows: Windows::new(alloc),
+            closings: 0,
+            outcomes: HeapCircularBuffer::with_capacity(alloc, MOST_OUTCOMES)?,
+        })
+    }
+
+    /// The table after every decision made.
+    pub fn now(&self) -> &Table
+        ensures table { result.now ≡ now_of self.now.decisions }
+        ensures lawful { IsLawfulCore self.now }
+    {
+        self.decisions.now()
+    }
+
+    /// The sequence number of the last decision made.
+    pub fn seq(&self) -> u64
+        ensures number { result ≡ last_number self.now.decisions }
+        ensures lawful { IsLawfulCore self.now }
+    {
+        self.decisions.seq()
+    }
+
+    /// How many decisions were made in this life.
+    pub fn made(&self) -> u64
+        ensures count { result ≡ self.now.decisions.made }
+        ensures lawful { IsLawfulCore self.now }
+    {
+        self.decisions.made()
+    }
+
+    /// How many decisions wait to be taken.
+    pub fn untaken(&self) -> usize
+        ensures count { result ≡ length self.now.decisions.log }
+        ensures lawful { IsLawfulCore self.now }
+    {
+        self.decisions.untaken()
+    }
+
+    /// How many windows the last event closed. Those that were refused, and so made no decision, count too.
+    pub fn closings(&self) -> usize
+        ensures { result ≡ self.now.closings }
+    {
+        self.closings
+    }
+
+    /// What came of the last commands that were handed in to be decided, at most 64, the oldest first. A command
+    /// that was refused for want of memory has no outcome.
+    pub fn outcomes(&self) -> &HeapCircularBuffer<Outcome>
+        ensures { result.now.items ≡ self.now.outcomes }
+    {
+        &self.outcomes
+    }
+
+    /// A gateway heard a frame. Refused with `UnknownChannel` where that wasn't on a channel at a data rate from 0
+    /// to 5, and then as [`Windows::add`] refuses the copy.
+    pub fn hear(&mut self, moment: Moment, copy: FrameCopy) -> Turn
+        ensures turn { IsTurn self.old moment (Hears copy) result self.new }
+        ensures lawful { IsLawfulCore self.old }
+    {
+        let from = self.made();
+        let refused = match self.begin(moment) {
+            Ok(()) => self.listen(copy).err(),
+            Err(refusal) => Some(refusal),
+        };
+        let to = self.made();
+        Turn { from, to, refused }
+    }
+
+    /// Time passes.
+    pub fn tick(&mut self, moment: Moment) -> Turn
+        ensures turn { IsTurn self.old moment Ticks result self.new }
+        ensures lawful { IsLawfulCore self.old }
+    {
+        let from = self.made();
+        let refused = self.begin(moment).err();
+        let to = self.made();
+        Turn { from, to, refused }
+    }
+
+    /// An application brings a device.
+    pub fn provision(&mut self, moment: Moment, provisioning: Provisioning) -> Turn
+        ensures turn { IsTurn self.old moment (Asks (commands.Provision provisioning)) result self.new }
+        ensures lawful { IsLawfulCore self.old }
+    {
+        self.decide(moment, Command::Provision(provisioning))
+    }
+
+    /// An application queues an item for its device.
+    pub fn queue(&mut self, moment: Moment, queueing: Queueing) -> Turn
+        ensures turn { IsTurn self.old moment (Asks (commands.Queue queueing)) result self.new }
+        ensures lawful { IsLawfulCore self.old }
+    {
+        self.decide(moment, Command::Queue(queueing))
+    }
+
+    /// An application queues MAC commands for its device.
+    pub fn queue_mac(&mut self, moment: Moment, queueing: MacQueueing) -> Turn
+        ensures turn { IsTurn self.old moment (Asks (commands.QueueMac queueing)) result self.new }
+        ensures lawful { IsLawfulCore self.old }
+    {
+        self.decide(moment, Command::QueueMac(queueing))
+    }
+
+    /// A command comes. Refused with `Backlog` where 4,096 decisions wait or no number is left, whether or not
+    /// there is memory, and then as [`Table::decide`] refuses it.
+    pub fn decide(&mut self, moment: Moment, command: Command) -> Turn
+        ensures turn { IsTurn self.old moment (Asks command) result self.new }
+        ensures lawful { IsLawfulCore self.old }
+    {
+        let from = self.made();
+        let refused = match self.begin(moment) {
+            Ok(()) => self.hand_in(command).err(),
+            Err(refusal) => Some(refusal),
+        };
+        let to = self.made();
+        Turn { from, to, refused }
+    }
+
+    /// A command comes that can't be handed in for want of memory: it is answered its refusal, if one is due,
+    /// else `OutOfMemory`.
+    pub fn starve(&mut self, moment: Moment, command: &Command) -> Turn
+        ensures turn { IsTurn self.old moment (Asks command.now) result self.new }
+        ensures lawful { IsLawfulCore self.old }
+    {
+        let from = self.made();
+        let refused = match self.begin(moment) {
+            Ok(()) => self.pass_over(command),
+            Err(refusal) => refusal,
+        };
+        let to = self.made();
+        Turn {
+            from,
+            to,
+            refused: Some(refused),
+        }
+    }
+
+    /// An event comes that can't be done for want of memory: it is refused with `OutOfMemory`.
+    pub fn miss(&mut self, moment: Moment) -> Turn
+        ensures turn { IsTurn self.old moment Starves result self.new }
+        ensures lawful { IsLawfulCore self.old }
+    {
+        let from = self.made();
+        let _ = self.begin(moment);
+        let to = self.made();
+        Turn {
+            from,
+            to,
+            refused: Some(Refusal::OutOfMemory),
+        }
+    }
+
+    /// Takes the oldest untaken decisions, at most `max` of them. After an `Err`, which is want of
+    /// memory, the core is as before. Its cost doesn't grow with the number of devices.
+    pub fn take(&mut self, max: Most) -> Result<Batch, Refusal>
+        ensures asked { 1 ≤ max }
+        ensures taken { MatchResult result
+            (λ batch. (batch ≡ take max self.old.decisions.log)
+            × (self.new ≡ record self.old { decisions = taken_from self.old.decisions max }))
+            (λ e. (e ≡ OutOfMemory) × (self.new ≡ self.old)) }
+        ensures lawful { IsLawfulCore self.old }
+    {
+        self.decisions.take(max)
+    }
+}
