@@ -22,14 +22,23 @@ const EXAMPLES: [(usize, u128); 4] = [
     (64, 0x51f0bebf7e3b9d92fc49741779363cfe),
 ];
 
+// Whether this is the MAC of these bytes, wherever they are cut in two.
+fn is_mac(message: &[u8], mac: [u8; 16]) -> bool {
+    for (cut, _) in message.iter().enumerate() {
+        if cmac(&KEY, &[&message[..cut], &message[cut..]]) != mac {
+            return false;
+        }
+    }
+    cmac(&KEY, &[message, &[]]) == mac
+}
+
 #[test]
 fn the_examples_of_the_rfc_in_any_two_pieces(rt: HostRuntime) {
-    for (len, mac) in EXAMPLES {
-        assert!(rt; len <= MESSAGE.len());
-        for cut in 0..len + 1 {
-            let mac_of_pieces = cmac(&KEY, &[&MESSAGE[..cut], &MESSAGE[cut..len]]);
-            assert_eq!(rt; mac_of_pieces, mac.to_be_bytes());
-        }
+    for (len, mac) in &EXAMPLES {
+        let is_right = MESSAGE
+            .get(..*len)
+            .is_some_and(|message| is_mac(message, mac.to_be_bytes()));
+        assert!(rt; is_right, "{len} bytes");
     }
 }
 
@@ -44,15 +53,11 @@ fn masked(block: u128, subkey: u128) -> [u8; 16] {
 #[test]
 fn the_subkeys_of_the_rfc(rt: HostRuntime) {
     let sealed_zeros = 0x7df76b0c1ab899b33e42f047b91b546f_u128;
-    assert_eq!(rt; masked(0, 0), sealed_zeros.to_be_bytes());
+    assert!(rt; masked(0, 0) == sealed_zeros.to_be_bytes());
     let whole = 0x6bc1bee22e409f96e93d7e117393172a;
-    assert_eq!(rt;
-        cmac(&KEY, &[&MESSAGE[..16]]),
-        masked(whole, 0xfbeed618357133667c85e08f7236a8de)
-    );
+    let of_whole = masked(whole, 0xfbeed618357133667c85e08f7236a8de);
+    assert!(rt; cmac(&KEY, &[&MESSAGE[..16]]) == of_whole);
     let padding = 0x80000000000000000000000000000000;
-    assert_eq!(rt;
-        cmac(&KEY, &[]),
-        masked(padding, 0xf7ddac306ae266ccf90bc11ee46d513b)
-    );
+    let of_padding = masked(padding, 0xf7ddac306ae266ccf90bc11ee46d513b);
+    assert!(rt; cmac(&KEY, &[]) == of_padding);
 }

@@ -1,10 +1,8 @@
 // The texts of joins, byte for byte, and which texts are none. Frames, keys and MICs were made by Python's `cryptography`.
 use backend_json::{answer_text, join_req_text, read_join_ans, read_join_req};
 use join_server::{JoinAsk, JoinRequest, JoinState, RxDelay};
-use lw_types::{DevAddr, Eui, JoinNonce, Key, NetId};
+use lw_types::{DevAddr, Eui, JoinNonce, Key, NetId, Refusal};
 use std::alloc::Global;
-use std::process::Abort;
-use std::test::Fail;
 
 const REQUEST: [u8; 23] =
     *b"\x00\x08\x07\x06\x05\x04\x03\x02\x01\x18\x17\x16\x15\x14\x13\x12\x11\x01\x00\xAA\xBB\xCC\xDD";
@@ -36,148 +34,169 @@ fn state(dev_eui: u64, join_eui: u64, dev_nonce: Option<u16>) -> JoinState {
 }
 
 fn known_state() -> JoinState {
-    state(0x1112_1314_1516_1718, 0x0102_0304_0506_0708, None)
+    state(DEVICE, SERVER, None)
 }
 
-fn ask() -> Result<JoinAsk, Fail> {
-    Ok(JoinAsk {
-        net_id: NetId::new(0x2A).ok_or("a NetID")?,
+fn ask() -> Option<JoinAsk> {
+    Some(JoinAsk {
+        net_id: NetId::new(0x2A)?,
         dev_addr: DevAddr(0x5400_0001),
         dl_settings: 0,
-        rx_delay: RxDelay::new(1).ok_or("a delay")?,
-        request: JoinRequest::new(REQUEST).ok_or("a Join-Request")?,
+        rx_delay: RxDelay::new(1)?,
+        request: JoinRequest::new(REQUEST)?,
         transaction: 2,
     })
 }
 
-#[test]
-fn a_question_is_written_and_read(rt: HostRuntime) -> Result<(), Fail> {
-    let alloc = rt.alloc();
-    let text = join_req_text(alloc, &ask()?)?;
-    assert_eq!(rt; text.as_str(), QUESTION);
-    assert_eq!(rt; read_join_req(alloc, QUESTION)?, ask()?);
-    Ok(())
+// Whether this text is read as the question.
+fn is_read(alloc: Global, text: &str) -> bool {
+    match (read_join_req(alloc, text), ask()) {
+        (Ok(found), Some(ask)) => found == ask,
+        _ => false,
+    }
+}
+
+fn is_written(alloc: Global) -> Result<bool, Refusal> {
+    match ask() {
+        Some(ask) => Ok(join_req_text(alloc, &ask)?.as_str() == QUESTION),
+        None => Ok(false),
+    }
 }
 
 #[test]
-fn a_join_is_granted(rt: HostRuntime) -> Result<(), Fail> {
-    let alloc = rt.alloc();
-    let (text, after) = answer_text(alloc, &known_state(), SIGNED)?;
-    assert_eq!(rt; text.as_str(), GRANTED);
-    let after = after.ok_or("a state")?;
-    assert_eq!(rt; after.dev_nonce, Some(1));
-    assert!(rt; read_join_ans(alloc, GRANTED)?.result.is_ok());
-    Ok(())
+fn a_question_is_written_and_read(rt: HostRuntime) {
+    assert!(rt; is_written(rt.alloc()) == Ok(true));
+    assert!(rt; is_read(rt.alloc(), QUESTION));
 }
 
-// The answer to the signed question has this Description and ResultCode.
-fn refuses(
-    rt: &impl Abort,
+// Whether the answer to a question is this text. It grants a session where the state is kept with a new DevNonce.
+fn answers(
     alloc: Global,
     state: &JoinState,
     question: &str,
-    outcome: &str,
-) -> Result<(), Fail> {
+    answer: &str,
+) -> Result<bool, Refusal> {
     let (text, after) = answer_text(alloc, state, question)?;
-    let expected = format!(in alloc;
-        "{{\"MessageType\":\"JoinAns\",\"ProtocolVersion\":\"1.0\",\"ReceiverID\":\"00002A\",\"Result\":{{{outcome}}},\"SenderID\":\"0102030405060708\",\"TransactionID\":2}}"
-    )?;
-    assert_eq!(rt; text.as_str(), expected.as_str());
-    assert!(rt; after.is_none());
-    assert!(rt; read_join_ans(alloc, text.as_str())?.result.is_err());
-    Ok(())
+    let grants = after.is_some_and(|after| after.dev_nonce == Some(1));
+    let is_read = read_join_ans(alloc, answer)?.result.is_ok() == grants;
+    Ok(is_read && after.is_some() == grants && text.as_str() == answer)
 }
 
 #[test]
-fn a_join_is_refused_for_its_first_cause(rt: HostRuntime) -> Result<(), Fail> {
-    let alloc = rt.alloc();
-    let device = 0x1112_1314_1516_1718;
-    let server = 0x0102_0304_0506_0708;
-    for (state, question, outcome) in [
-        (
-            state(device + 1, server + 1, None),
-            QUESTION,
-            r#""Description":"unknown device","ResultCode":"UnknownDevEUI""#,
-        ),
-        (
-            state(device, server + 1, None),
-            QUESTION,
-            r#""Description":"wrong join eui","ResultCode":"JoinReqFailed""#,
-        ),
-        (
-            state(device, server, Some(1)),
-            QUESTION,
-            r#""Description":"bad mic","ResultCode":"MICFailed""#,
-        ),
-        (
-            state(device, server, Some(1)),
-            SIGNED,
-            r#""Description":"dev nonce used","ResultCode":"JoinReqFailed""#,
-        ),
-    ] {
-        refuses(&rt, alloc, &state, question, outcome)?;
+fn a_join_is_granted(rt: HostRuntime) {
+    assert!(rt; answers(rt.alloc(), &known_state(), SIGNED, GRANTED) == Ok(true));
+}
+
+const UNKNOWN_DEVICE: &str =
+    r#"{"MessageType":"JoinAns","ProtocolVersion":"1.0","ReceiverID":"00002A","Result":{"Description":"unknown device","ResultCode":"UnknownDevEUI"},"SenderID":"0102030405060708","TransactionID":2}"#;
+
+const WRONG_JOIN_EUI: &str =
+    r#"{"MessageType":"JoinAns","ProtocolVersion":"1.0","ReceiverID":"00002A","Result":{"Description":"wrong join eui","ResultCode":"JoinReqFailed"},"SenderID":"0102030405060708","TransactionID":2}"#;
+
+const BAD_MIC: &str =
+    r#"{"MessageType":"JoinAns","ProtocolVersion":"1.0","ReceiverID":"00002A","Result":{"Description":"bad mic","ResultCode":"MICFailed"},"SenderID":"0102030405060708","TransactionID":2}"#;
+
+const DEV_NONCE_USED: &str =
+    r#"{"MessageType":"JoinAns","ProtocolVersion":"1.0","ReceiverID":"00002A","Result":{"Description":"dev nonce used","ResultCode":"JoinReqFailed"},"SenderID":"0102030405060708","TransactionID":2}"#;
+
+const JOIN_NONCE_SPENT: &str =
+    r#"{"MessageType":"JoinAns","ProtocolVersion":"1.0","ReceiverID":"00002A","Result":{"Description":"join nonce spent","ResultCode":"JoinReqFailed"},"SenderID":"0102030405060708","TransactionID":2}"#;
+
+const DEVICE: u64 = 0x1112_1314_1516_1718;
+
+const SERVER: u64 = 0x0102_0304_0506_0708;
+
+// DevEUI, JoinEUI and last DevNonce, a question and its answer.
+const CAUSES: &[(u64, u64, Option<u16>, &str, &str)] = &[
+    (DEVICE + 1, SERVER + 1, None, QUESTION, UNKNOWN_DEVICE),
+    (DEVICE, SERVER + 1, None, QUESTION, WRONG_JOIN_EUI),
+    (DEVICE, SERVER, Some(1), QUESTION, BAD_MIC),
+    (DEVICE, SERVER, Some(1), SIGNED, DEV_NONCE_USED),
+];
+
+#[test]
+fn a_join_is_refused_for_its_first_cause(rt: HostRuntime) {
+    for (dev_eui, join_eui, dev_nonce, question, answer) in CAUSES {
+        let state = state(*dev_eui, *join_eui, *dev_nonce);
+        assert!(rt;
+            answers(rt.alloc(), &state, question, answer) == Ok(true),
+            "{answer}"
+        );
     }
-    Ok(())
 }
 
 #[test]
-fn the_last_join_nonce_is_granted_once(rt: HostRuntime) -> Result<(), Fail> {
+fn the_last_join_nonce_is_granted_once(rt: HostRuntime) {
     let mut spent = known_state();
     spent.join_nonce = JoinNonce::new(16_777_215);
-    let outcome = r#""Description":"join nonce spent","ResultCode":"JoinReqFailed""#;
-    refuses(&rt, rt.alloc(), &spent, SIGNED, outcome)
+    assert!(rt; answers(rt.alloc(), &spent, SIGNED, JOIN_NONCE_SPENT) == Ok(true));
 }
+
+// Whether a text is answered as one that is no question, and no state is kept.
+fn is_no_question(alloc: Global, text: &str) -> Result<bool, Refusal> {
+    let (answer, after) = answer_text(alloc, &known_state(), text)?;
+    Ok(after.is_none() && answer.as_str() == NO_QUESTION)
+}
+
+const NO_QUESTIONS: &[&str] = &["", "{}", "no JSON", "[1]", r#"{"DLSettings":"00"}"#, NESTED];
+
+#[test]
+fn a_text_that_is_no_question_is_answered(rt: HostRuntime) {
+    for text in NO_QUESTIONS {
+        assert!(rt; is_no_question(rt.alloc(), text) == Ok(true), "{text}");
+    }
+}
+
+// A question up to its last members.
+const FRONT: &str =
+    r#"{"DLSettings":"00","DevAddr":"54000001","DevEUI":"1112131415161718","MACVersion":"1.0.4","MessageType":"JoinReq","PHYPayload":"00080706050403020118171615141312110100AABBCCDD","ProtocolVersion":"1.0","ReceiverID":"0102030405060708","#;
 
 // A question whose last members are these.
-fn question_with(alloc: Global, last: &str) -> Result<String, Fail> {
-    let (front, _) = QUESTION.split_once("\"RxDelay\"").ok_or("a delay")?;
-    Ok(format!(in alloc; "{front}{last}")?)
+fn question_with(alloc: Global, last: &str) -> Result<String, Refusal> {
+    let mut text = String::new(alloc);
+    text.push_str(FRONT)?;
+    text.push_str(last)?;
+    Ok(text)
+}
+
+const WRONG_ENDS: &[&str] = &[
+    r#""RxDelay":16,"SenderID":"00002A","TransactionID":2}"#,
+    r#""RxDelay":0,"SenderID":"00002A","TransactionID":2}"#,
+    r#""RxDelay":1.0,"SenderID":"00002A","TransactionID":2}"#,
+    r#""RxDelay":1e0,"SenderID":"00002A","TransactionID":2}"#,
+    r#""RxDelay":1,"SenderID":"00002a","TransactionID":2}"#,
+    r#""RxDelay":1,"SenderID":"000040","TransactionID":2}"#,
+    r#""RxDelay":1,"SenderID":"02A","TransactionID":2}"#,
+    r#""RxDelay":1,"SenderID":"00002A","TransactionID":-1}"#,
+    r#""RxDelay":1,"SenderID":"00002A","TransactionID":4294967296}"#,
+    r#""RxDelay":1,"SenderID":"00002A","TransactionID":2,"Z":0}"#,
+    r#""RxDelay":1,"SenderID":"00002A"}"#,
+    r#""RxDelay":1,"SenderID":"00002A","TransactionID":2,"RxDelay":16}"#,
+];
+
+fn is_wrong_end(alloc: Global, last: &str) -> Result<bool, Refusal> {
+    is_no_question(alloc, question_with(alloc, last)?.as_str())
 }
 
 #[test]
-fn a_text_that_is_no_question_is_answered(rt: HostRuntime) -> Result<(), Fail> {
-    let alloc = rt.alloc();
-    for text in ["", "{}", "no JSON", "[1]", r#"{"DLSettings":"00"}"#] {
-        let (answer, after) = answer_text(alloc, &known_state(), text)?;
-        assert_eq!(rt; answer.as_str(), NO_QUESTION);
-        assert!(rt; after.is_none());
+fn each_member_has_one_form(rt: HostRuntime) {
+    for last in WRONG_ENDS {
+        assert!(rt; is_wrong_end(rt.alloc(), last) == Ok(true), "{last}");
     }
-    Ok(())
+}
+
+const RIGHT_ENDS: &[&str] = &[
+    r#""SenderID":"00002A", "TransactionID" : 2, "RxDelay":1 } "#,
+    r#""RxDelay":9,"SenderID":"00002A","TransactionID":2,"RxDelay":1}"#,
+];
+
+fn is_right_end(alloc: Global, last: &str) -> Result<bool, Refusal> {
+    Ok(is_read(alloc, question_with(alloc, last)?.as_str()))
 }
 
 #[test]
-fn each_member_has_one_form(rt: HostRuntime) -> Result<(), Fail> {
-    let alloc = rt.alloc();
-    for last in [
-        r#""RxDelay":16,"SenderID":"00002A","TransactionID":2}"#,
-        r#""RxDelay":0,"SenderID":"00002A","TransactionID":2}"#,
-        r#""RxDelay":1.0,"SenderID":"00002A","TransactionID":2}"#,
-        r#""RxDelay":1e0,"SenderID":"00002A","TransactionID":2}"#,
-        r#""RxDelay":1,"SenderID":"00002a","TransactionID":2}"#,
-        r#""RxDelay":1,"SenderID":"000040","TransactionID":2}"#,
-        r#""RxDelay":1,"SenderID":"02A","TransactionID":2}"#,
-        r#""RxDelay":1,"SenderID":"00002A","TransactionID":-1}"#,
-        r#""RxDelay":1,"SenderID":"00002A","TransactionID":4294967296}"#,
-        r#""RxDelay":1,"SenderID":"00002A","TransactionID":2,"Z":0}"#,
-        r#""RxDelay":1,"SenderID":"00002A"}"#,
-        r#""RxDelay":1,"SenderID":"00002A","TransactionID":2,"RxDelay":16}"#,
-    ] {
-        let text = question_with(alloc, last)?;
-        let (answer, _) = answer_text(alloc, &known_state(), text.as_str())?;
-        assert_eq!(rt; answer.as_str(), NO_QUESTION);
+fn order_and_white_space_are_free(rt: HostRuntime) {
+    for last in RIGHT_ENDS {
+        assert!(rt; is_right_end(rt.alloc(), last) == Ok(true), "{last}");
     }
-    Ok(())
-}
-
-#[test]
-fn order_and_white_space_are_free(rt: HostRuntime) -> Result<(), Fail> {
-    let alloc = rt.alloc();
-    for last in [
-        r#""SenderID":"00002A", "TransactionID" : 2, "RxDelay":1 } "#,
-        r#""RxDelay":9,"SenderID":"00002A","TransactionID":2,"RxDelay":1}"#,
-    ] {
-        let text = question_with(alloc, last)?;
-        assert_eq!(rt; read_join_req(alloc, text.as_str())?, ask()?);
-    }
-    Ok(())
 }

@@ -1,21 +1,17 @@
 // Items and MAC commands that a table queues. The device 50 is of the application 3, and at slot 0.
-use crate::fixture::provision;
+use crate::tables::{bring, carry_out, new_table};
 use devices::{
     Application, AskedBytes, Command, Device, Effect, Item, ItemQueue, MacQueue, MacQueueing,
     Payload, Port, Queueing, Report, Tag,
 };
-use lw_types::{Eui, NetId, Refusal};
-use sessions::{Decision, Slots, Table};
+use lw_types::{Eui, Refusal};
+use sessions::{Decision, Table};
 use std::alloc::Global;
-use std::test::Fail;
 
 // A table with the device 50.
 fn table(alloc: Global) -> Result<Table, Refusal> {
-    let net_id = NetId::new(0x2A).ok_or(Refusal::Damaged)?;
-    let mut table = Table::new(alloc, net_id, Slots::new(2).ok_or(Refusal::Damaged)?)?;
-    let command = provision(50).ok_or(Refusal::Damaged)?;
-    let decision = table.decide(alloc, 1, command)?;
-    table.apply(&decision)?;
+    let mut table = new_table(alloc, 2)?;
+    let _ = bring(alloc, &mut table, 0, 50)?;
     Ok(table)
 }
 
@@ -47,18 +43,15 @@ fn item(
 }
 
 fn commands(application: u64, dev_eui: u64, bytes: Vec<u8>) -> Result<Command, Refusal> {
-    Ok(Command::QueueMac(MacQueueing {
-        application: Application::new(application).ok_or(Refusal::Damaged)?,
-        dev_eui: Eui(dev_eui),
-        commands: asked(bytes)?,
-    }))
-}
-
-// Carries a command out.
-fn carry_out(alloc: Global, table: &mut Table, command: Command) -> Result<Decision, Refusal> {
-    let decision = table.decide(alloc, 2, command)?;
-    table.apply(&decision)?;
-    Ok(decision)
+    let commands = asked(bytes)?;
+    match Application::new(application) {
+        Some(application) => Ok(Command::QueueMac(MacQueueing {
+            application,
+            dev_eui: Eui(dev_eui),
+            commands,
+        })),
+        None => Err(Refusal::Damaged),
+    }
 }
 
 // What the command is refused.
@@ -67,13 +60,18 @@ fn refused(alloc: Global, table: &Table, command: Command) -> Option<Refusal> {
 }
 
 // The one effect is this report to the application 3, of the device 50.
-fn reports(decision: &Decision, report: Report) -> Result<bool, Refusal> {
-    let wanted = Effect::Report {
-        application: Application::new(3).ok_or(Refusal::Damaged)?,
-        dev_eui: Eui(50),
-        report,
+fn reports(decision: &Decision, wanted: Report) -> bool {
+    let is_told = match decision.effects.as_slice() {
+        [
+            Effect::Report {
+                application,
+                dev_eui,
+                report,
+            },
+        ] => application.get() == 3 && *dev_eui == Eui(50) && *report == wanted,
+        _ => false,
     };
-    Ok(decision.slot == 0 && decision.effects.as_slice() == [wanted].as_slice())
+    is_told && decision.slot == 0
 }
 
 // The item, as it waits.
@@ -98,30 +96,34 @@ fn is_refused(
     Ok(refused(alloc, &table(alloc)?, command) == Some(refusal))
 }
 
+// Items by their application, DevEUI, port and length.
+const ITEM_REFUSALS: &[((u64, u64, u8, usize), Refusal)] = &[
+    ((3, 51, 5, 1), Refusal::UnknownDevEui),
+    ((4, 50, 5, 1), Refusal::UnknownDevEui),
+    ((4, 50, 0, 243), Refusal::UnknownDevEui),
+    ((3, 50, 5, 243), Refusal::TooLong),
+    ((3, 50, 0, 243), Refusal::TooLong),
+    ((3, 50, 0, 242), Refusal::BadPort),
+    ((3, 50, 224, 0), Refusal::BadPort),
+    ((3, 50, 255, 1), Refusal::BadPort),
+];
+
 #[test]
-fn an_item_is_refused_as_it_should_be(rt: HostRuntime) -> Result<(), Fail> {
-    let alloc = rt.alloc();
-    for (asked, refusal) in [
-        ((3, 51, 5, 1), Refusal::UnknownDevEui),
-        ((4, 50, 5, 1), Refusal::UnknownDevEui),
-        ((4, 50, 0, 243), Refusal::UnknownDevEui),
-        ((3, 50, 5, 243), Refusal::TooLong),
-        ((3, 50, 0, 243), Refusal::TooLong),
-        ((3, 50, 0, 242), Refusal::BadPort),
-        ((3, 50, 224, 0), Refusal::BadPort),
-        ((3, 50, 255, 1), Refusal::BadPort),
-    ] {
-        assert!(rt; is_refused(alloc, asked, refusal) == Ok(true));
+fn an_item_is_refused_as_it_should_be(rt: HostRuntime) {
+    for (asked, refusal) in ITEM_REFUSALS {
+        assert!(rt;
+            is_refused(rt.alloc(), *asked, *refusal) == Ok(true),
+            "{asked:?}"
+        );
     }
-    Ok(())
 }
 
 // Whether an item waits alone, and nothing else of the record has changed.
 fn is_queued(alloc: Global, port: u8, len: usize) -> Result<bool, Refusal> {
     let mut table = table(alloc)?;
     let asked = item(alloc, 3, 50, port, len)?;
-    let decision = carry_out(alloc, &mut table, asked)?;
-    let reported = reports(&decision, Report::Queued { tag: Tag(9) })?;
+    let decision = carry_out(alloc, &mut table, 1, asked)?;
+    let reported = reports(&decision, Report::Queued { tag: Tag(9) });
     Ok(reported && waits_alone(&decision, waiting(alloc, port, len)?)?)
 }
 
@@ -143,19 +145,17 @@ fn before_of(decision: &Decision) -> Result<Device, Refusal> {
 }
 
 #[test]
-fn an_item_waits(rt: HostRuntime) -> Result<(), Fail> {
-    let alloc = rt.alloc();
-    for (port, len) in [(1, 0), (5, 1), (223, 242)] {
-        assert!(rt; is_queued(alloc, port, len) == Ok(true));
+fn an_item_waits(rt: HostRuntime) {
+    for (port, len) in &[(1, 0), (5, 1), (223, 242)] {
+        assert!(rt; is_queued(rt.alloc(), *port, *len) == Ok(true), "{port}");
     }
-    Ok(())
 }
 
 // Sixteen items wait, in the order in which they came.
 fn sixteen(alloc: Global) -> Result<Table, Refusal> {
     let mut table = table(alloc)?;
     for port in 1..17 {
-        let _ = carry_out(alloc, &mut table, item(alloc, 3, 50, port, 1)?)?;
+        let _ = carry_out(alloc, &mut table, 1, item(alloc, 3, 50, port, 1)?)?;
     }
     Ok(table)
 }
@@ -180,114 +180,137 @@ fn are_in_order(alloc: Global) -> Result<bool, Refusal> {
 }
 
 #[test]
-fn sixteen_items_wait_and_no_more(rt: HostRuntime) -> Result<(), Fail> {
+fn sixteen_items_wait_and_no_more(rt: HostRuntime) {
     let alloc = rt.alloc();
     assert!(rt; are_in_order(alloc) == Ok(true));
     assert!(rt; seventeenth(alloc, 17, 1) == Ok(Some(Refusal::QueueFull)));
     assert!(rt; seventeenth(alloc, 0, 1) == Ok(Some(Refusal::BadPort)));
     assert!(rt; seventeenth(alloc, 0, 243) == Ok(Some(Refusal::TooLong)));
-    Ok(())
 }
 
-// What these bytes are refused as MAC commands, behind so many bytes that wait.
+// A table with the device 50, for which so many DevStatusReq wait.
+fn with_waiting(alloc: Global, waiting: usize) -> Result<Table, Refusal> {
+    let mut table = table(alloc)?;
+    if waiting > 0 {
+        let _ = carry_out(
+            alloc,
+            &mut table,
+            1,
+            commands(3, 50, sixes(alloc, waiting)?)?,
+        )?;
+    }
+    Ok(table)
+}
+
+// What these bytes are refused as MAC commands, behind so many that wait.
 fn mac_refused(
     alloc: Global,
     waiting: usize,
-    application: u64,
-    dev_eui: u64,
+    names: (u64, u64),
     bytes: Vec<u8>,
 ) -> Result<Option<Refusal>, Refusal> {
-    let mut table = table(alloc)?;
-    if waiting > 0 {
-        let _ = carry_out(alloc, &mut table, commands(3, 50, sixes(alloc, waiting)?)?)?;
-    }
-    Ok(refused(alloc, &table, commands(application, dev_eui, bytes)?))
-}
-
-fn is_mac_refused(
-    alloc: Global,
-    asked: (u64, u64, &[u8]),
-    refusal: Refusal,
-) -> Result<bool, Refusal> {
-    let (application, dev_eui, bytes) = asked;
-    let bytes = Vec::from_slice(alloc, bytes)?;
-    Ok(mac_refused(alloc, 0, application, dev_eui, bytes)? == Some(refusal))
+    let asked = commands(names.0, names.1, bytes)?;
+    Ok(refused(alloc, &with_waiting(alloc, waiting)?, asked))
 }
 
 // Of no device, of another application's, nothing, a cut LinkADRReq, a cut DutyCycleReq, a DevStatusReq with a byte
 // behind it, an RXParamSetupReq, and a LinkCheckAns behind a DevStatusReq.
+const MAC_REFUSALS: &[((u64, u64), &[u8], Refusal)] = &[
+    ((3, 51), &[6], Refusal::UnknownDevEui),
+    ((4, 50), &[6], Refusal::UnknownDevEui),
+    ((4, 50), &[], Refusal::UnknownDevEui),
+    ((3, 50), &[], Refusal::BadMac),
+    ((3, 50), &[3, 0x50, 7, 0], Refusal::BadMac),
+    ((3, 50), &[6, 4], Refusal::BadMac),
+    ((3, 50), &[6, 0], Refusal::BadMac),
+    ((3, 50), &[5, 0, 0, 0, 0], Refusal::BadMac),
+    ((3, 50), &[6, 2, 10, 1], Refusal::BadMac),
+];
+
+// Whether these bytes are refused so behind so many DevStatusReq.
+fn is_mac_refused(
+    alloc: Global,
+    waiting: usize,
+    names: (u64, u64),
+    bytes: &[u8],
+    refusal: Refusal,
+) -> Result<bool, Refusal> {
+    let bytes = Vec::from_slice(alloc, bytes)?;
+    Ok(mac_refused(alloc, waiting, names, bytes)? == Some(refusal))
+}
+
 #[test]
-fn mac_commands_are_refused_as_they_should_be(rt: HostRuntime) -> Result<(), Fail> {
-    let alloc = rt.alloc();
-    for (asked, refusal) in [
-        ((3, 51, [6].as_slice()), Refusal::UnknownDevEui),
-        ((4, 50, [6].as_slice()), Refusal::UnknownDevEui),
-        ((4, 50, [].as_slice()), Refusal::UnknownDevEui),
-        ((3, 50, [].as_slice()), Refusal::BadMac),
-        ((3, 50, [3, 0x50, 7, 0].as_slice()), Refusal::BadMac),
-        ((3, 50, [6, 4].as_slice()), Refusal::BadMac),
-        ((3, 50, [6, 0].as_slice()), Refusal::BadMac),
-        ((3, 50, [5, 0, 0, 0, 0].as_slice()), Refusal::BadMac),
-        ((3, 50, [6, 2, 10, 1].as_slice()), Refusal::BadMac),
-    ] {
-        assert!(rt; is_mac_refused(alloc, asked, refusal) == Ok(true));
+fn mac_commands_are_refused_as_they_should_be(rt: HostRuntime) {
+    for (names, bytes, refusal) in MAC_REFUSALS {
+        assert!(rt; is_mac_refused(rt.alloc(), 0, *names, bytes, *refusal) == Ok(true));
     }
-    Ok(())
+}
+
+fn queued(alloc: Global, bytes: &[u8]) -> Result<Report, Refusal> {
+    match Payload::new(Vec::from_slice(alloc, bytes)?) {
+        Ok(commands) => Ok(Report::MacQueued { commands }),
+        Err(_) => Err(Refusal::Damaged),
+    }
 }
 
 // Whether these commands wait behind a DevStatusReq, and nothing else of the record has changed.
 fn are_queued(alloc: Global, bytes: &[u8]) -> Result<bool, Refusal> {
-    let mut table = table(alloc)?;
-    let first = commands(3, 50, sixes(alloc, 1)?)?;
-    let _ = carry_out(alloc, &mut table, first)?;
+    let mut table = with_waiting(alloc, 1)?;
     let asked = commands(3, 50, Vec::from_slice(alloc, bytes)?)?;
-    let decision = carry_out(alloc, &mut table, asked)?;
-    let payload = Payload::new(Vec::from_slice(alloc, bytes)?);
-    let report = Report::MacQueued {
-        commands: payload.ok().ok_or(Refusal::Damaged)?,
-    };
-    Ok(reports(&decision, report)? && wait_behind(alloc, &decision, bytes)?)
+    let decision = carry_out(alloc, &mut table, 1, asked)?;
+    Ok(reports(&decision, queued(alloc, bytes)?) && wait_behind(alloc, &decision, bytes)?)
+}
+
+// A queue of one DevStatusReq.
+fn one(alloc: Global) -> Result<MacQueue, Refusal> {
+    MacQueue::new(sixes(alloc, 1)?).map_err(|_| Refusal::Damaged)
 }
 
 fn wait_behind(alloc: Global, decision: &Decision, bytes: &[u8]) -> Result<bool, Refusal> {
     let mut all = sixes(alloc, 1)?;
     all.extend_from_slice(bytes)?;
     let mut before = decision.after.copy()?;
-    before.mac_queue = MacQueue::new(sixes(alloc, 1)?)
-        .ok()
-        .ok_or(Refusal::Damaged)?;
+    before.mac_queue = one(alloc)?;
     Ok(decision.before == Some(before) && decision.after.mac_queue.as_slice() == all.as_slice())
 }
 
+const COMMANDS: &[&[u8]] = &[
+    &[6],
+    &[4, 15],
+    &[3, 0x50, 7, 0, 1],
+    &[3, 0x50, 7, 0, 1, 4, 0, 6],
+];
+
 #[test]
-fn mac_commands_wait(rt: HostRuntime) -> Result<(), Fail> {
-    let alloc = rt.alloc();
-    for bytes in [
-        [6].as_slice(),
-        [4, 15].as_slice(),
-        [3, 0x50, 7, 0, 1].as_slice(),
-        [3, 0x50, 7, 0, 1, 4, 0, 6].as_slice(),
-    ] {
-        assert!(rt; are_queued(alloc, bytes) == Ok(true));
+fn mac_commands_wait(rt: HostRuntime) {
+    for bytes in COMMANDS {
+        assert!(rt; are_queued(rt.alloc(), bytes) == Ok(true));
     }
-    Ok(())
 }
 
 // What so many DevStatusReq are refused, behind others that wait.
 fn full(alloc: Global, waiting: usize, more: usize) -> Result<Option<Refusal>, Refusal> {
-    mac_refused(alloc, waiting, 3, 50, sixes(alloc, more)?)
+    mac_refused(alloc, waiting, (3, 50), sixes(alloc, more)?)
 }
 
+// How many wait, how many more are asked for, and whether there is room for them.
+const ROOM: &[(usize, usize, bool)] = &[
+    (0, 64, true),
+    (63, 1, true),
+    (1, 63, true),
+    (0, 65, false),
+    (0, 300, false),
+    (1, 64, false),
+    (63, 2, false),
+    (64, 1, false),
+];
+
 #[test]
-fn sixty_four_bytes_of_commands_wait_and_no_more(rt: HostRuntime) -> Result<(), Fail> {
-    let alloc = rt.alloc();
-    for (waiting, more) in [(0, 64), (63, 1), (1, 63)] {
-        assert!(rt; full(alloc, waiting, more) == Ok(None));
+fn sixty_four_bytes_of_commands_wait_and_no_more(rt: HostRuntime) {
+    for (waiting, more, has_room) in ROOM {
+        let wanted = (!has_room).then_some(Refusal::MacQueueFull);
+        assert!(rt; full(rt.alloc(), *waiting, *more) == Ok(wanted));
     }
-    for (waiting, more) in [(0, 65), (0, 300), (1, 64), (63, 2), (64, 1)] {
-        assert!(rt; full(alloc, waiting, more) == Ok(Some(Refusal::MacQueueFull)));
-    }
-    let unknown = Vec::from_slice(alloc, &[2])?;
-    assert!(rt; mac_refused(alloc, 64, 3, 50, unknown) == Ok(Some(Refusal::BadMac)));
-    Ok(())
+    let unknown = is_mac_refused(rt.alloc(), 64, (3, 50), &[2], Refusal::BadMac);
+    assert!(rt; unknown == Ok(true));
 }

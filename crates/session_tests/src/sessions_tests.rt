@@ -1,127 +1,175 @@
-use crate::fixture::provision;
-use crate::tables::{bring, full_table, new_table};
+use crate::tables::{bring, decided, full_table, new_table};
 use devices::{Device, Effect, Report};
 use lw_types::{Eui, Refusal};
-use sessions::{Batch, Records, Table};
+use sessions::{Batch, Decision, Records, Table};
 use std::alloc::Global;
-use std::process::Abort;
-use std::test::Fail;
 
-#[test]
-fn a_provisioning_takes_the_next_slot(rt: HostRuntime) -> Result<(), Fail> {
-    let alloc = rt.alloc();
+// Whether a decision is the first one on the device of this DevEUI, at this slot.
+fn is_first(decision: &Decision, slot: u16, dev_eui: Eui) -> bool {
+    let is_told = matches!(
+        decision.effects.as_slice(),
+        [Effect::Report {
+            report: Report::Provisioned { .. },
+            ..
+        }]
+    );
+    let is_there = decision.slot == slot && decision.after.dev_eui == dev_eui;
+    is_told && is_there && decision.before.is_none()
+}
+
+// Whether the device that is brought gets this slot.
+fn gets(alloc: Global, table: &mut Table, slot: u16, dev_eui: u64) -> Result<bool, Refusal> {
+    let decision = bring(alloc, table, u64::from(slot), dev_eui)?;
+    let is_found = table.slot_of(Eui(dev_eui)) == Some(slot);
+    Ok(is_found && is_first(&decision, slot, Eui(dev_eui)))
+}
+
+fn get_slots(alloc: Global) -> Result<bool, Refusal> {
     let mut table = new_table(alloc, 2)?;
-    for (slot, dev_eui) in [(0, 50), (1, 40)] {
-        let decision = bring(&rt, alloc, &mut table, u64::from(slot), dev_eui)?;
-        assert_eq!(rt; decision.slot, slot);
-        assert!(rt; decision.before.is_none());
-        assert_eq!(rt; decision.after.dev_eui, Eui(dev_eui));
-        assert_eq!(rt; table.slot_of(Eui(dev_eui)), Some(slot));
-        let effects = decision.effects.as_slice();
-        assert_eq!(rt; effects.len(), 1);
-        let is_report = matches!(
-            &effects[0],
-            Effect::Report {
-                report: Report::Provisioned { .. },
-                ..
-            }
-        );
-        assert!(rt; is_report);
-    }
-    Ok(())
+    let first = gets(alloc, &mut table, 0, 50)?;
+    let second = gets(alloc, &mut table, 1, 40)?;
+    Ok(first && second)
 }
 
 #[test]
-fn a_full_table_takes_no_device(rt: HostRuntime) -> Result<(), Fail> {
-    let alloc = rt.alloc();
-    let table = full_table(&rt, alloc, 2)?;
-    let taken = table.decide(alloc, 3, provision(1).ok_or("command")?);
-    assert_eq!(rt; taken.err(), Some(Refusal::DevEuiTaken));
-    let full = table.decide(alloc, 3, provision(60).ok_or("command")?);
-    assert_eq!(rt; full.err(), Some(Refusal::TableFull));
-    assert_eq!(rt; table.slot_of(Eui(60)), None);
-    Ok(())
+fn a_provisioning_takes_the_next_slot(rt: HostRuntime) {
+    assert!(rt; get_slots(rt.alloc()) == Ok(true));
+}
+
+// What a provisioning is refused.
+fn refused(alloc: Global, table: &Table, dev_eui: u64) -> Option<Refusal> {
+    decided(alloc, table, 3, dev_eui).err()
+}
+
+fn is_full(alloc: Global) -> Result<bool, Refusal> {
+    let table = full_table(alloc, 2)?;
+    let taken = refused(alloc, &table, 1) == Some(Refusal::DevEuiTaken);
+    let full = refused(alloc, &table, 60) == Some(Refusal::TableFull);
+    Ok(taken && full && table.slot_of(Eui(60)).is_none())
 }
 
 #[test]
-fn a_table_admits_what_was_made_of_it(rt: HostRuntime) -> Result<(), Fail> {
-    let alloc = rt.alloc();
-    let mut ours = new_table(alloc, 2)?;
-    let first = ours.decide(alloc, 1, provision(50).ok_or("command")?)?;
-    assert!(rt; ours.admits(0, &first));
-    assert!(rt; !ours.admits(1, &first), "another number");
-    let _ = bring(&rt, alloc, &mut ours, 0, 50)?;
-    assert!(rt; !ours.admits(0, &first), "the slot is taken");
-    let copy = ours.copy()?;
-    let second = copy.decide(alloc, 2, provision(40).ok_or("command")?)?;
-    assert!(rt; ours.admits(1, &second));
-    Ok(())
+fn a_full_table_takes_no_device(rt: HostRuntime) {
+    assert!(rt; is_full(rt.alloc()) == Ok(true));
 }
 
-// A batch of so many decisions on a table that has their records already.
-fn batch(rt: &impl Abort, alloc: Global, table: &mut Table, count: u64) -> Result<Batch, Fail> {
+// Whether a table admits a decision under its own number alone, and no more once the slot is taken.
+fn admits_once(alloc: Global, table: &mut Table) -> Result<bool, Refusal> {
+    let first = decided(alloc, table, 1, 50)?;
+    let admitted = table.admits(0, &first) && !table.admits(1, &first);
+    let _ = bring(alloc, table, 0, 50)?;
+    Ok(admitted && !table.admits(0, &first))
+}
+
+fn admits_its_own(alloc: Global) -> Result<bool, Refusal> {
+    let mut table = new_table(alloc, 2)?;
+    let once = admits_once(alloc, &mut table)?;
+    let second = decided(alloc, &table.copy()?, 2, 40)?;
+    Ok(once && table.admits(1, &second))
+}
+
+#[test]
+fn a_table_admits_what_was_made_of_it(rt: HostRuntime) {
+    assert!(rt; admits_its_own(rt.alloc()) == Ok(true));
+}
+
+// A batch of so many decisions on a table that has their records then.
+fn batch(alloc: Global, table: &mut Table, count: u64) -> Result<Batch, Refusal> {
     let mut batch = Batch::new(alloc)?;
-    assert!(rt; batch.is_empty());
     for dev_eui in 0..count {
-        let decision = bring(rt, alloc, table, dev_eui, dev_eui)?;
-        assert!(rt; batch.len() < Batch::MOST);
+        let decision = bring(alloc, table, dev_eui, dev_eui)?;
+        if batch.len() >= Batch::MOST {
+            return Err(Refusal::Backlog);
+        }
         batch.push(decision);
     }
     Ok(batch)
 }
 
-#[test]
-fn a_batch_gives_its_records(rt: HostRuntime) -> Result<(), Fail> {
-    let alloc = rt.alloc();
-    for count in [5, 64] {
-        let mut table = new_table(alloc, 64)?;
-        let batch = batch(&rt, alloc, &mut table, count)?;
-        let mut records = Records::new(alloc);
-        for decision in batch.as_slice() {
-            records.add(decision)?;
-        }
-        let mut other = new_table(alloc, 64)?;
-        let last = other.continuation_end(0, batch.as_slice());
-        assert!(rt; last.is_some());
-        assert_eq!(rt; last, Some(count));
-        other.place_all(&batch, batch.records(alloc)?);
-        assert!(rt; other.devices() == table.devices());
-        assert_eq!(rt; batch.into_vec().len() as u64, count);
+// The records of a batch are taken one by one.
+fn add_records(alloc: Global, batch: &Batch) -> Result<(), Refusal> {
+    let mut records = Records::new(alloc);
+    for decision in batch.as_slice() {
+        records.add(decision)?;
     }
     Ok(())
 }
 
+// An empty table with the records of a batch whose last number is this.
+fn restored(alloc: Global, batch: &Batch, end: u64) -> Result<Table, Refusal> {
+    let mut table = new_table(alloc, 64)?;
+    let Some(last) = table.continuation_end(0, batch.as_slice()) else {
+        return Err(Refusal::OutOfStep);
+    };
+    if last != end {
+        return Err(Refusal::Damaged);
+    }
+    table.place_all(batch, batch.records(alloc)?);
+    Ok(table)
+}
+
+fn gives_records(alloc: Global, count: u64) -> Result<bool, Refusal> {
+    let mut table = new_table(alloc, 64)?;
+    let batch = batch(alloc, &mut table, count)?;
+    add_records(alloc, &batch)?;
+    let is_same = restored(alloc, &batch, count)?.devices() == table.devices();
+    Ok(is_same && batch.into_vec().len() as u64 == count)
+}
+
 #[test]
-fn a_table_holds_4096_devices(rt: HostRuntime) -> Result<(), Fail> {
-    let table = full_table(&rt, rt.alloc(), 4096)?;
-    assert_eq!(rt; table.devices().len(), 4096);
+fn a_batch_gives_its_records(rt: HostRuntime) {
+    assert!(rt; gives_records(rt.alloc(), 5) == Ok(true));
+    assert!(rt; gives_records(rt.alloc(), 64) == Ok(true));
+}
+
+#[test]
+fn a_new_batch_is_empty(rt: HostRuntime) {
+    assert!(rt; Batch::new(rt.alloc()).is_ok_and(|batch| batch.is_empty()));
+}
+
+// Whether so many devices have a place in a table.
+fn holds(alloc: Global, count: u64) -> Result<bool, Refusal> {
+    let table = full_table(alloc, count)?;
     let copy = table.copy()?;
-    assert!(rt; copy.devices() == table.devices());
-    assert_eq!(rt; copy.slot_of(Eui(4095)), Some(4095));
-    Ok(())
+    let last = copy.slot_of(Eui(count.saturating_sub(1)));
+    let is_whole = table.devices().len() as u64 == count && copy.devices() == table.devices();
+    Ok(is_whole && last.map_or(0, |slot| u64::from(slot) + 1) == count)
 }
 
-// A device of this DevEUI.
-fn device(alloc: Global, dev_eui: u64) -> Result<Device, Fail> {
-    let decision = new_table(alloc, 1)?.decide(alloc, 1, provision(dev_eui).ok_or("command")?)?;
-    Ok(decision.after)
-}
-
-// Each slot of a table in use gets its own device's record again, and then one of a new name.
 #[test]
-fn records_are_put_at_slots_in_use(rt: HostRuntime) -> Result<(), Fail> {
-    let alloc = rt.alloc();
-    let mut table = full_table(&rt, alloc, 100)?;
+fn a_table_holds_4096_devices(rt: HostRuntime) {
+    assert!(rt; holds(rt.alloc(), 4096) == Ok(true));
+}
+
+// The record of a device of this DevEUI is put at a slot.
+fn put(alloc: Global, table: &mut Table, slot: u16, dev_eui: u64) -> Result<(), Refusal> {
+    table.put(
+        slot,
+        decided(alloc, &new_table(alloc, 1)?, 1, dev_eui)?.after,
+    )
+}
+
+// Whether a slot takes its own device's record again, and then one of a new name.
+fn is_renamed(alloc: Global, table: &mut Table, slot: u16) -> Result<bool, Refusal> {
+    let own = u64::from(slot);
+    put(alloc, table, slot, own)?;
+    put(alloc, table, slot, 1000 + own)?;
+    Ok(table.slot_of(Eui(1000 + own)) == Some(slot) && table.slot_of(Eui(own)).is_none())
+}
+
+fn are_renamed(alloc: Global) -> Result<bool, Refusal> {
+    let mut table = full_table(alloc, 100)?;
     for slot in 0..100 {
-        table.put(slot, device(alloc, u64::from(slot))?)?;
-        table.put(slot, device(alloc, 1000 + u64::from(slot))?)?;
-        assert_eq!(rt; table.slot_of(Eui(1000 + u64::from(slot))), Some(slot));
-        assert_eq!(rt; table.slot_of(Eui(u64::from(slot))), None);
+        if !is_renamed(alloc, &mut table, slot)? {
+            return Ok(false);
+        }
     }
-    assert_eq!(rt; table.devices().len(), 100);
-    let twice = table.put(3, device(alloc, 1004)?);
-    assert_eq!(rt; twice, Err(Refusal::Damaged));
-    let beyond = table.put(100, device(alloc, 7)?);
-    assert_eq!(rt; beyond, Err(Refusal::Damaged));
-    Ok(())
+    let twice = put(alloc, &mut table, 3, 1004) == Err(Refusal::Damaged);
+    let beyond = put(alloc, &mut table, 100, 7) == Err(Refusal::Damaged);
+    Ok(twice && beyond && table.devices().len() == 100)
+}
+
+#[test]
+fn records_are_put_at_slots_in_use(rt: HostRuntime) {
+    assert!(rt; are_renamed(rt.alloc()) == Ok(true));
 }

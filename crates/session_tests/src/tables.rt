@@ -1,37 +1,66 @@
 // Tables that the tests here begin with.
 use crate::fixture::provision;
-use lw_types::NetId;
+use devices::Command;
+use lw_types::{NetId, Refusal};
 use sessions::{Decision, Slots, Table};
 use std::alloc::Global;
-use std::process::Abort;
-use std::test::Fail;
 
 /// A table with so many slots and no device.
-pub(crate) fn new_table(alloc: Global, slots: u64) -> Result<Table, Fail> {
-    let net_id = NetId::new(0x2A).ok_or("net id")?;
-    Ok(Table::new(alloc, net_id, Slots::new(slots).ok_or("slots")?)?)
+pub(crate) fn new_table(alloc: Global, slots: u64) -> Result<Table, Refusal> {
+    match (NetId::new(0x2A), Slots::new(slots)) {
+        (Some(net_id), Some(slots)) => Table::new(alloc, net_id, slots),
+        _ => Err(Refusal::Damaged),
+    }
 }
 
-/// A device is brought: the decision has the number after `seq`, and its record is in the table.
+/// What the table decides of the command that brings a device.
+pub(crate) fn decided(
+    alloc: Global,
+    table: &Table,
+    seq: u64,
+    dev_eui: u64,
+) -> Result<Decision, Refusal> {
+    match provision(dev_eui) {
+        Some(command) => table.decide(alloc, seq, command),
+        None => Err(Refusal::Damaged),
+    }
+}
+
+/// Decides a command under the number after `seq`, and puts its record on the table.
+pub(crate) fn carry_out(
+    alloc: Global,
+    table: &mut Table,
+    seq: u64,
+    command: Command,
+) -> Result<Decision, Refusal> {
+    let decision = table.decide(alloc, seq.saturating_add(1), command)?;
+    let is_admitted = table.admits(seq, &decision);
+    table.apply(&decision)?;
+    if is_admitted {
+        Ok(decision)
+    } else {
+        Err(Refusal::OutOfStep)
+    }
+}
+
+/// A device is brought.
 pub(crate) fn bring(
-    rt: &impl Abort,
     alloc: Global,
     table: &mut Table,
     seq: u64,
     dev_eui: u64,
-) -> Result<Decision, Fail> {
-    assert!(rt; seq < u64::MAX);
-    let decision = table.decide(alloc, seq + 1, provision(dev_eui).ok_or("command")?)?;
-    assert!(rt; table.admits(seq, &decision));
-    table.apply(&decision)?;
-    Ok(decision)
+) -> Result<Decision, Refusal> {
+    match provision(dev_eui) {
+        Some(command) => carry_out(alloc, table, seq, command),
+        None => Err(Refusal::Damaged),
+    }
 }
 
 /// A table with as many devices as slots, of the DevEUIs from 0 on.
-pub(crate) fn full_table(rt: &impl Abort, alloc: Global, slots: u64) -> Result<Table, Fail> {
+pub(crate) fn full_table(alloc: Global, slots: u64) -> Result<Table, Refusal> {
     let mut table = new_table(alloc, slots)?;
     for dev_eui in 0..slots {
-        let _ = bring(rt, alloc, &mut table, dev_eui, dev_eui)?;
+        let _ = bring(alloc, &mut table, dev_eui, dev_eui)?;
     }
     Ok(table)
 }

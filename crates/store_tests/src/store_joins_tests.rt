@@ -1,12 +1,12 @@
 // Batches that replace the record of a slot in use. The frames were made by Python's `cryptography`.
-use crate::devices_under_test::{net_id, slots};
+use crate::devices_under_test::add;
+use crate::store_tests::{begin_commit, new_store};
 use devices::{Application, Command, Heard, Hearing, Hearings, Provisioning, Rx1Offset, RxDelay};
 use disk::{Image, MemDisk, Sim};
 use lw_types::{Eui, Key, PhyPayload, Reception, Refusal, read_hex};
-use sessions::{Batch, Table};
+use sessions::Batch;
 use std::alloc::Global;
-use std::test::Fail;
-use store::{Store, disk_len, format, open};
+use store::{Store, open};
 
 // The example key of FIPS 197, of the device that joins.
 const KEY: Key = Key([
@@ -33,171 +33,161 @@ const JOIN_2: &str = "00080706050403020118171615141312110200C13BE455";
 
 const JOIN_3: &str = "00080706050403020118171615141312110300E85E42DA";
 
+const HEARING: Hearing = Hearing {
+    reception: Reception {
+        gateway: Eui(0xB1),
+        frequency: 868_100_000,
+        data_rate: 5,
+        snr: -20,
+        rssi: -95,
+    },
+    stamp: 50_000,
+};
+
 fn heard(alloc: Global, frame: &str) -> Result<Command, Refusal> {
-    let hearing = Hearing {
-        reception: Reception {
-            gateway: Eui(0xB1),
-            frequency: 868_100_000,
-            data_rate: 5,
-            snr: -20,
-            rssi: -95,
-        },
-        stamp: 50_000,
-    };
-    let frame = PhyPayload::new(read_hex(alloc, frame)?);
-    Ok(Command::Heard(Heard {
-        phy_payload: frame.ok().ok_or(Refusal::FrameTooLong)?,
-        hearings: Hearings::new(vec![in alloc; hearing; 1]?).ok_or(Refusal::Malformed)?,
-    }))
+    let hearings = Hearings::new(vec![in alloc; HEARING; 1]?);
+    match (PhyPayload::new(read_hex(alloc, frame)?), hearings) {
+        (Ok(phy_payload), Some(hearings)) => Ok(Command::Heard(Heard {
+            phy_payload,
+            hearings,
+        })),
+        _ => Err(Refusal::Malformed),
+    }
 }
 
 fn command(alloc: Global, frame: &str) -> Result<Command, Refusal> {
     if !frame.is_empty() {
         return heard(alloc, frame);
     }
-    Ok(Command::Provision(joining().ok_or(Refusal::Damaged)?))
-}
-
-// Decides a command on the table, and adds the decision to the batch.
-fn add(
-    alloc: Global,
-    table: &mut Table,
-    seq: u64,
-    batch: &mut Batch,
-    frame: &str,
-) -> Result<u64, Refusal> {
-    let next = seq.checked_add(1).ok_or(Refusal::Damaged)?;
-    let decision = table.decide(alloc, next, command(alloc, frame)?)?;
-    if batch.len() >= Batch::MOST || !table.admits(seq, &decision) {
-        return Err(Refusal::OutOfStep);
+    match joining() {
+        Some(joining) => Ok(Command::Provision(joining)),
+        None => Err(Refusal::Damaged),
     }
-    table.apply(&decision)?;
-    batch.push(decision);
-    Ok(next)
 }
 
 // A batch of what these frames ask for, behind what the store has.
 fn batch(alloc: Global, store: &Store<MemDisk>, frames: &[&str]) -> Result<Batch, Refusal> {
     let mut table = store.table().copy()?;
-    let mut seq = store.seq();
     let mut batch = Batch::new(alloc)?;
-    for frame in frames {
-        seq = add(alloc, &mut table, seq, &mut batch, frame)?;
+    for (seq, frame) in (store.seq()..u64::MAX).zip(frames) {
+        add(alloc, &mut table, seq, &mut batch, command(alloc, frame)?)?;
     }
     Ok(batch)
 }
 
-// Commits it.
-fn commit(alloc: Global, store: &mut Store<MemDisk>, frames: &[&str]) -> Result<(), Refusal> {
+// The first calls of the commit of such a batch.
+fn commit(
+    alloc: Global,
+    store: &mut Store<MemDisk>,
+    frames: &[&str],
+    calls: u64,
+) -> Result<(), Refusal> {
     let batch = batch(alloc, store, frames)?;
-    if !store.roomy() {
-        return Err(Refusal::Backlog);
-    }
-    let written = store.begin(alloc, batch)?.write(store)?;
-    let opened = written.sync(store)?.open_gate(store)?;
-    let _ = opened.sync(store)?.into_batch();
-    Ok(())
-}
-
-fn new_store(alloc: Global) -> Result<Store<MemDisk>, Fail> {
-    let disk = MemDisk::new(alloc, vec![in alloc; 0xA5; disk_len(slots(8)?) as usize]?)?;
-    Ok(format(alloc, disk, net_id()?, 8)?)
+    begin_commit(alloc, store, batch, calls)
 }
 
 // Whether the store has the one device after this many decisions, with this last DevNonce.
 fn has_joined(store: &Store<MemDisk>, seq: u64, dev_nonce: Option<u16>) -> bool {
-    let devices = store.table().devices();
-    let is_right = devices.first().is_some_and(|device| {
-        let granted = device.activation.granted().map_or(0, |nonce| nonce.get());
-        device.last_dev_nonce == dev_nonce && granted == u32::from(dev_nonce.unwrap_or(0))
-    });
-    devices.len() == 1 && store.seq() == seq && is_right
+    match store.table().devices() {
+        [device] => {
+            let granted = device.activation.granted().map_or(0, |nonce| nonce.get());
+            let is_right = granted == u32::from(dev_nonce.unwrap_or(0));
+            is_right && device.last_dev_nonce == dev_nonce && store.seq() == seq
+        }
+        _ => false,
+    }
 }
 
 // The same store after a crash.
-fn crashed(alloc: Global, store: Store<MemDisk>, image: &Image) -> Result<Store<MemDisk>, Fail> {
+fn crashed(alloc: Global, store: Store<MemDisk>, image: &Image) -> Result<Store<MemDisk>, Refusal> {
     let mut disk = store.close();
     disk.crash(image);
-    Ok(open(alloc, disk)?)
+    open(alloc, disk)
+}
+
+// The frames of a batch, and which decision and which DevNonce come last then.
+type Row = (&'static [&'static str], u64, Option<u16>);
+
+// The store after a batch and a crash, if it has what the batch leads to before and after it.
+fn found_again(
+    alloc: Global,
+    mut store: Store<MemDisk>,
+    row: &Row,
+) -> Result<Option<Store<MemDisk>>, Refusal> {
+    let (frames, seq, dev_nonce) = *row;
+    commit(alloc, &mut store, frames, 4)?;
+    let before = has_joined(&store, seq, dev_nonce);
+    let store = crashed(alloc, store, &Image::Fill(0xA5))?;
+    Ok((before && has_joined(&store, seq, dev_nonce)).then_some(store))
 }
 
 // Whether these batches, one after the other, are found again, each after a crash.
-fn are_found(alloc: Global, batches: &[(&[&str], u64, Option<u16>)]) -> Result<bool, Fail> {
-    let mut store = new_store(alloc)?;
-    for (frames, seq, dev_nonce) in batches {
-        commit(alloc, &mut store, frames)?;
-        if !has_joined(&store, *seq, *dev_nonce) {
-            return Ok(false);
-        }
-        store = crashed(alloc, store, &Image::Fill(0xA5))?;
-        if !has_joined(&store, *seq, *dev_nonce) {
-            return Ok(false);
+fn are_found(alloc: Global, batches: &[Row]) -> Result<bool, Refusal> {
+    let mut store = new_store(alloc, 8)?;
+    for row in batches {
+        match found_again(alloc, store, row)? {
+            Some(again) => store = again,
+            None => return Ok(false),
         }
     }
     Ok(true)
 }
 
+const ALONE: &[Row] = &[
+    (&[BRING], 1, None),
+    (&[JOIN_1], 2, Some(1)),
+    (&[JOIN_2], 3, Some(2)),
+];
+
+const TOGETHER: &[Row] = &[
+    (&[BRING, JOIN_1], 2, Some(1)),
+    (&[JOIN_2, JOIN_3], 4, Some(3)),
+];
+
 #[test]
-fn a_record_of_a_slot_in_use_is_replaced(rt: HostRuntime) -> Result<(), Fail> {
-    let alloc = rt.alloc();
-    let alone: [(&[&str], u64, Option<u16>); 3] = [
-        (&[BRING], 1, None),
-        (&[JOIN_1], 2, Some(1)),
-        (&[JOIN_2], 3, Some(2)),
-    ];
-    assert!(rt; are_found(alloc, &alone)?, "each in a batch of its own");
-    let together: [(&[&str], u64, Option<u16>); 2] = [
-        (&[BRING, JOIN_1], 2, Some(1)),
-        (&[JOIN_2, JOIN_3], 4, Some(3)),
-    ];
-    assert!(rt; are_found(alloc, &together)?, "two in a batch");
-    Ok(())
+fn a_record_of_a_slot_in_use_is_replaced(rt: HostRuntime) {
+    assert!(rt;
+        are_found(rt.alloc(), ALONE) == Ok(true),
+        "each in a batch of its own"
+    );
+    assert!(rt;
+        are_found(rt.alloc(), TOGETHER) == Ok(true),
+        "two in a batch"
+    );
 }
 
-// The first calls of the commit of a join.
-fn begin_join(alloc: Global, store: &mut Store<MemDisk>, calls: u64) -> Result<(), Refusal> {
-    let batch = batch(alloc, store, &[JOIN_1])?;
-    if !store.roomy() {
-        return Err(Refusal::Backlog);
-    }
-    let written = store.begin(alloc, batch)?.write(store)?;
-    if calls == 1 {
-        written.lose();
-        return Ok(());
-    }
-    let synced = written.sync(store)?;
-    if calls == 2 {
-        synced.lose();
-        return Ok(());
-    }
-    synced.open_gate(store)?.lose();
-    Ok(())
-}
-
-// The store after a crash behind them.
-fn cut(alloc: Global, calls: u64, image: &Image) -> Result<Store<MemDisk>, Fail> {
-    let mut store = new_store(alloc)?;
-    commit(alloc, &mut store, &[BRING])?;
-    begin_join(alloc, &mut store, calls)?;
+// The store after a crash behind the first calls of the commit of a join.
+fn cut(alloc: Global, calls: u64, image: &Image) -> Result<Store<MemDisk>, Refusal> {
+    let mut store = new_store(alloc, 8)?;
+    commit(alloc, &mut store, &[BRING], 4)?;
+    commit(alloc, &mut store, &[JOIN_1], calls)?;
     crashed(alloc, store, image)
 }
 
-#[test]
-fn a_crash_leaves_the_old_record_or_the_new(rt: HostRuntime) -> Result<(), Fail> {
-    for (calls, image, joined) in [
-        (1, Image::Old, false),
-        (1, Image::New, false),
-        (2, Image::New, false),
-        (3, Image::Old, false),
-        (3, Image::New, true),
-    ] {
-        let store = cut(rt.alloc(), calls, &image)?;
-        let is_right = if joined {
-            has_joined(&store, 2, Some(1))
-        } else {
-            has_joined(&store, 1, None)
-        };
-        assert!(rt; is_right, "{calls} calls, {image:?}");
+// Whether it has joined, or is as it was before.
+fn is_left(alloc: Global, calls: u64, image: &Image, joined: bool) -> bool {
+    match cut(alloc, calls, image) {
+        Ok(store) if joined => has_joined(&store, 2, Some(1)),
+        Ok(store) => has_joined(&store, 1, None),
+        Err(_) => false,
     }
-    Ok(())
+}
+
+#[test]
+fn a_crash_leaves_the_old_record_or_the_new(rt: HostRuntime) {
+    let alloc = rt.alloc();
+    assert!(rt;
+        is_left(alloc, 1, &Image::Old, false),
+        "the body may be torn"
+    );
+    assert!(rt;
+        is_left(alloc, 1, &Image::New, false),
+        "the body is written"
+    );
+    assert!(rt; is_left(alloc, 2, &Image::New, false), "the body is synced");
+    assert!(rt;
+        is_left(alloc, 3, &Image::Old, false),
+        "the gate is not open"
+    );
+    assert!(rt; is_left(alloc, 3, &Image::New, true), "the gate is open");
 }

@@ -1,14 +1,11 @@
-use crate::devices_under_test::{net_id, provisioning, provisionings, slots};
-use devices::Device;
+use crate::devices_under_test::{idle_device, net_id, provisionings, slots};
 use lw_types::{Eui, Refusal};
 use sessions::Table;
 use std::alloc::Global;
-use std::process::Abort;
-use std::test::Fail;
 use store_layout::{RecordVersion, Superblock, batch_entries, put_entry, replay};
 
-fn table(alloc: Global, most: u64) -> Result<Table, Fail> {
-    Ok(Table::new(alloc, net_id()?, slots(most)?)?)
+fn table(alloc: Global, most: u64) -> Result<Table, Refusal> {
+    Table::new(alloc, net_id()?, slots(most)?)
 }
 
 // The superblock of network 00002A with 8 slots, as the format spells it.
@@ -17,67 +14,77 @@ const SUPERBLOCK: [u8; 32] = [
     0x86, 0xA6, 0, 0, 0, 0, 0, 0, 0, 0,
 ];
 
-#[test]
-fn the_superblock_has_its_layout(rt: HostRuntime) -> Result<(), Fail> {
+fn is_laid_out() -> Result<bool, Refusal> {
     let superblock = Superblock {
         net_id: net_id()?,
         slots: slots(8)?,
     };
-    assert_eq!(rt; superblock.to_bytes().as_slice(), SUPERBLOCK.as_slice());
-    assert_eq!(rt; superblock.disk_len(), 2_166_124);
-    assert_eq!(rt; Superblock::from_bytes(&SUPERBLOCK), Ok(superblock));
-    Ok(())
+    let is_read = Superblock::from_bytes(&SUPERBLOCK) == Ok(superblock);
+    Ok(is_read && superblock.to_bytes() == SUPERBLOCK && superblock.disk_len() == 2_166_124)
+}
+
+#[test]
+fn the_superblock_has_its_layout(rt: HostRuntime) {
+    assert!(rt; is_laid_out() == Ok(true));
+}
+
+const OTHER_SUPERBLOCKS: &[(usize, u8, Refusal)] = &[
+    (0, 0x00, Refusal::NotFormatted),
+    (3, 0x54, Refusal::NotFormatted),
+    (8, 0x02, Refusal::WrongVersion),
+    (9, 0x01, Refusal::Damaged),
+    (11, 0x40, Refusal::Damaged),
+    (15, 0x00, Refusal::Damaged),
+    (14, 0x20, Refusal::Damaged),
+    (23, 0xA7, Refusal::Damaged),
+    (31, 0x01, Refusal::Damaged),
+];
+
+// What the superblock is refused with another byte at a place.
+fn refused(at: usize, byte: u8) -> Option<Refusal> {
+    let mut bytes = SUPERBLOCK;
+    *bytes.get_mut(at)? = byte;
+    Superblock::from_bytes(&bytes).err()
 }
 
 #[test]
 fn another_superblock_is_refused(rt: HostRuntime) {
-    let cases = [
-        (0, 0x00, Refusal::NotFormatted),
-        (3, 0x54, Refusal::NotFormatted),
-        (8, 0x02, Refusal::WrongVersion),
-        (9, 0x01, Refusal::Damaged),
-        (11, 0x40, Refusal::Damaged),
-        (15, 0x00, Refusal::Damaged),
-        (14, 0x20, Refusal::Damaged),
-        (23, 0xA7, Refusal::Damaged),
-        (31, 0x01, Refusal::Damaged),
-    ];
-    for (at, byte, refusal) in cases {
-        let mut bytes = SUPERBLOCK;
-        bytes[at] = byte;
-        assert_eq!(rt;
-            Superblock::from_bytes(&bytes),
-            Err(refusal),
+    for (at, byte, refusal) in OTHER_SUPERBLOCKS {
+        assert!(rt;
+            refused(*at, *byte) == Some(*refusal),
             "byte {at} is {byte}"
         );
     }
 }
 
-#[test]
-fn an_entry_has_its_layout(rt: HostRuntime) -> Result<(), Fail> {
-    let alloc = rt.alloc();
-    let device = Device::provisioned(alloc, &provisioning(0x1112131415161718)?);
+// A byte, and the entry of a device behind it.
+fn entry(alloc: Global) -> Result<Vec<u8>, Refusal> {
     let mut bytes = [7].to_vec(alloc)?;
+    let device = idle_device(alloc, 0x1112131415161718)?;
     put_entry(alloc, RecordVersion::V1, 0x0102, &device, &mut bytes)?;
-    assert_eq!(rt; bytes.len(), 1 + 5 + 50);
-    assert_eq!(rt;
-        &bytes[..14],
-        [
-            7, 1, 1, 2, 0, 50, 0x11, 0x12, 0x13, 0x14, 0x15, 0x16, 0x17, 0x18
-        ]
-        .as_slice()
+    Ok(bytes)
+}
+
+const FRONT_OF_ENTRY: [u8; 14] = [
+    7, 1, 1, 2, 0, 50, 0x11, 0x12, 0x13, 0x14, 0x15, 0x16, 0x17, 0x18,
+];
+
+#[test]
+fn an_entry_has_its_layout(rt: HostRuntime) {
+    assert!(rt;
+        entry(rt.alloc()).is_ok_and(|bytes| bytes.len() == 1 + 5 + 50
+            && bytes.starts_with(&FRONT_OF_ENTRY))
     );
-    Ok(())
 }
 
 // The entries of a batch of so many provisionings.
-fn entries(alloc: Global, count: u64) -> Result<Vec<u8>, Fail> {
+fn entries(alloc: Global, count: u64) -> Result<Vec<u8>, Refusal> {
     let batch = provisionings(alloc, &table(alloc, 64)?, 0, count)?;
-    Ok(batch_entries(alloc, RecordVersion::V1, &batch)?)
+    batch_entries(alloc, RecordVersion::V1, &batch)
 }
 
 // The length of that many entries, how many devices they bring, and the slot of the last one.
-fn replayed(alloc: Global, count: u32) -> Result<(usize, usize, Option<u16>), Fail> {
+fn replayed(alloc: Global, count: u32) -> Result<(usize, usize, Option<u16>), Refusal> {
     let bytes = entries(alloc, u64::from(count))?;
     let mut opened = table(alloc, 64)?;
     replay(alloc, RecordVersion::V1, &mut opened, &bytes, count)?;
@@ -86,43 +93,44 @@ fn replayed(alloc: Global, count: u32) -> Result<(usize, usize, Option<u16>), Fa
 }
 
 #[test]
-fn what_a_batch_writes_replays(rt: HostRuntime) -> Result<(), Fail> {
+fn what_a_batch_writes_replays(rt: HostRuntime) {
     let alloc = rt.alloc();
-    for (count, wanted) in [
-        (1, (55, 1, Some(0))),
-        (5, (275, 5, Some(4))),
-        (64, (3520, 64, Some(63))),
-    ] {
-        assert_eq!(rt; replayed(alloc, count)?, wanted, "{count} entries");
-    }
-    Ok(())
+    assert!(rt; replayed(alloc, 1) == Ok((55, 1, Some(0))));
+    assert!(rt; replayed(alloc, 5) == Ok((275, 5, Some(4))));
+    assert!(rt; replayed(alloc, 64) == Ok((3520, 64, Some(63))));
 }
 
-// These bytes aren't so many entries on a table with so many slots.
-fn is_damaged(
-    rt: &impl Abort,
+// How many bytes of the entries of five provisionings are read as how many entries, on a table of how many slots.
+const DAMAGED: &[(usize, u32, u64)] = &[
+    (274, 5, 8),
+    (275, 4, 8),
+    (275, 6, 8),
+    (0, 1, 8),
+    (275, 5, 4),
+];
+
+// What their replay is refused.
+fn refused_replay(
     alloc: Global,
-    most: u64,
-    bytes: &[u8],
+    cut: usize,
     count: u32,
-) -> Result<(), Fail> {
+    most: u64,
+) -> Result<Option<Refusal>, Refusal> {
+    let bytes = entries(alloc, 5)?;
     let mut other = table(alloc, most)?;
-    let answer = replay(alloc, RecordVersion::V1, &mut other, bytes, count);
-    assert_eq!(rt;
-        answer,
-        Err(Refusal::Damaged),
-        "{count} entries, {most} slots"
-    );
-    Ok(())
+    match bytes.get(..cut) {
+        Some(front) => Ok(replay(alloc, RecordVersion::V1, &mut other, front, count).err()),
+        None => Ok(None),
+    }
 }
 
 #[test]
-fn other_bytes_do_not_replay(rt: HostRuntime) -> Result<(), Fail> {
-    let alloc = rt.alloc();
-    let bytes = entries(alloc, 5)?;
-    assert_eq!(rt; bytes.len(), 275);
-    for (cut, count) in [(274, 5), (275, 4), (275, 6), (0, 1)] {
-        is_damaged(&rt, alloc, 8, &bytes[..cut], count)?;
+fn other_bytes_do_not_replay(rt: HostRuntime) {
+    for (cut, count, most) in DAMAGED {
+        let refused = refused_replay(rt.alloc(), *cut, *count, *most);
+        assert!(rt;
+            refused == Ok(Some(Refusal::Damaged)),
+            "{cut} bytes, {count} entries"
+        );
     }
-    is_damaged(&rt, alloc, 4, &bytes, 5)
 }

@@ -1,12 +1,12 @@
 //! A network of one device, and what comes of a frame that its gateway heard.
 use devices::{
     Activation, Application, AskedBytes, Command, CurrentSession, Device, Effect, Hearing, Item,
-    ItemQueue, MacQueue, MacQueueing, NextDown, Payload, Port, Queueing, Rx1Offset, Session, Tag,
+    ItemQueue, MacQueue, MacQueueing, NextDown, Payload, Port, Queueing, Rx1Offset, Tag,
 };
 use gateway_wire::Emission;
-use lw_types::{Eui, JoinNonce, Key, NetId, Refusal, read_hex, write_hex};
+use lw_types::{Eui, JoinNonce, NetId, Refusal, read_hex, write_hex};
 use phy_payload::{Phy, decode};
-use session_tests::fixture::{JOINER, heard, heard_by, hearing, joining, provisioning};
+use session_tests::fixture::{JOINER, heard, heard_by, hearing, joining, provisioning, session};
 use sessions::{Decision, Slots, Table};
 use std::alloc::Global;
 
@@ -64,34 +64,16 @@ pub(crate) enum Event {
 }
 
 // The session keys of the join under JoinNonce 1 and DevNonce 1, NwkSKey first.
-const KEYS: (&str, &str) = (
-    "38F19F1F7C923B7B392DFDBECE201B6B",
-    "65A2E3FC3F681266CA0F9088A6AD5FE4",
+const KEYS: (u128, u128) = (
+    0x38F19F1F_7C923B7B_392DFDBE_CE201B6B,
+    0x65A2E3FC_3F681266_CA0F9088_A6AD5FE4,
 );
 
 // Those under JoinNonce 8193 and DevNonce 2.
-const WAITING_KEYS: (&str, &str) = (
-    "BB3649109CD135B493E7406935FFEE62",
-    "DABBBAC856FA7E097BCC406C1BB2E6A6",
+const WAITING_KEYS: (u128, u128) = (
+    0xBB364910_9CD135B4_93E74069_35FFEE62,
+    0xDABBBAC8_56FA7E09_7BCC406C_1BB2E6A6,
 );
-
-fn key(alloc: Global, hex: &str) -> Result<Key, Refusal> {
-    let bytes = read_hex(alloc, hex)?;
-    let mut key = [0; 16];
-    if bytes.len() != key.len() {
-        return Err(Refusal::Damaged);
-    }
-    key.copy_from_slice(&bytes);
-    Ok(Key(key))
-}
-
-fn session(alloc: Global, join_nonce: u32, keys: (&str, &str)) -> Result<Session, Refusal> {
-    Ok(Session {
-        join_nonce: JoinNonce::new(join_nonce).ok_or(Refusal::Damaged)?,
-        nwk_skey: key(alloc, keys.0)?,
-        app_skey: key(alloc, keys.1)?,
-    })
-}
 
 fn items(alloc: Global, waiting: &[(u32, u64, bool, usize)]) -> Result<ItemQueue, Refusal> {
     let mut items = Vec::new(alloc);
@@ -108,30 +90,27 @@ fn items(alloc: Global, waiting: &[(u32, u64, bool, usize)]) -> Result<ItemQueue
 }
 
 impl Before {
-    fn activation(&self, alloc: Global) -> Result<Activation, Refusal> {
+    fn activation(&self) -> Option<Activation> {
         if !self.in_use {
-            return Ok(Activation::none());
+            return Some(Activation::none());
         }
         let current = CurrentSession {
-            session: session(alloc, 1, KEYS)?,
+            session: session(1, KEYS)?,
             last_up: self.last_up,
-            next_down: NextDown::new(self.next_down).ok_or(Refusal::Damaged)?,
+            next_down: NextDown::new(self.next_down)?,
         };
-        let pending = if self.waiting {
-            Some(session(alloc, 8193, WAITING_KEYS)?)
-        } else {
-            None
-        };
-        let granted = if self.waiting { 8193 } else { 1 };
-        let grants = Activation::new(JoinNonce::new(granted), Some(current), pending);
-        grants.ok_or(Refusal::Damaged)
+        if !self.waiting {
+            return Activation::new(JoinNonce::new(1), Some(current), None);
+        }
+        let pending = session(8193, WAITING_KEYS)?;
+        Activation::new(Some(pending.join_nonce), Some(current), Some(pending))
     }
 
     fn device(&self, alloc: Global, offset: u8) -> Result<Device, Refusal> {
         let mut device = Device::provisioned(alloc, &joining().ok_or(Refusal::Damaged)?);
         let commands = MacQueue::new(read_hex(alloc, self.mac_queue)?);
         device.rx1_offset = Rx1Offset::new(u64::from(offset)).ok_or(Refusal::Damaged)?;
-        device.activation = self.activation(alloc)?;
+        device.activation = self.activation().ok_or(Refusal::Damaged)?;
         device.awaited = self.awaited.map(|tag| Tag(tag));
         device.mac_queue = commands.ok().ok_or(Refusal::BadMac)?;
         device.items = items(alloc, self.items)?;
