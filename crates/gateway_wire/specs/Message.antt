@@ -25,7 +25,7 @@ copy_content copy =
     ++ (to_be_bytes w16 (cast_unsigned w16 copy.reception.rssi)
     ++ (to_be_bytes w32 copy.stamp ++ copy.phy_payload))))))
 
--- of a request 03 and its line
+-- what an application asks for: 03 (hex) and its line
 abbrev pub content_of : Message → List ℕ
 content_of (Greeting peer) = greeting_content peer
 content_of (Copy copy) = copy_content copy
