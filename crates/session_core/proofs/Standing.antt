@@ -114,6 +114,17 @@ module _
       → StandFor old.windows arrivals closed old.clock → StandFor new.windows arrivals (closed + new.closings) new.clock
   stand-ticked old new moment closed turn h s = stand_turned Ticks keeps-ticked old new moment closed turn h s
 
+  -- one for which there was no memory
+  pub stand-missed : (copy : FrameCopy) (old new : CoreState) (moment closed : ℕ) (turn : Turn) → IsTurn old moment Starves turn new
+      → StandFor old.windows arrivals closed old.clock → StandFor new.windows (with_copy turn.refused new.clock copy arrivals) (closed + new.closings) new.clock
+  stand-missed copy old new moment closed turn h s =
+      subst (λ refused. StandFor new.windows (with_copy refused new.clock copy arrivals) (closed + new.closings) new.clock) (sym (starved (has_due h.between) h.own).0)
+      (stand_turned Starves (λ s refused new own. keeps-same s new own.1) old new moment closed turn h s)
+    where
+      starved : (b : Bool) → MatchBool b (Starves h.between turn.refused new) (Starves h.between turn.refused new) → Starves h.between turn.refused new
+      starved true own = own
+      starved false own = own
+
   module _
       (add : (ws after : List Window) (arrivals : List Arrival) (closed now : ℕ) (copy : FrameCopy) → StandFor ws arrivals closed now → IsCurrent now ws → added ws now copy ≡ Ok after
       → StandFor after (arrivals ++ arrival now copy ∷ []) closed now) where

@@ -16,7 +16,7 @@ use Rattle.devices.specs.declared.heard.Heard.{Heard}
 use Rattle.devices.specs.declared.heard.Hearing.{Hearing}
 use Rattle.dedup.specs.Windows.{Window, IsCurrent, IsOldestDue, NoneDue, added, hearing_of, is_due, is_of, joined, opened_by, result_map, with_hearings}
 use Rattle.dedup.specs.declared.TheConstants.{MOST_WINDOWS}
-use Rattle.session_core.specs.State.{DecisionsState}
+use Rattle.session_core.specs.State.{DecisionsState, IsLawful}
 use Rattle.session_core.specs.Deciding.{verdict_of, Keeps, Lacks, Makes, has_room}
 use Rattle.session_core.specs.Core.{CoreState, with_outcome}
 use Rattle.devices.specs.Heard.{IsReceivable, with_hearing}
@@ -140,8 +140,8 @@ handles-kept old command result d new kept is = record { decisions = d; kept = k
 
 -- it was passed over
 pub handles-lack : (old : CoreState) (command : Command) (e : Refusal) (new : CoreState) → (has_room old.decisions ≡ false → e ≡ Backlog) → Lacks old.decisions command e
-    → new ≡ with_outcome old old.decisions (Err e) → Handles old command (Err e) new
-handles-lack old command e new full lack is =
+    → IsLawful old.decisions → new ≡ with_outcome old old.decisions (Err e) → Handles old command (Err e) new
+handles-lack old command e new full lack lawful is =
     record {
       decisions = old.decisions;
       kept =
@@ -149,21 +149,22 @@ handles-lack old command e new full lack is =
             full = λ none. ap (λ (e : Refusal). Err e) (full none);
             made = lacks-turned old.decisions command (λ s _. Makes old.decisions command s old.decisions) e lack;
             same = refl;
+            lawful = lawful;
           };
       new_is = is;
     }
 
 -- there was no room
-pub handles-full : (old : CoreState) (command : Command) (new : CoreState) → has_room old.decisions ≡ false
+pub handles-full : (old : CoreState) (command : Command) (new : CoreState) → has_room old.decisions ≡ false → IsLawful old.decisions
     → new ≡ with_outcome old old.decisions (Err Backlog) → Handles old command (Err Backlog) new
-handles-full old command new none is = handles-lack old command Backlog new (λ _. refl) (lacks-full old.decisions command none) is
+handles-full old command new none lawful is = handles-lack old command Backlog new (λ _. refl) (lacks-full old.decisions command none) lawful is
 
 -- or no memory for a frame
-pub handles-starved : (old : CoreState) (heard : Heard) → has_room old.decisions ≡ true → Handles old (commands.Heard heard) (Err OutOfMemory) old
-handles-starved old heard room =
+pub handles-starved : (old : CoreState) (heard : Heard) → has_room old.decisions ≡ true → IsLawful old.decisions → Handles old (commands.Heard heard) (Err OutOfMemory) old
+handles-starved old heard room lawful =
     record {
       decisions = old.decisions;
-      kept = record { full = λ none. absurd (not_both (sym room ∙ none)); made = inl refl; same = refl };
+      kept = record { full = λ none. absurd (not_both (sym room ∙ none)); made = inl refl; same = refl; lawful = lawful };
       new_is = refl;
     }
   where
@@ -264,18 +265,18 @@ closed-oldest old mid answer after found hands memory closed =
     rest (Some heard) h = same_rest h.window hands.oldest.window after hands.rest (sym h.oldest ∙ (windows ∙ hands.oldest.oldest))
 
 pub hands-starved : (old : CoreState) (now : ℕ) (heard : Heard) (rest : List Window) → now ≡ old.clock → IsOldestDue now old.windows heard rest → has_room old.decisions ≡ true
-    → HandsInOldest old (Err OutOfMemory) old
-hands-starved old now heard rest at oldest room =
-    record { heard = heard; rest = rest; oldest = subst (λ now. IsOldestDue now old.windows heard rest) at oldest; handled = handles-starved old heard room }
+    → IsLawful old.decisions → HandsInOldest old (Err OutOfMemory) old
+hands-starved old now heard rest at oldest room lawful =
+    record { heard = heard; rest = rest; oldest = subst (λ now. IsOldestDue now old.windows heard rest) at oldest; handled = handles-starved old heard room lawful }
 
 pub hands-full : (old : CoreState) (now : ℕ) (heard : Heard) (rest : List Window) (result : Result (Unit {0}) Refusal) (new : CoreState) → now ≡ old.clock → IsOldestDue now old.windows heard rest
-    → has_room old.decisions ≡ false → result ≡ Err Backlog → new ≡ with_outcome old old.decisions (Err Backlog) → HandsInOldest old result new
-hands-full old now heard rest result new at oldest none is noted =
+    → has_room old.decisions ≡ false → IsLawful old.decisions → result ≡ Err Backlog → new ≡ with_outcome old old.decisions (Err Backlog) → HandsInOldest old result new
+hands-full old now heard rest result new at oldest none lawful is noted =
     record {
       heard = heard;
       rest = rest;
       oldest = subst (λ now. IsOldestDue now old.windows heard rest) at oldest;
-      handled = subst (λ r. Handles old (commands.Heard heard) r new) (sym is) (handles-full old (commands.Heard heard) new none noted);
+      handled = subst (λ r. Handles old (commands.Heard heard) r new) (sym is) (handles-full old (commands.Heard heard) new none lawful noted);
     }
 
 -- ---- turns

@@ -7,8 +7,7 @@ use Rattle.sessions.specs.Table.{Step, step}
 use Rattle.sessions.specs.Decision.{AnswersTo, IsDecision, applied_all}
 use Rattle.sessions.specs.declared.decision.Decision.{Decision}
 use Rattle.session_core.specs.declared.decisions.TheConstants.{LAST_NUMBER, MOST_UNTAKEN}
-use Rattle.session_core.specs.declared.turn.Turn.{Turn}
-use Rattle.session_core.specs.State.{DecisionsState, now_of, last_number}
+use Rattle.session_core.specs.State.{DecisionsState, IsLawful, now_of, last_number}
 
 -- whether there is room for one decision more that waits, and a number for it
 abbrev pub has_room : DecisionsState → Bool
@@ -29,29 +28,17 @@ abbrev pub Lacks : DecisionsState → Command → Refusal → Type 0
 Lacks s command refusal = AnswersTo {B = Unit {0}} command (wanted s command) (λ _ _. ⊥) (Err refusal)
 
 -- What came of a command that was handed in: it was decided, or it was refused as it has to be, and nothing changed. That
--- there is no room is known before any memory is taken.
+-- there is no room is known before any memory is taken. The state stays lawful.
 pub record Keeps (old : DecisionsState) (command : Command) (result : Result (Unit {0}) Refusal) (new : DecisionsState) : Type 0 where
   pub full : has_room old ≡ false → result ≡ Err Backlog
   pub made : AnswersTo command (wanted old command) (λ s _. Makes old command s new) result
   pub same : OnErr result (new ≡ old)
-
--- nothing was decided
-pub record Stays (old : DecisionsState) (turn : Turn) (new : DecisionsState) : Type 0 where
-  pub same : new ≡ old
-  pub none : turn.to ≡ turn.from
+  pub lawful : IsLawful new
 
 -- whether a command was decided
 abbrev pub verdict_of : Option Refusal → Result (Unit {0}) Refusal
 verdict_of None = Ok tt
 verdict_of (Some refusal) = Err refusal
-
--- The turn of one command: it is decided, or its refusal is answered and nothing changes. That there is no room is known
--- before any memory is taken.
-pub record Turns (old : DecisionsState) (command : Command) (turn : Turn) (new : DecisionsState) : Type 0 where
-  pub from : turn.from ≡ old.made
-  pub full : has_room old ≡ false → turn.refused ≡ Some Backlog
-  pub decided : AnswersTo command (wanted old command) (λ s _. (turn.to ≡ turn.from + 1) × Makes old command s new) (verdict_of turn.refused)
-  pub refused : OnErr (verdict_of turn.refused) (Stays old turn new)
 
 -- the first n decisions leave the log, and the base moves past them
 abbrev pub taken_from : DecisionsState → ℕ → DecisionsState

@@ -2,10 +2,9 @@
 ghost use Rattle.std.specs.Prelude.{◌≡◌, ◌≤◌, MatchResult, OnErr, Err, false, take, drop, length, []};
 ghost use Rattle.lw_types.specs.declared.refusal.Refusal.TheVariants.{Backlog, OutOfMemory};
 ghost use Rattle.session_core.specs.State.{IsLawful, now_of, opened, last_number};
-ghost use Rattle.session_core.specs.Deciding.{Turns, Makes, Lacks, has_room, wanted, taken_from};
+ghost use Rattle.session_core.specs.Deciding.{Makes, Lacks, has_room, wanted, taken_from};
 ghost use Rattle.sessions.specs.Decision.{AnswersTo};
 
-use crate::{Moment, Turn};
 use devices::Command;
 use lw_types::{Ranged, Refusal};
 use sessions::{Batch, Decision, Table};
@@ -28,7 +27,7 @@ pub const LAST_NUMBER: u64 = (1 << 63) - 1;
 /// The decisions of one life. Their state is lawful whenever it can be seen: the untaken decisions
 /// continue what was taken, none is missing, and the table at hand is the one that they leave.
 #[derive(Drop)]
-pub struct Decisions {
+pub(crate) struct Decisions {
     alloc: Global,
     // The table after every decision made. The one that they began at is this with the log taken back,
     // which no call needs.
@@ -53,7 +52,7 @@ impl Model for Decisions {
 
 impl Decisions {
     /// None yet, over a copy of this table, whose last decision has the number `seq`.
-    pub fn new(alloc: Global, table: &Table, seq: u64) -> Result<Self, Refusal>
+    pub(crate) fn new(alloc: Global, table: &Table, seq: u64) -> Result<Self, Refusal>
         ensures { MatchResult result (λ decisions. decisions ≡ opened table.now seq) (λ e. e ≡ OutOfMemory) }
     {
         Ok(Decisions {
@@ -67,7 +66,7 @@ impl Decisions {
     }
 
     /// The table after every decision made.
-    pub fn now(&self) -> &Table
+    pub(crate) fn now(&self) -> &Table
         ensures table { result.now ≡ now_of self.now }
         ensures lawful { IsLawful self.now }
     {
@@ -75,7 +74,7 @@ impl Decisions {
     }
 
     /// The sequence number of the last decision made.
-    pub fn seq(&self) -> u64
+    pub(crate) fn seq(&self) -> u64
         ensures number { result ≡ last_number self.now }
         ensures lawful { IsLawful self.now }
     {
@@ -83,7 +82,7 @@ impl Decisions {
     }
 
     /// How many decisions were made in this life.
-    pub fn made(&self) -> u64
+    pub(crate) fn made(&self) -> u64
         ensures count { result ≡ self.now.made }
         ensures lawful { IsLawful self.now }
     {
@@ -91,7 +90,7 @@ impl Decisions {
     }
 
     /// How many decisions wait to be taken.
-    pub fn untaken(&self) -> usize
+    pub(crate) fn untaken(&self) -> usize
         ensures count { result ≡ length self.now.log }
         ensures lawful { IsLawful self.now }
     {
@@ -100,43 +99,10 @@ impl Decisions {
 
     /// Whether there is room for one decision more that waits, and a number for it.
     pub(crate) fn has_room(&self) -> bool
-        ensures { result ≡ has_room self.now }
-    {
-        (self.log.len() as u64) < MOST_UNTAKEN && self.seq() < LAST_NUMBER
-    }
-
-    /// Decides a command that comes. Refused with `Backlog` where 4,096 decisions wait or no number is left, whether or
-    /// not there is memory, and then as [`Table::decide`] refuses it. A refusal changes nothing.
-    pub fn decide(&mut self, _moment: Moment, command: Command) -> Turn
-        ensures turns { Turns self.old command result self.new }
-        ensures lawful { IsLawful self.old }
-    {
-        let from = self.made;
-        match self.keep(command) {
-            Ok(()) => Turn {
-                from,
-                to: from + 1,
-                refused: None,
-            },
-            Err(refusal) => Turn {
-                from,
-                to: from,
-                refused: Some(refusal),
-            },
-        }
-    }
-
-    /// The turn of a command that can't be handed in for want of memory: its refusal, if one is due, else `OutOfMemory`.
-    pub fn starve(&self, command: &Command) -> Turn
-        ensures turns { Turns self.now command.now result self.now }
+        ensures room { result ≡ has_room self.now }
         ensures lawful { IsLawful self.now }
     {
-        let from = self.made;
-        Turn {
-            from,
-            to: from,
-            refused: Some(self.lack(command)),
-        }
+        (self.log.len() as u64) < MOST_UNTAKEN && self.seq() < LAST_NUMBER
     }
 
     /// Decides a command on the table as it is now, and keeps the decision. Refused with `Backlog` where there is no room,
@@ -145,6 +111,7 @@ impl Decisions {
         ensures full { has_room self.old ≡ false → result ≡ Err Backlog }
         ensures made { AnswersTo command (wanted self.old command) (λ s _. Makes self.old command s self.new) result }
         ensures same { OnErr result (self.new ≡ self.old) }
+        ensures lawful { IsLawful self.new }
     {
         if !self.has_room() {
             return Err(Refusal::Backlog);
@@ -163,6 +130,7 @@ impl Decisions {
     pub(crate) fn lack(&self, command: &Command) -> Refusal
         ensures full { has_room self.now ≡ false → result ≡ Backlog }
         ensures lack { Lacks self.now command.now result }
+        ensures lawful { IsLawful self.now }
     {
         if !self.has_room() {
             return Refusal::Backlog;
@@ -175,7 +143,7 @@ impl Decisions {
 
     /// Takes the oldest untaken decisions, at most `max` of them. After an `Err`, which is want of
     /// memory, nothing has changed.
-    pub fn take(&mut self, max: Most) -> Result<Batch, Refusal>
+    pub(crate) fn take(&mut self, max: Most) -> Result<Batch, Refusal>
         ensures asked { 1 ≤ max }
         ensures taken { MatchResult result
             (λ batch. (batch ≡ take max self.old.log) × (self.new ≡ taken_from self.old max))

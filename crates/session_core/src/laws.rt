@@ -6,7 +6,7 @@ ghost use Rattle.sessions.specs.Table.{TableState};
 ghost use Rattle.dedup.specs.Groups.{Arrival};
 ghost use Rattle.dedup.specs.Windows.{StandFor};
 ghost use Rattle.session_core.specs.Core.{CoreState, IsLawfulCore, begun};
-ghost use Rattle.session_core.specs.Events.{Asks, Hears, IsTurn, Ticks};
+ghost use Rattle.session_core.specs.Events.{Asks, Hears, IsTurn, Starves, Ticks};
 ghost use Rattle.session_core.specs.Standing.{with_copy};
 ghost use Rattle.session_core.specs.declared.turn.Turn.{Turn};
 
@@ -38,6 +38,9 @@ pub fn windows_stand_for_groups()
         StandFor new.windows arrivals (closed + new.closings) new.clock }
     ensures heard { (copy : FrameCopy) (old new : CoreState) (moment closed : ℕ) (turn : Turn) (arrivals : List Arrival) →
         IsTurn old moment (Hears copy) turn new → IsLawfulCore old → StandFor old.windows arrivals closed old.clock →
+        StandFor new.windows (with_copy turn.refused new.clock copy arrivals) (closed + new.closings) new.clock }
+    ensures missed { (copy : FrameCopy) (old new : CoreState) (moment closed : ℕ) (turn : Turn) (arrivals : List Arrival) →
+        IsTurn old moment Starves turn new → StandFor old.windows arrivals closed old.clock →
         StandFor new.windows (with_copy turn.refused new.clock copy arrivals) (closed + new.closings) new.clock }
 {
     dedup::laws::no_copies_no_windows();

@@ -9,7 +9,7 @@ pub mod laws;
 mod outcome;
 mod turn;
 
-pub use decisions::{Decisions, LAST_NUMBER, MOST_TAKEN, MOST_UNTAKEN, Most};
+pub use decisions::{LAST_NUMBER, MOST_TAKEN, MOST_UNTAKEN, Most};
 pub use events::Core;
 pub use outcome::{MOST_OUTCOMES, Outcome};
 pub use turn::{LAST_MOMENT, Moment, Turn};

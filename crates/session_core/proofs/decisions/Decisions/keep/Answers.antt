@@ -17,7 +17,7 @@ invariant_of-self-2 c =
     let d = c.in_ok-decision.decision in
     let log : c.push_back_reserved.new.self.items ≡ s.log ++ d ∷ [] = c.push_back_reserved.ensures.items ∙ ap (λ (l : List Decision). l ++ d ∷ []) c.reserve.ensures.items in
     let table : c.apply.new.self ≡ applied (now_of s) d = c.in_ok-apply.ensures ∙ ap (λ (t : TableState). applied t d) c.self.invariant.table in
-    let roomy : has_room s ≡ true = room_is (ap has_room c.self.view_is) c.has_room.ensures c.if-not-has_room.false in
+    let roomy : has_room s ≡ true = room_is (ap has_room c.self.view_is) c.has_room.ensures.room c.if-not-has_room.false in
     let room = room-few s roomy in
     let number = c.seq.ensures.number ∙ ap last_number (sym c.self.view_is) in
     let made : Decides (now_of s) (last_number s + 1) c.args.command (Ok d) =
@@ -34,13 +34,33 @@ invariant_of-self-2 c =
       table = table ∙ (sym (now-made c.joining.ensures.continues c.joining.ensures.table c.taking_back.ensures s d) ∙ ap now_of (sym same));
     }
 
+pub returns-clause-lawful : goal.returns-clause-lawful
+returns-clause-lawful c =
+    let s = state_of c.self.inside in
+    let d = c.in_ok-decision.decision in
+    let log : c.push_back_reserved.new.self.items ≡ s.log ++ d ∷ [] = c.push_back_reserved.ensures.items ∙ ap (λ (l : List Decision). l ++ d ∷ []) c.reserve.ensures.items in
+    let table : c.apply.new.self ≡ applied (now_of s) d = c.in_ok-apply.ensures ∙ ap (λ (t : TableState). applied t d) c.self.invariant.table in
+    let roomy : has_room s ≡ true = room_is (ap has_room c.self.view_is) c.has_room.ensures.room c.if-not-has_room.false in
+    let room = room-few s roomy in
+    let number = c.seq.ensures.number ∙ ap last_number (sym c.self.view_is) in
+    let made : Decides (now_of s) (last_number s + 1) c.args.command (Ok d) =
+    subst (λ (t : TableState). Decides t (last_number s + 1) c.args.command (Ok d)) c.self.invariant.table
+    (subst (λ n. Decides c.self.inside.table (n + 1) c.args.command (Ok d)) number c.in_ok-decision.ensures.decides) in
+    let fits : Fits (now_of s) d = subst (λ (t : TableState). Fits t d) c.self.invariant.table c.in_ok-decision.ensures.fits in
+    let lawful =
+    lawful-made c.joining.ensures.continues c.joining.ensures.table c.taking_back.ensures s d c.self.invariant.lawful room.0 room.1 fits
+    (step-made (now_of s) (last_number s + 1) c.args.command d made).2.number in
+    let same =
+    state-made c.joining.ensures.continues c.joining.ensures.table c.taking_back.ensures s d c.apply.new.self c.push_back_reserved.new.self.items lawful table log in
+    subst IsLawful (sym same) lawful
+
 pub returns-clause-made : goal.returns-clause-made
 returns-clause-made c =
     let s = state_of c.self.inside in
     let d = c.in_ok-decision.decision in
     let log : c.push_back_reserved.new.self.items ≡ s.log ++ d ∷ [] = c.push_back_reserved.ensures.items ∙ ap (λ (l : List Decision). l ++ d ∷ []) c.reserve.ensures.items in
     let table : c.apply.new.self ≡ applied (now_of s) d = c.in_ok-apply.ensures ∙ ap (λ (t : TableState). applied t d) c.self.invariant.table in
-    let roomy : has_room s ≡ true = room_is (ap has_room c.self.view_is) c.has_room.ensures c.if-not-has_room.false in
+    let roomy : has_room s ≡ true = room_is (ap has_room c.self.view_is) c.has_room.ensures.room c.if-not-has_room.false in
     let room = room-few s roomy in
     let number = c.seq.ensures.number ∙ ap last_number (sym c.self.view_is) in
     let made : Decides (now_of s) (last_number s + 1) c.args.command (Ok d) =
@@ -58,10 +78,10 @@ returns-clause-made c =
 
 pub returns-in_err-decision-clause-made : goal.returns-in_err-decision-clause-made
 returns-in_err-decision-clause-made c =
-    refused-there c.args.self.now c.self.inside.table c.args.command (c.self.invariant.table ∙ ap now_of c.self.view_is) (sym c.has_room.ensures ∙ c.if-not-has_room.false)
+    refused-there c.args.self.now c.self.inside.table c.args.command (c.self.invariant.table ∙ ap now_of c.self.view_is) (sym c.has_room.ensures.room ∙ c.if-not-has_room.false)
     (c.seq.result + 1) _ c.in_err-decision.field-0.0 c.from_residual.result c.from_residual.ensures.1 c.in_err-decision.ensures.decides
 
 pub returns-in_err-reserve-clause-made : goal.returns-in_err-reserve-clause-made
 returns-in_err-reserve-clause-made c =
-    not-kept c.args.self.now c.self.inside.table c.args.command (c.self.invariant.table ∙ ap now_of c.self.view_is) (sym c.has_room.ensures ∙ c.if-not-has_room.false)
+    not-kept c.args.self.now c.self.inside.table c.args.command (c.self.invariant.table ∙ ap now_of c.self.view_is) (sym c.has_room.ensures.room ∙ c.if-not-has_room.false)
     (c.seq.result + 1) _ c.in_ok-decision.decision c.from_residual-in_err-reserve.result c.from_residual-in_err-reserve.ensures.1 c.in_ok-decision.ensures.decides

@@ -10,4 +10,4 @@ returns c =
     subst (λ r. Handles c.args.self.now c.args.command r c.noted.new.self) (sym c.noted.ensures.same)
     (subst (λ (old : CoreState). Handles old c.args.command c.keep-answer.result c.noted.new.self) c.self.view_is
     (handles-kept (core_of c.self.inside) c.args.command c.keep-answer.result c.keep-answer.new.self c.noted.new.self
-    (record { full = c.keep-answer.ensures.full; made = c.keep-answer.ensures.made; same = c.keep-answer.ensures.same }) c.noted.ensures.noted))
+    (record { full = c.keep-answer.ensures.full; made = c.keep-answer.ensures.made; same = c.keep-answer.ensures.same; lawful = c.keep-answer.ensures.lawful }) c.noted.ensures.noted))

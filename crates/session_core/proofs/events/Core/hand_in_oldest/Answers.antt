@@ -20,10 +20,10 @@ returns-then-not-has_room c =
     let noted = c.noted.ensures.noted ∙ ap (λ (s : CoreState). with_outcome s s.decisions (Err Backlog)) (sym c.self.view_is) in
     subst (λ (s : CoreState). HandsInOldest s c.noted.result c.noted.new.self) c.self.view_is
     (hands-full (core_of c.self.inside) c.get.result (heard_now c.in_ok-phy_payload.phy_payload.now c.in_ok-phy_payload.hearings.now) _ c.noted.result c.noted.new.self
-    c.get.ensures.value c.in_ok-phy_payload.ensures (sym c.has_room.ensures ∙ c.if-not-has_room.true) c.noted.ensures.same noted)
+    c.get.ensures.value c.in_ok-phy_payload.ensures (sym c.has_room.ensures.room ∙ c.if-not-has_room.true) c.has_room.ensures.lawful c.noted.ensures.same noted)
 
 pub returns-in-Err : goal.returns-in-Err
 returns-in-Err c =
     subst (λ (s : CoreState). HandsInOldest s (Err OutOfMemory) s) c.self.view_is
     (hands-starved (core_of c.self.inside) c.get.result (heard_now c.in_ok-phy_payload.phy_payload.now c.in_ok-phy_payload.hearings.now) _
-    c.get.ensures.value c.in_ok-phy_payload.ensures (sym c.has_room.ensures ∙ c.if-not-has_room.false))
+    c.get.ensures.value c.in_ok-phy_payload.ensures (sym c.has_room.ensures.room ∙ c.if-not-has_room.false) c.has_room.ensures.lawful)
