@@ -236,6 +236,19 @@ fn hear_piece(
     }
 }
 
+impl Clone for Feeder {
+    ghost is_clone = { λ s t. t ≡ s };
+
+    fn clone(&self) -> Result<Self, AllocError> {
+        Ok(Feeder {
+            alloc: self.alloc,
+            peer: self.peer,
+            fault: self.fault,
+            rest: self.rest.clone()?,
+        })
+    }
+}
+
 impl Feeder {
     /// The feeder of a new link. Takes no memory.
     pub fn new(alloc: Global) -> Self
@@ -276,6 +289,13 @@ impl Feeder {
                 Err(Refusal::OutOfMemory)
             }
         }
+    }
+
+    /// Who is at the other end, none before the greeting.
+    pub fn peer(&self) -> Option<Peer>
+        ensures { result ≡ self.now.peer }
+    {
+        self.peer
     }
 
     /// What the end of the input is: `CutShort` exactly where a part of a frame is left, and behind a fault
