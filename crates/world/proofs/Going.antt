@@ -1,21 +1,22 @@
 -- What the steps of a life leave of the rest of a course.
-use Rattle.std.proofs.Common.{◌≡◌, ◌∙◌, ℕ, true, false, MatchBool, List, [], ◌∷◌, ◌++◌, Result, Ok, Err, sym, ap, subst, refl, append_assoc}
+use Rattle.std.proofs.Common.{◌≡◌, ◌∙◌, ℕ, true, false, MatchBool, List, [], ◌∷◌, ◌++◌, sym, ap, subst, refl, append_assoc}
 use Rattle.std.proofs.lemmas.List.{append-nil}
 use Rattle.lw_types.specs.declared.refusal.Refusal.{Refusal}
 use Rattle.lw_types.specs.declared.refusal.Refusal.TheVariants.{OutOfStep}
 use Rattle.disk.specs.declared.sim.Image.{Image}
-use Rattle.devices.specs.declared.command.Command.{Command}
 use Rattle.devices.specs.declared.effect.Effect.{Effect}
-use Rattle.sessions.specs.Table.{Step as TableStep, effects_of}
+use Rattle.sessions.specs.Table.{effects_of}
 use Rattle.world.specs.Folding.{RunLaws}
 use Rattle.world.specs.declared.answer.Answer.{Answer}
 use Rattle.world.specs.declared.answer.Answer.TheVariants as answers
+use Rattle.world.specs.declared.event.Event.{Event}
 use Rattle.world.specs.declared.step.Step.{Step}
 use Rattle.world.specs.declared.step.Step.TheVariants as steps
-use Rattle.world.specs.Course.{Origin, Course, Flight, after, admit, gone_through, released, went, wanted, table_from, effects_from}
+use Rattle.world.specs.Course.{Origin, Course, Flight, after, effects_from, pieced, released, table_from, told_more, turned, turned_all}
 use Rattle.world.specs.Answers.{AnswersOpen, AnswersClosed, IsRight}
 use Rattle.sessions.specs.Marks.{IsSubsequence}
 use Rattle.world.specs.Follows.{IsOwn}
+use Rattle.world.proofs.Shapes.{turned-shape, turned_all-shape, with_news_of}
 use Rattle.world.proofs.Subsequences.{extended}
 
 -- the effects that were emitted, and whether the store is open, stay, and what has left grows at its end
@@ -40,10 +41,6 @@ keeps origin c next emitted is_open settled left = record {
 pub same_keeps : (origin : Origin) (c : Course) → Keeps origin c c
 same_keeps origin c = keeps origin c c refl refl refl refl
 
-went_keeps : (origin : Origin) (c : Course) (command : Command) (outcome : Result TableStep Refusal) → Keeps origin c (went c command outcome)
-went_keeps origin c command (Ok s) = keeps origin c (went c command (Ok s)) refl refl refl refl
-went_keeps origin c command (Err e) = same_keeps origin c
-
 keeps_on : (origin : Origin) (a b c : Course) → Keeps origin a b → Keeps origin b c → Keeps origin a c
 keeps_on origin a b c first second = record {
   emitted = second.emitted ∙ first.emitted;
@@ -55,12 +52,6 @@ keeps_on origin a b c first second = record {
     second.grown.1 ∙ (ap (λ l. l ++ second.grown.0) first.grown.1 ∙ append_assoc a.left first.grown.0 second.grown.0),
   );
 }
-
-admit_keeps : (origin : Origin) (c : Course) (commands : List Command) → Keeps origin c (admit origin c commands)
-admit_keeps origin c [] = same_keeps origin c
-admit_keeps origin c (command ∷ commands) =
-    let next = went c command (wanted origin c command) in
-    keeps_on origin c next (admit origin next commands) (went_keeps origin c command (wanted origin c command)) (admit_keeps origin next commands)
 
 released_keeps : (laws : RunLaws) (origin : Origin) (c : Course) (flights : List Flight) → Keeps origin c (released origin c flights)
 released_keeps laws origin c [] = same_keeps origin c
@@ -92,17 +83,30 @@ call_keeps origin c answers.Called = keeps origin c _ refl refl refl refl
 call_keeps origin c (answers.Refused e) = keeps origin c _ refl refl refl refl
 call_keeps origin c answer = same_keeps origin c
 
-request_keeps : (origin : Origin) (c : Course) (moment : ℕ) (command : Command) (answer : Answer)
-    → Keeps origin c (after origin c (steps.Request moment command) answer)
-request_keeps origin c moment command (answers.Turn turn) = admit_keeps origin c (gone_through (command ∷ []) turn.refused)
-request_keeps origin c moment command answer = same_keeps origin c
+-- nor does an event
+news_keeps : (origin : Origin) (c next : Course) → next ≡ with_news_of c next → Keeps origin c next
+news_keeps origin c next is =
+    keeps origin c next (ap (λ (k : Course). k.emitted) is) (ap (λ (k : Course). k.is_open) is) (ap (λ (k : Course). k.settled) is) (ap (λ (k : Course). k.left) is)
+
+event_keeps : (origin : Origin) (c : Course) (moment : ℕ) (event : Event) (answer : Answer) → Keeps origin c (after origin c (steps.Event moment event) answer)
+event_keeps origin c moment event (answers.Turn turn closings) =
+    news_keeps origin c (turned origin c moment event turn.refused closings) (turned-shape origin c moment event turn.refused closings)
+event_keeps origin c moment event answer = same_keeps origin c
+
+piece_keeps : (origin : Origin) (c : Course) (link moment : ℕ) (bytes : List ℕ) (answer : Answer) → Keeps origin c (pieced origin c link moment bytes answer)
+piece_keeps origin c link moment bytes (answers.Turns turns fault) =
+    let told = told_more c link bytes in
+    let next = turned_all origin told moment turns.items in
+    keeps_on origin c told next (keeps origin c told refl refl refl refl) (news_keeps origin told next (turned_all-shape origin told moment turns.items))
+piece_keeps origin c link moment bytes answer = same_keeps origin c
 
 release_keeps : (laws : RunLaws) (origin : Origin) (c : Course) (answer : Answer) → Keeps origin c (after origin c steps.Release answer)
 release_keeps laws origin c (answers.Released n) = released_keeps laws origin c c.flights
 release_keeps laws origin c answer = same_keeps origin c
 
 pub step_keeps : (laws : RunLaws) (origin : Origin) (c : Course) (step : Step) (answer : Answer) → IsOwn step → Keeps origin c (after origin c step answer)
-step_keeps laws origin c (steps.Request moment command) answer own = request_keeps origin c moment command answer
+step_keeps laws origin c (steps.Event moment event) answer own = event_keeps origin c moment event answer
+step_keeps laws origin c (steps.Piece link moment bytes) answer own = piece_keeps origin c link moment bytes.items answer
 step_keeps laws origin c (steps.Take most) answer own = take_keeps origin c most answer
 step_keeps laws origin c steps.Call answer own = call_keeps origin c answer
 step_keeps laws origin c steps.Release answer own = release_keeps laws origin c answer

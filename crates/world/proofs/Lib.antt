@@ -1,7 +1,12 @@
 pub mod Subsequences
 pub mod Flights
 pub mod Calling
+pub mod Shapes
+pub mod Saying
 pub mod Deciding
+pub mod Turning
+pub mod Listening
+pub mod Piecing
 pub mod Going
 pub mod Releasing
 pub mod Emitting

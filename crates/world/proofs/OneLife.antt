@@ -1,5 +1,5 @@
 -- One life, step by step.
-use Rattle.std.proofs.Common.{◌≡◌, ◌≢◌, ◌∙◌, ◌+◌, ◌≤◌, ◌⊎◌, inl, inr, ℕ, true, MatchBool, List, [], ◌∷◌, ◌++◌, slice_get, Option, Some, None, Result, Ok, Err, length, take, drop, map, sym, ap, subst, refl, arith, append_assoc, length-append}
+use Rattle.std.proofs.Common.{◌≡◌, ◌≢◌, ◌∙◌, ◌+◌, ◌≤◌, ◌⊎◌, inl, inr, ℕ, true, MatchBool, List, [], ◌∷◌, ◌++◌, slice_get, Option, Some, None, length, take, drop, map, sym, ap, subst, refl, arith, append_assoc, length-append}
 use Rattle.std.specs.Option.{MatchOption}
 use Rattle.std.proofs.lemmas.List.{append-nil, drop_all, drop-append-le, length-take-le, map-append, take_all, take-append-le, take_more}
 use Rattle.std.proofs.lemmas.Option.{slice_get_within, get_or_from_slice_get}
@@ -7,21 +7,22 @@ use Rattle.lw_types.specs.declared.refusal.Refusal.{Refusal}
 use Rattle.lw_types.specs.declared.refusal.Refusal.TheVariants as refusals
 use Rattle.lw_types.specs.declared.refusal.Refusal.TheVariants.{OutOfStep}
 use Rattle.lw_types.specs.Refusal.{number_of}
-use Rattle.devices.specs.declared.command.Command.{Command}
 use Rattle.devices.specs.declared.effect.Effect.{Effect}
-use Rattle.sessions.specs.Table.{Step as TableStep, effects_of}
+use Rattle.sessions.specs.Table.{effects_of}
 use Rattle.gateway_wire.specs.declared.emission.Emission.{Emission}
 use Rattle.gateway_wire.specs.Emission.{emission}
 use Rattle.world.specs.Folding.{RunLaws}
 use Rattle.world.specs.declared.answer.Answer.{Answer}
 use Rattle.world.specs.declared.answer.Answer.TheVariants as answers
 use Rattle.world.specs.declared.step.Step.{Step}
+use Rattle.world.specs.declared.event.Event.{Event}
 use Rattle.world.specs.declared.step.Step.TheVariants as steps
-use Rattle.world.specs.Course.{Origin, Course, Flight, Stage, decided, admit, went, wanted, released, gone_through, after, course_of, beginning, table_from, number_from, effects_from}
+use Rattle.world.specs.Course.{Course, Flight, Origin, Stage, after, beginning, course_of, decided, effects_from, number_from, pieced, released, table_from, told_more}
 use Rattle.world.specs.Course.Stage.{Durable, Stopped, Unsure}
 use Rattle.world.specs.Answers.{AreRight, IsRight, AnswersOpen, AnswersClosed, AnswersTake, AnswersCall, AnswersRelease, TakesBehind, Calls, Releases}
 use Rattle.world.specs.Follows.{IsOwn}
 use Rattle.world.specs.OneLife.{HasNoCrash, NoneGivenUp, NoneOutOfStep, emitted, IsOneLife}
+use Rattle.world.proofs.Shapes.{turned-shape, turned_all-shape}
 use Rattle.world.proofs.Going.{step_keeps}
 
 -- what one step keeps
@@ -85,7 +86,8 @@ list_quiet e listed quiet (inl h) = apart e listed quiet h
 list_quiet e listed quiet (inr h) = apart e (answers.Refused refusals.OutOfMemory) refl h
 
 quiet : (origin : Origin) (c : Course) (step : Step) (e : Emission) → IsOwn step → AnswersOpen origin c step (answers.Emitted e) → ⊥
-quiet origin c (steps.Request moment command) e own h = h
+quiet origin c (steps.Event moment event) e own h = h
+quiet origin c (steps.Piece link moment bytes) e own h = h
 quiet origin c (steps.Take most) e own h = take_quiet c.flights c most e h
 quiet origin c steps.Call e own h = call_quiet c.flights e h
 quiet origin c steps.Fail e own h = apart e answers.Armed refl h
@@ -166,8 +168,10 @@ step_lives : (laws : RunLaws) (origin : Origin) (c : Course) (said : List Emissi
     → Lives origin (after origin c step answer) (said ++ told_by answer)
 step_lives laws origin c said steps.Emit answer calm right lives = emit_lives origin c said answer (slice_get c.left c.emitted) refl right lives
 step_lives laws origin c said (steps.Crash image) answer calm right lives = absurd calm
-step_lives laws origin c said (steps.Request moment command) answer calm right lives =
-    own_lives laws origin c said (steps.Request moment command) answer tt (silent origin c (steps.Request moment command) answer tt right) lives
+step_lives laws origin c said (steps.Event moment event) answer calm right lives =
+    own_lives laws origin c said (steps.Event moment event) answer tt (silent origin c (steps.Event moment event) answer tt right) lives
+step_lives laws origin c said (steps.Piece link moment bytes) answer calm right lives =
+    own_lives laws origin c said (steps.Piece link moment bytes) answer tt (silent origin c (steps.Piece link moment bytes) answer tt right) lives
 step_lives laws origin c said (steps.Take most) answer calm right lives =
     own_lives laws origin c said (steps.Take most) answer tt (silent origin c (steps.Take most) answer tt right) lives
 step_lives laws origin c said steps.Call answer calm right lives = own_lives laws origin c said steps.Call answer tt (silent origin c steps.Call answer tt right) lives
@@ -206,17 +210,14 @@ none_before : (answer : Answer) (rest : List Answer) → NoneGivenUp (answer ∷
 none_before (answers.GivenUp n) rest h = absurd h
 none_before answer rest h = h
 
-went_given : (c : Course) (command : Command) (outcome : Result TableStep Refusal) → (went c command outcome).given_up ≡ c.given_up
-went_given c command (Ok s) = refl
-went_given c command (Err e) = refl
+event_given : (origin : Origin) (c : Course) (moment : ℕ) (event : Event) (answer : Answer) → (after origin c (steps.Event moment event) answer).given_up ≡ c.given_up
+event_given origin c moment event (answers.Turn turn closings) = ap (λ (k : Course). k.given_up) (turned-shape origin c moment event turn.refused closings)
+event_given origin c moment event answer = refl
 
-admit_given : (origin : Origin) (c : Course) (commands : List Command) → (admit origin c commands).given_up ≡ c.given_up
-admit_given origin c [] = refl
-admit_given origin c (command ∷ commands) = admit_given origin (went c command (wanted origin c command)) commands ∙ went_given c command (wanted origin c command)
-
-request_given : (origin : Origin) (c : Course) (moment : ℕ) (command : Command) (answer : Answer) → (after origin c (steps.Request moment command) answer).given_up ≡ c.given_up
-request_given origin c moment command (answers.Turn turn) = admit_given origin c (gone_through (command ∷ []) turn.refused)
-request_given origin c moment command answer = refl
+piece_given : (origin : Origin) (c : Course) (link moment : ℕ) (bytes : List ℕ) (answer : Answer) → (pieced origin c link moment bytes answer).given_up ≡ c.given_up
+piece_given origin c link moment bytes (answers.Turns turns fault) =
+    ap (λ (k : Course). k.given_up) (turned_all-shape origin (told_more c link bytes) moment turns.items)
+piece_given origin c link moment bytes answer = refl
 
 call_given : (origin : Origin) (c : Course) (answer : Answer) → (after origin c steps.Call answer).given_up ≡ c.given_up
 call_given origin c answers.Called = refl
@@ -249,7 +250,8 @@ take_given origin c most answer rest right up none = none
 
 given_stays : (origin : Origin) (c : Course) (step : Step) (answer : Answer) (rest : List Answer) → IsCalm step → AnswersOpen origin c step answer
     → NoneGivenUp (answer ∷ rest) → c.given_up ≡ [] → (after origin c step answer).given_up ≡ []
-given_stays origin c (steps.Request moment command) answer rest calm right up none = request_given origin c moment command answer ∙ none
+given_stays origin c (steps.Event moment event) answer rest calm right up none = event_given origin c moment event answer ∙ none
+given_stays origin c (steps.Piece link moment bytes) answer rest calm right up none = piece_given origin c link moment bytes.items answer ∙ none
 given_stays origin c (steps.Take most) answer rest calm right up none = take_given origin c most answer rest right up none
 given_stays origin c steps.Call answer rest calm right up none = call_given origin c answer ∙ none
 given_stays origin c steps.Fail answer rest calm right up none = none
@@ -280,7 +282,8 @@ emit_open origin c answer = refl
 stays_open : (laws : RunLaws) (origin : Origin) (c : Course) (step : Step) (answer : Answer) → IsCalm step → c.is_open ≡ true → (after origin c step answer).is_open ≡ true
 stays_open laws origin c steps.Emit answer calm is = emit_open origin c answer ∙ is
 stays_open laws origin c (steps.Crash image) answer calm is = absurd calm
-stays_open laws origin c (steps.Request moment command) answer calm is = (step_keeps laws origin c (steps.Request moment command) answer tt).is_open ∙ is
+stays_open laws origin c (steps.Event moment event) answer calm is = (step_keeps laws origin c (steps.Event moment event) answer tt).is_open ∙ is
+stays_open laws origin c (steps.Piece link moment bytes) answer calm is = (step_keeps laws origin c (steps.Piece link moment bytes) answer tt).is_open ∙ is
 stays_open laws origin c (steps.Take most) answer calm is = (step_keeps laws origin c (steps.Take most) answer tt).is_open ∙ is
 stays_open laws origin c steps.Call answer calm is = (step_keeps laws origin c steps.Call answer tt).is_open ∙ is
 stays_open laws origin c steps.Fail answer calm is = (step_keeps laws origin c steps.Fail answer tt).is_open ∙ is

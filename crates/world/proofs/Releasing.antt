@@ -1,9 +1,7 @@
 -- What a release does to a course.
-use Rattle.std.proofs.Common.{◌≡◌, ◌∙◌, ◌+◌, inl, inr, ℕ, List, [], ◌∷◌, ◌++◌, Result, Ok, Err, length, sym, ap, subst, refl, append_assoc}
+use Rattle.std.proofs.Common.{◌≡◌, ◌∙◌, ◌+◌, inl, inr, ℕ, List, [], ◌∷◌, ◌++◌, length, sym, ap, subst, refl, append_assoc}
 use Rattle.std.proofs.lemmas.List.{append-nil}
-use Rattle.lw_types.specs.declared.refusal.Refusal.{Refusal}
-use Rattle.devices.specs.declared.command.Command.{Command}
-use Rattle.sessions.specs.Table.{TableState, Step as TableStep, effects_of}
+use Rattle.sessions.specs.Table.{TableState, effects_of}
 use Rattle.sessions.specs.Decision.{commands_of, effects_in}
 use Rattle.session_core.specs.State.{DecisionsState}
 use Rattle.store.specs.State.{StoreState}
@@ -14,11 +12,13 @@ use Rattle.world.specs.declared.answer.Answer.{Answer}
 use Rattle.world.specs.declared.answer.Answer.TheVariants as answers
 use Rattle.world.specs.declared.commit.Commit.{Commit}
 use Rattle.world.specs.declared.commit.Commit.TheVariants as commits
+use Rattle.world.specs.declared.event.Event.{Event}
 use Rattle.world.specs.declared.step.Step.TheVariants as steps
 use Rattle.world.specs.Folding.{RunLaws}
-use Rattle.world.specs.Course.{Origin, Course, Flight, admit, after, gone_through, released, table_from, wanted, went}
+use Rattle.world.specs.Course.{Course, Flight, Origin, after, pieced, released, table_from, told_more}
 use Rattle.world.specs.Answers.{AnswersRelease, Releases}
 use Rattle.world.specs.Follows.{IsAt, IsLife}
+use Rattle.world.proofs.Shapes.{turned-shape, turned_all-shape}
 
 module _ (laws : RunLaws) (origin : Origin) (c : Course) (s : StoreState) (core : DecisionsState) (durable : Done)
     (f : IsLife origin c s core (commits.Durable durable)) where
@@ -73,15 +73,11 @@ holds_back origin c t s flights (commits.BodySynced phase room) other at = subst
 holds_back origin c t s flights (commits.GateWritten phase room) other at = subst (λ fl. AnswersRelease origin c fl answers.Idle) (sym at.0) refl
 
 -- a turn lets nothing out
-went_left : (c : Course) (command : Command) (outcome : Result TableStep Refusal) → (went c command outcome).left ≡ c.left
-went_left c command (Ok s) = refl
-went_left c command (Err e) = refl
+pub event_left : (origin : Origin) (c : Course) (moment : ℕ) (event : Event) (answer : Answer)
+    → (after origin c (steps.Event moment event) answer).left ≡ c.left
+event_left origin c moment event (answers.Turn turn closings) = ap (λ (k : Course). k.left) (turned-shape origin c moment event turn.refused closings)
+event_left origin c moment event answer = refl
 
-admit_left : (origin : Origin) (c : Course) (commands : List Command) → (admit origin c commands).left ≡ c.left
-admit_left origin c [] = refl
-admit_left origin c (command ∷ commands) = admit_left origin (went c command (wanted origin c command)) commands ∙ went_left c command (wanted origin c command)
-
-pub request_left : (origin : Origin) (c : Course) (moment : ℕ) (command : Command) (answer : Answer)
-    → (after origin c (steps.Request moment command) answer).left ≡ c.left
-request_left origin c moment command (answers.Turn turn) = admit_left origin c (gone_through (command ∷ []) turn.refused)
-request_left origin c moment command answer = refl
+pub piece_left : (origin : Origin) (c : Course) (link moment : ℕ) (bytes : List ℕ) (answer : Answer) → (pieced origin c link moment bytes answer).left ≡ c.left
+piece_left origin c link moment bytes (answers.Turns turns fault) = ap (λ (k : Course). k.left) (turned_all-shape origin (told_more c link bytes) moment turns.items)
+piece_left origin c link moment bytes answer = refl

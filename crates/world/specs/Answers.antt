@@ -1,31 +1,77 @@
 -- Which answers are right in a course. Whether a call of the disk fails is told by `Calls`.
-use Rattle.std.specs.Prelude.{◌≡◌, ◌≢◌, ◌⊎◌, ℕ, false, List, [], ◌∷◌, ◌++◌, length, take, slice_get, Some, MatchBool}
+use Rattle.std.specs.Prelude.{◌≡◌, ◌≢◌, ◌≤◌, ◌⊎◌, ℕ, false, nat_lt, List, [], ◌∷◌, ◌++◌, length, map, take, slice_get, Option, Some, None, MatchBool}
 use Rattle.std.specs.Option.{MatchOption}
 use Rattle.lw_types.specs.declared.refusal.Refusal.TheVariants as refusals
 use Rattle.devices.specs.declared.command.Command.{Command}
 use Rattle.sessions.specs.Table.{effects_of}
+use Rattle.lw_types.specs.Answer.{AnswersWithMemory}
+use Rattle.lw_types.specs.declared.refusal.Refusal.{Refusal}
+use Rattle.lw_types.specs.declared.frame_copy.FrameCopy.{FrameCopy}
+use Rattle.devices.specs.Heard.{IsReceivable}
+use Rattle.dedup.specs.Windows.{added}
 use Rattle.sessions.specs.Decision.{AnswersTo}
 use Rattle.session_core.specs.Deciding.{verdict_of}
 use Rattle.session_core.specs.declared.turn.Turn.{Turn}
 use Rattle.gateway_wire.specs.Emission.{emission}
+use Rattle.world.specs.Links.{Completes, stream_on}
+use Rattle.world.specs.declared.answer.EventTurn.{EventTurn}
+use Rattle.world.specs.declared.event.Event.{Event}
+use Rattle.world.specs.declared.event.Event.TheVariants as events
 use Rattle.world.specs.declared.step.Step.{Step}
 use Rattle.world.specs.declared.step.Step.TheVariants as steps
 use Rattle.world.specs.declared.answer.Answer.{Answer}
 use Rattle.world.specs.declared.answer.Answer.TheVariants as answers
-use Rattle.world.specs.Course.{Origin, Course, Flight, Stage, decided, table_from, number_from, has_room, wanted, admit, gone_through, after}
+use Rattle.world.specs.Course.{Origin, Course, Flight, Stage, admit, after, at_moment, decided, due_frames, has_room, number_from, shutting, table_from, told_more, turned, wanted, windows_of}
 use Rattle.world.specs.Course.Stage.{Opened, Durable, Stopped, Unsure}
 
--- the turn of one command: it counts the decisions of this life, and the command is decided, or refused as it has to
--- be; that there is no room is known before any memory is taken
-pub record IsTurn (origin : Origin) (c : Course) (command : Command) (turn : Turn) : Type 0 where
-  pub from : turn.from ≡ c.made
-  pub to : turn.to ≡ (admit origin c (gone_through (command ∷ []) turn.refused)).made
-  pub full : has_room origin c ≡ false → turn.refused ≡ Some refusals.Backlog
-  pub refused : AnswersTo command (wanted origin c command) (λ _ _. Unit {0}) (verdict_of turn.refused)
+-- what a command is answered: it is decided, or refused as it has to be; that there is no room is known before any memory
+-- is taken
+pub record IsAsked (origin : Origin) (c : Course) (command : Command) (refused : Option Refusal) : Type 0 where
+  pub full : has_room origin c ≡ false → refused ≡ Some refusals.Backlog
+  pub decided : AnswersTo command (wanted origin c command) (λ _ _. Unit {0}) (verdict_of refused)
 
-abbrev pub AnswersEvent : Origin → Course → Command → Answer → Type 0
-AnswersEvent origin c command (answers.Turn turn) = IsTurn origin c command turn
-AnswersEvent origin c command answer = ⊥
+-- what a copy is answered: only where it is on a channel at a data rate that a device may use it is accepted, or refused by the
+-- groups that wait; or memory ran out
+pub record IsHeard (c : Course) (copy : FrameCopy) (refused : Option Refusal) : Type 0 where
+  pub receivable : IsReceivable copy.reception → AnswersWithMemory (added (windows_of c) c.clock copy) (λ _ _. Unit {0}) (verdict_of refused)
+  pub unknown : ¬ (IsReceivable copy.reception) → (refused ≡ Some refusals.UnknownChannel) ⊎ (refused ≡ Some refusals.OutOfMemory)
+
+-- the answer to an event's own, once the windows that are due are closed
+abbrev pub IsOwnRight : Origin → Course → Event → Option Refusal → Type 0
+IsOwnRight origin c (events.Hear copy) refused = IsHeard c copy refused
+IsOwnRight origin c events.Tick refused = refused ≡ None
+IsOwnRight origin c (events.Ask command) refused = IsAsked origin c command refused
+
+-- The turn of an event at its moment: it counts the decisions of this life. Its own is answered where all windows that are due were
+-- closed; where fewer were, memory ran out.
+pub record IsTurn (origin : Origin) (c : Course) (moment : ℕ) (event : Event) (turn : Turn) (closings : ℕ) : Type 0 where
+  pub from : turn.from ≡ c.made
+  pub to : turn.to ≡ (turned origin c moment event turn.refused closings).made
+  pub within : closings ≤ length (due_frames (at_moment c moment))
+  pub own : MatchBool (nat_lt closings (length (due_frames (at_moment c moment))))
+      (turn.refused ≡ Some refusals.OutOfMemory)
+      (IsOwnRight origin (shutting closings (admit origin (at_moment c moment) (take closings (due_frames (at_moment c moment))))) event turn.refused)
+
+abbrev pub AnswersEvent : Origin → Course → ℕ → Event → Answer → Type 0
+AnswersEvent origin c moment event (answers.Turn turn closings) = IsTurn origin c moment event turn closings
+AnswersEvent origin c moment event answer = ⊥
+
+-- the turns of several events at one moment
+abbrev pub AreTurns : Origin → Course → ℕ → List EventTurn → Type 0
+AreTurns origin c moment [] = Unit {0}
+AreTurns origin c moment (t ∷ turns) =
+    IsTurn origin c moment t.event t.turn t.closings × AreTurns origin (turned origin c moment t.event t.turn.refused t.closings) moment turns
+
+abbrev pub event_of : EventTurn → Event
+event_of t = t.event
+
+-- A piece of a link's bytes is answered by the turns of the events that it hands in, and by its fault; or nothing of it counts, since
+-- there was no memory.
+abbrev pub AnswersPiece : Origin → Course → ℕ → ℕ → List ℕ → Answer → Type 0
+AnswersPiece origin c link moment bytes (answers.Turns turns fault) =
+    Completes (stream_on link c.pieces) bytes (map event_of turns.items) fault × AreTurns origin (told_more c link bytes) moment turns.items
+AnswersPiece origin c link moment bytes (answers.Refused e) = e ≡ refusals.OutOfMemory
+AnswersPiece origin c link moment bytes answer = ⊥
 
 -- nothing is taken where nothing waits; a batch begins or is lost behind no lost one, and is out of step behind one alone
 abbrev pub Takes : Course → ℕ → Answer → Type 0
@@ -108,7 +154,8 @@ AnswersCrash origin c answer = ⊥
 
 -- while the store is open
 abbrev pub AnswersOpen : Origin → Course → Step → Answer → Type 0
-AnswersOpen origin c (steps.Request moment command) answer = AnswersEvent origin c command answer
+AnswersOpen origin c (steps.Event moment event) answer = AnswersEvent origin c moment event answer
+AnswersOpen origin c (steps.Piece link moment bytes) answer = AnswersPiece origin c link moment bytes.items answer
 AnswersOpen origin c (steps.Take most) answer = AnswersTake c.flights c most answer
 AnswersOpen origin c steps.Call answer = AnswersCall c.flights answer
 AnswersOpen origin c steps.Fail answer = answer ≡ answers.Armed

@@ -1,12 +1,20 @@
 -- The course of a world: what was decided, how far it is on its way to the disk, and what has left, as
 -- the steps and their answers alone tell it.
-use Rattle.std.specs.Prelude.{ℕ, ◌+◌, ◌-◌, Bool, true, false, List, [], ◌∷◌, ◌++◌, length, take, drop, nat_lt, ◌&&◌, if◌then◌else◌, Option, Some, Result, Ok, Err}
+use Rattle.std.specs.Prelude.{ℕ, ◌+◌, ◌-◌, Bool, true, false, List, [], ◌∷◌, ◌++◌, length, take, drop, map, filter, max, nat_lt, ◌&&◌, if◌then◌else◌, Option, Some, None, Result, Ok, Err}
 use Rattle.lw_types.specs.declared.refusal.Refusal.{Refusal}
 use Rattle.lw_types.specs.declared.refusal.Refusal.TheVariants.{Backlog, OutOfMemory, OutOfStep}
+use Rattle.lw_types.specs.declared.frame_copy.FrameCopy.{FrameCopy}
 use Rattle.devices.specs.declared.command.Command.{Command}
+use Rattle.devices.specs.declared.command.Command.TheVariants.{Heard}
 use Rattle.devices.specs.declared.effect.Effect.{Effect}
 use Rattle.sessions.specs.Table.{TableState, empty_table, folded, effects_of, step, Step as TableStep}
+use Rattle.dedup.specs.Groups.{Arrival, arrival, groups}
+use Rattle.dedup.specs.Windows.{Window, gathered, heard_in, is_due}
 use Rattle.session_core.specs.declared.decisions.TheConstants.{MOST_UNTAKEN, LAST_NUMBER}
+use Rattle.world.specs.Links.{Piece}
+use Rattle.world.specs.declared.answer.EventTurn.{EventTurn}
+use Rattle.world.specs.declared.event.Event.{Event}
+use Rattle.world.specs.declared.event.Event.TheVariants as events
 use Rattle.world.specs.declared.step.Step.{Step}
 use Rattle.world.specs.declared.step.Step.TheVariants as steps
 use Rattle.world.specs.declared.answer.Answer.{Answer}
@@ -71,6 +79,14 @@ pub record Course : Type 0 where
   pub emitted : ℕ
   -- whether the store is open
   pub is_open : Bool
+  -- the effective time of this life
+  pub clock : ℕ
+  -- the copies that were accepted in this life, with the effective times at which they came
+  pub arrivals : List Arrival
+  -- how many of their groups were closed
+  pub shut : ℕ
+  -- the pieces that came over links in this life, in order
+  pub pieces : List Piece
 
 -- the course of a world that begins here
 abbrev pub beginning : Origin → Course
@@ -84,6 +100,10 @@ beginning origin =
       left = origin.left;
       emitted = length origin.left;
       is_open = true;
+      clock = 0;
+      arrivals = [];
+      shut = 0;
+      pieces = [];
     }
 
 -- the commands of these batches
@@ -113,11 +133,74 @@ abbrev pub admit : Origin → Course → List Command → Course
 admit origin c [] = c
 admit origin c (command ∷ commands) = admit origin (went c command (wanted origin c command)) commands
 
--- Those of a step's commands that its turn went through, where its own is the last of them: all, unless memory ran out
--- at its own.
-abbrev pub gone_through : List Command → Option Refusal → List Command
-gone_through commands (Some OutOfMemory) = []
-gone_through commands refused = commands
+-- the effective time never falls
+abbrev pub at_moment : Course → ℕ → Course
+at_moment c moment = record c { clock = max c.clock moment }
+
+-- the windows that are open: of the groups that aren't closed
+abbrev pub windows_of : Course → List Window
+windows_of c = drop c.shut (map gathered (groups c.arrivals))
+
+-- what was heard in a window, as a command
+abbrev pub command_in : Window → Command
+command_in window = Heard (heard_in window)
+
+-- the frames whose windows are due, in the order of opening
+abbrev pub due_frames : Course → List Command
+due_frames c = map command_in (filter (is_due c.clock) (windows_of c))
+
+-- the commands that an event hands in, one after another: the frames whose windows are due, and then its own
+abbrev pub commands_at : Course → Event → List Command
+commands_at c (events.Ask command) = due_frames c ++ command ∷ []
+commands_at c event = due_frames c
+
+-- those of a step that is an event; a piece hands in events, one after another
+abbrev pub commands_of : Course → Step → List Command
+commands_of c (steps.Event moment event) = commands_at (at_moment c moment) event
+commands_of c step = []
+
+-- How many of them were gone through, where so many windows were closed: their frames, and the event's own command, unless there
+-- was no memory for it.
+abbrev pub own_gone : Option Refusal → ℕ
+own_gone (Some OutOfMemory) = 0
+own_gone refused = 1
+
+abbrev pub gone : Event → Option Refusal → ℕ → ℕ
+gone (events.Ask command) refused closings = closings + own_gone refused
+gone event refused closings = closings
+
+-- so many windows were closed
+abbrev pub shutting : ℕ → Course → Course
+shutting closings c = record c { shut = c.shut + closings }
+
+-- a copy is accepted, where it wasn't refused
+abbrev pub listened : FrameCopy → Option Refusal → Course → Course
+listened copy None c = record c { arrivals = c.arrivals ++ arrival c.clock copy ∷ [] }
+listened copy (Some refusal) c = c
+
+abbrev pub accepted : Event → Option Refusal → Course → Course
+accepted (events.Hear copy) refused c = listened copy refused c
+accepted event refused c = c
+
+-- the course after an event at this moment, whose own was refused so, or not, after so many windows were closed
+abbrev pub turned : Origin → Course → ℕ → Event → Option Refusal → ℕ → Course
+turned origin c moment event refused closings =
+    accepted event refused
+    (shutting closings (admit origin (at_moment c moment) (take (gone event refused closings) (commands_of c (steps.Event moment event)))))
+
+-- the same of several events at one moment
+abbrev pub turned_all : Origin → Course → ℕ → List EventTurn → Course
+turned_all origin c moment [] = c
+turned_all origin c moment (t ∷ turns) = turned_all origin (turned origin c moment t.event t.turn.refused t.closings) moment turns
+
+-- these bytes come over a link
+abbrev pub told_more : Course → ℕ → List ℕ → Course
+told_more c link bytes = record c { pieces = c.pieces ++ record { link = link; bytes = bytes } ∷ [] }
+
+-- the course after a piece that was answered so
+abbrev pub pieced : Origin → Course → ℕ → ℕ → List ℕ → Answer → Course
+pieced origin c link moment bytes (answers.Turns turns fault) = turned_all origin (told_more c link bytes) moment turns.items
+pieced origin c link moment bytes answer = c
 
 -- the oldest commands that wait become a batch, at most so many
 abbrev pub begun : Course → ℕ → Course
@@ -173,6 +256,10 @@ reopened origin c seq =
       made = 0;
       emitted = length c.left;
       is_open = true;
+      clock = 0;
+      arrivals = [];
+      shut = 0;
+      pieces = [];
     }
 
 -- or the store stays closed
@@ -181,7 +268,8 @@ closed c = record c { emitted = length c.left; is_open = false }
 
 -- the course after a step that was answered so
 abbrev pub after : Origin → Course → Step → Answer → Course
-after origin c (steps.Request moment command) (answers.Turn turn) = admit origin c (gone_through (command ∷ []) turn.refused)
+after origin c (steps.Event moment event) (answers.Turn turn closings) = turned origin c moment event turn.refused closings
+after origin c (steps.Piece link moment bytes) answer = pieced origin c link moment bytes.items answer
 after origin c (steps.Take most) (answers.Taken n) = begun c most
 after origin c (steps.Take most) (answers.GivenUp n) = gave_up c most
 after origin c (steps.Take most) (answers.Refused OutOfStep) = gave_up c most

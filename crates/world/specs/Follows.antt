@@ -1,7 +1,9 @@
 -- What a world is at a place of its course.
 use Rattle.std.specs.Prelude.{◌≡◌, ◌+◌, ◌⊎◌, ℕ, true, false, List, [], ◌∷◌, ◌++◌, length}
 use Rattle.devices.specs.declared.command.Command.{Command}
+use Rattle.dedup.specs.Windows.{StandFor}
 use Rattle.session_core.specs.State.{DecisionsState}
+use Rattle.session_core.specs.Core.{CoreState}
 use Rattle.disk.specs.declared.sim.Image.{Image}
 use Rattle.disk.specs.State.{State, NothingOpen, EveryImage}
 use Rattle.flusher.specs.declared.released.Released.{Released}
@@ -12,18 +14,21 @@ use Rattle.store.specs.Image.{HoldsTable}
 use Rattle.store.specs.State.{StoreState, seen}
 use Rattle.store.specs.declared.store.Store.{Store}
 use Rattle.flusher.specs.Released.{effects_of_all}
+use Rattle.world.specs.Links.{HasSaid, heard_on, stream_on}
+use Rattle.world.specs.declared.links.Links.{Links}
 use Rattle.world.specs.declared.commit.Commit.{Commit}
 use Rattle.world.specs.declared.commit.Commit.TheVariants as commits
 use Rattle.world.specs.declared.life.Life.{Life}
 use Rattle.world.specs.declared.place.Place.{Place}
 use Rattle.world.specs.declared.place.Place.TheVariants.{Open, Closed, Crashing}
 use Rattle.world.specs.declared.world.World.{World}
+use Rattle.world.specs.declared.answer.EventTurn.{EventTurn}
 use Rattle.world.specs.declared.step.Step.{Step}
 use Rattle.world.specs.declared.step.Step.TheVariants as steps
 use Rattle.world.specs.declared.answer.Answer.{Answer}
-use Rattle.world.specs.Course.{Origin, Course, Flight, table_from, number_from, effects_from, flying, after, course_of}
+use Rattle.world.specs.Course.{Origin, Course, Flight, table_from, number_from, effects_from, flying, after, course_of, pieced, turned_all}
 use Rattle.world.specs.Course.Stage.{Stopped, Unsure}
-use Rattle.world.specs.Answers.{Leaves, AnswersOpen, AnswersCrash, IsRight, AreRight}
+use Rattle.world.specs.Answers.{Leaves, AnswersOpen, AnswersCrash, AnswersPiece, IsRight, AreRight, AreTurns}
 use Rattle.world.specs.Commits.{IsOn, flights_in, decisions_in, stored}
 
 -- whatever a crash leaves of this disk holds the table and the number of commands that a crash may leave
@@ -63,8 +68,15 @@ pub record IsLife (origin : Origin) (c : Course) (s : StoreState) (core : Decisi
   pub healthy : IsHealthy s commit
   pub survives : Survives origin c s.log.disk
 
+-- The core has the effective time of the course, and its windows are those of the groups that aren't closed; each link has
+-- said what came over it.
+pub record IsListening (c : Course) (core : CoreState) (links : Links) : Type 0 where
+  pub clock : core.clock ≡ c.clock
+  pub windows : StandFor core.windows c.arrivals c.shut c.clock
+  pub said : (link : ℕ) → HasSaid (stream_on link c.pieces) (heard_on links link)
+
 abbrev pub FollowsLife : {D : Type 0} {g : _} → (D → State) → Origin → Course → Life D g → Type 0
-FollowsLife state origin c life = IsLife origin c (seen state life.store) life.core life.commit
+FollowsLife state origin c life = IsLife origin c (seen state life.store) life.core.decisions life.commit × IsListening c life.core life.links
 
 -- the disk of a store that is closed
 abbrev pub FollowsClosed : {D : Type 0} → (D → State) → Origin → Course → D → Type 0
@@ -88,6 +100,18 @@ abbrev pub MovesLife : {D : Type 0} {g : _} → (D → State) → Life D g → S
 MovesLife state old step answer new =
     (origin : Origin) (c : Course) → FollowsLife state origin c old
     → AnswersOpen origin c step answer × FollowsLife state origin (after origin c step answer) new
+
+-- the same of a piece of a link's bytes
+abbrev pub MovesPiece : {D : Type 0} {g : _} → (D → State) → Life D g → ℕ → ℕ → List ℕ → Answer → Life D g → Type 0
+MovesPiece state old link moment bytes answer new =
+    (origin : Origin) (c : Course) → FollowsLife state origin c old
+    → AnswersPiece origin c link moment bytes answer × FollowsLife state origin (pieced origin c link moment bytes answer) new
+
+-- and of several events at one moment
+abbrev pub MovesThrough : {D : Type 0} {g : _} → (D → State) → Life D g → ℕ → List EventTurn → Life D g → Type 0
+MovesThrough state old moment turns new =
+    (origin : Origin) (c : Course) → FollowsLife state origin c old
+    → AreTurns origin c moment turns × FollowsLife state origin (turned_all origin c moment turns) new
 
 -- the same of a world
 abbrev pub Moves : {D : Type 0} {g : _} → (D → State) → World D g → Step → Answer → World D g → Type 0

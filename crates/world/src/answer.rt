@@ -1,14 +1,34 @@
 // What a world answers to a step.
+use crate::Event;
 use gateway_wire::Emission;
 use lw_types::Refusal;
 use session_core::Turn;
 use sessions::Table;
 
+/// An event that a link handed in, and its turn: the decisions that it made, and why its own was refused; and how many
+/// windows it closed, those that made no decision too.
+#[derive(Drop)]
+pub struct EventTurn {
+    pub event: Event,
+    pub turn: Turn,
+    pub closings: usize,
+}
+
 /// The answer to one step.
 #[derive(Drop)]
 pub enum Answer {
-    /// To an event: the decisions that it made, and why its own command was not decided.
-    Turn(Turn),
+    /// To an event: the decisions that it made, and why its own was refused; and how many windows it closed, those
+    /// that made no decision too.
+    Turn {
+        turn: Turn,
+        closings: usize,
+    },
+    /// To a piece: the turns of the events that it handed in, in order, and what is wrong with the bytes of its link
+    /// behind them.
+    Turns {
+        turns: Vec<EventTurn>,
+        fault: Option<Refusal>,
+    },
     /// To a take: so many decisions were taken, and their commit began.
     Taken(usize),
     /// To a take whose commit was refused for want of memory: so many decisions were taken and are
@@ -28,9 +48,15 @@ pub enum Answer {
     /// To an emit: what left.
     Emitted(Emission),
     /// To a crash: the store was opened with so many devices, and its last decision has this number.
-    Opened { devices: usize, seq: u64 },
+    Opened {
+        devices: usize,
+        seq: u64,
+    },
     /// To a list: the table after every decision made, and the number of the last one.
-    Listed { table: Table, seq: u64 },
+    Listed {
+        table: Table,
+        seq: u64,
+    },
     /// The step was refused: for want of memory, or by the store or its device.
     Refused(Refusal),
 }

@@ -4,14 +4,18 @@
 
 mod answer;
 mod commit;
+mod event;
 pub mod laws;
 mod life;
+mod links;
 mod place;
 mod runs;
 mod step;
+mod turns;
 mod world;
 
-pub use answer::Answer;
+pub use answer::{Answer, EventTurn};
+pub use event::Event;
 pub use runs::run;
 pub use step::Step;
 pub use world::World;

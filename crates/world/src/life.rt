@@ -3,12 +3,12 @@ ghost use Rattle.std.specs.Prelude.{◌≡◌, ◌++◌, ◌+◌, ◌≤◌, Mat
 ghost use Rattle.lw_types.specs.declared.refusal.Refusal.TheVariants.{OutOfMemory};
 
 use crate::commit::Commit;
+use crate::links::Links;
 use crate::{Answer, Step, laws};
-use devices::Command;
 use disk::Sim;
 use flusher::{Durable, MOST_EFFECTS, Released, Room};
 use lw_types::Refusal;
-use session_core::{Decisions, Moment, Most};
+use session_core::{Core, Most};
 use std::alloc::Global;
 use std::mem;
 use store::Store;
@@ -16,19 +16,22 @@ use store::Store;
 /// A store that is open, the core that decides on its table, and the commit under way.
 pub(crate) struct Life<D: Sim> {
     pub(crate) store: Store<D>,
-    pub(crate) core: Decisions,
+    pub(crate) core: Core,
     pub(crate) commit: Commit,
+    pub(crate) links: Links,
 }
 
 impl<D: Sim> Life<D> {
     ghost use Rattle.std.specs.Prelude.{◌≢◌, ◌<◌, ◌^◌, ℕ, [], IfOk, IfErr};
-    ghost use Rattle.session_core.specs.State.{opened};
+    ghost use Rattle.gateway_wire.specs.Feeding.{nothing_heard};
+    ghost use Rattle.session_core.specs.Core.{begun};
     ghost use Rattle.store.specs.State.{seen, disk_of, IsRoomy};
     ghost use Rattle.world.specs.declared.commit.Commit.TheVariants as commits;
     ghost use Rattle.world.specs.declared.step.Step.TheVariants as steps;
     ghost use Rattle.world.specs.declared.answer.Answer.TheVariants as answers;
     ghost use Rattle.world.specs.Calls.{Foretells};
     ghost use Rattle.world.specs.Tells.{TellsRoom, TakeTellsRoom};
+    ghost use Rattle.world.specs.Links.{heard_on};
     ghost use Rattle.world.specs.Follows.{IsOwn, MovesLife, Lets};
     ghost use Rattle.world.specs.Sound.{IsSoundLife, HasRoom};
 
@@ -37,15 +40,17 @@ impl<D: Sim> Life<D> {
         ensures store { IfOk result (λ life. seen D.state life.store ≡ seen D.state store) }
         ensures disk { IfOk result (λ life. disk_of life.store ≡ disk_of store) }
         ensures core { IfOk result (λ life. life.core
-            ≡ opened (seen D.state store).table (seen D.state store).seq) }
+            ≡ begun (seen D.state store).table (seen D.state store).seq) }
         ensures idle { IfOk result (λ life. life.commit ≡ commits.Idle) }
+        ensures silent { IfOk result (λ life. (link : ℕ) → heard_on life.links link ≡ nothing_heard) }
         ensures refused { IfErr result (λ e. (e.0 ≡ disk_of store) × (e.1 ≡ OutOfMemory)) }
     {
-        match Decisions::new(alloc, store.table(), store.seq()) {
+        match Core::new(alloc, store.table(), store.seq()) {
             Ok(core) => Ok(Life {
                 store,
                 core,
                 commit: Commit::Idle,
+                links: Links::new(alloc),
             }),
             Err(refusal) => Err((store.close(), refusal)),
         }
@@ -69,28 +74,21 @@ impl<D: Sim> Life<D> {
         ensures left { Lets D.state self.old step.now result released.old.items released.new.items }
     {
         match step {
-            Step::Request { moment, command } => self.request(*moment, command),
+            Step::Event { moment, event } => {
+                let (turn, closings) = self.event(*moment, event);
+                Answer::Turn { turn, closings }
+            }
+            Step::Piece {
+                link,
+                moment,
+                bytes,
+            } => self.piece(*link, *moment, bytes.as_slice()),
             Step::Take(most) => self.take(alloc, *most, released),
             Step::Call => self.call(),
             Step::Fail => self.fail(),
             Step::Release => self.release(released),
             Step::List => self.list(),
             Step::Emit | Step::Crash(_) => unreachable!(),
-        }
-    }
-
-    /// A command comes. Where it can't be copied for want of memory, it is refused.
-    pub(crate) fn request(&mut self, moment: Moment, command: &Command) -> Answer
-        requires { IsSoundLife D.state self.old }
-        ensures sound { IsSoundLife D.state self.new }
-        ensures commit { self.new.commit ≡ self.old.commit }
-        ensures course { MovesLife D.state self.old (steps.Request moment command.now) result self.new }
-        ensures calls { Foretells D.failures D.outlook (disk_of self.old.store) (steps.Request moment command.now) result (disk_of self.new.store) }
-    {
-        laws::of_runs();
-        match copy_of(command) {
-            Ok(own) => Answer::Turn(self.core.decide(moment, own)),
-            Err(_) => Answer::Turn(self.core.starve(command)),
         }
     }
 
@@ -132,7 +130,7 @@ impl<D: Sim> Life<D> {
         released: &mut Vec<Released>,
     ) -> Result<Answer, Refusal>
         requires idle { self.old.commit ≡ commits.Idle }
-        requires some { self.old.core.log ≢ [] }
+        requires some { self.old.core.decisions.log ≢ [] }
         requires roomy { IsRoomy (seen D.state self.old.store) }
         ensures sound { IsSoundLife D.state self.new }
         ensures room { HasRoom self.new.commit (length released.new.items) (vec_capacity released.new) }
@@ -166,6 +164,7 @@ impl<D: Sim> Life<D> {
         ensures commit { self.new.commit ≡ commit }
         ensures store { self.new.store ≡ self.old.store }
         ensures core { self.new.core ≡ self.old.core }
+        ensures links { self.new.links ≡ self.old.links }
     {
         mem::replace(&mut self.commit, commit).lose();
     }
@@ -252,22 +251,11 @@ impl<D: Sim> Life<D> {
             store,
             core: _,
             commit,
+            links: _,
         } = self;
         commit.lose();
         store.close()
     }
-}
-
-// The same command, in memory of its own.
-fn copy_of(command: &Command) -> Result<Command, Refusal>
-    ensures { MatchResult result (λ copy. copy ≡ command.now) (λ e. e ≡ OutOfMemory) }
-{
-    Ok(match command {
-        Command::Provision(provisioning) => Command::Provision(*provisioning),
-        Command::Heard(heard) => Command::Heard(heard.clone()?),
-        Command::Queue(queueing) => Command::Queue(queueing.clone()?),
-        Command::QueueMac(queueing) => Command::QueueMac(queueing.clone()?),
-    })
 }
 
 // Adds effects behind others.

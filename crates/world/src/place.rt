@@ -46,6 +46,7 @@ impl<D: Sim> Place<D> {
         ensures same { (now : D) → HasDisk result.0 now → now ≡ disk_of store }
     {
         store::laws::a_settled_store_is_on_its_disk();
+        dedup::laws::no_copies_no_windows();
         let devices = store.table().devices().len();
         let seq = store.seq();
         match Life::new(alloc, store) {

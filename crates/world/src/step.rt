@@ -1,5 +1,5 @@
 // What a world is told to do.
-use devices::Command;
+use crate::Event;
 use disk::Image;
 use session_core::{Moment, Most};
 
@@ -7,9 +7,17 @@ use session_core::{Moment, Most};
 /// call but a crash itself, which opens the store.
 #[derive(Debug, PartialEq, Eq, Drop)]
 pub enum Step {
-    /// This command comes at this moment: what an application asks for, or a frame that gateways heard, as a
-    /// whole. Scripts can't hand a frame in yet.
-    Request { moment: Moment, command: Command },
+    /// This comes at this moment.
+    Event {
+        moment: Moment,
+        event: Event,
+    },
+    /// The next bytes on the link of this number come at this moment, in pieces of any length.
+    Piece {
+        link: u64,
+        moment: Moment,
+        bytes: Vec<u8>,
+    },
     /// The flusher takes the oldest decisions, at most so many, and begins their commit.
     Take(Most),
     /// One device call of what is under way.

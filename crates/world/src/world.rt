@@ -45,6 +45,7 @@ impl<D: Sim + Drop> World<D> {
     {
         let store = store::format(alloc, disk, net_id, slots)?;
         store::laws::a_settled_store_is_on_its_disk();
+        dedup::laws::no_copies_no_windows();
         match Life::new(alloc, store) {
             Ok(life) => Ok(World {
                 place: Place::Open(life),

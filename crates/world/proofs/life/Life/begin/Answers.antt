@@ -1,4 +1,4 @@
-use Rattle.std.proofs.Common.{rules, ◌≢◌, ◌∙◌, List, Err, length, ap, subst, sym}
+use Rattle.std.proofs.Common.{rules, ◌≢◌, ◌∙◌, List, Err, length, ap, refl, subst, sym}
 use Rattle.lw_types.specs.declared.refusal.Refusal.TheVariants.{OutOfMemory}
 use Rattle.sessions.specs.Decision.{IsLegalContinuation}
 use Rattle.sessions.specs.declared.decision.Decision.{Decision}
@@ -10,7 +10,9 @@ use Rattle.world.specs.declared.step.Step.TheVariants as steps
 use Rattle.world.specs.Answers.{AnswersTake}
 use Rattle.world.specs.Calls.{AreCalls}
 use Rattle.world.specs.Course.{after, begun, gave_up}
-use Rattle.world.specs.Follows.{IsLife}
+use Rattle.world.specs.Follows.{IsLife, IsListening}
+use Rattle.session_core.specs.Core.{CoreState}
+use Rattle.world.proofs.Listening.{listens-on}
 use Rattle.world.proofs.Taking.{when_healthy, takes, loses, strays, moved, no_memory, only_memory}
 use Rattle.world.proofs.life.Life.begin.Goals as goal
 
@@ -19,17 +21,20 @@ returns-in-Ok-clause-course g c origin course f =
     let life = c.args.self.now in
     let s = seen g.D.Disk.state life.store in
     let most = c.args.most in
-    let idle = subst (λ k. IsLife origin course s life.core k) c.requires.idle f in
+    let idle = subst (λ k. IsLife origin course s life.core.decisions k) c.requires.idle f.0 in
     let took = c.in_ok-batch.ensures.taken in
     let way = when_healthy s.failed _ _ idle.healthy c.in-Ok.ensures.answer in
     let found =
-    takes c.of_runs.ensures origin course s life.core c.take.ensures.lawful most idle c.requires.some c.in-Ok.begun c.in_ok-room.room c.len-count.result
+    takes c.of_runs.ensures origin course s life.core.decisions c.take.ensures.lawful.decisions most idle c.requires.some c.in-Ok.begun c.in_ok-room.room c.len-count.result
     (c.in-Ok.ensures.batch ∙ took.0) way.legal (c.in-Ok.ensures.begun idle.under_way.1.1)
     (c.len-count.ensures.len ∙ ap (λ (ds : List Decision). length ds) took.0) in (
       found.0,
-      moved origin (begun course most) s (seen g.D.Disk.state c.set.new.self.store) (taken_from life.core most) c.set.new.self.core
-          (commits.Begun c.in-Ok.begun c.in_ok-room.room) c.set.new.self.commit
-          (ap (seen g.D.Disk.state) c.set.ensures.store ∙ c.in-Ok.ensures.same) (c.set.ensures.core ∙ took.1) c.set.ensures.commit found.1,
+      (
+        moved origin (begun course most) s (seen g.D.Disk.state c.set.new.self.store) (taken_from life.core.decisions most) c.set.new.self.core.decisions
+            (commits.Begun c.in-Ok.begun c.in_ok-room.room) c.set.new.self.commit
+            (ap (seen g.D.Disk.state) c.set.ensures.store ∙ c.in-Ok.ensures.same) (ap (λ (k : CoreState). k.decisions) (c.set.ensures.core ∙ took.1)) c.set.ensures.commit found.1,
+        listens-on course (begun course most) life.core c.set.new.self.core life.links c.set.new.self.links refl refl refl refl (ap (λ (k : CoreState). k.clock) (c.set.ensures.core ∙ took.1)) (ap (λ (k : CoreState). k.windows) (c.set.ensures.core ∙ took.1)) c.set.ensures.links f.1,
+      ),
     )
 
 pub returns-in-OutOfStep-clause-course : goal.returns-in-OutOfStep-clause-course
@@ -37,18 +42,22 @@ returns-in-OutOfStep-clause-course g c origin course f =
     let life = c.args.self.now in
     let s = seen g.D.Disk.state life.store in
     let most = c.args.most in
-    let idle = subst (λ k. IsLife origin course s life.core k) c.requires.idle f in
+    let idle = subst (λ k. IsLife origin course s life.core.decisions k) c.requires.idle f.0 in
     let took = c.in_ok-batch.ensures.taken in
     let illegal = (when_healthy s.failed _ _ idle.healthy c.in-Err.ensures.answer (subst (λ e. e ≢ OutOfMemory) (sym c.in-OutOfStep.is) no_memory)).1 in
     let found =
-    strays c.of_runs.ensures origin course s life.core c.take.ensures.lawful most idle c.requires.some c.take.ensures.asked
+    strays c.of_runs.ensures origin course s life.core.decisions c.take.ensures.lawful.decisions most idle c.requires.some c.take.ensures.asked
     (λ legal. illegal (subst (IsLegalContinuation s.table s.seq) (sym took.0) legal)) in
     subst (λ e. AnswersTake course.flights course most (answers.Refused e)
-    × IsLife origin (after origin course (steps.Take most) (answers.Refused e)) (seen g.D.Disk.state c.begin.new.self) c.take.new.self life.commit)
+    × (IsLife origin (after origin course (steps.Take most) (answers.Refused e)) (seen g.D.Disk.state c.begin.new.self) c.take.new.self.decisions life.commit
+    × IsListening (after origin course (steps.Take most) (answers.Refused e)) c.take.new.self life.links))
     (sym c.in-OutOfStep.is) (
       found.0,
-      moved origin (gave_up course most) s (seen g.D.Disk.state c.begin.new.self) (taken_from life.core most) c.take.new.self commits.Idle life.commit
-          c.in-Err.ensures.same took.1 c.requires.idle found.1,
+      (
+        moved origin (gave_up course most) s (seen g.D.Disk.state c.begin.new.self) (taken_from life.core.decisions most) c.take.new.self.decisions commits.Idle life.commit
+            c.in-Err.ensures.same (ap (λ (k : CoreState). k.decisions) took.1) c.requires.idle found.1,
+        listens-on course (gave_up course most) life.core c.take.new.self life.links life.links refl refl refl refl (ap (λ (k : CoreState). k.clock) took.1) (ap (λ (k : CoreState). k.windows) took.1) refl f.1,
+      ),
     )
 
 pub returns : goal.returns
@@ -63,16 +72,19 @@ returns g c =
       released = search rules;
       room_told = c.requires.roomy;
       course = λ origin course f.
-          let idle = subst (λ k. IsLife origin course s life.core k) c.requires.idle f in
+          let idle = subst (λ k. IsLife origin course s life.core.decisions k) c.requires.idle f.0 in
           let memory =
           only_memory c.in-Err.refusal (λ other. (when_healthy s.failed _ _ idle.healthy c.in-Err.ensures.answer other).0) c.in_default.not-OutOfStep in
           let legal = subst (IsLegalContinuation s.table s.seq) took.0 (c.begin.ensures.memory (c.in-Err.is ∙ ap Err memory)) in
           let found =
-          loses c.of_runs.ensures origin course s life.core c.take.ensures.lawful most idle c.requires.some c.len-count.result legal
+          loses c.of_runs.ensures origin course s life.core.decisions c.take.ensures.lawful.decisions most idle c.requires.some c.len-count.result legal
           (c.len-count.ensures.len ∙ ap (λ (ds : List Decision). length ds) took.0) in (
             found.0,
-            moved origin (gave_up course most) s (seen g.D.Disk.state c.begin.new.self) (taken_from life.core most) c.take.new.self commits.Idle life.commit
-                c.begin.ensures.same took.1 c.requires.idle found.1,
+            (
+              moved origin (gave_up course most) s (seen g.D.Disk.state c.begin.new.self) (taken_from life.core.decisions most) c.take.new.self.decisions commits.Idle life.commit
+                  c.begin.ensures.same (ap (λ (k : CoreState). k.decisions) took.1) c.requires.idle found.1,
+              listens-on course (gave_up course most) life.core c.take.new.self life.links life.links refl refl refl refl (ap (λ (k : CoreState). k.clock) took.1) (ap (λ (k : CoreState). k.windows) took.1) refl f.1,
+            ),
           );
       calls = λ calls are. (tt, subst (λ d. AreCalls calls (g.D.Disk.failures d) (g.D.Disk.outlook d)) (sym c.begin.ensures.disk) are);
     }

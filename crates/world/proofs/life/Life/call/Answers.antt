@@ -1,4 +1,4 @@
-use Rattle.std.proofs.Common.{◌∙◌, true, ap, subst, sym}
+use Rattle.std.proofs.Common.{◌∙◌, true, ap, refl, subst, sym}
 use Rattle.disk.specs.Outlook.{IsForeseen}
 use Rattle.store.specs.State.{seen, disk_of}
 use Rattle.world.specs.declared.answer.Answer.TheVariants as answers
@@ -9,6 +9,8 @@ use Rattle.world.specs.Follows.{IsLife}
 use Rattle.world.specs.Sound.{IsOnItsWay, HasRoom}
 use Rattle.world.proofs.Calling.{call_succeeds, call_fails, has_call, is_on}
 use Rattle.world.proofs.Known.{call_passed, call_fell}
+use Rattle.session_core.specs.Core.{CoreState}
+use Rattle.world.proofs.Listening.{listens-on}
 use Rattle.world.proofs.Taking.{moved}
 use Rattle.world.proofs.life.Life.call.Goals as goal
 
@@ -31,14 +33,17 @@ returns-in-Ok g c =
       room = λ there fit room.
           subst (λ k. HasRoom k there fit) (sym c.set.ensures.commit) (e.room there fit (subst (λ k. HasRoom k there fit) same room));
       course = λ origin course f.
-          let f1 = subst (λ k. IsLife origin course s life.core k) same f in
+          let f1 = subst (λ k. IsLife origin course s life.core.decisions k) same f.0 in
           let call = subst HasCall same (has_call life.commit c.in_default.not-Idle c.in_default.not-Failed c.in_default.not-Durable) in
-          let on = is_on c.of_runs.ensures origin course s s' life.core commit call f1 in
+          let on = is_on c.of_runs.ensures origin course s s' life.core.decisions commit call f1 in
           let found =
-          call_succeeds c.of_runs.ensures origin course s s' life.core commit call f1 c.in-Ok.next e.flights e.decisions (e.on on) (e.goes on) e.one_call.failed in (
+          call_succeeds c.of_runs.ensures origin course s s' life.core.decisions commit call f1 c.in-Ok.next e.flights e.decisions (e.on on) (e.goes on) e.one_call.failed in (
             found.0,
-            moved origin (record course { flights = moved_on succeeded course.flights }) s' (seen state new.store) life.core new.core c.in-Ok.next new.commit
-                (ap (seen state) c.set.ensures.store) c.set.ensures.core c.set.ensures.commit found.1,
+            (
+              moved origin (record course { flights = moved_on succeeded course.flights }) s' (seen state new.store) life.core.decisions new.core.decisions c.in-Ok.next new.commit
+                  (ap (seen state) c.set.ensures.store) (ap (λ (k : CoreState). k.decisions) c.set.ensures.core) c.set.ensures.commit found.1,
+              listens-on course (record course { flights = moved_on succeeded course.flights }) life.core new.core life.links new.links refl refl refl refl (ap (λ (k : CoreState). k.clock) c.set.ensures.core) (ap (λ (k : CoreState). k.windows) c.set.ensures.core) c.set.ensures.links f.1,
+            ),
           );
       calls = λ calls are.
           call_passed calls (failures (disk_of life.store)) (failures (disk_of new.store)) (outlook (disk_of life.store)) (outlook (disk_of new.store)) are
@@ -62,12 +67,15 @@ returns-in-Err g c =
       sound = subst (λ k. IsOnItsWay s' k) stopped tt;
       room = λ there fit room. subst (λ k. HasRoom k there fit) stopped tt;
       course = λ origin course f.
-          let f1 = subst (λ k. IsLife origin course s life.core k) same f in
+          let f1 = subst (λ k. IsLife origin course s life.core.decisions k) same f.0 in
           let call = subst HasCall same (has_call life.commit c.in_default.not-Idle c.in_default.not-Failed c.in_default.not-Durable) in
-          let on = is_on c.of_runs.ensures origin course s s' life.core commit call f1 in
-          let found = call_fails c.of_runs.ensures origin course s s' life.core commit call f1 (e.goes on) in (
+          let on = is_on c.of_runs.ensures origin course s s' life.core.decisions commit call f1 in
+          let found = call_fails c.of_runs.ensures origin course s s' life.core.decisions commit call f1 (e.goes on) in (
             subst (λ e. AnswersCall course.flights (answers.Refused e)) (sym e.one_call.failed.0) found.0,
-            subst (λ k. IsLife origin (record course { flights = moved_on failed course.flights }) s' life.core k) stopped found.1,
+            (
+              subst (λ k. IsLife origin (record course { flights = moved_on failed course.flights }) s' life.core.decisions k) stopped found.1,
+              listens-on course (record course { flights = moved_on failed course.flights }) life.core life.core life.links life.links refl refl refl refl refl refl refl f.1,
+            ),
           );
       calls = λ calls are.
           let found =

@@ -1,10 +1,17 @@
 use Rattle.std.proofs.Common.{◌≡◌, ◌∙◌, ◌++◌, subst, sym}
 use Rattle.flusher.specs.Released.{effects_of_all}
+use Rattle.world.specs.declared.answer.Answer.TheVariants as answers
 use Rattle.world.specs.Course.{after}
-use Rattle.world.proofs.Releasing.{request_left}
+use Rattle.world.proofs.Releasing.{event_left, piece_left}
 use Rattle.world.proofs.life.Life.step.Goals as goal
 
-pub returns-in-Request-clause-left : goal.returns-in-Request-clause-left
-returns-in-Request-clause-left g c origin course f is =
-    subst (λ step. (after origin course step c.request.result).left ≡ origin.left ++ effects_of_all c.args.released.now.items) (sym c.in-Request.is)
-    (request_left origin course 0 _ c.request.result ∙ is)
+pub returns-in-Event-clause-left : goal.returns-in-Event-clause-left
+returns-in-Event-clause-left g c origin course f is =
+    let answer = answers.Turn c.event-closings.result.0 c.event-closings.result.1 in
+    subst (λ step. (after origin course step answer).left ≡ origin.left ++ effects_of_all c.args.released.now.items) (sym c.in-Event.is)
+    (event_left origin course _ _ answer ∙ is)
+
+pub returns-in-Piece-clause-left : goal.returns-in-Piece-clause-left
+returns-in-Piece-clause-left g c origin course f is =
+    subst (λ step. (after origin course step c.piece.result).left ≡ origin.left ++ effects_of_all c.args.released.now.items) (sym c.in-Piece.is)
+    (piece_left origin course _ _ _ c.piece.result ∙ is)

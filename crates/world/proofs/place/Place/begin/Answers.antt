@@ -7,6 +7,8 @@ use Rattle.world.specs.declared.commit.Commit.TheVariants as commits
 use Rattle.world.specs.Course.{reopened}
 use Rattle.world.specs.Follows.{Survives}
 use Rattle.world.proofs.Calling.{held}
+use Rattle.session_core.specs.Core.{CoreState}
+use Rattle.world.proofs.Listening.{listens-first}
 use Rattle.world.proofs.Taking.{moved}
 use Rattle.world.proofs.Opening.{life_opened}
 use Rattle.world.proofs.place.Place.begin.Goals as goal
@@ -21,9 +23,12 @@ returns-in-Ok-clause-course g c healthy settled origin course left =
       (left.0, left.1, seq, ap length (c.devices-devices.ensures.devices ∙ ap (λ (t : TableState). t.devices) table)),
       λ image. (
         refl,
-        moved origin (reopened origin course c.seq-seq.result) s (seen state life.store) (opened s.table s.seq) life.core commits.Idle life.commit
-            c.in-Ok.ensures.store c.in-Ok.ensures.core c.in-Ok.ensures.idle
-            (life_opened origin course left.0 c.seq-seq.result s left.1 seq settled healthy left.2 left.3 (c.a_settled_store_is_on_its_disk.ensures s settled)),
+        (
+          moved origin (reopened origin course c.seq-seq.result) s (seen state life.store) (opened s.table s.seq) life.core.decisions commits.Idle life.commit
+              c.in-Ok.ensures.store (ap (λ (k : CoreState). k.decisions) c.in-Ok.ensures.core) c.in-Ok.ensures.idle
+              (life_opened origin course left.0 c.seq-seq.result s left.1 seq settled healthy left.2 left.3 (c.a_settled_store_is_on_its_disk.ensures s settled)),
+          listens-first (reopened origin course c.seq-seq.result) life.core life.links s.table s.seq c.in-Ok.ensures.core c.in-Ok.ensures.silent (c.no_copies_no_windows.ensures 0) refl refl refl refl,
+        ),
       ),
     )
 

@@ -6,6 +6,8 @@ use Rattle.world.specs.declared.commit.Commit.TheVariants as commits
 use Rattle.world.specs.Calls.{AreCalls, passed_some}
 use Rattle.world.specs.Course.{beginning, formatted}
 use Rattle.world.proofs.Known.{formatted_known}
+use Rattle.session_core.specs.Core.{CoreState}
+use Rattle.world.proofs.Listening.{listens-first}
 use Rattle.world.proofs.Taking.{moved}
 use Rattle.world.proofs.Opening.{life_opened}
 use Rattle.world.proofs.world.World.format.Goals as goal
@@ -22,9 +24,12 @@ returns-in-Ok-clause-course g c =
     record {
       place = (
         refl,
-        moved origin first s (seen state life.store) (opened s.table s.seq) life.core commits.Idle life.commit
-            c.in-Ok.ensures.store c.in-Ok.ensures.core c.in-Ok.ensures.idle
-            (life_opened origin first [] 0 s refl refl settled made.healthy.0 made.empty.0 made.empty.1 (c.a_settled_store_is_on_its_disk.ensures s settled)),
+        (
+          moved origin first s (seen state life.store) (opened s.table s.seq) life.core.decisions commits.Idle life.commit
+              c.in-Ok.ensures.store (ap (λ (k : CoreState). k.decisions) c.in-Ok.ensures.core) c.in-Ok.ensures.idle
+              (life_opened origin first [] 0 s refl refl settled made.healthy.0 made.empty.0 made.empty.1 (c.a_settled_store_is_on_its_disk.ensures s settled)),
+          listens-first first life.core life.links s.table s.seq c.in-Ok.ensures.core c.in-Ok.ensures.silent (c.no_copies_no_windows.ensures 0) refl refl refl refl,
+        ),
       );
       left = sym (ap effects_of_all c.new-in-Ok.ensures.items);
       emitted = refl;

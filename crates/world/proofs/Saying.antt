@@ -1,0 +1,83 @@
+-- What links say, piece by piece.
+use Rattle.std.proofs.Common.{◌≡◌, ◌∙◌, ℕ, Bool, true, false, nat_eq, cond, List, [], ◌∷◌, ◌++◌, Option, Some, None, append_assoc, refl, sym, ap, subst}
+use Rattle.std.proofs.lemmas.Bool.{eqb-true, eqb-false}
+use Rattle.std.proofs.lemmas.List.{append-nil}
+use Rattle.lw_types.specs.declared.refusal.Refusal.{Refusal}
+use Rattle.gateway_wire.specs.declared.message.Peer.{Peer}
+use Rattle.gateway_wire.specs.declared.message.Message.{Message}
+use Rattle.gateway_wire.specs.Stream.{End, Rest, Fault, IsSaid, after, after_one}
+use Rattle.gateway_wire.specs.Feeding.{Adds, Heard}
+use Rattle.world.specs.declared.event.Event.{Event}
+use Rattle.world.specs.declared.links.Links.{Links}
+use Rattle.world.specs.Links.{before_others, AreHandedIn, Completes, HasSaid, Piece, SaysMore, heard_on, stream_on}
+
+after_append : (peer : Option Peer) (xs ys : List Message) → after peer (xs ++ ys) ≡ after (after peer xs) ys
+after_append peer [] ys = refl
+after_append peer (x ∷ xs) ys = after_append (after_one peer x) xs ys
+
+-- a piece more belongs to its own link's stream
+stream_more : (l link : ℕ) (bytes : List ℕ) (pieces : List Piece)
+    → stream_on l (pieces ++ record { link = link; bytes = bytes } ∷ []) ≡ cond (nat_eq link l) (stream_on l pieces ++ bytes) (stream_on l pieces)
+stream_more l link bytes [] = by (nat_eq link l)
+  where
+    by : (b : Bool) → cond b (bytes ++ []) [] ≡ cond b bytes []
+    by true = append-nil bytes
+    by false = refl
+stream_more l link bytes (piece ∷ pieces) = by (nat_eq piece.link l) (nat_eq link l) (stream_on l pieces) _ (stream_more l link bytes pieces)
+  where
+    by : (own other : Bool) (behind longer : List ℕ) → longer ≡ cond other (behind ++ bytes) behind
+        → cond own (piece.bytes ++ longer) longer ≡ cond other (cond own (piece.bytes ++ behind) behind ++ bytes) (cond own (piece.bytes ++ behind) behind)
+    by true true behind longer is = ap (λ k. piece.bytes ++ k) is ∙ sym (append_assoc piece.bytes behind bytes)
+    by true false behind longer is = ap (λ k. piece.bytes ++ k) is
+    by false true behind longer is = is
+    by false false behind longer is = is
+
+pub before_append : (event : Option Event) (others : List Event) → before_others event [] ++ others ≡ before_others event others
+before_append None others = refl
+before_append (Some event) others = refl
+
+-- where a link's bytes are cut makes no difference
+abbrev pub RestLaw : Type 0
+RestLaw =
+    (peer : Option Peer) (stream : List ℕ) (rest : List ℕ) (piece : List ℕ) (messages : List Message) (others : List Message) (end : End)
+    → IsSaid peer stream messages (Rest rest) → IsSaid (after peer messages) (rest ++ piece) others end → IsSaid peer (stream ++ piece) (messages ++ others) end
+
+abbrev pub FaultLaw : Type 0
+FaultLaw =
+    (peer : Option Peer) (stream : List ℕ) (piece : List ℕ) (messages : List Message) (refusal : Refusal)
+    → IsSaid peer stream messages (Fault refusal) → IsSaid peer (stream ++ piece) messages (Fault refusal)
+
+module _ (rest_law : RestLaw) (fault_law : FaultLaw) where
+  says_on : (stream piece : List ℕ) (peer : Option Peer) (end : End) (before others : List Message) (new : Heard) → IsSaid None stream before end → peer ≡ after None before
+      → Adds peer end piece others new → IsSaid None (stream ++ piece) (before ++ others) new.end × (new.peer ≡ after None (before ++ others))
+  says_on stream piece peer (Rest rest) before others new said is adds = (
+    rest_law None stream rest piece before others new.end said (subst (λ p. IsSaid p (rest ++ piece) others new.end) is adds.1),
+    adds.0 ∙ (ap (λ p. after p others) is ∙ sym (after_append None before others)),
+  )
+  says_on stream piece peer (Fault refusal) before others new said is adds =
+      let none : before ++ others ≡ before = ap (λ l. before ++ l) adds.0 ∙ append-nil before in (
+        subst (λ e. IsSaid None (stream ++ piece) (before ++ others) e) (sym (ap (λ (h : Heard). h.end) adds.1))
+            (subst (λ l. IsSaid None (stream ++ piece) l (Fault refusal)) (sym none) (fault_law None stream piece before refusal said)),
+        ap (λ (h : Heard). h.peer) adds.1 ∙ (is ∙ ap (after None) (sym none)),
+      )
+
+  -- what a piece adds to what the links have said
+  pub says-more : (pieces : List Piece) (old new : Links) (link : ℕ) (piece : List ℕ) (handed_in : List Event) (fault : Option Refusal)
+      → ((l : ℕ) → HasSaid (stream_on l pieces) (heard_on old l)) → SaysMore old link piece new handed_in fault
+      → Completes (stream_on link pieces) piece handed_in fault
+      × ((l : ℕ) → HasSaid (stream_on l (pieces ++ record { link = link; bytes = piece } ∷ [])) (heard_on new l))
+  says-more pieces old new link piece handed_in fault said more =
+      let before = said link in
+      let was = heard_on old link in
+      let now = heard_on new link in
+      let stream = stream_on link pieces in
+      let on = says_on stream piece was.peer was.end before.0 more.0 now before.1 before.2 more.1 in
+      let here : HasSaid (stream ++ piece) now = (before.0 ++ more.0, on.0, on.1) in (
+        (before.0, more.0, was.end, now.end, before.1, on.0, subst (λ p. AreHandedIn p more.0 handed_in) before.2 more.2, more.3),
+        λ l. subst (λ k. HasSaid k (heard_on new l)) (sym (stream_more l link piece pieces)) (others l (nat_eq link l) refl here),
+      )
+    where
+      others : (l : ℕ) (b : Bool) → nat_eq link l ≡ b → HasSaid (stream_on link pieces ++ piece) (heard_on new link)
+          → HasSaid (cond b (stream_on l pieces ++ piece) (stream_on l pieces)) (heard_on new l)
+      others l true is here = subst (λ k. HasSaid (stream_on k pieces ++ piece) (heard_on new k)) (eqb-true link l is) here
+      others l false is here = subst (λ h. HasSaid (stream_on l pieces) h) (sym (more.4 l (λ same. eqb-false link l is (sym same)))) (said l)

@@ -1,0 +1,141 @@
+// The links of a life, and the events that what is said on them hands in.
+ghost use Rattle.std.specs.Prelude.{◌≡◌, ◌≤◌, ◌++◌, ℕ, Some, [], length, vec_capacity, IfOk, IfErr, MatchResult};
+ghost use Rattle.lw_types.specs.declared.refusal.Refusal.TheVariants.{OutOfMemory};
+ghost use Rattle.gateway_wire.specs.Feeding.{nothing_heard};
+ghost use Rattle.gateway_wire.specs.Stream.{after_one};
+ghost use Rattle.gateway_wire.specs.declared.message.Peer.TheVariants.{Application as Asking};
+ghost use Rattle.world.specs.Links.{before_others, heard_on, AreHandedIn, Asks, HandsIn, SaysMore};
+
+use crate::{Event, EventTurn};
+use devices::Application;
+use gateway_wire::{Fed, Feeder, Line, Message, Peer, read_line};
+use lw_types::Refusal;
+use std::alloc::{AllocError, Global};
+use std::collections::BTreeMap;
+
+/// What the links of a life have said, by the links' numbers.
+#[derive(Drop)]
+pub(crate) struct Links {
+    alloc: Global,
+    feeders: BTreeMap<u64, Feeder>,
+}
+
+/// The events that a piece hands in, the fault behind them, and room for their turns.
+#[derive(Drop)]
+pub(crate) struct HandedIn {
+    pub(crate) events: Vec<Event>,
+    pub(crate) fault: Option<Refusal>,
+    pub(crate) room: Vec<EventTurn>,
+}
+
+impl Links {
+    /// Links that have said nothing yet. Takes no memory.
+    pub(crate) fn new(alloc: Global) -> Self
+        ensures { (link : ℕ) → heard_on result link ≡ nothing_heard }
+    {
+        Links {
+            alloc,
+            feeders: BTreeMap::new(alloc),
+        }
+    }
+
+    /// These bytes come on this link. A refusal leaves what the links have said.
+    pub(crate) fn say(&mut self, link: u64, piece: &[u8]) -> Result<HandedIn, Refusal>
+        ensures said { IfOk result (λ r. SaysMore self.old link piece.now self.new r.events.items r.fault) }
+        ensures room { IfOk result (λ r. (r.room.items ≡ []) × (length r.events.items ≤ vec_capacity r.room)) }
+        ensures refused { IfErr result (λ e. (e ≡ OutOfMemory)
+            × ((other : ℕ) → heard_on self.new other ≡ heard_on self.old other)) }
+    {
+        let mut feeder = self.feeder_on(link)?;
+        let peer = feeder.peer();
+        let Fed { messages, fault } = feeder.feed(piece)?;
+        let events = events_of(self.alloc, peer, messages)?;
+        let room = Vec::with_capacity(self.alloc, events.len())?;
+        self.feeders.insert(link, feeder)?;
+        Ok(HandedIn {
+            events,
+            fault,
+            room,
+        })
+    }
+
+    fn feeder_on(&self, link: u64) -> Result<Feeder, AllocError>
+        ensures { IfOk result (λ feeder. feeder ≡ heard_on self.now link) }
+    {
+        match self.feeders.get(&link) {
+            Some(feeder) => feeder.clone(),
+            None => Ok(Feeder::new(self.alloc)),
+        }
+    }
+}
+
+// The events that the messages of a link hand in.
+fn events_of(
+    alloc: Global,
+    peer: Option<Peer>,
+    messages: Vec<Message>,
+) -> Result<Vec<Event>, Refusal>
+    ensures { MatchResult result (λ events. AreHandedIn peer messages.items events.items) (λ e. e ≡ OutOfMemory) }
+{
+    let mut events = Vec::with_capacity(alloc, messages.len())?;
+    let mut speaker = peer;
+    for message in messages {
+        let event = event_of(alloc, &mut speaker, message)?;
+        add(&mut events, event)?;
+    }
+    Ok(events)
+}
+
+// Adds an event, if there is one.
+fn add(events: &mut Vec<Event>, event: Option<Event>) -> Result<(), Refusal>
+    ensures { MatchResult result (λ _. events.new.items ≡ events.old.items ++ before_others event []) (λ e. e ≡ OutOfMemory) }
+{
+    if let Some(event) = event {
+        events.push(event)?;
+    }
+    Ok(())
+}
+
+// The event that a message hands in, where it does: a greeting doesn't, but tells who speaks; nor does a line that is no
+// request.
+fn event_of(
+    alloc: Global,
+    speaker: &mut Option<Peer>,
+    message: Message,
+) -> Result<Option<Event>, Refusal>
+    ensures event { MatchResult result (HandsIn speaker.old message) (λ e. e ≡ OutOfMemory) }
+    ensures speaker { speaker.new ≡ after_one speaker.old message }
+{
+    match message {
+        Message::Greeting(greeted) => {
+            *speaker = Some(greeted);
+            Ok(None)
+        }
+        Message::Copy(copy) => Ok(Some(Event::Hear(copy))),
+        Message::Line(line) => asked(alloc, speaker, &line),
+    }
+}
+
+fn asked(alloc: Global, speaker: &Option<Peer>, line: &Line) -> Result<Option<Event>, Refusal>
+    ensures { MatchResult result (Asks speaker.now line.now) (λ e. e ≡ OutOfMemory) }
+{
+    match speaker {
+        Some(Peer::Application(application)) => request_of(alloc, *application, line),
+        _ => Ok(None),
+    }
+}
+
+// The command of the request that a line of this application is, where it is one.
+fn request_of(
+    alloc: Global,
+    application: Application,
+    line: &Line,
+) -> Result<Option<Event>, Refusal>
+    ensures { MatchResult result (Asks (Some (Asking application)) line.now) (λ e. e ≡ OutOfMemory) }
+{
+    match read_line(alloc, line.as_str()) {
+        Ok(request) => Ok(Some(Event::Ask(request.into_command(application)))),
+        Err(Refusal::BadMessage) => Ok(None),
+        Err(refusal) => Err(refusal),
+    }
+}
