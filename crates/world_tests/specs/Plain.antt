@@ -1,12 +1,14 @@
 -- A world told plainly.
-use Rattle.std.specs.Prelude.{◌≡◌, ◌++◌, Bool, List, [], ◌∷◌, if◌then◌else◌, Option, Some, None, Result, MatchResult}
+use Rattle.std.specs.Prelude.{◌≡◌, ◌++◌, Bool, List, [], ◌∷◌, if◌then◌else◌, Option, Some, None, Result, MatchResult, take}
 use Rattle.lw_types.specs.declared.refusal.Refusal.{Refusal}
 use Rattle.devices.specs.declared.command.Command.{Command}
 use Rattle.sessions.specs.Table.{Step as TableStep}
 use Rattle.world.specs.declared.step.Step.{Step}
 use Rattle.world.specs.declared.answer.Answer.{Answer}
 use Rattle.world.specs.Calls.{Calls, IsForetold, called}
-use Rattle.world.specs.Course.{Origin, Course, Flight, Stage, after}
+use Rattle.world.specs.declared.event.Event.{Event}
+use Rattle.world.specs.declared.event.Event.TheVariants as events
+use Rattle.world.specs.Course.{Origin, Course, Flight, Stage, admit, after, listened, own_gone}
 use Rattle.world.specs.Course.Stage.{Begun, Written, Synced, Opened, Durable, Stopped, Unsure}
 use Rattle.world.specs.Answers.{IsRight}
 use Rattle.world_tests.specs.declared.flight.Flight.{Flight as PlainFlight}
@@ -39,6 +41,16 @@ Goes old step answer new =
     IsRight old.origin old.course step answer
     × (IsForetold old.calls step answer
     × (new ≡ record { origin = old.origin; calls = called old.calls step answer; course = after old.origin old.course step answer }))
+
+-- the same at another place of its course
+abbrev pub at_course : PlainState → Course → PlainState
+at_course s c = record { origin = s.origin; calls = s.calls; course = c }
+
+-- the course after an event's own, once the windows that are due are closed
+abbrev pub own_after : Origin → Course → Event → Option Refusal → Course
+own_after origin c (events.Hear copy) refused = listened copy refused c
+own_after origin c events.Tick refused = c
+own_after origin c (events.Ask command) refused = admit origin c (take (own_gone refused) (command ∷ []))
 
 -- why a command that is to get this is not decided, if it is not
 abbrev pub IsRefusal : Result TableStep Refusal → Option Refusal → Type 0

@@ -2,10 +2,18 @@
 //! `headline`.
 #![tactic(auto)]
 
+#[cfg(test)]
+mod events;
 mod flight;
+#[cfg(test)]
+mod gathering;
 #[cfg(test)]
 mod headline_tests;
 #[cfg(test)]
 mod model;
+#[cfg(test)]
+mod piece_tests;
+#[cfg(test)]
+mod window_tests;
 #[cfg(test)]
 mod world_tests;

@@ -1,29 +1,30 @@
-// The world told plainly: whole lists of commands, and the table made anew from all of them each time
-// that one is wanted.
-ghost use Rattle.std.specs.Prelude.{◌≡◌, ◌≢◌, ◌++◌, ℕ, true, Err, IfOk, IfErr, MatchResult};
+// The world told plainly: whole lists of commands and of copies, and the table and the windows made anew from
+// all of them each time that they are wanted.
+ghost use Rattle.std.specs.Prelude.{◌≡◌, ◌≢◌, ◌++◌, ℕ, true, length, Err, IfOk, IfErr, MatchResult};
 ghost use Rattle.lw_types.specs.declared.refusal.Refusal.TheVariants.{OutOfMemory};
 ghost use Rattle.sessions.specs.Decision.{Fits, IsDecision};
 ghost use Rattle.disk.specs.Outlook.Outlook.{AllSucceed};
 ghost use Rattle.sessions.specs.Table.{folded, effects_of, step, stepped, step_effects};
 ghost use Rattle.world.specs.declared.step.Step.TheVariants as steps;
-ghost use Rattle.world.specs.Answers.{Leaves};
-ghost use Rattle.world.specs.Course.{beginning, decided, flying, formatted, table_from, wanted};
-ghost use Rattle.world_tests.specs.Plain.{Goes, IsRefusal, flights_of, kept_with};
+ghost use Rattle.world.specs.Answers.{Leaves, IsHeard, IsOwnRight};
+ghost use Rattle.world.specs.Course.{admit, at_moment, beginning, decided, due_frames, flying, formatted, listened, shutting, table_from, wanted, went, windows_of};
+ghost use Rattle.world_tests.specs.Plain.{Goes, IsRefusal, at_course, flights_of, kept_with, own_after};
 
 use crate::flight::{Flight, Stage};
-use devices::{Command, Effect};
+use crate::gathering::{PlainArrival, PlainWindow, due_frames, refusal_by, windows_of};
+use devices::{Command, Effect, is_receivable};
 use disk::Image;
 use gateway_wire::Emission;
-use lw_types::{NetId, Refusal};
-use session_core::{LAST_NUMBER, MOST_UNTAKEN, Most, Turn};
+use lw_types::{FrameCopy, NetId, Refusal};
+use session_core::{LAST_NUMBER, MOST_UNTAKEN, Moment, Most, Turn};
 use sessions::{Decision, Slots, Table};
 use std::alloc::Global;
 use std::marker::Model;
 use std::mem;
-use world::{Answer, Step};
+use world::{Answer, Event, Step};
 
 /// A world told plainly. Contracts see where its course begins, the course, and what is known of the
-/// disk's calls. Want of memory ends it, so that no batch is given up.
+/// disk's calls. Want of memory ends it, so that no batch is given up, and so does a piece of a link's bytes.
 #[derive(Drop)]
 pub(crate) struct Plain {
     net_id: NetId,
@@ -35,6 +36,9 @@ pub(crate) struct Plain {
     left: Vec<Effect>,
     emitted: usize,
     is_open: bool,
+    clock: u64,
+    arrivals: Vec<PlainArrival>,
+    shut: usize,
     // Whether the next device call fails, and how many have failed.
     armed: bool,
     failures: u64,
@@ -66,6 +70,10 @@ impl Model for Plain {
         left = m.left.items;
         emitted = m.emitted;
         is_open = m.is_open;
+        clock = m.clock;
+        arrivals = m.arrivals.items;
+        shut = m.shut;
+        pieces = [];
       };
     } };
 }
@@ -87,6 +95,9 @@ impl Plain {
             left: Vec::new(alloc),
             emitted: 0,
             is_open: true,
+            clock: 0,
+            arrivals: Vec::new(alloc),
+            shut: 0,
             armed: false,
             failures: 0,
             gate_written: false,
@@ -102,7 +113,9 @@ impl Plain {
             Step::Crash(image) => self.crash(alloc, image),
             Step::Emit => self.emit(alloc),
             _ if !self.is_open => Ok(Answer::Idle),
-            Step::Request { command, .. } => self.request(alloc, command),
+            Step::Event { moment, event } => self.event(alloc, *moment, event),
+            // links are tested by rows
+            Step::Piece { .. } => Err(Refusal::OutOfMemory),
             Step::Take(most) => self.take(*most),
             Step::Call => self.call(),
             Step::Fail => self.fail(),
@@ -111,26 +124,116 @@ impl Plain {
         }
     }
 
-    fn request(&mut self, alloc: Global, command: &Command) -> Result<Answer, Refusal>
+    // The windows that are due are closed, and then the event's own is done.
+    fn event(&mut self, alloc: Global, moment: Moment, event: &Event) -> Result<Answer, Refusal>
         requires { self.old.course.is_open ≡ true }
-        ensures { (moment : ℕ) → IfOk result (λ answer. Goes self.old (steps.Request moment command.now) answer self.new) }
+        ensures { IfOk result (λ answer. Goes self.old (steps.Event moment event.now) answer self.new) }
     {
         let from = self.made;
+        self.reach(moment);
+        let closings = self.close_due(alloc)?;
+        let refused = self.own(alloc, event)?;
+        Ok(Answer::Turn {
+            turn: Turn {
+                from,
+                to: self.made,
+                refused,
+            },
+            closings,
+        })
+    }
+
+    // The effective time is at least this moment.
+    fn reach(&mut self, moment: Moment)
+        ensures { self.new ≡ at_course self.old (at_moment self.old.course moment) }
+    {
+        self.clock = self.clock.max(moment.get());
+    }
+
+    // The frames of all windows that are due are handed in; gives how many.
+    fn close_due(&mut self, alloc: Global) -> Result<usize, Refusal>
+        ensures count { IfOk result (λ count. count ≡ length (due_frames self.old.course)) }
+        ensures course { IfOk result (λ count. self.new
+            ≡ at_course self.old (shutting count (admit self.old.origin self.old.course (due_frames self.old.course)))) }
+    {
+        let windows = self.windows(alloc)?;
+        let frames = due_frames(alloc, &windows, self.clock)?;
+        self.admit_all(alloc, &frames)?;
+        let count = frames.len();
+        self.shut = self.shut.checked_add(count).ok_or(Refusal::OutOfMemory)?;
+        Ok(count)
+    }
+
+    // The event's own; gives why it is refused, if it is.
+    fn own(&mut self, alloc: Global, event: &Event) -> Result<Option<Refusal>, Refusal>
+        ensures right { IfOk result (λ refused. IsOwnRight self.old.origin self.old.course event.now refused) }
+        ensures course { IfOk result (λ refused. self.new
+            ≡ at_course self.old (own_after self.old.origin self.old.course event.now refused)) }
+    {
+        match event {
+            Event::Hear(copy) => self.hear(alloc, copy),
+            Event::Tick => Ok(None),
+            Event::Ask(command) => self.admit(alloc, command),
+        }
+    }
+
+    // A copy is kept, unless it is refused.
+    fn hear(&mut self, alloc: Global, copy: &FrameCopy) -> Result<Option<Refusal>, Refusal>
+        ensures right { IfOk result (λ refused. IsHeard self.old.course copy.now refused) }
+        ensures course { IfOk result (λ refused. self.new
+            ≡ at_course self.old (listened copy.now refused self.old.course)) }
+    {
+        let refused = self.deaf_to(alloc, copy)?;
+        if refused.is_none() {
+            self.arrivals
+                .push(PlainArrival::new(self.clock, copy.copy()?))?;
+        }
+        Ok(refused)
+    }
+
+    // Why a copy is not kept, if it is not.
+    fn deaf_to(&self, alloc: Global, copy: &FrameCopy) -> Result<Option<Refusal>, Refusal>
+        ensures { IfOk result (λ refused. IsHeard self.now.course copy.now refused) }
+    {
+        if !is_receivable(&copy.reception) {
+            return Ok(Some(Refusal::UnknownChannel));
+        }
+        let windows = self.windows(alloc)?;
+        Ok(refusal_by(&windows, copy))
+    }
+
+    // The windows that are open.
+    fn windows(&self, alloc: Global) -> Result<Vec<PlainWindow>, Refusal>
+        ensures { IfOk result (λ windows. windows.items ≡ windows_of self.now.course) }
+    {
+        let mut windows = windows_of(alloc, &self.arrivals)?;
+        let shut = self.shut.min(windows.len());
+        Ok(windows.split_off(shut)?)
+    }
+
+    // Hands in these commands, one after another.
+    fn admit_all(&mut self, alloc: Global, commands: &[Command]) -> Result<(), Refusal>
+        ensures { IfOk result (λ _. self.new ≡ at_course self.old (admit self.old.origin self.old.course commands.now)) }
+    {
+        for command in commands {
+            let _ = self.admit(alloc, command)?;
+        }
+        Ok(())
+    }
+
+    // A command is decided, unless it is refused.
+    fn admit(&mut self, alloc: Global, command: &Command) -> Result<Option<Refusal>, Refusal>
+        ensures refused { IfOk result (IsRefusal (wanted self.old.origin self.old.course command.now)) }
+        ensures course { IfOk result (λ _. self.new
+            ≡ at_course self.old (went self.old.course command.now (wanted self.old.origin self.old.course command.now))) }
+    {
         match self.why_not(alloc, command)? {
             None => {
                 self.untaken.push(command.clone()?)?;
-                self.made = from.checked_add(1).ok_or(Refusal::OutOfMemory)?;
-                Ok(Answer::Turn(Turn {
-                    from,
-                    to: self.made,
-                    refused: None,
-                }))
+                self.made = self.made.checked_add(1).ok_or(Refusal::OutOfMemory)?;
+                Ok(None)
             }
-            Some(refusal) => Ok(Answer::Turn(Turn {
-                from,
-                to: from,
-                refused: Some(refusal),
-            })),
+            Some(refusal) => Ok(Some(refusal)),
         }
     }
 
@@ -275,6 +378,9 @@ impl Plain {
         self.untaken.clear();
         self.made = 0;
         self.is_open = true;
+        self.clock = 0;
+        self.arrivals.clear();
+        self.shut = 0;
         Ok(Answer::Opened {
             devices: table.devices().len(),
             seq: self.settled.len() as u64,

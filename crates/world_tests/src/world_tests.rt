@@ -2,17 +2,18 @@ ghost use Rattle.std.specs.Prelude.{IfOk};
 ghost use Rattle.disk.specs.MemDisk.{state_of};
 ghost use Rattle.world.specs.Sound.{IsSound};
 
+use crate::events::{at, event_of};
 use crate::model::Plain;
 use devices::Command;
 use disk::{Image, MemDisk};
 use lw_types::{NetId, Refusal};
-use session_core::{Moment, Most};
+use session_core::Most;
 use session_tests::fixture;
 use sessions::Slots;
 use std::alloc::Global;
 use std::process::Abort;
 use std::test::Fail;
-use world::{Answer, Step, World, run};
+use world::{Answer, Event, Step, World, run};
 
 /// The slots of the worlds here, which the devices of eleven scripts can fill.
 const SLOTS: u64 = 20;
@@ -40,15 +41,16 @@ fn a_new_world_is_idle(rt: HostRuntime) -> Result<(), Fail> {
 
 // An application brings a device of its own DevEUI.
 fn provision(dev_eui: u64) -> Result<Step, Fail> {
-    Ok(Step::Request {
-        moment: Moment::new(dev_eui).ok_or("moment")?,
-        command: fixture::provision(dev_eui).ok_or("command")?,
-    })
+    let command = fixture::provision(dev_eui).ok_or("command")?;
+    at(dev_eui, Event::Ask(command))
 }
 
-// The steps that scripts are made of, each by its letter: two devices of the script, two sizes of a
+// The steps that scripts are made of, each by its letter: two devices of the script, events, two sizes of a
 // batch, and two images of a crash.
-fn step_of(script: char, letter: char) -> Result<Step, Fail> {
+fn step_of(alloc: Global, script: char, letter: char) -> Result<Step, Fail> {
+    if let Some(step) = event_of(alloc, letter)? {
+        return Ok(step);
+    }
     let device = u64::from(script as u32) * 2;
     Ok(match letter {
         'a' => provision(device)?,
@@ -73,10 +75,22 @@ const OPENINGS: [&str; 11] = [
     "", "ab", "abt", "abtc", "abtcc", "abtccc", "abtcccc", "abtfc", "abtcfc", "abtccfc", "abtcccfc",
 ];
 
+const EVENTS: &str = "hgGukqmaTcro";
+
+// Scripts with windows: of a device that is there or not, one is open, has two copies, was closed, or is open beside a
+// commit; and a join's own commit.
+const WINDOWS: [&str; 6] = ["h", "ah", "ahg", "ahk", "aTccch", "ahkTcccc"];
+
 // Whether the answers are the same, tables by their devices.
 fn same(one: &Answer, other: &Answer) -> bool {
     match (one, other) {
-        (Answer::Turn(a), Answer::Turn(b)) => a == b,
+        (
+            Answer::Turn { turn, closings },
+            Answer::Turn {
+                turn: other_turn,
+                closings: other_closings,
+            },
+        ) => turn == other_turn && closings == other_closings,
         (Answer::Taken(a), Answer::Taken(b)) => a == b,
         (Answer::Idle, Answer::Idle) => true,
         (Answer::Called, Answer::Called) => true,
@@ -102,21 +116,49 @@ fn same(one: &Answer, other: &Answer) -> bool {
     }
 }
 
-// The scripts from one stage with the same first step, one after the other: its opening, that step,
-// another one, a look at the table and at what may leave, and a crash.
+// Adds the steps of these letters to those of a script.
+fn add_steps(
+    alloc: Global,
+    steps: &mut Vec<Step>,
+    script: char,
+    letters: &str,
+) -> Result<(), Fail> {
+    for letter in letters.chars() {
+        steps.push(step_of(alloc, script, letter)?)?;
+    }
+    Ok(())
+}
+
+// Adds a script: its opening, two steps, a look at the table and at what may leave, and a crash.
+fn add_script(
+    alloc: Global,
+    steps: &mut Vec<Step>,
+    script: char,
+    opening: &str,
+    middle: [char; 2],
+) -> Result<(), Fail> {
+    add_steps(alloc, steps, script, opening)?;
+    for letter in middle {
+        steps.push(step_of(alloc, script, letter)?)?;
+    }
+    add_steps(alloc, steps, script, "leo")
+}
+
+// The scripts from one stage with the same first step, one after the other.
 fn scripts(alloc: Global, opening: &str, first: char) -> Result<Vec<Step>, Fail> {
     let mut steps = Vec::new(alloc);
     for second in LETTERS.chars() {
-        for letter in opening.chars() {
-            steps.push(step_of(second, letter)?)?;
-        }
-        steps.push(step_of(second, first)?)?;
-        steps.push(step_of(second, second)?)?;
-        for letter in "leo".chars() {
-            steps.push(step_of(second, letter)?)?;
-        }
+        add_script(alloc, &mut steps, second, opening, [first, second])?;
     }
     Ok(steps)
+}
+
+/// What a new world answers to these steps.
+pub(crate) fn answers_to(alloc: Global, steps: &[Step]) -> Result<Vec<Answer>, Fail> {
+    let mut world = new_world(alloc, SLOTS)?;
+    let answers = run(&mut world, alloc, steps);
+    let _ = world.close();
+    Ok(answers?)
 }
 
 // Takes steps on a new world and on a new model, and compares their answers.
@@ -149,6 +191,28 @@ fn worlds_answer_as_their_model(rt: HostRuntime) -> Result<(), Fail> {
         for first in LETTERS.chars() {
             let steps = scripts(alloc, opening, first)?;
             compare(&rt, alloc, SLOTS, &steps, opening)?;
+        }
+    }
+    Ok(())
+}
+
+// Compares the scripts from one stage with the same first step, each in a world of its own. Behind the crash a
+// frame is heard again.
+fn compare_windows(rt: &impl Abort, alloc: Global, opening: &str, first: char) -> Result<(), Fail> {
+    for second in EVENTS.chars() {
+        let mut steps = Vec::new(alloc);
+        add_script(alloc, &mut steps, '\0', opening, [first, second])?;
+        add_steps(alloc, &mut steps, '\0', "hgk")?;
+        compare(rt, alloc, 2, &steps, opening)?;
+    }
+    Ok(())
+}
+
+#[test]
+fn windows_answer_as_their_model(rt: HostRuntime) -> Result<(), Fail> {
+    for opening in WINDOWS {
+        for first in EVENTS.chars() {
+            compare_windows(&rt, rt.alloc(), opening, first)?;
         }
     }
     Ok(())
@@ -228,11 +292,8 @@ fn joins(alloc: Global, script: &str) -> Result<Vec<Step>, Fail> {
     let mut steps = Vec::new(alloc);
     for letter in script.chars() {
         let step = match joining(alloc, letter)? {
-            None => step_of('a', letter)?,
-            Some(command) => Step::Request {
-                moment: Moment::new(0).ok_or("moment")?,
-                command,
-            },
+            None => step_of(alloc, 'a', letter)?,
+            Some(command) => at(0, Event::Ask(command))?,
         };
         steps.push(step)?;
     }

@@ -1,4 +1,4 @@
-use Rattle.std.proofs.Common.{◌≡◌, ◌∙◌}
+use Rattle.std.proofs.Common.{◌∙◌}
 use Rattle.sessions.specs.Table.{step}
 use Rattle.world_tests.proofs.Turning.{taken}
 use Rattle.world_tests.proofs.model.decide.Goals as goal

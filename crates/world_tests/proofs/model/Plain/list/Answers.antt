@@ -1,4 +1,4 @@
-use Rattle.std.proofs.Common.{◌≡◌, ◌∙◌, ◌+◌, inl, MatchBool, length, ap, subst, sym, refl, arith}
+use Rattle.std.proofs.Common.{◌≡◌, ◌∙◌, inl, MatchBool, length, ap, subst, sym, refl, arith}
 use Rattle.world.specs.declared.answer.Answer.TheVariants as answers
 use Rattle.world.specs.Answers.{AnswersList}
 use Rattle.world.specs.Course.{decided, number_from, table_from}
