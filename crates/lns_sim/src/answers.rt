@@ -12,7 +12,8 @@ use world::Answer;
 /// refused.
 pub fn write_answer<W: Write>(alloc: Global, out: &mut W, answer: &Answer) -> io::Result<()> {
     match answer {
-        Answer::Turn(turn) => write_turn(out, turn),
+        Answer::Turn { turn, .. } => write_turn(out, turn),
+        Answer::Turns { turns, .. } => turns.iter().try_for_each(|t| write_turn(out, &t.turn)),
         Answer::Taken(count) => writeln!(out, "taken {count}"),
         Answer::GivenUp(_) => write_refusal(out, Refusal::OutOfMemory),
         Answer::Full => writeln!(out, "full"),

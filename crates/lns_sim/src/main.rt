@@ -4,9 +4,13 @@
 #![tactic(auto)]
 
 mod answers;
+#[cfg(test)]
+mod journey;
 mod lines;
 mod outcome;
 mod plan;
+#[cfg(test)]
+mod plays;
 #[cfg(test)]
 mod rows;
 mod script;

@@ -1,8 +1,6 @@
 // Scripts and their whole answers.
-use crate::script;
-use std::alloc::Global;
+use crate::plays::{compare, played};
 use std::io::Write;
-use std::process::Abort;
 use std::str;
 use std::test::Fail;
 
@@ -76,7 +74,7 @@ called
 called
 called
 called
-bad line
+turn 1 1
 released 1
 app 3 provisioned 1112131415161718 0
 bad line
@@ -272,6 +270,103 @@ turn 0 0 refused 17
     ),
 ];
 
+const HEARD: &str = " 5 -20 -95 50000 40F17DBE4900020001954378762B11FF0D\n";
+
+// Scripts in which frames are heard and applications ask. The frame is of no device, so it is refused when its window is
+// closed, which no line shows.
+const EVENTS: [Script; 3] = [
+    // Copies of a frame gather for 200 ms; the effective time never falls.
+    (
+        &[
+            FORMAT,
+            "hear 0 00000000000000B1 868100000",
+            HEARD,
+            "hear 199 00000000000000B2 868100000",
+            HEARD,
+            "hear 199 00000000000000B1 868100000",
+            HEARD,
+            "hear 100 00000000000000B3 868100000",
+            HEARD,
+            "hear 200 00000000000000B1 868200000",
+            HEARD,
+            "hear 200 00000000000000B1 868100000",
+            HEARD,
+            "tick 400\nhear 400 00000000000000B1 868100000 6 -20 -95 50000 -\nlist\n",
+        ],
+        "\
+formatted 2166124
+turn 0 0
+turn 0 0
+turn 0 0 refused 21
+turn 0 0
+turn 0 0 refused 24
+turn 0 0
+turn 0 0
+turn 0 0 refused 24
+devices 0 seq 0
+",
+    ),
+    // What an application asks for is told it.
+    (
+        &[
+            FORMAT,
+            "queue 0 3 1112131415161718 9 7 u AA\nmac 0 3 1112131415161718 06\n",
+            FIRST,
+            "queue 0 3 1112131415161718 9 7 u AA\nqueue 0 4 1112131415161718 9 7 u AA\n",
+            "queue 0 3 1112131415161718 4294967295 224 c -\nmac 0 3 1112131415161718 06\n",
+            "mac 0 3 1112131415161718 -\n",
+            COMMIT,
+            "release\nemit\nemit\nemit\nemit\nlist\n",
+        ],
+        "\
+formatted 2166124
+turn 0 0 refused 7
+turn 0 0 refused 7
+turn 0 1
+turn 1 2
+turn 2 2 refused 7
+turn 2 2 refused 15
+turn 2 3
+turn 3 3 refused 18
+taken 3
+called
+called
+called
+called
+released 3
+app 3 provisioned 1112131415161718 0
+app 3 queued 1112131415161718 9
+app 3 macqueued 1112131415161718 06
+idle
+0 1112131415161718 0 - - - 1
+devices 1 seq 3
+",
+    ),
+    // Windows and the effective time are lost at a crash.
+    (
+        &[
+            FORMAT,
+            "hear 1000 00000000000000B1 868100000",
+            HEARD,
+            "crash old\nhear 0 00000000000000B1 868100000",
+            HEARD,
+            "hear 199 00000000000000B1 868100000",
+            HEARD,
+            "tick 200\nhear 200 00000000000000B1 868100000",
+            HEARD,
+        ],
+        "\
+formatted 2166124
+turn 0 0
+opened 0 0
+turn 0 0
+turn 0 0 refused 21
+turn 0 0
+turn 0 0
+",
+    ),
+];
+
 // Scripts with a device call that fails.
 const FAULTS: [Script; 8] = [
     // A sync fails: the commit ends, nothing is taken any more, and nothing became durable.
@@ -455,30 +550,18 @@ devices 1 seq 1
     ),
 ];
 
-// The answers to a script.
-fn played(alloc: Global, input: &[u8]) -> Result<Vec<u8>, Fail> {
-    let mut input = input;
-    let mut out = Vec::new(alloc);
-    script(alloc, &mut input, &mut out)?;
-    Ok(out)
-}
-
-// Plays the pieces of a script, and compares the answers.
-fn compare(rt: &impl Abort, alloc: Global, row: &Script) -> Result<(), Fail> {
-    let (pieces, wanted) = row;
-    let mut input = Vec::new(alloc);
-    for piece in *pieces {
-        input.write_all(piece.as_bytes())?;
+#[test]
+fn commits_are_answered(rt: HostRuntime) -> Result<(), Fail> {
+    for row in &COMMITS {
+        compare(&rt, rt.alloc(), row.0, &[row.1])?;
     }
-    let out = played(alloc, input.as_slice())?;
-    assert_eq!(rt; str::from_utf8(out.as_slice()).ok(), Some(*wanted));
     Ok(())
 }
 
 #[test]
-fn commits_are_answered(rt: HostRuntime) -> Result<(), Fail> {
-    for row in &COMMITS {
-        compare(&rt, rt.alloc(), row)?;
+fn events_are_answered(rt: HostRuntime) -> Result<(), Fail> {
+    for row in &EVENTS {
+        compare(&rt, rt.alloc(), row.0, &[row.1])?;
     }
     Ok(())
 }
@@ -486,7 +569,7 @@ fn commits_are_answered(rt: HostRuntime) -> Result<(), Fail> {
 #[test]
 fn faults_are_answered(rt: HostRuntime) -> Result<(), Fail> {
     for row in &FAULTS {
-        compare(&rt, rt.alloc(), row)?;
+        compare(&rt, rt.alloc(), row.0, &[row.1])?;
     }
     Ok(())
 }
@@ -532,13 +615,13 @@ fn other_lines_are_no_steps(rt: HostRuntime) -> Result<(), Fail> {
     let mut input = FORMAT.as_bytes().to_vec(alloc)?;
     input.write_all(NO_STEPS)?;
     let mut wanted = b"formatted 2166124\n".as_slice().to_vec(alloc)?;
-    repeat(&mut wanted, "bad line\n", 49)?;
+    repeat(&mut wanted, "bad line\n", 67)?;
     let out = played(alloc, input.as_slice())?;
     assert_eq!(rt; out.as_slice(), wanted.as_slice());
     Ok(())
 }
 
-// Lines that are no steps: 49.
+// Lines that are no steps: 67.
 const NO_STEPS: &[u8] = b"\
 -
 
@@ -568,10 +651,28 @@ take 18446744073709551617
 format 00002A 8
 checkpoint
 next 1
-tick 0
-hear 0 00000000000000B1 868100000 5 -20 -95 50000 -
-queue 0 3 1112131415161718 9 7 u AA
-mac 0 3 1112131415161718 06
+tick
+tick 9223372036854775808
+tick 0 0
+hear 0 00000000000000B1 868100000 5 -20 -95 50000
+hear 0 00000000000000B1 868100000 5 -20 -95 50000 - -
+hear 0 00000000000000B1 868100000 5 -20 -95 50000 0
+hear 0 00000000000000B1 868100000 5 -20 -95 50000 aa
+hear 0 00000000000000B1 868100000 256 -20 -95 50000 -
+hear 0 00000000000000B1 4294967296 5 -20 -95 50000 -
+hear 0 00000000000000B1 868100000 5 -32769 -95 50000 -
+hear 0 00000000000000B1 868100000 5 -20 32768 50000 -
+hear 0 00000000000000B1 868100000 5 -0 -95 50000 -
+hear 0 00000000000000B1 868100000 5 +20 -95 50000 -
+hear 0 00000000000000B1 868100000 5 -20 -95 4294967296 -
+hear 0 B1 868100000 5 -20 -95 50000 -
+queue 0 3 1112131415161718 4294967296 7 u AA
+queue 0 3 1112131415161718 9 256 u AA
+queue 0 3 1112131415161718 9 7 x AA
+queue 0 3 1112131415161718 9 7 u A
+queue 0 16 1112131415161718 9 7 u AA
+mac 0 3 1112131415161718
+mac 0 3 1112131415161718 06 06
 provision 9223372036854775808 3 1112131415161718 0102030405060708 2B7E151628AED2A6ABF7158809CF4F3C 0 1
 provision -1 3 1112131415161718 0102030405060708 2B7E151628AED2A6ABF7158809CF4F3C 0 1
 provision 00 3 1112131415161718 0102030405060708 2B7E151628AED2A6ABF7158809CF4F3C 0 1

@@ -1,10 +1,10 @@
 // Lines that are steps.
 use disk::Image;
 use gateway_wire::{next_ranged, next_value, read_request};
-use lw_types::{NetId, Refusal, Words};
+use lw_types::{FrameCopy, NetId, Reception, Refusal, Words, read_field};
 use std::alloc::Global;
 use std::str;
-use world::Step;
+use world::{Event, Step};
 
 /// The byte that `crash fill` leaves at every open position, which is that of an open gate.
 const FILL: u8 = 0xA5;
@@ -63,8 +63,10 @@ fn read_words(alloc: Global, line: &str) -> Result<Step, Refusal> {
     let mut words = Words::of(line);
     match words.next() {
         Some("take") => take(words).ok_or(Refusal::BadMessage),
-        Some("provision") => request(alloc, "provision", words),
-        _ => Err(Refusal::BadMessage),
+        Some("tick") => tick(words).ok_or(Refusal::BadMessage),
+        Some("hear") => hear(alloc, words),
+        Some(name) => request(alloc, name, words),
+        None => Err(Refusal::BadMessage),
     }
 }
 
@@ -77,10 +79,60 @@ fn take(mut words: Words<'_>) -> Option<Step> {
     }
 }
 
+// A moment alone.
+fn tick(mut words: Words<'_>) -> Option<Step> {
+    let moment = next_ranged(&mut words)?;
+    match words.next() {
+        Some(_) => None,
+        None => Some(Step::Event {
+            moment,
+            event: Event::Tick,
+        }),
+    }
+}
+
+// A moment, how a gateway heard a frame, its stamp, and the frame's bytes.
+fn hear(alloc: Global, mut words: Words<'_>) -> Result<Step, Refusal> {
+    let moment = next_ranged(&mut words).ok_or(Refusal::BadMessage)?;
+    let reception = reception(&mut words).ok_or(Refusal::BadMessage)?;
+    let stamp = next_value(&mut words).ok_or(Refusal::BadMessage)?;
+    let phy_payload = last_bytes(alloc, words)?;
+    match FrameCopy::new(alloc, reception, stamp, phy_payload.as_slice()) {
+        Ok(copy) => Ok(Step::Event {
+            moment,
+            event: Event::Hear(copy),
+        }),
+        Err(Refusal::FrameTooLong) => Err(Refusal::BadMessage),
+        Err(refusal) => Err(refusal),
+    }
+}
+
+// Gateway, frequency, data rate, SNR and RSSI.
+fn reception(words: &mut Words<'_>) -> Option<Reception> {
+    Some(Reception {
+        gateway: next_value(words)?,
+        frequency: next_value(words)?,
+        data_rate: next_value(words)?,
+        snr: next_value(words)?,
+        rssi: next_value(words)?,
+    })
+}
+
+// The bytes that the last word is.
+fn last_bytes(alloc: Global, mut words: Words<'_>) -> Result<Vec<u8>, Refusal> {
+    match (words.next(), words.next()) {
+        (Some(word), None) => read_field(alloc, word),
+        _ => Err(Refusal::BadMessage),
+    }
+}
+
 // A moment, an application, and what it asks for.
 fn request(alloc: Global, name: &str, mut words: Words<'_>) -> Result<Step, Refusal> {
     let moment = next_ranged(&mut words).ok_or(Refusal::BadMessage)?;
     let application = next_ranged(&mut words).ok_or(Refusal::BadMessage)?;
     let command = read_request(alloc, name, words)?.into_command(application);
-    Ok(Step::Request { moment, command })
+    Ok(Step::Event {
+        moment,
+        event: Event::Ask(command),
+    })
 }

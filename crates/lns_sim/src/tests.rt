@@ -8,23 +8,23 @@ use session_core::{Moment, Most};
 use std::io;
 use std::io::{ErrorKind, Read, Write};
 use std::test::Fail;
-use world::{Answer, Step};
+use world::{Answer, Event, Step};
 
 const KEY: Key = Key([
     0x2B, 0x7E, 0x15, 0x16, 0x28, 0xAE, 0xD2, 0xA6, 0xAB, 0xF7, 0x15, 0x88, 0x09, 0xCF, 0x4F, 0x3C,
 ]);
 
 fn provision(moment: u64, application: u64, offset: u64, delay: u64) -> Result<Step, Fail> {
-    Ok(Step::Request {
+    Ok(Step::Event {
         moment: Moment::new(moment).ok_or("moment")?,
-        command: Command::Provision(Provisioning {
+        event: Event::Ask(Command::Provision(Provisioning {
             application: Application::new(application).ok_or("application")?,
             dev_eui: Eui(0x1112131415161718),
             join_eui: Eui(0x0102030405060708),
             app_key: KEY,
             rx1_offset: Rx1Offset::new(offset).ok_or("offset")?,
             rx_delay: RxDelay::new(delay).ok_or("delay")?,
-        }),
+        })),
     })
 }
 
