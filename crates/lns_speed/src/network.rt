@@ -1,13 +1,13 @@
 // A network whose table is full, and the frames of one of its devices.
-ghost use Rattle.std.specs.Prelude.{◌≤◌, ◌<◌};
+ghost use Rattle.std.specs.Prelude.{◌≤◌, ◌<◌, length};
 
-use crate::event::Event;
+use crate::decided::Event;
 use devices::{
     Activation, Application, CurrentSession, Device, Heard, Hearing, Hearings, Item, ItemQueue,
     NextDown, Payload, Port, Provisioning, Rx1Offset, RxDelay, Session, Tag, dev_addr,
 };
-use frame_crypt::{data_mic, join_mic};
-use lw_types::{Direction, Eui, JoinNonce, Key, NetId, PhyPayload, Reception, Refusal};
+use frame_crypt::{data_mic, derive_keys, join_mic};
+use lw_types::{Direction, Eui, FrameCopy, JoinNonce, Key, NetId, PhyPayload, Reception, Refusal};
 use sessions::{Slots, Table};
 use std::alloc::Global;
 
@@ -36,16 +36,20 @@ fn dev_eui(slot: u16) -> Eui {
     Eui(FIRST_DEV_EUI + u64::from(slot))
 }
 
-fn device(alloc: Global, slot: u16) -> Device {
-    let provisioning = Provisioning {
+/// The device at a slot is brought.
+pub fn provisioning(slot: u16) -> Provisioning {
+    Provisioning {
         application: Application::new(0).unwrap(),
         dev_eui: dev_eui(slot),
         join_eui: JOIN_EUI,
         app_key: APP_KEY,
         rx1_offset: Rx1Offset::new(0).unwrap(),
         rx_delay: RxDelay::new(1).unwrap(),
-    };
-    Device::provisioned(alloc, &provisioning)
+    }
+}
+
+fn device(alloc: Global, slot: u16) -> Device {
+    Device::provisioned(alloc, &provisioning(slot))
 }
 
 /// A table of so many slots with a device in each.
@@ -125,7 +129,7 @@ pub fn heard(alloc: Global, event: Event, slot: u16, number: u16) -> Result<Hear
 }
 
 // A Join-Request with this DevNonce (TS001-1.0.4 §6.2.5).
-fn join_request(slot: u16, number: u16) -> [u8; 23] {
+pub fn join_request(slot: u16, number: u16) -> [u8; 23] {
     let mut frame = [0; 23];
     frame[1..9].copy_from_slice(&JOIN_EUI.0.to_le_bytes());
     frame[9..17].copy_from_slice(&dev_eui(slot).0.to_le_bytes());
@@ -135,16 +139,46 @@ fn join_request(slot: u16, number: u16) -> [u8; 23] {
     frame
 }
 
-// An uplink of this MHDR on port 1 with 24 bytes and the counter behind the number (TS001-1.0.4 §4.3).
+// An uplink of this MHDR with the counter behind the number.
 fn uplink(mhdr: u8, slot: u16, number: u16) -> [u8; 37] {
+    signed(mhdr, slot, u32::from(number) + 1, &NWK_SKEY)
+}
+
+/// The NwkSKey of a device that joined with the first JoinNonce and DevNonce 0.
+pub fn joined_key() -> Result<Key, Refusal> {
+    let first = JoinNonce::new(1).ok_or(Refusal::Damaged)?;
+    Ok(derive_keys(&APP_KEY, first, NetId::zero(), 0).0)
+}
+
+/// An unconfirmed uplink of the device at a slot with this counter, under this NwkSKey.
+pub fn numbered(slot: u16, counter: u32, key: &Key) -> [u8; 37] {
+    signed(0x40, slot, counter, key)
+}
+
+/// A copy of a frame by the gateway of this number.
+pub fn copy_of(alloc: Global, frame: &[u8], gateway: u64) -> Result<FrameCopy, Refusal>
+    requires { length frame.now ≤ 255 }
+{
+    let reception = Reception {
+        gateway: Eui(gateway),
+        ..HEARING.reception
+    };
+    Ok(FrameCopy {
+        reception,
+        stamp: 0,
+        phy_payload: PhyPayload::from_slice(alloc, frame)?,
+    })
+}
+
+// A data frame of this MHDR on port 1 with 24 bytes (TS001-1.0.4 §4.3).
+fn signed(mhdr: u8, slot: u16, counter: u32, key: &Key) -> [u8; 37] {
     let addr = dev_addr(NetId::zero(), slot, 1);
-    let counter = u32::from(number) + 1;
     let mut frame = [0; 37];
     frame[0] = mhdr;
     frame[1..5].copy_from_slice(&addr.0.to_le_bytes());
     frame[6..8].copy_from_slice(&counter.to_le_bytes()[..2]);
     frame[8] = 1;
-    let mic = data_mic(&NWK_SKEY, Direction::Up, addr, counter, &frame[..33]);
+    let mic = data_mic(key, Direction::Up, addr, counter, &frame[..33]);
     frame[33..].copy_from_slice(&mic);
     frame
 }

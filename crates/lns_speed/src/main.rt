@@ -5,23 +5,28 @@
 
 ghost use Rattle.std.specs.Prelude.{◌<◌, ◌≤◌, IfOk, IfSome};
 
-mod event;
+mod decided;
 mod network;
+mod server;
 mod unmeasured;
+mod whole;
 
+use decided::Event;
 use devices::{Command, Device, Heard};
-use event::Event;
 use lw_types::Refusal;
 use network::{full_table, heard, record};
 use sessions::Table;
 use std::alloc::Global;
-use std::io;
 use std::rt::Clock;
 use std::time::Instant;
+use std::{fmt, io};
 use unmeasured::Unmeasured;
 
 /// The slots of a small table.
 const FEW: u16 = 8;
+
+/// Those of a city's.
+const SOME: u16 = 512;
 
 /// The slots of the largest table.
 const MOST: u16 = 4096;
@@ -34,6 +39,37 @@ const TIMES: u16 = 16;
 
 /// More rounds than fit into that time on any machine of today.
 const MOST_ROUNDS: u32 = 1_000_000;
+
+/// What is measured.
+#[derive(Drop)]
+enum Measured {
+    /// An event of one device is decided, and its record put into the table.
+    Decided(Event),
+    /// An uplink that so many gateways hear goes the whole way.
+    Whole { gateways: u64 },
+}
+
+impl Measured {
+    fn measure(&self, rt: &impl Clock, alloc: Global, slots: u16) -> Result<u32, Unmeasured>
+        requires some { 1 ≤ slots }
+        requires few { slots ≤ 4096 }
+        ensures { IfOk result (λ nanos. 0 < nanos) }
+    {
+        match self {
+            Measured::Decided(event) => measure(rt, alloc, *event, slots),
+            Measured::Whole { gateways } => whole::measure(rt, alloc, *gateways, slots),
+        }
+    }
+}
+
+impl fmt::Display for Measured {
+    fn fmt<W: fmt::Write>(&self, f: &mut fmt::Formatter<W>) -> fmt::Result {
+        match self {
+            Measured::Decided(event) => write!(f, "{event} decided"),
+            Measured::Whole { gateways } => write!(f, "an uplink heard by {gateways}, whole"),
+        }
+    }
+}
 
 /// The frames that come one after another to a device with this record.
 #[derive(Drop)]
@@ -88,8 +124,8 @@ fn nanos_of(
     Err(Unmeasured::OddClock)
 }
 
-/// The nanoseconds of one event. On no machine of today are they none, or seconds.
-fn whole_nanos(nanos: u128) -> Result<u32, Unmeasured>
+/// The nanoseconds of one of what was measured. On no machine of today are they none, or seconds.
+pub(crate) fn whole_nanos(nanos: u128) -> Result<u32, Unmeasured>
     ensures { IfOk result (λ nanos. 0 < nanos) }
 {
     match u32::try_from(nanos) {
@@ -109,42 +145,42 @@ fn measure(rt: &impl Clock, alloc: Global, event: Event, slots: u16) -> Result<u
     nanos_of(rt, alloc, &mut table, &course)
 }
 
-/// Tells how long an event takes in a full table, and gives the nanoseconds where they were measured.
+/// Tells how long something takes where there are so many devices, and gives the nanoseconds where they were measured.
 fn tell(
-    rt: &(impl Clock + Eprint),
-    alloc: Global,
-    event: Event,
+    rt: &impl Eprint,
+    what: &Measured,
     slots: u16,
+    nanos: Result<u32, Unmeasured>,
 ) -> io::Result<Option<u32>>
-    requires some { 1 ≤ slots }
-    requires few { slots ≤ 4096 }
+    requires { IfOk nanos (λ nanos. 0 < nanos) }
     ensures { IfOk result (λ told. IfSome told (λ nanos. 0 < nanos)) }
 {
-    match measure(rt, alloc, event, slots) {
+    match nanos {
         Ok(nanos) => {
             let (micros, tenth) = (nanos / 1000, nanos / 100 % 10);
             let a_second = 1_000_000_000 / nanos;
             eprintln!(rt;
-                "{event}, {slots} devices: {micros}.{tenth} microseconds, {a_second} a second"
+                "{what}, {slots} devices: {micros}.{tenth} microseconds, {a_second} a second"
             )?;
             Ok(Some(nanos))
         }
         Err(why) => {
-            eprintln!(rt; "{event}, {slots} devices: not measured, {why}")?;
+            eprintln!(rt; "{what}, {slots} devices: not measured, {why}")?;
             Ok(None)
         }
     }
 }
 
-/// Tells how long an event takes in both tables.
-fn compare(rt: &(impl Clock + Eprint), alloc: Global, event: Event) -> io::Result<()> {
-    let few = tell(rt, alloc, event, FEW)?;
-    let most = tell(rt, alloc, event, MOST)?;
+/// Tells how long something takes with few devices and with the most.
+fn compare(rt: &(impl Clock + Eprint), alloc: Global, what: Measured) -> io::Result<()> {
+    let few = tell(rt, &what, FEW, what.measure(rt, alloc, FEW))?;
+    let _ = tell(rt, &what, SOME, what.measure(rt, alloc, SOME))?;
+    let most = tell(rt, &what, MOST, what.measure(rt, alloc, MOST))?;
     if let (Some(few), Some(most)) = (few, most) {
         let ratio = u64::from(most) * 100 / u64::from(few);
         let (times, hundredths) = (ratio / 100, ratio % 100);
         eprintln!(rt;
-            "{event}: {MOST} devices take {times}.{hundredths:02} times as long as {FEW}"
+            "{what}: {MOST} devices take {times}.{hundredths:02} times as long as {FEW}"
         )?;
     }
     Ok(())
@@ -152,7 +188,10 @@ fn compare(rt: &(impl Clock + Eprint), alloc: Global, event: Event) -> io::Resul
 
 fn main(rt: HostRuntime) -> io::Result<()> {
     for event in [Event::Join, Event::Uplink, Event::Answered] {
-        compare(&rt, rt.alloc(), event)?;
+        compare(&rt, rt.alloc(), Measured::Decided(event))?;
+    }
+    for gateways in [1, 3, 8] {
+        compare(&rt, rt.alloc(), Measured::Whole { gateways })?;
     }
     Ok(())
 }

@@ -1,0 +1,104 @@
+// How long whole uplinks take, from their copies to their effects' release.
+ghost use Rattle.std.specs.Prelude.{◌<◌, ◌≤◌, IfOk};
+
+use crate::network::{copy_of, joined_key, numbered};
+use crate::server::{BATCH, Server};
+use crate::unmeasured::Unmeasured;
+use crate::whole_nanos;
+use lw_types::{FrameCopy, Key, Refusal};
+use std::alloc::Global;
+use std::rt::Clock;
+use std::time::Instant;
+
+/// For how long uplinks are handled, in nanoseconds.
+const MEASURED_NANOS: u128 = 500_000_000;
+
+/// More batches than are handled in that time on any machine of today, and fewer than there are counters.
+const MOST_BATCHES: u32 = 100_000;
+
+/// How often a server is made anew, since its journal fills.
+const MOST_LIVES: u32 = 10_000;
+
+/// The devices of a server, which take turns in sending.
+#[derive(Drop)]
+struct Senders {
+    slots: u16,
+    gateways: u64,
+    key: Key,
+    // Who sends next, and with which counter.
+    next: u16,
+    counter: u32,
+}
+
+impl Senders {
+    /// The copies of the uplinks of a batch: each frame is heard by so many gateways.
+    fn copies(&mut self, alloc: Global) -> Result<Vec<FrameCopy>, Refusal> {
+        let mut copies = Vec::new(alloc);
+        for _ in 0..BATCH {
+            let frame = numbered(self.next, self.counter, &self.key);
+            for gateway in 0..self.gateways {
+                copies.push(copy_of(alloc, &frame, gateway)?)?;
+            }
+            self.turn();
+        }
+        Ok(copies)
+    }
+
+    fn turn(&mut self) {
+        self.next = self.next.saturating_add(1);
+        if self.next >= self.slots {
+            self.next = 0;
+            self.counter = self.counter.saturating_add(1);
+        }
+    }
+}
+
+/// How many nanoseconds an uplink takes that so many gateways hear, of one of so many devices, in batches of 64.
+pub fn measure(rt: &impl Clock, alloc: Global, gateways: u64, slots: u16) -> Result<u32, Unmeasured>
+    requires some { 1 ≤ slots }
+    requires few { slots ≤ 4096 }
+    ensures { IfOk result (λ nanos. 0 < nanos) }
+{
+    let mut spent: u128 = 0;
+    let mut uplinks: u128 = 0;
+    for _ in 0..MOST_LIVES {
+        let (nanos, batches) = one_life(rt, alloc, gateways, slots)?;
+        spent = spent.saturating_add(nanos);
+        uplinks = uplinks.saturating_add(u128::from(batches) * u128::from(BATCH));
+        if spent >= MEASURED_NANOS && uplinks > 0 {
+            return whole_nanos(spent / uplinks);
+        }
+    }
+    Err(Unmeasured::OddClock)
+}
+
+// Handles batches until the journal is full, or long enough: the nanoseconds, and how many there were.
+fn one_life(
+    rt: &impl Clock,
+    alloc: Global,
+    gateways: u64,
+    slots: u16,
+) -> Result<(u128, u32), Unmeasured> {
+    let mut server = Server::joined(alloc, slots)?;
+    let mut senders = Senders {
+        slots,
+        gateways,
+        key: joined_key()?,
+        next: 0,
+        counter: 0,
+    };
+    let mut spent: u128 = 0;
+    for batches in 0..MOST_BATCHES {
+        if !server.is_roomy() || spent >= MEASURED_NANOS {
+            return Ok((spent, batches));
+        }
+        let copies = senders.copies(alloc)?;
+        let start = Instant::now(rt)?;
+        for copy in copies {
+            server.hear(copy)?;
+        }
+        server.settle()?;
+        spent = spent.saturating_add(start.elapsed(rt)?.as_nanos());
+    }
+    Ok((spent, MOST_BATCHES))
+}
