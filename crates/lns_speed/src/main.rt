@@ -25,7 +25,7 @@ use unmeasured::Unmeasured;
 /// The slots of a small table.
 const FEW: u16 = 8;
 
-/// Those of a city's.
+/// The slots of a table between them.
 const SOME: u16 = 512;
 
 /// The slots of the largest table.

@@ -78,7 +78,10 @@ fn one_life(
     alloc: Global,
     gateways: u64,
     slots: u16,
-) -> Result<(u128, u32), Unmeasured> {
+) -> Result<(u128, u32), Unmeasured>
+    requires some { 1 ≤ slots }
+    requires few { slots ≤ 4096 }
+{
     let mut server = Server::joined(alloc, slots)?;
     let mut senders = Senders {
         slots,
