@@ -1,5 +1,6 @@
-//! `decision-speed`: how long it takes on one processor here to decide a command and to put its record into the table,
-//! in a table of 8 devices and in one of 4,096. What was measured goes to standard error, since it is never the same
+//! `lns-speed`: how long it takes on one processor here to decide a command and to put its record into the table,
+//! in tables of 8 to 4,096 devices; and how long whole uplinks take, from the copies of their frames to the release of
+//! their effects, committed to a disk in memory. What was measured goes to standard error, since it is never the same
 //! twice; standard output stays empty.
 #![tactic(auto)]
 
