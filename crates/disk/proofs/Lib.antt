@@ -1,1 +1,2 @@
+mod Torn
 mod Written

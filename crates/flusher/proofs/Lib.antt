@@ -1,1 +1,5 @@
+pub mod Calling
+pub mod Holding
+pub mod Lasting
 pub mod Leaving
+pub mod Subsequences

@@ -1,1 +1,5 @@
+pub mod Calls
+pub mod Cycle
+pub mod Feed
+pub mod Lives
 pub mod Released

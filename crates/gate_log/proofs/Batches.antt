@@ -49,15 +49,15 @@ goes_on (x ∷ xs) rest (y ∷ ys) gate tail are_xs are_ys shut same =
     let others = goes_on xs rest ys gate tail are_xs.1 are_ys.1 shut first.1 in
     record { more = others.more; is = (λ i. sym first.0 i ∷ others.is i); bytes = others.bytes; heads = others.heads }
 
--- a disk has one list of batches at a place
-pub same_batches : (disk : List ℕ) (end at : ℕ) (xs ys : List BatchValue) → AreBatchesAt disk end at xs → AreBatchesAt disk end at ys → ys ≡ xs
-same_batches disk end at xs ys are_xs are_ys =
-    let on = goes_on xs (are_xs.gate ∷ are_xs.rest) ys are_ys.gate are_ys.rest are_xs.heads are_ys.heads are_ys.closed (sym are_xs.bytes ∙ are_ys.bytes) in
+-- bytes spell one list of batches up to a closed gate
+pub same_batches : (xs ys : List BatchValue) (gate other : ℕ) (rest tail : List ℕ) → AreHeads xs → AreHeads ys → gate ≢ OPEN → other ≢ OPEN → open_batches xs ++ (gate ∷ rest) ≡ open_batches ys ++ (other ∷ tail) → ys ≡ xs
+same_batches xs ys gate other rest tail are_xs are_ys shut other_shut same =
+    let on = goes_on xs (gate ∷ rest) ys other tail are_xs are_ys other_shut same in
     on.is ∙ ap (λ (l : List BatchValue). xs ++ l) (none on.more on.bytes) ∙ append-nil xs
   where
-    none : (more : List BatchValue) → are_xs.gate ∷ are_xs.rest ≡ open_batches more ++ (are_ys.gate ∷ are_ys.rest) → more ≡ []
+    none : (more : List BatchValue) → gate ∷ rest ≡ open_batches more ++ (other ∷ tail) → more ≡ []
     none [] bytes = refl
-    none (b ∷ more) bytes = absurd (are_xs.closed (ap (λ (l : List ℕ). get_or l 0 0) bytes))
+    none (b ∷ more) bytes = absurd (shut (ap (λ (l : List ℕ). get_or l 0 0) bytes))
 
 -- a damaged batch behind those read so far: the disk has no list of batches
 pub no_batches : (disk : List ℕ) (end first at : ℕ) (xs : List BatchValue) → AreHeads xs → drop first disk ≡ open_batches xs ++ drop at disk → at ≡ first + length (open_batches xs) → at < length disk → NoBatchAt disk end at → (ys : List BatchValue) → AreBatchesAt disk end first ys → ⊥

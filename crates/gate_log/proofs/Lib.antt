@@ -1,6 +1,10 @@
-mod AreaContents
 mod Batches
-mod Middle
+mod Gates
+mod Headers
+mod Holding
 pub mod ReadsOn
+mod Recovering
+mod Slices
 mod Spelling
 mod Steps
+mod Unique

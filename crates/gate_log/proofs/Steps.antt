@@ -1,176 +1,259 @@
--- What each call of the disk leaves of an area, on the disk and in every image.
-use Rattle.std.proofs.Common.{◌≡◌, ◌≢◌, ◌⊎◌, inl, inr, ◌<◌, ◌≤◌, ℕ, ◌+◌, List, [], ◌∷◌, ◌++◌, length, get_or, take, drop, sym, ◌∙◌, ap, subst, arith, append_assoc, length-append, length-take, length-drop}
-use Rattle.std.proofs.lemmas.List.{append-nil, get_or-take, get_or-drop}
-use Rattle.std.proofs.lemmas.Bool.{cases_eq}
-use Rattle.std.proofs.lemmas.Grind.{same_number_lists}
+-- What each call of the disk leaves of a log, on the disk and in every image.
+use Rattle.std.proofs.Common.{◌≡◌, ◌≢◌, ◌<◌, ◌≤◌, ℕ, ◌+◌, List, [], ◌∷◌, ◌++◌, length, get_or, refl, sym, ◌∙◌, ap, subst, arith, length-append}
+use Rattle.std.specs.Prelude.{MatchBool, false, true}
 use Rattle.disk.specs.State.{State, NothingOpen, IsPermitted, EveryImage, Opens, IsTorn, written}
-use Rattle.gate_log.specs.declared.layout.Area.{Area}
+use Rattle.gate_log.specs.declared.checkpoint.Checkpoint.{Checkpoint}
+use Rattle.gate_log.specs.declared.checkpoint.Front.{Front}
+use Rattle.gate_log.specs.declared.layout.Areas.{Areas}
+use Rattle.gate_log.specs.declared.layout.Header.{Header}
 use Rattle.gate_log.specs.declared.layout.TheConstants.{OPEN}
 use Rattle.gate_log.specs.declared.phases.Begun.{Begun}
-use Rattle.gate_log.specs.Layout.{BatchValue, Contents, Fits, Holds, IsHead, AreHeads, body, head_of, header_bytes, open_batches, spelling, with_batch}
-use Rattle.gate_log.specs.Log.{LogState, IsAtRest}
-use Rattle.gate_log.specs.Phases.{HoldsEither, Stages, IsBegun, IsBodySynced, IsGateWritten, bytes_of}
-use Rattle.gate_log.proofs.Middle.{torn_middle, written_middle}
+use Rattle.gate_log.specs.Areas.{Contents, Holds, HoldsEither, IsClosedArea, IsOpenArea, IsShut, IsStaged, MayFollow, batched, published, swapped}
+use Rattle.gate_log.specs.Checkpointing.{IsCheckpoint, IsCheckpointOpened, IsCheckpointSynced, IsCheckpointWritten, IsRetiring, checkpoint_bytes, front_of}
+use Rattle.gate_log.specs.Layout.{BatchValue, body, checkpoint, header_bytes, spelling}
+use Rattle.gate_log.specs.Log.{IsAtRest, Knows, KnowsOther, LogState}
+use Rattle.gate_log.specs.Phases.{IsBegun, IsBodySynced, IsGateWritten, IsWritten, bytes_of}
+use Rattle.gate_log.proofs.Gates.{room}
+use Rattle.gate_log.proofs.Headers.{closed_is_shut, gate_is_open, header_of}
+use Rattle.gate_log.proofs.Holding.{body_image, body_staged, checkpoint_image, checkpoint_staged, gate_content, gate_image, live_kept, live_order, live_within, other_gate_stays, other_order, other_within, published_content, published_image, retired_image, spelling-with_batch}
+use Rattle.gate_log.proofs.Recovering.{length-spelling}
+use Rattle.gate_log.proofs.Slices.{written_byte}
+use Rattle.gate_log.proofs.Spelling.{length-header_bytes}
 
-pub settled_image : (s : State) → NothingOpen s → (image : List ℕ) → IsPermitted s image → image ≡ s.content
-settled_image s settled image permitted = same_number_lists image s.content permitted.same_length (λ k below. permitted.kept k (settled k))
+-- the disk's laws
+abbrev pub Tears : Type 0
+Tears =
+    (at n : ℕ) (before after : State) → at + n ≤ length before.content → Opens at n before after → EveryImage after (λ image. (was : List ℕ) × IsPermitted before was × IsTorn at n was image)
 
--- nothing was open before one write: an image is the old content, torn in the write's range
-pub torn_image : (at n : ℕ) (before after : State) → NothingOpen before → Opens at n before after → (image : List ℕ) → IsPermitted after image → IsTorn at n before.content image
-torn_image at n before after settled opens image permitted =
-    record { same_length = size; before = same_number_lists _ _ fronts front; after = same_number_lists _ _ backs back }
-  where
-    size : length image ≡ length before.content
-    size = permitted.same_length ∙ opens.torn.same_length
+abbrev pub Keeps : Type 0
+Keeps = (state : State) → NothingOpen state → EveryImage state (λ image. image ≡ state.content)
 
-    kept : (i : ℕ) → (i < at) ⊎ (at + n ≤ i) → get_or image i 0 ≡ get_or after.content i 0
-    kept i out = permitted.kept i (opens.others i out ∙ settled i)
+-- the log with another disk
+abbrev pub on_disk : LogState → State → LogState
+on_disk log disk = record { disk = disk; areas = log.areas; next = log.next; generation = log.generation; other_open = log.other_open }
 
-    fronts : length (take at image) ≡ length (take at before.content)
-    fronts = omega (arith, length-take at image, length-take at before.content, size)
+knows_on : (log : LogState) (c : Contents) (disk : State) → Knows log c → Knows (on_disk log disk) c
+knows_on log c disk knows = record { areas = knows.areas; generation = knows.generation; next = knows.next }
 
-    front : (k : ℕ) → k < length (take at image) → get_or (take at image) k 0 ≡ get_or (take at before.content) k 0
-    front k below =
-        let within : k < at = omega (arith, length-take at image) in
-        get_or-take at image k 0 within ∙ kept k (inl within) ∙ sym (get_or-take at after.content k 0 within) ∙ ap (λ (l : List ℕ). get_or l k 0) opens.torn.before
+other_on : (log : LogState) (c : Contents) (disk : State) → get_or disk.content c.areas.other.start 0 ≡ get_or log.disk.content c.areas.other.start 0 → KnowsOther log c → KnowsOther (on_disk log disk) c
+other_on log c disk same knows = subst (λ (gate : ℕ). MatchBool log.other_open (gate ≡ OPEN) (gate ≢ OPEN)) (sym same) knows
 
-    backs : length (drop (at + n) image) ≡ length (drop (at + n) before.content)
-    backs = omega (arith, length-drop (at + n) image, length-drop (at + n) before.content, size)
+-- what the content holds and every image is, where nothing is open
+pub settled_images : Keeps → (c : Contents) (s : State) → NothingOpen s → Holds c s.content → EveryImage s (Holds c)
+settled_images keeps c s settled holds image permitted = subst (Holds c) (sym (keeps s settled image permitted)) holds
 
-    back : (k : ℕ) → k < length (drop (at + n) image) → get_or (drop (at + n) image) k 0 ≡ get_or (drop (at + n) before.content) k 0
-    back k below =
-        get_or-drop (at + n) image k 0
-        ∙ kept (at + n + k) (inr (omega arith))
-        ∙ sym (get_or-drop (at + n) after.content k 0)
-        ∙ ap (λ (l : List ℕ). get_or l k 0) opens.torn.after
+-- a crash may leave the content itself
+content_of : (c : Contents) (s : State) → EveryImage s (Holds c) → Holds c s.content
+content_of c s images = images s.content (record { same_length = refl; kept = λ i shut. refl })
 
-module _ (area : Area) (c : Contents) (b : BatchValue) where
-  open_batches-push : (batches : List BatchValue) → open_batches (batches ++ b ∷ []) ≡ open_batches batches ++ (OPEN ∷ body b)
-  open_batches-push [] = ap (λ (l : List ℕ). OPEN ∷ l) (append-nil (body b))
-  open_batches-push (x ∷ batches) =
-      ap (λ (l : List ℕ). OPEN ∷ (body x ++ l)) (open_batches-push batches) ∙ ap (λ (l : List ℕ). OPEN ∷ l) (sym (append_assoc (body x) (open_batches batches) (OPEN ∷ body b)))
+-- after a sync
+pub synced_images : Keeps → (c : Contents) (before after : State) → EveryImage before (Holds c) → after.content ≡ before.content → NothingOpen after → EveryImage after (Holds c)
+synced_images keeps c before after images same settled = settled_images keeps c after settled (subst (Holds c) (sym same) (content_of c before images))
 
-  AreHeads-push : (batches : List BatchValue) → AreHeads batches → IsHead (head_of b) → AreHeads (batches ++ b ∷ [])
-  AreHeads-push [] are is = (is, tt)
-  AreHeads-push (x ∷ batches) are is = (are.0, AreHeads-push batches are.1 is)
+live_end : (log : LogState) (c : Contents) → Knows log c → log.areas.live.end ≡ c.areas.live.end
+live_end log c knows = ap (λ (x : Areas). x.live.end) knows.areas
 
-  pub spelling-with_batch : spelling (with_batch c b) ≡ spelling c ++ (OPEN ∷ body b)
-  spelling-with_batch =
-      let header = header_bytes c.header in
-      let more = OPEN ∷ body b in
-      ap (λ (l : List ℕ). c.front ++ (OPEN ∷ (header ++ (c.records ++ l)))) (open_batches-push c.batches)
-      ∙ ap (λ (l : List ℕ). c.front ++ (OPEN ∷ (header ++ l))) (sym (append_assoc c.records (open_batches c.batches) more))
-      ∙ ap (λ (l : List ℕ). c.front ++ (OPEN ∷ l)) (sym (append_assoc header (c.records ++ open_batches c.batches) more))
-      ∙ sym (append_assoc c.front (OPEN ∷ (header ++ (c.records ++ open_batches c.batches))) more)
+other_start : (log : LogState) (c : Contents) → Knows log c → log.areas.other.start ≡ c.areas.other.start
+other_start log c knows = ap (λ (x : Areas). x.other.start) knows.areas
 
-  -- behind a closed gate anything may stand
-  holds_without : (disk free : List ℕ) (gate : ℕ) → disk ≡ spelling c ++ (gate ∷ (free ++ c.behind)) → gate ≢ OPEN → Fits area c (length free) → Holds area c disk
-  holds_without disk free gate is shut fits = record { gate = gate; free = free; bytes = is; closed = shut; fits = fits }
+other_end : (log : LogState) (c : Contents) → Knows log c → log.areas.other.end ≡ c.areas.other.end
+other_end log c knows = ap (λ (x : Areas). x.other.end) knows.areas
 
-  -- behind an open gate stands the batch
-  holds_with : (disk free : List ℕ) (next : ℕ) → disk ≡ spelling c ++ (OPEN ∷ (body b ++ (next ∷ (free ++ c.behind)))) → next ≢ OPEN → Fits area c (length (body b) + 1 + length free) → IsHead (head_of b) → Holds area (with_batch c b) disk
-  holds_with disk free next is shut fits head = record {
-    gate = next;
-    free = free;
-    bytes =
-        is
-        ∙ sym (append_assoc (spelling c) (OPEN ∷ body b) (next ∷ (free ++ c.behind)))
-        ∙ ap (λ (l : List ℕ). l ++ (next ∷ (free ++ c.behind))) (sym spelling-with_batch);
-    closed = shut;
-    fits = record {
-      front = fits.front;
-      back = omega (arith, fits.back, ap length spelling-with_batch, length-append (spelling c) (OPEN ∷ body b));
-      header = fits.header;
-      records = fits.records;
-      batches = AreHeads-push c.batches fits.batches head;
+-- a batch's body
+module _ (tears : Tears) (keeps : Keeps) (log : LogState) (c : Contents) (after : State) (n : ℕ) (rest : IsAtRest log c) (opens : Opens (log.next + 1) n log.disk after) (room : log.next + n < log.areas.live.end) where
+  place : log.next + 1 ≡ c.areas.live.start + (length (spelling c.journal) + 1)
+  place = omega (arith, rest.knows.next)
+
+  fits : log.next + 1 + n ≤ c.areas.live.end
+  fits = omega (arith, room, live_end log c rest.knows)
+
+  pub body_images : EveryImage after (Holds c)
+  body_images image permitted =
+      let was = tears (log.next + 1) n log.disk after (omega (arith, fits, live_within c log.disk.content rest.holds)) opens image permitted in
+      body_image c (log.next + 1) n was.0 image (settled_images keeps c log.disk rest.settled rest.holds was.0 was.1) place was.2 fits
+
+  pub body_written : (b : BatchValue) (begun : Begun) (size : ℕ) → IsBegun begun b → length (bytes_of begun) ≡ n → size ≡ n → after.content ≡ written log.disk.content (log.next + 1) (bytes_of begun) → IsWritten (on_disk log after) c b size
+  body_written b begun size is_begun len same is = record {
+    stages = record {
+      staged =
+          body_staged c (log.next + 1) is_begun.gate b (bytes_of begun) log.disk.content after.content rest.holds place is_begun.bytes is_begun.closed (omega (arith, fits, len)) is;
+      head = is_begun.head;
+      bytes = omega (arith, same, len, ap length is_begun.bytes, length-append (body b) (is_begun.gate ∷ []));
+      knows = knows_on log c after rest.knows;
+      other_gate =
+          other_on log c after
+          (other_gate_stays c log.disk.content rest.holds (log.next + 1) n after.content opens.torn (omega (arith, place)) fits)
+          rest.other_gate;
     };
+    images = body_images;
   }
 
-  -- the free bytes with the batch in front
-  parted : (next : ℕ) (free : List ℕ) → body b ++ (next ∷ (free ++ c.behind)) ≡ (body b ++ (next ∷ free)) ++ c.behind
-  parted next free = sym (append_assoc (body b) (next ∷ free) c.behind)
-
-  -- whatever the gate's byte is
-  staged_gate : (disk free : List ℕ) (gate next : ℕ) → disk ≡ spelling c ++ (gate ∷ (body b ++ (next ∷ (free ++ c.behind)))) → next ≢ OPEN → Fits area c (length (body b) + 1 + length free) → IsHead (head_of b) → HoldsEither area c b disk
-  staged_gate disk free gate next is shut fits head = elim (cases_eq gate OPEN) [
-    | inl is_open ↦ inr (holds_with disk free next (is ∙ ap (λ (k : ℕ). spelling c ++ (k ∷ (body b ++ (next ∷ (free ++ c.behind))))) is_open) shut fits head)
-    | inr is_shut ↦ inl (holds_without disk (body b ++ (next ∷ free)) gate (is ∙ ap (λ (l : List ℕ). spelling c ++ (gate ∷ l)) (parted next free)) is_shut
-        (subst (Fits area c) (sizes next free) fits))
-  ]
-    where
-      sizes : (next : ℕ) (free : List ℕ) → length (body b) + 1 + length free ≡ length (body b ++ (next ∷ free))
-      sizes next free = omega (arith, length-append (body b) (next ∷ free))
-
--- the write of a body, whole or torn or failed
-pub body_images : (log : LogState) (c : Contents) (after : State) (n : ℕ) → IsAtRest log c → Opens (log.next + 1) n log.disk after → log.next + n < log.area.end → EveryImage after (Holds log.area c)
-body_images log c after n rest opens room image permitted =
-    let h = rest.holds in
-    let x = spelling c ++ (h.gate ∷ []) in
-    let is_at : length x ≡ log.next + 1 = omega (arith, length-append (spelling c) (h.gate ∷ []), rest.next) in
-    let parts : log.disk.content ≡ x ++ (h.free ++ c.behind) = h.bytes ∙ sym (append_assoc (spelling c) (h.gate ∷ []) (h.free ++ c.behind)) in
-    let torn = subst (λ (l : List ℕ). IsTorn (log.next + 1) n l image) parts (torn_image (log.next + 1) n log.disk after rest.settled opens image permitted) in
-    let t = torn_middle x h.free c.behind (log.next + 1) is_at image n (omega (arith, h.fits.back, rest.next)) torn in
-    record {
-      gate = h.gate;
-      free = t.middle;
-      bytes = t.parts ∙ append_assoc (spelling c) (h.gate ∷ []) (t.middle ++ c.behind);
-      closed = h.closed;
-      fits = subst (Fits log.area c) (sym t.same_length) h.fits;
-    }
-
-pub body_written : (log : LogState) (c : Contents) (b : BatchValue) (begun : Begun) (content : List ℕ) → IsAtRest log c → IsBegun begun b → content ≡ written log.disk.content (log.next + 1) (bytes_of begun) → log.next + length (bytes_of begun) < log.area.end → Stages log.area c b content
-body_written log c b begun content rest is_begun is room =
-    let h = rest.holds in
-    let x = spelling c ++ (h.gate ∷ []) in
-    let bytes = bytes_of begun in
-    let is_at : length x ≡ log.next + 1 = omega (arith, length-append (spelling c) (h.gate ∷ []), rest.next) in
-    let within : length bytes ≤ length h.free = omega (arith, h.fits.back, rest.next) in
-    let size : length bytes ≡ length (body b) + 1 = omega (arith, ap length is_begun.bytes, length-append (body b) (is_begun.gate ∷ [])) in
-    let left = drop (length bytes) h.free in
-    let parts : log.disk.content ≡ x ++ (h.free ++ c.behind) = h.bytes ∙ sym (append_assoc (spelling c) (h.gate ∷ []) (h.free ++ c.behind)) in
-    let whole : content ≡ x ++ (bytes ++ (left ++ c.behind)) =
-    is ∙ ap (λ (l : List ℕ). written l (log.next + 1) bytes) parts ∙ written_middle x h.free c.behind (log.next + 1) is_at bytes within in
-    record {
-      gate = h.gate;
-      next_gate = is_begun.gate;
-      free = left;
-      bytes =
-          whole
-          ∙ append_assoc (spelling c) (h.gate ∷ []) (bytes ++ (left ++ c.behind))
-          ∙ ap (λ (l : List ℕ). spelling c ++ (h.gate ∷ (l ++ (left ++ c.behind)))) is_begun.bytes
-          ∙ ap (λ (l : List ℕ). spelling c ++ (h.gate ∷ l)) (append_assoc (body b) (is_begun.gate ∷ []) (left ++ c.behind));
-      closed = h.closed;
-      next_closed = is_begun.closed;
-      fits = subst (Fits log.area c) (omega (arith, length-drop (length bytes) h.free, within, size)) h.fits;
-      head = is_begun.head;
-    }
-
--- the write of a gate, whole or torn or failed
-pub gate_images : (log : LogState) (c : Contents) (b : BatchValue) (size : ℕ) (after : State) → IsBodySynced log c b size → Opens log.next 1 log.disk after → EveryImage after (HoldsEither log.area c b)
-gate_images log c b size after synced opens image permitted =
-    let s = synced.staged in
-    let z = body b ++ (s.next_gate ∷ (s.free ++ c.behind)) in
-    let torn = subst (λ (l : List ℕ). IsTorn log.next 1 l image) s.bytes (torn_image log.next 1 log.disk after synced.settled opens image permitted) in
-    let t = torn_middle (spelling c) (s.gate ∷ []) z log.next (sym synced.next) image 1 (omega arith) torn in
-    one t.middle t.parts t.same_length
-  where
-    one : (middle : List ℕ) → image ≡ spelling c ++ (middle ++ (body b ++ (synced.staged.next_gate ∷ (synced.staged.free ++ c.behind)))) → length middle ≡ 1 → HoldsEither log.area c b image
-    one [] parts size = absurd (omega arith)
-    one (gate ∷ []) parts size = staged_gate log.area c b image synced.staged.free gate synced.staged.next_gate parts synced.staged.next_closed synced.staged.fits synced.staged.head
-    one (gate ∷ more ∷ middle) parts size = absurd (omega arith)
-
-pub gate_written : (log : LogState) (c : Contents) (b : BatchValue) (size : ℕ) (content : List ℕ) → IsBodySynced log c b size → content ≡ written log.disk.content log.next (OPEN ∷ []) → Holds log.area (with_batch c b) content
-gate_written log c b size content synced is =
-    let s = synced.staged in
-    let z = body b ++ (s.next_gate ∷ (s.free ++ c.behind)) in
-    let parts : content ≡ spelling c ++ (OPEN ∷ z) =
-    is ∙ ap (λ (l : List ℕ). written l log.next (OPEN ∷ [])) s.bytes ∙ written_middle (spelling c) (s.gate ∷ []) z log.next (sym synced.next) (OPEN ∷ []) (omega arith) in
-    holds_with log.area c b content s.free s.next_gate parts s.next_closed s.fits s.head
-
--- the gate is on the disk
-pub at_rest : (log : LogState) (c : Contents) (b : BatchValue) (size : ℕ) (after : State) → IsGateWritten log c b size → after.content ≡ log.disk.content → NothingOpen after → IsAtRest (record { disk = after; area = log.area; next = log.next + size }) (with_batch c b)
-at_rest log c b size after written same settled = record {
+pub body_synced : (log : LogState) (c : Contents) (b : BatchValue) (size : ℕ) (after : State) → IsWritten log c b size → after.content ≡ log.disk.content → NothingOpen after → IsBodySynced (on_disk log after) c b size
+body_synced log c b size after is same settled = record {
+  stages = record {
+    staged = subst (IsStaged c.areas.live (spelling c.journal) (body b)) (sym same) is.stages.staged;
+    head = is.stages.head;
+    bytes = is.stages.bytes;
+    knows = knows_on log c after is.stages.knows;
+    other_gate = other_on log c after (ap (λ (l : List ℕ). get_or l c.areas.other.start 0) same) is.stages.other_gate;
+  };
   settled = settled;
-  holds = subst (Holds log.area (with_batch c b)) (sym same) written.holds;
-  next = omega (arith, written.next, written.bytes, ap length (spelling-with_batch log.area c b), length-append (spelling c) (OPEN ∷ body b));
+  holds = subst (Holds c) (sym same) (content_of c log.disk is.images);
+}
+
+-- a batch's gate
+module _ (tears : Tears) (keeps : Keeps) (log : LogState) (c : Contents) (b : BatchValue) (size : ℕ) (after : State) (is : IsBodySynced log c b size) (opens : Opens log.next 1 log.disk after) where
+  gate_room : log.next < c.areas.live.end
+  gate_room =
+      omega (arith, is.stages.knows.next, room c.areas.live (spelling c.journal) log.disk.content (omega (arith, live_order c log.disk.content is.holds)) (live_within c log.disk.content is.holds) (body b) is.stages.staged)
+
+  pub gate_images : EveryImage after (HoldsEither c (batched c b))
+  gate_images image permitted =
+      let was = tears log.next 1 log.disk after (omega (arith, gate_room, live_within c log.disk.content is.holds)) opens image permitted in
+      let same = keeps log.disk is.settled was.0 was.1 in
+      gate_image c b is.stages.head log.disk.content is.holds is.stages.staged log.next image is.stages.knows.next gate_room (subst (λ (l : List ℕ). IsTorn log.next 1 l image) same was.2)
+
+  pub gate_is_written : after.content ≡ written log.disk.content log.next (OPEN ∷ []) → IsGateWritten (on_disk log after) c b size
+  gate_is_written is_written = record {
+    holds = gate_content c b is.stages.head log.disk.content is.holds is.stages.staged log.next after.content is.stages.knows.next gate_room opens.torn is_written;
+    images = gate_images;
+    bytes = is.stages.bytes;
+    knows = knows_on log c after is.stages.knows;
+    other_gate =
+        other_on log c after
+        (other_gate_stays c log.disk.content is.holds log.next 1 after.content opens.torn (omega (arith, is.stages.knows.next)) (omega (arith, gate_room)))
+        is.stages.other_gate;
+  }
+
+pub batch_at_rest : (log : LogState) (c : Contents) (b : BatchValue) (size : ℕ) (after : State) → IsGateWritten log c b size → after.content ≡ log.disk.content → NothingOpen after
+    → IsAtRest (record { disk = after; areas = log.areas; next = log.next + size; generation = log.generation; other_open = log.other_open }) (batched c b)
+batch_at_rest log c b size after is same settled = record {
+  settled = settled;
+  holds = subst (Holds (batched c b)) (sym same) is.holds;
+  knows = record {
+    areas = is.knows.areas;
+    generation = is.knows.generation;
+    next = omega (arith, is.knows.next, is.bytes, ap length (spelling-with_batch b c.journal), length-append (spelling c.journal) (OPEN ∷ body b));
+  };
+  other_gate = other_on log c after (ap (λ (l : List ℕ). get_or l c.areas.other.start 0) same) is.other_gate;
+}
+
+-- the other area's gate is closed
+module _ (tears : Tears) (keeps : Keeps) (log : LogState) (c : Contents) (after : State) (rest : IsAtRest log c) (is_open : log.other_open ≡ true) (opens : Opens log.areas.other.start 1 log.disk after) where
+  retired_opens : Opens c.areas.other.start 1 log.disk after
+  retired_opens = subst (λ (at : ℕ). Opens at 1 log.disk after) (other_start log c rest.knows) opens
+
+  gate_open : IsOpenArea c.areas.other log.disk.content
+  gate_open = subst (λ (x : _). MatchBool x (IsOpenArea c.areas.other log.disk.content) (IsClosedArea c.areas.other log.disk.content)) is_open rest.other_gate
+
+  pub retired_images : EveryImage after (Holds c)
+  retired_images image permitted =
+      let was = tears c.areas.other.start 1 log.disk after (omega (arith, other_order c log.disk.content rest.holds, other_within c log.disk.content rest.holds)) retired_opens image permitted in
+      let same = keeps log.disk rest.settled was.0 was.1 in
+      retired_image c log.disk.content image rest.holds gate_open (subst (λ (l : List ℕ). IsTorn c.areas.other.start 1 l image) same was.2)
+
+  pub is_retiring : after.content ≡ written log.disk.content log.areas.other.start (0 ∷ []) → IsRetiring (on_disk log after) c
+  is_retiring is_written = record { closed = λ is_open. closed is_open; images = retired_images; knows = knows_on log c after rest.knows }
+    where
+      zero_is : get_or after.content c.areas.other.start 0 ≡ 0
+      zero_is =
+          ap (λ (l : List ℕ). get_or l c.areas.other.start 0) (is_written ∙ ap (λ (at : ℕ). written log.disk.content at (0 ∷ [])) (other_start log c rest.knows))
+          ∙ written_byte log.disk.content c.areas.other.start 0 (omega (arith, other_order c log.disk.content rest.holds, other_within c log.disk.content rest.holds))
+
+      closed : get_or after.content c.areas.other.start 0 ≡ OPEN → ⊥
+      closed is_open = omega (arith, zero_is, is_open)
+
+pub retired_at_rest : (log : LogState) (c : Contents) (after : State) → IsRetiring log c → after.content ≡ log.disk.content → NothingOpen after
+    → IsAtRest (record { disk = after; areas = log.areas; next = log.next; generation = log.generation; other_open = false }) c
+retired_at_rest log c after is same settled = record {
+  settled = settled;
+  holds = subst (Holds c) (sym same) (content_of c log.disk is.images);
+  knows = record { areas = is.knows.areas; generation = is.knows.generation; next = is.knows.next };
+  other_gate = subst (λ (l : List ℕ). get_or l c.areas.other.start 0 ≢ OPEN) (sym same) is.closed;
+}
+
+-- a checkpoint's bytes
+module _ (tears : Tears) (keeps : Keeps) (log : LogState) (c : Contents) (after : State) (n : ℕ) (rest : IsAtRest log c) (is_shut : log.other_open ≡ false) (opens : Opens (log.areas.other.start + 1) n log.disk after) (room : log.areas.other.start + n < log.areas.other.end) where
+  shut : IsShut c.areas.other [] log.disk.content
+  shut =
+      closed_is_shut c.areas.other log.disk.content (other_order c log.disk.content rest.holds) (other_within c log.disk.content rest.holds)
+      (subst (λ (x : _). MatchBool x (IsOpenArea c.areas.other log.disk.content) (IsClosedArea c.areas.other log.disk.content)) is_shut rest.other_gate)
+
+  other_opens : Opens (c.areas.other.start + 1) n log.disk after
+  other_opens = subst (λ (at : ℕ). Opens (at + 1) n log.disk after) (other_start log c rest.knows) opens
+
+  other_fits : c.areas.other.start + 1 + n ≤ c.areas.other.end
+  other_fits = omega (arith, room, other_start log c rest.knows, other_end log c rest.knows)
+
+  pub checkpoint_images : EveryImage after (Holds c)
+  checkpoint_images image permitted =
+      let was = tears (c.areas.other.start + 1) n log.disk after (omega (arith, other_fits, other_within c log.disk.content rest.holds)) other_opens image permitted in
+      let same = keeps log.disk rest.settled was.0 was.1 in
+      checkpoint_image c n log.disk.content image rest.holds shut (subst (λ (l : List ℕ). IsTorn (c.areas.other.start + 1) n l image) same was.2) other_fits
+
+  pub checkpoint_written : (begun : Checkpoint) (header : Header) (records : List ℕ) (front : Front) → IsCheckpoint begun header records → MayFollow c header records → length (checkpoint_bytes begun) ≡ n
+      → front ≡ front_of begun → after.content ≡ written log.disk.content (log.areas.other.start + 1) (checkpoint_bytes begun) → IsCheckpointWritten (on_disk log after) c header records front
+  checkpoint_written begun header records front is follows len same is_written = record {
+    stages = record {
+      staged =
+          checkpoint_staged c is.gate (header_bytes header ++ records) (checkpoint_bytes begun) log.disk.content after.content rest.holds shut is.bytes is.closed (omega (arith, other_fits, len))
+          (is_written ∙ ap (λ (at : ℕ). written log.disk.content (at + 1) (checkpoint_bytes begun)) (other_start log c rest.knows));
+      follows = follows;
+      is_front = record {
+        generation = ap (λ (x : Front). x.generation) same ∙ is.generation;
+        len =
+            omega (arith, ap (λ (x : Front). x.len) same, ap length is.bytes, length-append (header_bytes header ++ records) (is.gate ∷ []), length-append (header_bytes header) records, length-header_bytes header);
+      };
+      knows = knows_on log c after rest.knows;
+    };
+    images = checkpoint_images;
+  }
+
+pub checkpoint_synced : (log : LogState) (c : Contents) (header : Header) (records : List ℕ) (front : Front) (after : State) → IsCheckpointWritten log c header records front → after.content ≡ log.disk.content → NothingOpen after → IsCheckpointSynced (on_disk log after) c header records front
+checkpoint_synced log c header records front after is same settled = record {
+  stages = record {
+    staged = subst (IsStaged c.areas.other [] (header_bytes header ++ records)) (sym same) is.stages.staged;
+    follows = is.stages.follows;
+    is_front = is.stages.is_front;
+    knows = knows_on log c after is.stages.knows;
+  };
+  settled = settled;
+  holds = subst (Holds c) (sym same) (content_of c log.disk is.images);
+}
+
+-- a checkpoint's gate
+module _ (tears : Tears) (keeps : Keeps) (log : LogState) (c : Contents) (header : Header) (records : List ℕ) (front : Front) (after : State) (is : IsCheckpointSynced log c header records front) (opens : Opens log.areas.other.start 1 log.disk after) where
+  here : Opens c.areas.other.start 1 log.disk after
+  here = subst (λ (at : ℕ). Opens at 1 log.disk after) (other_start log c is.stages.knows) opens
+
+  pub published_images : EveryImage after (HoldsEither c (published c header records))
+  published_images image permitted =
+      let was = tears c.areas.other.start 1 log.disk after (omega (arith, other_order c log.disk.content is.holds, other_within c log.disk.content is.holds)) here image permitted in
+      let same = keeps log.disk is.settled was.0 was.1 in
+      published_image c header records is.stages.follows log.disk.content is.holds is.stages.staged image (subst (λ (l : List ℕ). IsTorn c.areas.other.start 1 l image) same was.2)
+
+  pub checkpoint_opened : after.content ≡ written log.disk.content log.areas.other.start (OPEN ∷ []) → IsCheckpointOpened (on_disk log after) c header records front
+  checkpoint_opened is_written =
+      let kept = live_kept c log.disk.content is.holds c.areas.other.start 1 after.content here.torn (omega arith) (omega (arith, other_order c log.disk.content is.holds)) in
+      record {
+        holds =
+            published_content c header records is.stages.follows log.disk.content is.holds is.stages.staged after.content here.torn
+            (is_written ∙ ap (λ (at : ℕ). written log.disk.content at (OPEN ∷ [])) (other_start log c is.stages.knows));
+        images = published_images;
+        old_gate = gate_is_open c.areas.live after.content c.journal.header (live_order c log.disk.content is.holds) (header_of c.areas.live after.content c.journal kept);
+        is_front = is.stages.is_front;
+        knows = knows_on log c after is.stages.knows;
+      }
+
+pub published_at_rest : (log : LogState) (c : Contents) (header : Header) (records : List ℕ) (front : Front) (after : State) → IsCheckpointOpened log c header records front → after.content ≡ log.disk.content → NothingOpen after
+    → IsAtRest (record { disk = after; areas = swapped log.areas; next = log.areas.other.start + front.len; generation = front.generation; other_open = true }) (published c header records)
+published_at_rest log c header records front after is same settled = record {
+  settled = settled;
+  holds = subst (Holds (published c header records)) (sym same) is.holds;
+  knows = record {
+    areas = ap swapped is.knows.areas;
+    generation = is.is_front.generation;
+    next = omega (arith, is.is_front.len, other_start log c is.knows, length-spelling (checkpoint header records));
+  };
+  other_gate = subst (λ (l : List ℕ). get_or l c.areas.live.start 0 ≡ OPEN) (sym same) is.old_gate;
 }

@@ -1,5 +1,5 @@
 -- What the bytes of an area say: a checkpoint, and batches behind it, each behind its gate.
-use Rattle.std.specs.Prelude.{◌≡◌, ◌≢◌, ◌<◌, ◌≤◌, ◌^◌, ℕ, ◌+◌, List, [], ◌∷◌, ◌++◌, length, slice_index}
+use Rattle.std.specs.Prelude.{◌≡◌, ◌<◌, ◌≤◌, ◌^◌, ℕ, ◌+◌, List, [], ◌∷◌, ◌++◌, length}
 use Rattle.std.specs.Int.{to_be_bytes, w16, w32, w64}
 use Rattle.gate_log.specs.declared.layout.Area.{Area}
 use Rattle.gate_log.specs.declared.layout.Header.{Header}
@@ -12,15 +12,11 @@ pub record BatchValue : Type 0 where
   pub entry_count : ℕ
   pub entries : List ℕ
 
--- a disk as the log of one area sees it
-pub record Contents : Type 0 where
-  -- the bytes in front of the area
-  pub front : List ℕ
+-- what a live area has: a checkpoint, and the batches behind it
+pub record Journal : Type 0 where
   pub header : Header
   pub records : List ℕ
   pub batches : List BatchValue
-  -- the bytes behind the area
-  pub behind : List ℕ
 
 -- the fields of a header, the highest byte of each first
 unfoldable pub header_bytes : Header → List ℕ
@@ -45,9 +41,9 @@ abbrev pub open_batches : List BatchValue → List ℕ
 open_batches [] = []
 open_batches (b ∷ batches) = OPEN ∷ (body b ++ open_batches batches)
 
--- the disk up to the gate of the next batch
-abbrev pub spelling : Contents → List ℕ
-spelling c = c.front ++ (OPEN ∷ (header_bytes c.header ++ (c.records ++ open_batches c.batches)))
+-- a journal from its area's open gate to the gate of the next batch
+abbrev pub spelling : Journal → List ℕ
+spelling j = OPEN ∷ (header_bytes j.header ++ (j.records ++ open_batches j.batches))
 
 -- the numbers have their widths
 pub record IsHeader (h : Header) : Type 0 where
@@ -70,30 +66,20 @@ abbrev pub AreHeads : List BatchValue → Type 0
 AreHeads [] = Unit {0}
 AreHeads (b ∷ batches) = IsHead (head_of b) × AreHeads batches
 
--- the contents lie in the area, and behind them the next gate and so many free bytes
-pub record Fits (area : Area) (c : Contents) (free : ℕ) : Type 0 where
-  pub front : length c.front ≡ area.start
-  pub back : length (spelling c) + 1 + free ≡ area.end
-  pub header : IsHeader c.header
-  pub records : length c.records ≡ c.header.records_len
-  pub batches : AreHeads c.batches
+-- each number has its width, and the header tells the length of the records
+pub record IsJournal (j : Journal) : Type 0 where
+  pub header : IsHeader j.header
+  pub records : length j.records ≡ j.header.records_len
+  pub batches : AreHeads j.batches
 
--- the disk holds these contents: behind their spelling stands a closed gate
-pub record Holds (area : Area) (c : Contents) (disk : List ℕ) : Type 0 where
-  pub gate : ℕ
-  pub free : List ℕ
-  pub bytes : disk ≡ spelling c ++ (gate ∷ (free ++ c.behind))
-  pub closed : gate ≢ OPEN
-  pub fits : Fits area c (length free)
+-- the journal with one more batch
+abbrev pub with_batch : Journal → BatchValue → Journal
+with_batch j b = record { header = j.header; records = j.records; batches = j.batches ++ b ∷ [] }
 
--- the contents with one more batch
-abbrev pub with_batch : Contents → BatchValue → Contents
-with_batch c b = record c { batches = c.batches ++ b ∷ [] }
+-- a journal that begins: a checkpoint, and no batch yet
+abbrev pub checkpoint : Header → List ℕ → Journal
+checkpoint header records = record { header = header; records = records; batches = [] }
 
 -- the header of an area that was never written before
 abbrev pub fresh_header : ℕ → Header
 fresh_header version = record { version = version; generation = 1; sequence = 0; record_count = 0; records_len = 0 }
-
--- the area's gate is closed, so that it holds nothing
-abbrev pub IsClosedArea : Area → List ℕ → Type 0
-IsClosedArea area disk = slice_index disk area.start ≢ OPEN

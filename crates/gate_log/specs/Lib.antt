@@ -1,4 +1,7 @@
+pub mod Areas
+pub mod Checkpointing
 pub mod Layout
+pub mod Live
 pub mod Log
 pub mod Message
 pub mod Opening

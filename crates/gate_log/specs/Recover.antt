@@ -1,14 +1,13 @@
 -- What the bytes of an area give when it is opened.
-use Rattle.std.specs.Prelude.{◌≡◌, ◌≢◌, ◌<◌, ◌≤◌, ℕ, ◌+◌, Bool, true, false, List, ◌∷◌, ◌++◌, length, take, drop, slice_index, MatchBool, Result, Ok, Err}
+use Rattle.std.specs.Prelude.{◌≡◌, ◌≢◌, ◌<◌, ◌≤◌, ℕ, ◌+◌, Bool, true, false, List, ◌∷◌, ◌++◌, length, drop, slice_index, MatchBool, Result, Ok, Err}
 use Rattle.disk.specs.Outlook.{IsArmed, Outlook}
 use Rattle.disk.specs.Outlook.Outlook.{AllSucceed}
 use Rattle.disk.specs.State.{State}
 use Rattle.gate_log.specs.declared.error.RecoverError.{RecoverError}
 use Rattle.gate_log.specs.declared.error.RecoverError.TheVariants.{Device, OutOfMemory, Damaged}
-use Rattle.gate_log.specs.declared.layout.Area.{Area}
 use Rattle.gate_log.specs.declared.layout.Header.{Header}
 use Rattle.gate_log.specs.declared.layout.TheConstants.{ENTRIES_AT, OPEN, RECORDS_AT}
-use Rattle.gate_log.specs.Layout.{BatchValue, Contents, AreHeads, IsHead, IsHeader, body, head_of, header_bytes, open_batches}
+use Rattle.gate_log.specs.Layout.{BatchValue, AreHeads, IsHead, IsHeader, body, head_of, header_bytes, open_batches}
 
 -- calls of a disk that only read, up to the first that failed, and whether one did
 pub record OnlyReads {D : Type 0} (honest : Type 0) (state : D → State) (failures : D → ℕ) (outlook : D → Outlook)
@@ -54,13 +53,3 @@ pub record AreBatchesAt (disk : List ℕ) (end at : ℕ) (batches : List BatchVa
   pub closed : gate ≢ OPEN
   pub fits : at + length (open_batches batches) < end
   pub heads : AreHeads batches
-
--- a disk's contents with this header, these records and these batches in the area
-abbrev pub contents_in : Area → List ℕ → Header → List ℕ → List BatchValue → Contents
-contents_in area disk header records batches = record {
-  front = take area.start disk;
-  header = header;
-  records = records;
-  batches = batches;
-  behind = drop area.end disk;
-}

@@ -2,8 +2,8 @@
 ghost use Rattle.std.specs.Prelude.{◌≡◌, ◌<◌, ◌≤◌, ◌+◌, ◌^◌, [], length, IfOk, OnOk, is_ok};
 ghost use Rattle.disk.specs.State.{Opens};
 ghost use Rattle.disk.specs.Outlook.{IsForeseen, HasCause};
-ghost use Rattle.gate_log.specs.Layout.{Holds, IsClosedArea, fresh_header};
-ghost use Rattle.gate_log.specs.Recover.{contents_in};
+ghost use Rattle.gate_log.specs.Areas.{HoldsIn, IsClosedArea};
+ghost use Rattle.gate_log.specs.Layout.{checkpoint, fresh_header};
 
 use crate::layout::{Area, CLOSED, EMPTY_AREA_LEN, Header, OPEN, RECORDS_AT};
 use disk::{DeviceFailed, Disk};
@@ -14,9 +14,7 @@ pub fn format_area<D: Disk>(disk: &mut D, area: Area, version: u8) -> Result<u64
     requires room { area.start + EMPTY_AREA_LEN ≤ area.end }
     requires within { area.end ≤ length (D.state disk.old).content }
     ensures formatted { D.honest
-        → OnOk result (Holds area
-        (contents_in area (D.state disk.old).content (fresh_header version) [] [])
-        (D.state disk.new).content) }
+        → OnOk result (HoldsIn area (checkpoint (fresh_header version) []) (D.state disk.new).content) }
     ensures next { IfOk result (λ next. next ≡ area.start + RECORDS_AT) }
     ensures opens { D.honest → Opens area.start EMPTY_AREA_LEN (D.state disk.old) (D.state disk.new) }
     ensures same_length { length (D.state disk.new).content ≡ length (D.state disk.old).content }

@@ -1,43 +1,44 @@
 //! What follows from the layout alone. The functions do nothing: their contracts are the laws.
-ghost use Rattle.std.specs.Prelude.{◌≡◌, List, ℕ, length, slice_range};
+ghost use Rattle.std.specs.Prelude.{◌≡◌, ◌<◌, List, ℕ};
 ghost use Rattle.gate_log.specs.declared.layout.Area.{Area};
+ghost use Rattle.gate_log.specs.declared.layout.Areas.{Areas};
 ghost use Rattle.gate_log.specs.declared.layout.Header.{Header};
-ghost use Rattle.gate_log.specs.Layout.{Contents, HasRoomFor, Holds, IsClosedArea, spelling};
-ghost use Rattle.gate_log.specs.Recover.{IsHeaderAt, contents_in};
+ghost use Rattle.gate_log.specs.Areas.{AreOf, Contents, Holds, HoldsIn, IsClosedArea, IsLive, IsOlder, NoneLive, bytes_in};
+ghost use Rattle.gate_log.specs.Layout.{HasRoomFor, Journal};
 
-/// A disk holds one contents in an area, if any.
+/// A disk holds one contents in two areas, if any.
 pub fn a_disk_holds_one_contents()
-    ensures { (area : Area) (disk : List ℕ) (c d : Contents) → Holds area c disk → Holds area d disk
-        → c ≡ d }
+    ensures { (a b : Area) (disk : List ℕ) (c d : Contents) → AreOf a b c.areas → AreOf a b d.areas
+        → Holds c disk → Holds d disk → c ≡ d }
 {}
 
-/// What an area holds stays where only bytes outside of it change.
-pub fn contents_stay_where_others_change()
-    ensures holds { (area : Area) (old new : List ℕ) (c : Contents) → Holds area c old
-        → length new ≡ length old
-        → slice_range new area.start area.end ≡ slice_range old area.start area.end
-        → Holds area (contents_in area new c.header c.records c.batches) new }
-    ensures next { (area : Area) (old new : List ℕ) (c : Contents) → Holds area c old
-        → length new ≡ length old
-        → length (spelling (contents_in area new c.header c.records c.batches)) ≡ length (spelling c) }
+/// The area with what a disk holds is the live one, and has room for its records.
+pub fn what_is_held_is_live()
+    ensures live { (disk : List ℕ) (c : Contents) → Holds c disk → IsLive c.areas c.journal.header disk }
+    ensures room { (disk : List ℕ) (c : Contents) → Holds c disk
+        → HasRoomFor c.areas.live c.journal.header }
 {}
 
-/// What a disk holds in an area begins with its header, and has room for its records.
-pub fn what_is_held_has_its_header()
-    ensures header { (area : Area) (disk : List ℕ) (c : Contents) → Holds area c disk
-        → IsHeaderAt disk area.start c.header }
-    ensures room { (area : Area) (disk : List ℕ) (c : Contents) → Holds area c disk
-        → HasRoomFor area c.header }
+/// One of two areas is live, with one header, if any.
+pub fn one_area_is_live()
+    ensures { (a b : Area) (disk : List ℕ) (areas others : Areas) (h k : Header) → AreOf a b areas → AreOf a b others
+        → IsLive areas h disk → IsLive others k disk → (areas ≡ others) × (h ≡ k) }
 {}
 
-/// One header stands at a place, if any.
-pub fn a_place_has_one_header()
-    ensures { (disk : List ℕ) (at : ℕ) (h k : Header) → IsHeaderAt disk at h → IsHeaderAt disk at k
-        → h ≡ k }
+/// Where none of two areas is live, a disk holds nothing in them.
+pub fn none_live_holds_nothing()
+    ensures { (a b : Area) (disk : List ℕ) (c : Contents) → NoneLive a b disk → AreOf a b c.areas
+        → ¬ Holds c disk }
 {}
 
-/// A closed area holds nothing.
-pub fn a_closed_area_holds_nothing()
-    ensures { (area : Area) (disk : List ℕ) (c : Contents) → IsClosedArea area disk
-        → ¬ Holds area c disk }
+/// What an area has stays where only bytes outside of it change.
+pub fn a_journal_stays_where_others_change()
+    ensures { (area : Area) (old new : List ℕ) (j : Journal) → HoldsIn area j old
+        → bytes_in area new ≡ bytes_in area old → HoldsIn area j new }
+{}
+
+/// A closed area is older than any other.
+pub fn a_closed_area_is_older()
+    ensures { (area : Area) (disk : List ℕ) (generation : ℕ) → area.start < area.end → IsClosedArea area disk
+        → IsOlder generation area disk }
 {}

@@ -1,5 +1,5 @@
 // The layout of an area: what its bytes say.
-ghost use Rattle.std.specs.Prelude.{◌≡◌, ◌≤◌, ◌+◌, ◌↔◌, IsTrue, length, take, drop};
+ghost use Rattle.std.specs.Prelude.{◌≡◌, ◌≤◌, ◌+◌, ◌++◌, ◌↔◌, IsTrue, length, take, drop};
 ghost use Rattle.std.specs.Int.{to_be_bytes, w16, w32, w64};
 
 /// A gate that is open; any other byte is a closed one.
@@ -25,6 +25,13 @@ pub struct Area {
     pub end: u64,
 }
 
+/// The two areas of a disk: the live one has what the disk holds, and the other one is written by the next checkpoint.
+#[derive(Clone, Copy, Debug, PartialEq, Eq)]
+pub struct Areas {
+    pub live: Area,
+    pub other: Area,
+}
+
 /// What stands behind an area's gate.
 #[derive(Clone, Copy, Debug, PartialEq, Eq)]
 pub struct Header {
@@ -48,7 +55,7 @@ pub struct BatchHead {
 
 impl Header {
     /// The length in bytes.
-    pub(crate) const LEN: usize = 29;
+    pub const LEN: usize = 29;
 
     ghost use Rattle.gate_log.specs.Layout.{HasRoomFor, IsHeader, header_bytes};
 
@@ -71,6 +78,14 @@ impl Header {
         bytes[17..21].copy_from_slice(&self.record_count.to_be_bytes());
         bytes[21..29].copy_from_slice(&self.records_len.to_be_bytes());
         bytes
+    }
+
+    /// Puts this header's bytes in place of the first ones.
+    pub(crate) fn put(self, bytes: &mut [u8])
+        requires { Header.LEN ≤ length bytes.old }
+        ensures { bytes.new ≡ header_bytes self ++ drop Header.LEN bytes.old }
+    {
+        bytes[..Self::LEN].copy_from_slice(&self.to_bytes());
     }
 
     /// The header that these bytes spell.

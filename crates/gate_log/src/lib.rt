@@ -1,13 +1,15 @@
-//! A log of batches in an area of a disk, each behind a gate: one byte that is opened only when all behind it is on
-//! the disk. Whatever a crash leaves, the area holds a beginning of the batches that were begun, with every batch
-//! that became durable.
+//! A log of batches behind a checkpoint, on a disk with two areas of which one is live. Each batch and each checkpoint
+//! stands behind a gate: one byte that is opened only when all behind it is on the disk. Whatever a crash leaves, the
+//! disk holds a beginning of the batches that were begun, with every batch that became durable, or a checkpoint.
 #![tactic(auto)]
 
 mod batch;
+mod checkpoint;
 mod error;
 mod format;
 pub mod laws;
 mod layout;
+mod live;
 mod log;
 mod opening;
 mod phases;
@@ -15,9 +17,11 @@ mod reading;
 mod recover;
 
 pub use batch::Batch;
+pub use checkpoint::{Checkpoint, CheckpointOpened, CheckpointSynced, CheckpointWritten, Retiring};
 pub use error::RecoverError;
 pub use format::{close_area, format_area};
-pub use layout::{Area, CLOSED, EMPTY_AREA_LEN, ENTRIES_AT, Header, OPEN, RECORDS_AT};
+pub use layout::{Area, Areas, CLOSED, EMPTY_AREA_LEN, ENTRIES_AT, Header, OPEN, RECORDS_AT};
+pub use live::Live;
 pub use log::Log;
 pub use opening::Opening;
 pub use phases::{Begun, BodySynced, Durable, GateWritten, Written};

@@ -1,40 +1,79 @@
-// The log of an area, and its disk.
+// The log of a disk with two areas.
 ghost use Rattle.std.specs.Prelude.{◌≡◌, ◌<◌, ◌≤◌, ◌+◌, ◌-◌, ◌^◌, length};
 ghost use Rattle.disk.specs.Outlook.Outlook.{FailsAfter};
+ghost use Rattle.gate_log.specs.Areas.{AreLaidOut};
 
-use crate::layout::Area;
+use crate::layout::Areas;
 use disk::{Disk, Sim};
 
-/// The log of one area of a disk: it knows where the next batch's gate stands.
+/// The log of a disk with two areas: it knows which of them is live, of what generation that is, where the next
+/// batch's gate stands there, and whether the other one's gate is open.
 #[derive(Drop)]
 pub struct Log<D: Disk> {
     pub(crate) disk: D,
-    pub(crate) area: Area,
+    pub(crate) areas: Areas,
     pub(crate) next: u64,
-    ghost room: { next < area.end },
-    ghost fits: { area.end < 2 ^ 64 },
-    ghost within: { area.end ≤ length (D.state disk).content },
+    pub(crate) generation: u64,
+    pub(crate) other_open: bool,
+    ghost layout: { AreLaidOut areas (length (D.state disk).content) },
+    ghost room: { next < areas.live.end },
+    ghost fits: { length (D.state disk).content < 2 ^ 64 },
 }
 
 impl<D: Disk> Log<D> {
     ghost use Rattle.gate_log.specs.Log.{seen, disk_of};
 
-    /// The log of an area of this disk, whose next batch's gate stands at this place.
-    pub fn new(disk: D, area: Area, next: u64) -> Self
-        requires room { next < area.end }
-        requires within { area.end ≤ length (D.state disk).content }
-        ensures log { seen D.state result ≡ record { disk = D.state disk; area = area; next = next } }
+    /// The log of these areas of a disk, whose live one is of this generation and has its next batch's gate at this
+    /// place, and whose other one's gate is open or not.
+    pub fn new(disk: D, areas: Areas, generation: u64, next: u64, other_open: bool) -> Self
+        requires layout { AreLaidOut areas (length (D.state disk).content) }
+        requires room { next < areas.live.end }
+        ensures log { seen D.state result ≡ record {
+          disk = D.state disk;
+          areas = areas;
+          next = next;
+          generation = generation;
+          other_open = other_open;
+        } }
         ensures disk { disk_of result ≡ disk }
     {
-        Log { disk, area, next }
+        let _len = disk.len();
+        Log {
+            disk,
+            areas,
+            next,
+            generation,
+            other_open,
+        }
     }
 
-    /// The number of bytes from the next batch's gate to the area's end: at least one.
+    /// The number of bytes from the next batch's gate to the live area's end: at least one.
     pub fn room(&self) -> u64
-        ensures room { (seen D.state self.now).next + result ≡ (seen D.state self.now).area.end }
+        ensures room { (seen D.state self.now).next + result ≡ (seen D.state self.now).areas.live.end }
         ensures some { 0 < result }
     {
-        self.area.end - self.next
+        self.areas.live.end - self.next
+    }
+
+    /// The generation of the live area.
+    pub fn generation(&self) -> u64
+        ensures { result ≡ (seen D.state self.now).generation }
+    {
+        self.generation
+    }
+
+    /// Whether the other area's gate is open, so that it has to be retired before a checkpoint.
+    pub fn is_other_open(&self) -> bool
+        ensures { result ≡ (seen D.state self.now).other_open }
+    {
+        self.other_open
+    }
+
+    /// The length of the other area in bytes.
+    pub fn other_len(&self) -> u64
+        ensures { (seen D.state self.now).areas.other.start + result ≡ (seen D.state self.now).areas.other.end }
+    {
+        self.areas.other.end - self.areas.other.start
     }
 
     /// Gives the disk back.

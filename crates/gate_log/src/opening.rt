@@ -1,12 +1,15 @@
-// Opens the log of an area.
+// Opens the log of a disk.
 ghost use Rattle.std.specs.Prelude.{◌≡◌, ◌<◌, ◌≤◌, ◌+◌, Err, length, take, drop, IfOk, IfErr, OnOk, MatchOption, is_ok, is_err};
 ghost use Rattle.disk.specs.State.{NothingOpen};
 ghost use Rattle.disk.specs.Outlook.{IsForeseen, HasCause};
-ghost use Rattle.gate_log.specs.Layout.{Contents, HasRoomFor, Holds, IsClosedArea};
-ghost use Rattle.gate_log.specs.Recover.{OnlyReads, has_device_error, IsHeaderAt};
+ghost use Rattle.gate_log.specs.declared.layout.Area.{Area};
+ghost use Rattle.gate_log.specs.Areas.{AreLaidOut, AreOf, Contents, Holds, IsLive, NoneLive};
+ghost use Rattle.gate_log.specs.Layout.{HasRoomFor, spelling};
+ghost use Rattle.gate_log.specs.Recover.{OnlyReads, has_device_error};
 
 use crate::error::RecoverError;
-use crate::layout::{Area, Header, RECORDS_AT};
+use crate::layout::Area;
+use crate::live::Live;
 use crate::log::Log;
 use crate::reading::read_header;
 use crate::recover::{Recovered, recover_area};
@@ -22,7 +25,8 @@ pub struct Opening<D: Disk> {
 }
 
 impl<D: Disk> Opening<D> {
-    ghost use Rattle.gate_log.specs.Log.{seen, disk_of};
+    ghost use Rattle.gate_log.specs.Log.{seen, disk_of, IsAtRest};
+    ghost use Rattle.gate_log.specs.Live.{IsLiveAs};
     ghost use Rattle.gate_log.specs.Opening.{opened, synced_disk};
     ghost use Rattle.gate_log.specs.Recovered.{IsRecovered};
 
@@ -64,52 +68,68 @@ impl<D: Disk> Opening<D> {
         self.disk.read_at(at, buffer)
     }
 
-    /// The header of an area whose gate is open.
-    pub fn header(&mut self, area: Area) -> Result<Option<Header>, DeviceFailed>
-        requires { area.start + RECORDS_AT ≤ length (D.state (opened self.old)).content }
-        ensures header { D.honest → IfOk result
-            (λ header. MatchOption header
-            (IsClosedArea area (D.state (opened self.old)).content)
-            (IsHeaderAt (D.state (opened self.old)).content area.start)) }
+    /// Which of two areas is the live one: of those whose gates are open that of the greater generation. None is
+    /// where both gates are closed, or both open with one generation. Both headers are read, and of the area that isn't
+    /// live no more.
+    pub fn live(&mut self, a: Area, b: Area) -> Result<Option<Live>, DeviceFailed>
+        requires layout { AreLaidOut (record { live = a; other = b }) (length (D.state (opened self.old)).content) }
+        ensures live { D.honest → IfOk result
+            (λ live. MatchOption live
+            (NoneLive a b (D.state (opened self.old)).content)
+            (λ l. IsLiveAs l (D.state (opened self.old)).content)) }
+        ensures areas { IfOk result (λ live. MatchOption live (Unit {0}) (λ l. AreOf a b l.areas)) }
+        ensures layout { IfOk result (λ live. MatchOption live (Unit {0})
+            (λ l. AreLaidOut l.areas (length (D.state (opened self.old)).content))) }
         ensures reads { OnlyReads D.honest D.state D.failures D.outlook
             (opened self.old) (opened self.new) (is_err result) }
     {
-        read_header(&mut self.disk, area.start)
+        let header_a = read_header(&mut self.disk, a.start)?;
+        let header_b = read_header(&mut self.disk, b.start)?;
+        Ok(Live::of(a, header_a, b, header_b))
     }
 
-    /// What an area with this header holds: its checkpoint, and the longest list of open batches behind it.
-    /// `Damaged` comes exactly where it holds nothing.
-    pub fn recover(
-        &mut self,
-        alloc: Global,
-        area: Area,
-        header: Header,
-    ) -> Result<Recovered, RecoverError>
-        requires room { HasRoomFor area header }
-        requires within { area.end ≤ length (D.state (opened self.old)).content }
-        ensures recovered { D.honest → IsHeaderAt (D.state (opened self.old)).content area.start header
-            → IfOk result (IsRecovered area (D.state (opened self.old)).content) }
-        ensures header { IfOk result (λ recovered. recovered.header ≡ header) }
-        ensures next { IfOk result (λ recovered. recovered.next < area.end) }
-        ensures damaged { D.honest → IsHeaderAt (D.state (opened self.old)).content area.start header
-            → result ≡ Err RecoverError.Damaged → (contents : Contents)
-            → ¬ Holds area contents (D.state (opened self.old)).content }
+    /// What the disk holds: the live area's checkpoint, and the longest list of open batches behind it. `Damaged`
+    /// comes exactly where it holds nothing.
+    pub fn recover(&mut self, alloc: Global, live: Live) -> Result<Recovered, RecoverError>
+        requires layout { AreLaidOut live.areas (length (D.state (opened self.old)).content) }
+        requires room { HasRoomFor live.areas.live live.header }
+        ensures recovered { D.honest → IsLive live.areas live.header (D.state (opened self.old)).content
+            → IfOk result (IsRecovered live.areas (D.state (opened self.old)).content) }
+        ensures header { IfOk result (λ recovered. recovered.header ≡ live.header) }
+        ensures next { IfOk result (λ recovered. recovered.next < live.areas.live.end) }
+        ensures damaged { D.honest → IsLive live.areas live.header (D.state (opened self.old)).content
+            → result ≡ Err RecoverError.Damaged → (a b : Area) → AreOf a b live.areas
+            → (c : Contents) → AreOf a b c.areas → ¬ Holds c (D.state (opened self.old)).content }
         ensures reads { OnlyReads D.honest D.state D.failures D.outlook
             (opened self.old) (opened self.new) (has_device_error result) }
     {
-        recover_area(&mut self.disk, alloc, area, header)
+        recover_area(&mut self.disk, alloc, live.areas.live, live.header)
     }
 
-    /// The log of an area, whose next batch's gate stands at this place.
-    pub fn into_log(self, area: Area, next: u64) -> Log<D>
-        requires room { next < area.end }
-        requires within { area.end ≤ length (D.state (opened self)).content }
-        ensures log { seen D.state result
-            ≡ record { disk = D.state (opened self); area = area; next = next } }
+    /// The log of the disk, whose next batch's gate stands at this place in the live area.
+    pub fn into_log(self, live: Live, next: u64) -> Log<D>
+        requires layout { AreLaidOut live.areas (length (D.state (opened self)).content) }
+        requires room { next < live.areas.live.end }
+        ensures log { seen D.state result ≡ record {
+          disk = D.state (opened self);
+          areas = live.areas;
+          next = next;
+          generation = live.header.generation;
+          other_open = live.other_open;
+        } }
         ensures disk { disk_of result ≡ opened self }
+        ensures rest { D.honest → (c : Contents) → Holds c (D.state (opened self)).content
+            → IsLiveAs live (D.state (opened self)).content → c.areas ≡ live.areas → c.journal.header ≡ live.header
+            → next ≡ c.areas.live.start + length (spelling c.journal) → IsAtRest (seen D.state result) c }
         ensures settled { D.honest → NothingOpen (D.state (opened self)) }
     {
-        Log::new(self.disk, area, next)
+        Log::new(
+            self.disk,
+            live.areas,
+            live.header.generation,
+            next,
+            live.other_open,
+        )
     }
 
     /// Gives the disk back.

@@ -1,9 +1,10 @@
 // The phases of one batch, each spent by one call of the disk.
 ghost use Rattle.std.specs.Prelude.{◌≡◌, ◌<◌, ◌≤◌, ◌+◌, ◌^◌, length, IfOk, OnOk, OnErr};
 ghost use Rattle.disk.specs.State.{EveryImage};
-ghost use Rattle.gate_log.specs.Layout.{Contents, BatchValue, Holds, with_batch};
-ghost use Rattle.gate_log.specs.Log.{seen, disk_of, IsAtRest, IsOneCall};
-ghost use Rattle.gate_log.specs.Phases.{bytes_of, written_size, synced_size, opened_size, HoldsEither, IsBegun, IsWritten, IsBodySynced, IsGateWritten};
+ghost use Rattle.gate_log.specs.Areas.{Contents, Holds, HoldsEither, batched};
+ghost use Rattle.gate_log.specs.Layout.{BatchValue};
+ghost use Rattle.gate_log.specs.Log.{seen, disk_of, IsAtRest, IsOneCall, OnlyDiskChanges};
+ghost use Rattle.gate_log.specs.Phases.{bytes_of, written_size, synced_size, opened_size, IsBegun, IsWritten, IsBodySynced, IsGateWritten};
 
 use crate::layout::{CLOSED, ENTRIES_AT, OPEN};
 use crate::log::Log;
@@ -67,17 +68,18 @@ impl Begun {
     /// Writes the batch's body and the closed gate of the next batch.
     pub fn write<D: Disk>(self, log: &mut Log<D>) -> Result<Written, DeviceFailed>
         requires { (seen D.state log.old).next + length (bytes_of self)
-            < (seen D.state log.old).area.end }
+            < (seen D.state log.old).areas.live.end }
         ensures next { D.honest → (c : Contents) (b : BatchValue)
             → IsAtRest (seen D.state log.old) c → IsBegun self b
             → IfOk result (λ phase. IsWritten (seen D.state log.new) c b (written_size phase)) }
         ensures images { D.honest → (c : Contents) → IsAtRest (seen D.state log.old) c
-            → EveryImage (D.state (disk_of log.new)) (Holds (seen D.state log.old).area c) }
+            → EveryImage (D.state (disk_of log.new)) (Holds c) }
         ensures size { IfOk result (λ phase. written_size phase ≡ length (bytes_of self)) }
-        ensures area { (seen D.state log.new).area ≡ (seen D.state log.old).area }
-        ensures gate { (seen D.state log.new).next ≡ (seen D.state log.old).next }
+        ensures place { OnlyDiskChanges (seen D.state log.old) (seen D.state log.new) }
         ensures call { IsOneCall D.failures D.outlook log.old log.new result }
     {
+        disk::laws::settled_disk_keeps_its_content();
+        disk::laws::a_write_tears_an_image();
         let Begun { bytes } = self;
         log.disk.write_at(log.next + 1, &bytes)?;
         Ok(Written {
@@ -99,12 +101,12 @@ impl Written {
             → IfOk result (λ phase. IsBodySynced (seen D.state log.new) c b (synced_size phase)) }
         ensures images { D.honest → (c : Contents) (b : BatchValue)
             → IsWritten (seen D.state log.old) c b (written_size self)
-            → EveryImage (D.state (disk_of log.new)) (Holds (seen D.state log.old).area c) }
+            → EveryImage (D.state (disk_of log.new)) (Holds c) }
         ensures size { IfOk result (λ phase. synced_size phase ≡ written_size self) }
-        ensures area { (seen D.state log.new).area ≡ (seen D.state log.old).area }
-        ensures gate { (seen D.state log.new).next ≡ (seen D.state log.old).next }
+        ensures place { OnlyDiskChanges (seen D.state log.old) (seen D.state log.new) }
         ensures call { IsOneCall D.failures D.outlook log.old log.new result }
     {
+        disk::laws::settled_disk_keeps_its_content();
         let Written { size } = self;
         log.disk.sync()?;
         Ok(BodySynced { size })
@@ -124,12 +126,13 @@ impl BodySynced {
             → IfOk result (λ phase. IsGateWritten (seen D.state log.new) c b (opened_size phase)) }
         ensures images { D.honest → (c : Contents) (b : BatchValue)
             → IsBodySynced (seen D.state log.old) c b (synced_size self)
-            → EveryImage (D.state (disk_of log.new)) (HoldsEither (seen D.state log.old).area c b) }
+            → EveryImage (D.state (disk_of log.new)) (HoldsEither c (batched c b)) }
         ensures size { IfOk result (λ phase. opened_size phase ≡ synced_size self) }
-        ensures area { (seen D.state log.new).area ≡ (seen D.state log.old).area }
-        ensures gate { (seen D.state log.new).next ≡ (seen D.state log.old).next }
+        ensures place { OnlyDiskChanges (seen D.state log.old) (seen D.state log.new) }
         ensures call { IsOneCall D.failures D.outlook log.old log.new result }
     {
+        disk::laws::settled_disk_keeps_its_content();
+        disk::laws::a_write_tears_an_image();
         let BodySynced { size } = self;
         log.disk.write_at(log.next, &[OPEN])?;
         Ok(GateWritten { size })
@@ -144,22 +147,28 @@ impl BodySynced {
 impl GateWritten {
     /// Syncs the batch's gate. Afterwards the batch is durable.
     pub fn sync<D: Disk>(self, log: &mut Log<D>) -> Result<Durable, DeviceFailed>
-        requires { (seen D.state log.old).next + opened_size self < (seen D.state log.old).area.end }
+        requires { (seen D.state log.old).next + opened_size self < (seen D.state log.old).areas.live.end }
         ensures next { D.honest → (c : Contents) (b : BatchValue)
             → IsGateWritten (seen D.state log.old) c b (opened_size self)
-            → OnOk result (IsAtRest (seen D.state log.new) (with_batch c b)) }
+            → OnOk result (IsAtRest (seen D.state log.new) (batched c b)) }
         ensures durable { D.honest → (c : Contents) (b : BatchValue)
             → IsGateWritten (seen D.state log.old) c b (opened_size self)
             → OnOk result (EveryImage (D.state (disk_of log.new))
-            (Holds (seen D.state log.old).area (with_batch c b))) }
+            (Holds (batched c b))) }
         ensures images { D.honest → (c : Contents) (b : BatchValue)
             → IsGateWritten (seen D.state log.old) c b (opened_size self)
-            → EveryImage (D.state (disk_of log.new)) (HoldsEither (seen D.state log.old).area c b) }
-        ensures area { (seen D.state log.new).area ≡ (seen D.state log.old).area }
-        ensures gate { OnOk result ((seen D.state log.new).next ≡ (seen D.state log.old).next + opened_size self) }
-        ensures same_gate { OnErr result ((seen D.state log.new).next ≡ (seen D.state log.old).next) }
+            → EveryImage (D.state (disk_of log.new)) (HoldsEither c (batched c b)) }
+        ensures place { OnOk result (seen D.state log.new ≡ record {
+          disk = D.state (disk_of log.new);
+          areas = (seen D.state log.old).areas;
+          next = (seen D.state log.old).next + opened_size self;
+          generation = (seen D.state log.old).generation;
+          other_open = (seen D.state log.old).other_open;
+        }) }
+        ensures same_place { OnErr result (OnlyDiskChanges (seen D.state log.old) (seen D.state log.new)) }
         ensures call { IsOneCall D.failures D.outlook log.old log.new result }
     {
+        disk::laws::settled_disk_keeps_its_content();
         let GateWritten { size } = self;
         log.disk.sync()?;
         log.next += size;

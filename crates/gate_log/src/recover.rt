@@ -1,8 +1,9 @@
 // Reads what an area holds.
 ghost use Rattle.std.specs.Prelude.{◌≡◌, ◌<◌, ◌≤◌, ◌+◌, Err, length, IfOk};
-ghost use Rattle.gate_log.specs.Layout.{Contents, HasRoomFor, Holds};
-ghost use Rattle.gate_log.specs.Recover.{IsHeaderAt, OnlyReads, has_device_error};
-ghost use Rattle.gate_log.specs.Recovered.{IsRecovered};
+ghost use Rattle.gate_log.specs.Areas.{HasHeader, HoldsIn};
+ghost use Rattle.gate_log.specs.Layout.{HasRoomFor, Journal};
+ghost use Rattle.gate_log.specs.Recover.{OnlyReads, has_device_error};
+ghost use Rattle.gate_log.specs.Recovered.{IsRecoveredIn};
 
 use crate::batch::Batch;
 use crate::error::RecoverError;
@@ -30,13 +31,13 @@ pub fn recover_area<D: Disk>(
 ) -> Result<Recovered, RecoverError>
     requires room { HasRoomFor area header }
     requires within { area.end ≤ length (D.state disk.old).content }
-    ensures recovered { D.honest → IsHeaderAt (D.state disk.old).content area.start header
-        → IfOk result (IsRecovered area (D.state disk.old).content) }
+    ensures recovered { D.honest → HasHeader area header (D.state disk.old).content
+        → IfOk result (IsRecoveredIn area (D.state disk.old).content) }
     ensures header { IfOk result (λ recovered. recovered.header ≡ header) }
     ensures next { IfOk result (λ recovered. recovered.next < area.end) }
-    ensures damaged { D.honest → IsHeaderAt (D.state disk.old).content area.start header
-        → result ≡ Err RecoverError.Damaged → (contents : Contents)
-        → ¬ Holds area contents (D.state disk.old).content }
+    ensures damaged { D.honest → HasHeader area header (D.state disk.old).content
+        → result ≡ Err RecoverError.Damaged → (j : Journal)
+        → ¬ HoldsIn area j (D.state disk.old).content }
     ensures reads { OnlyReads D.honest D.state D.failures D.outlook disk.old disk.new
         (has_device_error result) }
 {

@@ -17,6 +17,7 @@ pub fn write_answer<W: Write>(alloc: Global, out: &mut W, answer: &Answer) -> io
         Answer::Taken(count) => writeln!(out, "taken {count}"),
         Answer::GivenUp(_) => write_refusal(out, Refusal::OutOfMemory),
         Answer::Full => writeln!(out, "full"),
+        Answer::Begun(_) => writeln!(out, "begun"),
         Answer::Idle => writeln!(out, "idle"),
         Answer::Called => writeln!(out, "called"),
         Answer::Armed => writeln!(out, "armed"),

@@ -5,6 +5,8 @@
 
 mod answers;
 #[cfg(test)]
+mod checkpoints;
+#[cfg(test)]
 mod journey;
 mod lines;
 mod outcome;

@@ -46,6 +46,7 @@ pub fn read_step(alloc: Global, line: &[u8]) -> Result<Step, Refusal> {
 
 fn read_text(alloc: Global, line: &str) -> Result<Step, Refusal> {
     match line {
+        "checkpoint" => Ok(Step::Checkpoint),
         "call" => Ok(Step::Call),
         "fail" => Ok(Step::Fail),
         "release" => Ok(Step::Release),

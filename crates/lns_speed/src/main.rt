@@ -1,11 +1,12 @@
 //! `lns-speed`: how long it takes on one processor here to decide a command and to put its record into the table,
 //! in tables of 8 to 4,096 devices; and how long whole uplinks take, from the copies of their frames to the release of
-//! their effects, committed to a disk in memory. What was measured goes to standard error, since it is never the same
+//! their effects, committed to a disk in memory; and how long a checkpoint of the largest store takes, and opening it. What was measured goes to standard error, since it is never the same
 //! twice; standard output stays empty.
 #![tactic(auto)]
 
 ghost use Rattle.std.specs.Prelude.{◌<◌, ◌≤◌, IfOk, IfSome};
 
+mod checkpoints;
 mod decided;
 mod network;
 mod server;
@@ -194,5 +195,5 @@ fn main(rt: HostRuntime) -> io::Result<()> {
     for gateways in [1, 3, 8] {
         compare(&rt, rt.alloc(), Measured::Whole { gateways })?;
     }
-    Ok(())
+    checkpoints::tell(&rt, rt.alloc())
 }

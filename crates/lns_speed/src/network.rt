@@ -3,8 +3,9 @@ ghost use Rattle.std.specs.Prelude.{◌≤◌, ◌<◌, length};
 
 use crate::decided::Event;
 use devices::{
-    Activation, Application, CurrentSession, Device, Heard, Hearing, Hearings, Item, ItemQueue,
-    NextDown, Payload, Port, Provisioning, Rx1Offset, RxDelay, Session, Tag, dev_addr,
+    Activation, Application, AskedBytes, CurrentSession, Device, Heard, Hearing, Hearings, Item,
+    ItemQueue, NextDown, Payload, Port, Provisioning, Queueing, Rx1Offset, RxDelay, Session, Tag,
+    dev_addr,
 };
 use frame_crypt::{data_mic, derive_keys, join_mic};
 use lw_types::{Direction, Eui, FrameCopy, JoinNonce, Key, NetId, PhyPayload, Reception, Refusal};
@@ -110,6 +111,18 @@ fn item(alloc: Global, tag: u32) -> Result<Item, Refusal> {
         port: Port::new(1).ok_or(Refusal::BadPort)?,
         confirmed: false,
         payload: Payload::from_slice(alloc, &[0; 24])?,
+    })
+}
+
+/// An item of 242 bytes is queued for the device at a slot.
+pub fn longest_item(alloc: Global, slot: u16, tag: u32) -> Result<Queueing, Refusal> {
+    Ok(Queueing {
+        application: Application::new(0).unwrap(),
+        dev_eui: dev_eui(slot),
+        tag: Tag(tag),
+        port: 1,
+        confirmed: false,
+        payload: AskedBytes::from_slice(alloc, &[0; 242])?,
     })
 }
 

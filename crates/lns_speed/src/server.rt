@@ -1,7 +1,7 @@
 // A server with a network of its own: what comes is decided, committed and released.
 ghost use Rattle.std.specs.Prelude.{◌≤◌};
 
-use crate::network::{copy_of, join_request, provisioning};
+use crate::network::{copy_of, join_request, longest_item, provisioning};
 use disk::MemDisk;
 use flusher::{Durable, Room};
 use lw_types::{FrameCopy, NetId, Refusal};
@@ -15,6 +15,9 @@ const WAIT: u64 = 200;
 
 /// The decisions of a batch.
 pub const BATCH: u16 = 64;
+
+/// The items that may wait for a device.
+const ITEMS: u32 = 16;
 
 /// The gateway that hears a device join.
 const GATEWAY: u64 = 1;
@@ -94,6 +97,45 @@ impl Server {
     /// Whether there is room for one batch more.
     pub fn is_roomy(&self) -> bool {
         self.store.roomy()
+    }
+
+    /// A server of so many devices, each of which has as many items waiting as may, the longest there are.
+    pub fn loaded(alloc: Global, slots: u16) -> Result<Self, Refusal>
+        requires some { 1 ≤ slots }
+        requires few { slots ≤ 4096 }
+    {
+        let mut server = Server::new(alloc, slots)?;
+        for slot in 0..slots {
+            let moment = server.moment()?;
+            is_done(server.core.provision(moment, provisioning(slot)))?;
+            for tag in 0..ITEMS {
+                is_done(server.core.queue(moment, longest_item(alloc, slot, tag)?))?;
+            }
+            if !server.is_roomy() {
+                server.checkpoint()?;
+            }
+            server.commit()?;
+        }
+        Ok(server)
+    }
+
+    /// A checkpoint of what is durable.
+    pub fn checkpoint(&mut self) -> Result<(), Refusal> {
+        let store = &mut self.store;
+        let mut checkpoint = store.checkpoint(self.alloc)?;
+        if store.must_retire() {
+            checkpoint = checkpoint.retire(store)?.sync(store)?;
+        }
+        checkpoint
+            .write(store)?
+            .sync(store)?
+            .open_gate(store)?
+            .sync(store)
+    }
+
+    /// Ends the server, and gives its disk back.
+    pub fn close(self) -> MemDisk {
+        self.store.close()
     }
 
     // The oldest decisions are committed, and their effects are released.

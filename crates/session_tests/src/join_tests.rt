@@ -1,9 +1,9 @@
 // Joins that a table decides. Frames, keys and MICs were made by Python's `cryptography`.
 use crate::fixture::{
     JOINER, REQUEST_0, REQUEST_1, REQUEST_2, REQUEST_3, frame, heard, heard_by, hearing, joining,
-    provisioning, session,
+    session,
 };
-use crate::tables::{carry_out, new_table};
+use crate::tables::{carry_out, table_with};
 use devices::{
     Activation, Command, CurrentSession, Device, Downlink, Effect, Hearing, NextDown, RxDelay,
     Windows,
@@ -93,23 +93,6 @@ fn device(
 // What is left of joins up to this JoinNonce, or of no join where that is 0, where no session is in use or waits.
 fn after(join_nonce: u32) -> Option<Activation> {
     Activation::new(JoinNonce::new(join_nonce), None, None)
-}
-
-fn idle_device(alloc: Global, dev_eui: u64) -> Result<Device, Refusal> {
-    match provisioning(dev_eui) {
-        Some(provisioning) => Ok(Device::provisioned(alloc, &provisioning)),
-        None => Err(Refusal::Damaged),
-    }
-}
-
-// A table in which this record is at this slot, behind those of other devices.
-fn table_with(alloc: Global, slot: u16, device: Device) -> Result<Table, Refusal> {
-    let mut table = new_table(alloc, 8)?;
-    for other in 0..slot {
-        table.put(other, idle_device(alloc, u64::from(other))?)?;
-    }
-    table.put(slot, device)?;
-    Ok(table)
 }
 
 // The activation after this grant: the session waits, and the one in use stays.

@@ -1,7 +1,9 @@
-//! Tests of the public calls of the crates that this one stands on, a file a crate. They stand above those
+//! Tests of the public calls of the crates that this one stands on, a file or a folder a crate. They stand above those
 //! crates, so that each of these is proved once.
 #![tactic(auto)]
 
+#[cfg(test)]
+mod dedup_tests;
 pub mod fixture;
 #[cfg(test)]
 mod flusher_tests;
@@ -15,3 +17,5 @@ mod session_core_tests;
 mod sessions_tests;
 #[cfg(test)]
 mod tables;
+#[cfg(test)]
+mod uplink_tests;

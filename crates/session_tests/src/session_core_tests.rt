@@ -1,18 +1,16 @@
+// Decisions of a core: how they are made and taken. The files in the folder have the events that come to a core.
+mod command_tests;
+mod fixture;
+mod limit_tests;
+mod window_tests;
+
 use crate::fixture::{REQUESTS, heard, joining, provision};
-use crate::tables::new_table;
+use crate::session_core_tests::fixture::{new_core, turn};
 use devices::Command;
 use lw_types::Refusal;
 use session_core::{Core, Moment, Most, Turn};
 use sessions::Decision;
 use std::alloc::Global;
-
-fn new_core(alloc: Global, slots: u64, seq: u64) -> Result<Core, Refusal> {
-    Core::new(alloc, &new_table(alloc, slots)?, seq)
-}
-
-fn turn(from: u64, to: u64, refused: Option<Refusal>) -> Turn {
-    Turn { from, to, refused }
-}
 
 // Whether the core answers a command so.
 fn answers(core: &mut Core, command: Option<Command>, wanted: Turn) -> bool {

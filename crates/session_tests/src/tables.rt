@@ -1,6 +1,6 @@
 // Tables that the tests here begin with.
-use crate::fixture::provision;
-use devices::Command;
+use crate::fixture::{provision, provisioning};
+use devices::{Command, Device};
 use lw_types::{NetId, Refusal};
 use sessions::{Decision, Slots, Table};
 use std::alloc::Global;
@@ -62,5 +62,22 @@ pub(crate) fn full_table(alloc: Global, slots: u64) -> Result<Table, Refusal> {
     for dev_eui in 0..slots {
         let _ = bring(alloc, &mut table, dev_eui, dev_eui)?;
     }
+    Ok(table)
+}
+
+fn idle_device(alloc: Global, dev_eui: u64) -> Result<Device, Refusal> {
+    match provisioning(dev_eui) {
+        Some(provisioning) => Ok(Device::provisioned(alloc, &provisioning)),
+        None => Err(Refusal::Damaged),
+    }
+}
+
+/// A table of 8 slots in which this record is at this slot, behind those of other devices.
+pub(crate) fn table_with(alloc: Global, slot: u16, device: Device) -> Result<Table, Refusal> {
+    let mut table = new_table(alloc, 8)?;
+    for other in 0..slot {
+        table.put(other, idle_device(alloc, u64::from(other))?)?;
+    }
+    table.put(slot, device)?;
     Ok(table)
 }

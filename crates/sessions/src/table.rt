@@ -69,10 +69,11 @@ impl Table {
         self.slots
     }
 
-    /// The devices in order of slot.
+    /// The devices in order of slot. No two have one DevEUI.
     pub fn devices(&self) -> &[Device]
         ensures devices { result.now ≡ self.now.devices }
         ensures few { length self.now.devices ≤ self.now.slots }
+        ensures own { HaveOwnSlots self.now.devices }
     {
         self.devices.as_slice()
     }

@@ -1,6 +1,7 @@
 -- The batch of a legal continuation, as the journal has it.
 use Rattle.std.proofs.Common.{◌≡◌, ◌≢◌, ◌≤◌, ◌+◌, ◌∙◌, ℕ, List, [], ◌∷◌, length, Some, sym, ap, subst, refl, arith}
-use Rattle.gate_log.specs.Layout.{BatchValue, with_batch}
+use Rattle.gate_log.specs.Areas.{batched}
+use Rattle.gate_log.specs.Layout.{BatchValue}
 use Rattle.gate_log.specs.Phases.{IsBegun}
 use Rattle.sessions.specs.Table.{TableState}
 use Rattle.sessions.specs.Decision.{FitAll, applied_all}
@@ -46,13 +47,12 @@ begun_on laws {b} s begun ds bytes settled fit each some few spelled count last 
       contents = settled.contents;
       batch = b;
       journals = record {
-        area = settled.live.place;
         slots = ap (λ (x : TableState). x.slots) (sym same) ∙ slots;
         before = settled.says;
         after =
-            subst (Says v s.log.area (with_batch settled.contents b) (table_after s (begun_change begun))) (sym seq)
-            (subst (λ (x : TableState). Says v s.log.area (with_batch settled.contents b) x b.last_sequence) same
-            (says_more v s.log.area settled.contents t s.seq b es u settled.says is (laws.net_id t u es replay.leads) slots));
+            subst (Says v (batched settled.contents b) (table_after s (begun_change begun))) (sym seq)
+            (subst (λ (x : TableState). Says v (batched settled.contents b) x b.last_sequence) same
+            (says_more v settled.contents t s.seq b es u settled.says is (laws.net_id t u es replay.leads) slots));
       };
       rest = settled.rest;
       bytes = bytes;

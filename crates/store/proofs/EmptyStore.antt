@@ -1,14 +1,14 @@
 -- The bytes of a store that is being made.
-use Rattle.std.proofs.Common.{◌≡◌, ◌<◌, ◌≤◌, ◌+◌, ◌-◌, ◌∙◌, ℕ, List, [], ◌∷◌, ◌++◌, Result, Ok, Err, OnOk, false, length, take, drop, get_or, sym, ap, refl, arith, inl, inr, ◌≢◌, append_assoc, length-append, length-drop}
+use Rattle.std.proofs.Common.{◌≡◌, ◌<◌, ◌≤◌, ◌+◌, ◌-◌, ◌∙◌, ℕ, List, [], ◌∷◌, ◌++◌, Result, Ok, Err, OnOk, false, length, take, drop, get_or, sym, ap, refl, arith, inl, inr, ◌≢◌, append_assoc}
 use Rattle.std.proofs.lemmas.List.{drop-drop, drop_at, drop-take, take_at, take-take, length-take-le, get_or-take, get_or-drop}
 use Rattle.std.specs.List.{slice_range}
 use Rattle.disk.specs.State.{IsPermitted, IsTorn, NothingOpen, Opens, State, written}
 use Rattle.gate_log.specs.declared.layout.Area.{Area}
 use Rattle.std.proofs.lemmas.Bool.{cases_eq}
-use Rattle.gate_log.specs.declared.layout.Header.{Header}
+use Rattle.gate_log.specs.declared.layout.Areas.{Areas}
 use Rattle.gate_log.specs.declared.layout.TheConstants.{OPEN}
-use Rattle.gate_log.specs.Layout.{Contents, Holds, IsClosedArea, fresh_header, header_bytes}
-use Rattle.gate_log.specs.Recover.{contents_in}
+use Rattle.gate_log.specs.Areas.{HoldsIn, IsClosedArea, IsOlder, bytes_in, contents_in}
+use Rattle.gate_log.specs.Layout.{Journal, checkpoint, fresh_header, header_bytes}
 use Rattle.sessions.specs.Table.{empty_table}
 use Rattle.store_layout.specs.Superblock.{area_len, disk_len, superblock, superblock_body}
 use Rattle.store.specs.Formatting.{IsFormatImage, IsShut}
@@ -16,7 +16,7 @@ use Rattle.store.specs.Image.{area_a, area_b}
 use Rattle.store.specs.declared.areas.TheConstants.{RECORD_VERSION}
 use Rattle.store.specs.State.{IsSettled}
 use Rattle.store_layout.specs.declared.version.RecordVersion.TheVariants.{V1}
-use Rattle.store.proofs.Holding.{HeaderLaw}
+use Rattle.store.proofs.Holding.{front_is, laid_out}
 
 pub OnOk-map : {T E : Type 0} {P Q : Type 0} (r : Result T E) → (P → Q) → OnOk r P → OnOk r Q
 OnOk-map (Ok x) f p = f p
@@ -25,22 +25,6 @@ OnOk-map (Err e) f p = tt
 pub OnOk-of : {T E : Type 0} {P : Type 0} (r : Result T E) → P → OnOk r P
 OnOk-of (Ok x) p = p
 OnOk-of (Err e) p = tt
-
-behind_after : (end : ℕ) (old new : List ℕ) → 63 ≤ end → IsTorn 32 31 old new → drop end new ≡ drop end old
-behind_after end old new long torn =
-    let same : 63 + (end - 63) ≡ end = omega arith in
-    ap (λ k. drop k new) (sym same)
-    ∙ (sym (drop-drop (end - 63) 63 new) ∙ (ap (drop (end - 63)) torn.after ∙ (drop-drop (end - 63) 63 old ∙ ap (λ k. drop k old) same)))
-
-abbrev with_sides : Header → List ℕ → List ℕ → Contents
-with_sides h front behind = record { front = front; header = h; records = []; batches = []; behind = behind }
-
--- what is outside of the area is the same before and after its gate and header are written
-pub contents_after : (slots : ℕ) (h : Header) (old new : List ℕ) → IsTorn 32 31 old new
-    → contents_in (area_a slots) old h [] [] ≡ contents_in (area_a slots) new h [] []
-contents_after slots h old new torn =
-    ap (λ f. with_sides h f (drop (32 + area_len slots) old)) (sym torn.before)
-    ∙ ap (with_sides h (take 32 new)) (sym (behind_after (32 + area_len slots) old new (omega arith) torn))
 
 -- what was written behind the superblock's gate stays there
 pub front_after : (at : ℕ) (c1 c2 c3 c4 body : List ℕ) → 32 ≤ at → length body ≡ 31 → 1 ≤ length c1 → c2 ≡ written c1 1 body
@@ -61,31 +45,44 @@ opened_front c4 c5 is = ap (take 32) is ∙ ap (λ (l : List ℕ). OPEN ∷ l) (
 pub opened_range : (c4 c5 : List ℕ) (end : ℕ) → c5 ≡ written c4 0 (OPEN ∷ []) → slice_range c5 32 end ≡ slice_range c4 32 end
 opened_range c4 c5 end is = ap (λ (l : List ℕ). slice_range l 32 end) is ∙ ap (take (end - 32)) (drop-drop 31 1 c4)
 
--- a disk with a superblock and an area without records or batches is at rest
-pub settled_empty : HeaderLaw → (net_id slots : ℕ) (state : State) → net_id < 64 → (1 ≤ slots) × (slots ≤ 4096) → NothingOpen state → length state.content ≡ disk_len slots
-    → Holds (area_a slots) (contents_in (area_a slots) state.content (fresh_header RECORD_VERSION) [] []) state.content → take 32 state.content ≡ superblock net_id slots
+-- a closed area is older than any other
+abbrev pub ClosedLaw : Type 0
+ClosedLaw = (area : Area) (disk : List ℕ) (generation : ℕ) → area.start < area.end → IsClosedArea area disk → IsOlder generation area disk
+
+-- a disk with a superblock, an area without records or batches, and a closed one, is at rest
+pub settled_empty : ClosedLaw → (net_id slots : ℕ) (state : State) → net_id < 64 → (1 ≤ slots) × (slots ≤ 4096) → NothingOpen state → length state.content ≡ disk_len slots
+    → HoldsIn (area_a slots) (checkpoint (fresh_header RECORD_VERSION) []) state.content → IsClosedArea (area_b slots) state.content → take 32 state.content ≡ superblock net_id slots
     → IsSettled (record {
-      log = record { disk = state; area = area_a slots; next = (area_a slots).start + 30 };
+      log = record { disk = state; areas = record { live = area_a slots; other = area_b slots }; next = (area_a slots).start + 30; generation = 1; other_open = false };
       table = empty_table net_id slots;
       seq = 0;
       version = V1;
       failed = false;
     })
 unfolding header_bytes
-settled_empty law net_id slots state net range settled long holds front =
-    let c = contents_in (area_a slots) state.content (fresh_header RECORD_VERSION) [] [] in
-    let size : length (take 32 state.content) ≡ 32 = ap length front in
-    let spelled = length-append (take 32 state.content) (OPEN ∷ (header_bytes (fresh_header RECORD_VERSION) ++ ([] ++ []))) in
-    let behind = length-drop (32 + area_len slots) state.content in
+settled_empty law net_id slots state net range settled long held closed front =
+    let areas : Areas = record { live = area_a slots; other = area_b slots } in
+    let c = contents_in areas state.content (checkpoint (fresh_header RECORD_VERSION) []) in
     record {
       contents = c;
-      live = record { place = refl; at = law (area_a slots) state.content c holds };
-      rest = record { settled = settled; holds = holds; next = omega (arith, spelled, size) };
+      rest = record {
+        settled = settled;
+        holds = record {
+          layout = laid_out slots (length state.content) long;
+          size = refl;
+          front = refl;
+          live = held;
+          other = law (area_b slots) state.content 1 (omega arith) closed;
+        };
+        knows = record { areas = refl; generation = refl; next = refl };
+        other_gate = closed;
+      };
       says = record {
         net_id = net;
         slots = range;
-        front = take-take 32 32 state.content (omega arith) ∙ front;
-        size = omega (arith, behind, long);
+        areas = inl refl;
+        front = ap (λ k. take k state.content) (front_is slots areas (inl refl)) ∙ front;
+        size = long;
         of_version = refl;
         generation = omega arith;
         journal = record {
@@ -116,30 +113,26 @@ opened_image : (old image : List ℕ) → IsTorn 0 1 old image → 1 ≤ length 
 opened_image old [] torn some is = absurd (omega (arith, torn.same_length))
 opened_image old (x ∷ image) torn some is = (λ i. is i ∷ torn.after i)
 
+-- a gate behind a write stays closed
+pub closed_after : (at n : ℕ) (area : Area) (old new : List ℕ) → IsTorn at n old new → at + n ≤ area.start → IsClosedArea area old → IsClosedArea area new
+closed_after at n area old new torn behind closed same = closed (sym (kept old) ∙ (ap (λ (l : List ℕ). get_or l (area.start - (at + n)) 0) (sym torn.after) ∙ (kept new ∙ same)))
+  where
+    kept : (xs : List ℕ) → get_or (drop (at + n) xs) (area.start - (at + n)) 0 ≡ get_or xs area.start 0
+    kept xs = get_or-drop (at + n) xs (area.start - (at + n)) 0 ∙ ap (λ k. get_or xs k 0) (let is : at + n + (area.start - (at + n)) ≡ area.start = omega (arith, behind) in is)
+
 -- a torn gate in front of a store without devices
-pub formatted_image : HeaderLaw → (net_id slots : ℕ) (old image : List ℕ) → net_id < 64 → (1 ≤ slots) × (slots ≤ 4096) → length old ≡ disk_len slots
-    → ((area : Area) (old new : List ℕ) (c : Contents) → Holds area c old → length new ≡ length old → slice_range new area.start area.end ≡ slice_range old area.start area.end
-    → Holds area (contents_in area new c.header c.records c.batches) new)
-    → Holds (area_a slots) (contents_in (area_a slots) old (fresh_header RECORD_VERSION) [] []) old → drop 1 (take 32 old) ≡ superblock_body net_id slots
+pub formatted_image : ClosedLaw → (net_id slots : ℕ) (old image : List ℕ) → net_id < 64 → (1 ≤ slots) × (slots ≤ 4096) → length old ≡ disk_len slots
+    → ((area : Area) (old new : List ℕ) (j : Journal) → HoldsIn area j old → bytes_in area new ≡ bytes_in area old → HoldsIn area j new)
+    → HoldsIn (area_a slots) (checkpoint (fresh_header RECORD_VERSION) []) old → IsClosedArea (area_b slots) old → drop 1 (take 32 old) ≡ superblock_body net_id slots
     → IsTorn 0 1 old image → (before : List ℕ) → IsFormatImage net_id slots before image
-formatted_image law net_id slots old image net range long outside holds body torn before =
+formatted_image law net_id slots old image net range long outside held closed body torn before =
     elim (cases_eq (get_or image 0 0) OPEN) [
       | inl is ↦
           let same = opened_image old image torn (omega (arith, long)) is in
-          let size = torn.same_length in
           let state : State = record { content = image; synced = image; is_open = λ i. false } in
-          let held = outside (area_a slots) old image (contents_in (area_a slots) old (fresh_header RECORD_VERSION) [] []) holds size (opened_range old image (32 + area_len slots) same) in
+          let still = outside (area_a slots) old image (checkpoint (fresh_header RECORD_VERSION) []) held (opened_range old image (32 + area_len slots) same) in
           let front = opened_front old image same ∙ ap (λ (l : List ℕ). OPEN ∷ l) body in
-          let settled = settled_empty law net_id slots state net range (λ i. refl) (size ∙ long) held front in
-          inr (inl (record { version = V1; area = area_a slots; contents = settled.contents; live = settled.live; in_area = settled.rest.holds; says = settled.says }))
+          let settled = settled_empty law net_id slots state net range (λ i. refl) (torn.same_length ∙ long) still (closed_after 0 1 (area_b slots) old image torn (omega arith) closed) front in
+          inr (inl (record { version = V1; contents = settled.contents; holds = settled.rest.holds; says = settled.says }))
       | inr other ↦ inl other
     ]
-
--- a gate in the second area stays where the first one is formatted
-pub closed_after : (slots : ℕ) (old new : List ℕ) → IsTorn 32 31 old new → IsClosedArea (area_b slots) old → IsClosedArea (area_b slots) new
-closed_after slots old new torn closed same =
-    let start = 32 + area_len slots in
-    closed (sym (at_front start old) ∙ (ap (λ (l : List ℕ). get_or l 0 0) (sym (behind_after start old new (omega arith) torn)) ∙ (at_front start new ∙ same)))
-  where
-    at_front : (k : ℕ) (xs : List ℕ) → get_or (drop k xs) 0 0 ≡ get_or xs k 0
-    at_front k xs = get_or-drop k xs 0 0 ∙ ap (λ n. get_or xs n 0) (let same : k + 0 ≡ k = omega arith in same)

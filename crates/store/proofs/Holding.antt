@@ -1,87 +1,54 @@
--- What an image holds, from what the area in it holds.
-use Rattle.std.proofs.Common.{◌≡◌, ◌⊎◌, inl, inr, ◌≤◌, ◌∙◌, ℕ, List, ◌∷◌, ◌++◌, length, take, sym, ap, subst, refl, arith, append_assoc, length-append}
-use Rattle.std.proofs.lemmas.List.{take_at, take_all}
-use Rattle.gate_log.specs.Recover.{IsHeaderAt}
-use Rattle.gate_log.specs.declared.layout.Area.{Area}
-use Rattle.gate_log.specs.declared.layout.TheConstants.{OPEN}
-use Rattle.gate_log.specs.Layout.{BatchValue, Contents, Holds, header_bytes, open_batches, spelling, with_batch}
-use Rattle.gate_log.specs.Phases.{HoldsEither as LogHoldsEither}
-use Rattle.sessions.specs.Table.{TableState}
-use Rattle.store_layout.specs.Superblock.{disk_len}
-use Rattle.store.specs.Commit.{Change, table_after}
+-- What an image holds, from what is in it.
+use Rattle.std.proofs.Common.{◌≡◌, ◌≢◌, ◌↔◌, ◌⊎◌, inl, inr, ◌≤◌, ◌+◌, ◌∙◌, ℕ, List, length, get_or, min, take, sym, ap, subst, refl, arith}
+use Rattle.gate_log.specs.declared.layout.Areas.{Areas}
+use Rattle.gate_log.specs.Areas.{AreLaidOut, Contents, Holds, HoldsEither as LogHoldsEither, batched, front_len}
+use Rattle.gate_log.specs.Layout.{BatchValue}
 use Rattle.lw_types.specs.declared.refusal.Refusal.{Refusal}
 use Rattle.lw_types.specs.declared.refusal.Refusal.TheVariants.{NotFormatted, Damaged, WrongVersion, WrongSize}
-use Rattle.std.proofs.Common.{◌↔◌, ◌≢◌, get_or}
+use Rattle.sessions.specs.Table.{TableState}
+use Rattle.store_layout.specs.Superblock.{area_len, disk_len}
+use Rattle.store.specs.Commit.{Change, table_after}
 use Rattle.store.specs.Faults.{IsStoreOf, IsFault, IsNamed, IsNoSuperblock, SuperblockFault}
-use Rattle.gate_log.specs.Log.{LogState}
-use Rattle.store.specs.Image.{HoldsTable, Says, area_a}
+use Rattle.store.specs.Image.{AreAreas, HoldsTable, area_a, area_b}
 use Rattle.store.specs.Phases.{HoldsEither, Journals}
 use Rattle.store.specs.State.{StoreState}
 
--- what an area holds begins with its header
-abbrev pub HeaderLaw : Type 0
-HeaderLaw = (area : Area) (disk : List ℕ) (c : Contents) → Holds area c disk → IsHeaderAt disk area.start c.header
+module _ (s : StoreState) (change : Change) (c : Contents) (b : BatchValue) (journals : Journals s change c b) (image : List ℕ) where
+  pub held : Holds c image → HoldsTable s.table s.seq image
+  held holds = record { version = s.version; contents = c; holds = holds; says = journals.before }
 
-module _ (law : HeaderLaw) (s : StoreState) (change : Change) (c : Contents) (b : BatchValue) (journals : Journals s change c b) (image : List ℕ) where
-  pub held : Holds s.log.area c image → HoldsTable s.table s.seq image
-  held holds = record {
-    version = s.version;
-    area = s.log.area;
-    contents = c;
-    live = record { place = journals.area; at = law s.log.area image c holds };
-    in_area = holds;
-    says = journals.before;
-  }
+  pub held_with : Holds (batched c b) image → HoldsTable (table_after s change) change.seq image
+  held_with holds = record { version = s.version; contents = batched c b; holds = holds; says = journals.after }
 
-  pub held_with : Holds s.log.area (with_batch c b) image → HoldsTable (table_after s change) change.seq image
-  held_with holds = record {
-    version = s.version;
-    area = s.log.area;
-    contents = with_batch c b;
-    live = record { place = journals.area ∙ ap area_a (sym journals.slots); at = law s.log.area image (with_batch c b) holds };
-    in_area = holds;
-    says = journals.after;
-  }
-
-  pub held_either : LogHoldsEither s.log.area c b image → HoldsEither s change image
+  pub held_either : LogHoldsEither c (batched c b) image → HoldsEither s change image
   held_either (inl without) = inl (held without)
   held_either (inr with_it) = inr (held_with with_it)
 
--- the batch in the journal stays as it is while the log goes on in the same area
-pub journals_at : (s : StoreState) (change : Change) (c : Contents) (b : BatchValue) → Journals s change c b → (log : LogState) → log.area ≡ s.log.area
-    → Journals (record s { log = log }) change c b
-journals_at s change c b journals log same = record {
-  area = same ∙ journals.area;
-  slots = journals.slots;
-  before = subst (λ (a : Area). Says s.version a c s.table s.seq) (sym same) journals.before;
-  after = subst (λ (a : Area). Says s.version a (with_batch c b) (table_after s change) change.seq) (sym same) journals.after;
+-- in front of the areas there is room for the superblock
+pub front_is : (slots : ℕ) (areas : Areas) → AreAreas slots areas → front_len areas ≡ 32
+front_is slots areas (inl is) = let start : min 32 (32 + area_len slots) ≡ 32 = omega arith in ap front_len is ∙ start
+front_is slots areas (inr is) = let start : min (32 + area_len slots) 32 ≡ 32 = omega arith in ap front_len is ∙ start
+
+-- the areas of a store lie on its disk
+pub laid_out : (slots size : ℕ) → size ≡ disk_len slots → AreLaidOut (record { live = area_a slots; other = area_b slots }) size
+laid_out slots size is = record {
+  live_room = omega arith;
+  other_room = omega arith;
+  live_within = omega (arith, is);
+  other_within = omega (arith, is);
+  apart = λ i a b x y. omega (arith, b, x);
 }
 
 -- the superblock in front of an image is the table's
 pub store_of : (t : TableState) (seq : ℕ) (image : List ℕ) → HoldsTable t seq image → IsStoreOf image t.net_id t.slots
-store_of t seq image h =
-    let c = h.contents in
-    let more = OPEN ∷ (header_bytes c.header ++ (c.records ++ open_batches c.batches)) in
-    let rest = h.in_area.gate ∷ (h.in_area.free ++ c.behind) in
-    let start : h.area.start ≡ 32 = ap (λ (a : Area). a.start) h.live.place in
-    let size : length c.front ≡ 32 = h.in_area.fits.front ∙ start in
-    record {
-      net_id_range = h.says.net_id;
-      slots_range = h.says.slots;
-      superblock =
-          ap (take 32) (h.in_area.bytes ∙ append_assoc c.front more rest)
-          ∙ (take_at c.front (more ++ rest) 32 size ∙ (sym (take_all 32 c.front (omega arith)) ∙ h.says.front));
-    }
+store_of t seq image h = record {
+  net_id_range = h.says.net_id;
+  slots_range = h.says.slots;
+  superblock = ap (λ (n : ℕ). take n image) (sym (front_is t.slots h.contents.areas h.says.areas)) ∙ (h.holds.front ∙ h.says.front);
+}
 
 pub length_of : (t : TableState) (seq : ℕ) (image : List ℕ) → HoldsTable t seq image → length image ≡ disk_len t.slots
-length_of t seq image h =
-    let c = h.contents in
-    let whole = ap length h.in_area.bytes in
-    let parts = length-append (spelling c) (h.in_area.gate ∷ (h.in_area.free ++ c.behind)) in
-    let tail = length-append h.in_area.free c.behind in
-    let back = h.in_area.fits.back in
-    let size = h.says.size in
-    omega arith
+length_of t seq image h = h.holds.size ∙ h.says.size
 
 -- bytes in front that are no superblock
 pub front_fault : (image bytes : List ℕ) (e : Refusal) → bytes ≡ take 32 image → 32 ≤ length image → IsNoSuperblock bytes

@@ -3,3 +3,4 @@ pub mod Restoring
 pub mod EmptyStore
 pub mod Beginning
 pub mod Finding
+pub mod Republishing

@@ -1,12 +1,12 @@
 -- Batches that lead from one table to another.
 use Rattle.std.proofs.Common.{◌≡◌, ◌↔◌, ◌<◌, ◌≤◌, ◌∙◌, ℕ, List, [], ◌∷◌, ◌++◌, sym, ap, subst, refl}
-use Rattle.gate_log.specs.declared.layout.Area.{Area}
-use Rattle.gate_log.specs.Layout.{BatchValue, Contents, with_batch}
+use Rattle.gate_log.specs.Areas.{Contents, batched}
+use Rattle.gate_log.specs.Layout.{BatchValue}
 use Rattle.sessions.specs.Table.{TableState}
 use Rattle.store_layout.specs.declared.entries.Entry.{Entry}
 use Rattle.store_layout.specs.declared.version.RecordVersion.{RecordVersion}
 use Rattle.store_layout.specs.Superblock.{disk_len, superblock}
-use Rattle.store.specs.Image.{IsBatchOn, IsCheckpoint, Lead, Says}
+use Rattle.store.specs.Image.{AreAreas, IsBatchOn, IsCheckpoint, Lead, Says}
 
 -- one batch is put on the table, and there is one way to do that
 pub lead_on : (v : RecordVersion) (t t' : TableState) (seq : ℕ) (b : BatchValue) (batches : List BatchValue) (es : List Entry) → IsBatchOn v t seq b es t'
@@ -25,13 +25,15 @@ lead_push v t seq (x ∷ batches) u n b es w lead is =
     (lead.0, lead.1, lead.2, lead_push v lead.1 x.last_sequence batches u n b es w lead.3 is)
 
 -- contents with a batch more say the table that its entries lead to
-pub says_more : (v : RecordVersion) (area : Area) (c : Contents) (t : TableState) (seq : ℕ) (b : BatchValue) (es : List Entry) (u : TableState) → Says v area c t seq
-    → IsBatchOn v t seq b es u → u.net_id ≡ t.net_id → u.slots ≡ t.slots → Says v area (with_batch c b) u b.last_sequence
-says_more v area c t seq b es u says is net slots =
-    let checkpoint_of : ℕ → ℕ → Type 0 = λ n k. IsCheckpoint v n k c.records c.header.record_count says.journal.base in
+pub says_more : (v : RecordVersion) (c : Contents) (t : TableState) (seq : ℕ) (b : BatchValue) (es : List Entry) (u : TableState) → Says v c t seq → IsBatchOn v t seq b es u
+    → u.net_id ≡ t.net_id → u.slots ≡ t.slots → Says v (batched c b) u b.last_sequence
+says_more v c t seq b es u says is net slots =
+    let j = c.journal in
+    let checkpoint_of : ℕ → ℕ → Type 0 = λ n k. IsCheckpoint v n k j.records j.header.record_count says.journal.base in
     record {
       net_id = subst (λ k. k < 64) (sym net) says.net_id;
       slots = subst (λ k. (1 ≤ k) × (k ≤ 4096)) (sym slots) says.slots;
+      areas = subst (λ k. AreAreas k c.areas) (sym slots) says.areas;
       front = says.front ∙ (ap (λ k. superblock k t.slots) (sym net) ∙ ap (superblock u.net_id) (sym slots));
       size = says.size ∙ ap disk_len (sym slots);
       of_version = says.of_version;
@@ -39,6 +41,6 @@ says_more v area c t seq b es u says is net slots =
       journal = record {
         base = says.journal.base;
         checkpoint = subst (λ k. checkpoint_of u.net_id k) (sym slots) (subst (λ k. checkpoint_of k t.slots) (sym net) says.journal.checkpoint);
-        batches = lead_push v says.journal.base c.header.sequence c.batches t seq b es u says.journal.batches is;
+        batches = lead_push v says.journal.base j.header.sequence j.batches t seq b es u says.journal.batches is;
       };
     }

@@ -23,7 +23,7 @@ pub record Tip : Type 0 where
   pub end : ℕ
 
 abbrev pub tip_of : StoreState → Tip
-tip_of s = record { table = s.table; seq = s.seq; next = s.log.next; end = s.log.area.end }
+tip_of s = record { table = s.table; seq = s.seq; next = s.log.next; end = s.log.areas.live.end }
 
 -- the change may follow: it is a legal continuation, and so many bytes fit behind the next gate
 pub record MayFollow (tip : Tip) (change : Change) (size : ℕ) : Type 0 where

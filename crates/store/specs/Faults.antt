@@ -3,6 +3,7 @@ use Rattle.std.specs.Prelude.{◌≡◌, ◌≢◌, ◌<◌, ◌≤◌, ◌⊎�
 use Rattle.lw_types.specs.declared.refusal.Refusal.{Refusal}
 use Rattle.lw_types.specs.declared.refusal.Refusal.TheVariants.{NotFormatted, Damaged, WrongVersion, WrongSize, DeviceFailed, OutOfMemory}
 use Rattle.gate_log.specs.declared.layout.Area.{Area}
+use Rattle.gate_log.specs.declared.layout.Areas.{Areas}
 use Rattle.gate_log.specs.declared.layout.Header.{Header}
 use Rattle.gate_log.specs.declared.layout.TheConstants.{OPEN}
 use Rattle.gate_log.specs.Layout.{HasRoomFor}
@@ -56,25 +57,25 @@ pub record IsUsable (area : Area) (h : Header) : Type 0 where
 pub record HasGoodFront (image : List ℕ) : Type 0 where
   pub net_id : ℕ
   pub slots : ℕ
-  pub area : Area
+  pub areas : Areas
   pub header : Header
   pub store : IsStoreOf image net_id slots
   pub long : length image ≡ disk_len slots
-  pub live : IsLive image slots area header
-  pub usable : IsUsable area header
+  pub live : IsLive image slots areas header
+  pub usable : IsUsable areas.live header
 
 -- what is wrong with the gates or the live area's header
 abbrev pub HeaderFault : List ℕ → ℕ → Refusal → Type 0
 HeaderFault image slots e =
     (NoneLive image slots × (e ≡ Damaged))
-    ⊎ ((area : Area) × (h : Header) × IsLive image slots area h
-    × (((¬ (IsKnown h.version)) × (e ≡ WrongVersion)) ⊎ (IsKnown h.version × ((¬ (IsUsable area h)) × (e ≡ Damaged)))))
+    ⊎ ((areas : Areas) × (h : Header) × IsLive image slots areas h
+    × (((¬ (IsKnown h.version)) × (e ≡ WrongVersion)) ⊎ (IsKnown h.version × ((¬ (IsUsable areas.live h)) × (e ≡ Damaged)))))
 
 -- what is wrong with the areas
 abbrev pub AreaFault : List ℕ → ℕ → Refusal → Type 0
 AreaFault image slots e =
     (NoneLive image slots × (e ≡ Damaged))
-    ⊎ ((area : Area) × (h : Header) × IsLive image slots area h
+    ⊎ ((areas : Areas) × (h : Header) × IsLive image slots areas h
     × (((¬ (IsKnown h.version)) × (e ≡ WrongVersion)) ⊎ (IsKnown h.version × (e ≡ Damaged))))
 
 -- what is wrong with an image that holds no table

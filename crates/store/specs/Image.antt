@@ -1,9 +1,10 @@
 -- What the disk of a store says: a table and the number of its last decision.
-use Rattle.std.specs.Prelude.{◌≡◌, ◌<◌, ◌≤◌, ℕ, ◌+◌, List, [], ◌∷◌, length, take}
+use Rattle.std.specs.Prelude.{◌≡◌, ◌<◌, ◌≤◌, ℕ, ◌+◌, List, [], ◌∷◌, length}
 use Rattle.gate_log.specs.declared.layout.Area.{Area}
+use Rattle.gate_log.specs.declared.layout.Areas.{Areas}
 use Rattle.gate_log.specs.declared.layout.Header.{Header}
-use Rattle.gate_log.specs.Layout.{BatchValue, Contents, Holds, IsClosedArea}
-use Rattle.gate_log.specs.Recover.{IsHeaderAt}
+use Rattle.gate_log.specs.Areas.{AreOf, Contents, Holds, IsLive as IsLiveArea, NoneLive as NoLiveArea}
+use Rattle.gate_log.specs.Layout.{BatchValue}
 use Rattle.sessions.specs.Table.{TableState, empty_table}
 use Rattle.sessions.specs.declared.batch.TheConstants.Batch.{MOST}
 use Rattle.store_layout.specs.Superblock.{area_len, disk_len, superblock}
@@ -21,14 +22,18 @@ area_a slots = record { start = LEN; end = LEN + area_len slots }
 abbrev pub area_b : ℕ → Area
 area_b slots = record { start = LEN + area_len slots; end = LEN + area_len slots + area_len slots }
 
--- the live area of a store with so many slots, and its header: so far the first one, where it is open
-pub record IsLive (image : List ℕ) (slots : ℕ) (area : Area) (header : Header) : Type 0 where
-  pub place : area ≡ area_a slots
-  pub at : IsHeaderAt image area.start header
+-- the two areas of a store with so many slots, one of them the live one
+abbrev pub AreAreas : ℕ → Areas → Type 0
+AreAreas slots areas = AreOf (area_a slots) (area_b slots) areas
+
+-- the live area of a store with so many slots, and its header
+pub record IsLive (image : List ℕ) (slots : ℕ) (areas : Areas) (header : Header) : Type 0 where
+  pub place : AreAreas slots areas
+  pub at : IsLiveArea areas header image
 
 -- no area is live
 abbrev pub NoneLive : List ℕ → ℕ → Type 0
-NoneLive image slots = IsClosedArea (area_a slots) image
+NoneLive image slots = NoLiveArea (area_a slots) (area_b slots) image
 
 -- so many records, each of a slot of its own, that put this table together
 pub record IsCheckpoint (version : RecordVersion) (net_id slots : ℕ) (records : List ℕ) (count : ℕ) (t : TableState) : Type 0 where
@@ -55,22 +60,21 @@ pub record Restores (version : RecordVersion) (net_id slots : ℕ) (header : Hea
   pub checkpoint : IsCheckpoint version net_id slots records header.record_count base
   pub batches : Lead version base header.sequence later t seq
 
--- the contents of an area, with records of a version, are those of a store with this table and number: its superblock is
--- in front of the disk, and its journal leads there
-pub record Says (version : RecordVersion) (area : Area) (c : Contents) (t : TableState) (seq : ℕ) : Type 0 where
+-- the contents of a disk, with records of a version, are those of a store with this table and number: its superblock is in
+-- front, and its journal leads there
+pub record Says (version : RecordVersion) (c : Contents) (t : TableState) (seq : ℕ) : Type 0 where
   pub net_id : t.net_id < 64
   pub slots : (1 ≤ t.slots) × (t.slots ≤ 4096)
-  pub front : take LEN c.front ≡ superblock t.net_id t.slots
-  pub size : area.end + length c.behind ≡ disk_len t.slots
-  pub of_version : c.header.version ≡ version_byte version
-  pub generation : c.header.generation ≤ LAST_GENERATION
-  pub journal : Restores version t.net_id t.slots c.header c.records c.batches t seq
+  pub areas : AreAreas t.slots c.areas
+  pub front : c.front ≡ superblock t.net_id t.slots
+  pub size : c.size ≡ disk_len t.slots
+  pub of_version : c.journal.header.version ≡ version_byte version
+  pub generation : c.journal.header.generation ≤ LAST_GENERATION
+  pub journal : Restores version t.net_id t.slots c.journal.header c.journal.records c.journal.batches t seq
 
 -- the image of a disk holds a store with this table and number: its live area says so
 pub record HoldsTable (t : TableState) (seq : ℕ) (image : List ℕ) : Type 0 where
   pub version : RecordVersion
-  pub area : Area
   pub contents : Contents
-  pub live : IsLive image t.slots area contents.header
-  pub in_area : Holds area contents image
-  pub says : Says version area contents t seq
+  pub holds : Holds contents image
+  pub says : Says version contents t seq

@@ -5,3 +5,4 @@ pub mod Formatting
 pub mod State
 pub mod Commit
 pub mod Phases
+pub mod Checkpointing

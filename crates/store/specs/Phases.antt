@@ -1,6 +1,7 @@
 -- What the disk of a store holds while one batch is under way.
 use Rattle.std.specs.Prelude.{◌≡◌, ◌⊎◌, ℕ, List, length}
-use Rattle.gate_log.specs.Layout.{BatchValue, Contents, with_batch}
+use Rattle.gate_log.specs.Areas.{Contents, batched}
+use Rattle.gate_log.specs.Layout.{BatchValue}
 use Rattle.gate_log.specs.Log.{IsAtRest}
 use Rattle.gate_log.specs.Phases.{IsBegun, IsWritten, IsBodySynced, IsGateWritten, bytes_of, written_size as log_written_size, synced_size as log_synced_size, opened_size as log_opened_size}
 use Rattle.sessions.specs.declared.decision.Decision.{Decision}
@@ -10,7 +11,7 @@ use Rattle.store.specs.declared.phases.BodySynced.{BodySynced}
 use Rattle.store.specs.declared.phases.GateWritten.{GateWritten}
 use Rattle.store.specs.declared.phases.Durable.{Durable}
 use Rattle.store.specs.Commit.{Change, change_of, table_after}
-use Rattle.store.specs.Image.{HoldsTable, Says, area_a}
+use Rattle.store.specs.Image.{HoldsTable, Says}
 use Rattle.store.specs.State.{StoreState}
 
 -- the change of each phase, and how many bytes of the journal it takes
@@ -43,10 +44,9 @@ durable_decisions durable = durable.batch
 
 -- the batch as the journal has it: without it the contents say the store's table and number, and with it the change's
 pub record Journals (s : StoreState) (change : Change) (c : Contents) (b : BatchValue) : Type 0 where
-  pub area : s.log.area ≡ area_a s.table.slots
   pub slots : (table_after s change).slots ≡ s.table.slots
-  pub before : Says s.version s.log.area c s.table s.seq
-  pub after : Says s.version s.log.area (with_batch c b) (table_after s change) change.seq
+  pub before : Says s.version c s.table s.seq
+  pub after : Says s.version (batched c b) (table_after s change) change.seq
 
 -- an image holds the table and number from before the change, or those that it leaves
 abbrev pub HoldsEither : StoreState → Change → List ℕ → Type 0

@@ -4,13 +4,13 @@ use Rattle.lw_types.specs.declared.refusal.Refusal.{Refusal}
 use Rattle.lw_types.specs.declared.refusal.Refusal.TheVariants.{DeviceFailed}
 use Rattle.disk.specs.Outlook.{Outlook, HasCause, IsForeseen}
 use Rattle.disk.specs.State.{State}
-use Rattle.gate_log.specs.Layout.{Contents}
+use Rattle.gate_log.specs.Areas.{Contents}
 use Rattle.gate_log.specs.Log.{LogState, IsAtRest, seen as seen_log, disk_of as disk_of_log}
 use Rattle.sessions.specs.Table.{TableState}
 use Rattle.store_layout.specs.declared.version.RecordVersion.{RecordVersion}
 use Rattle.store.specs.declared.store.Store.{Store}
 use Rattle.store.specs.declared.store.TheConstants.{LARGEST_BATCH}
-use Rattle.store.specs.Image.{HoldsTable, IsLive, Says}
+use Rattle.store.specs.Image.{HoldsTable, Says}
 
 pub record StoreState : Type 0 where
   pub log : LogState
@@ -30,14 +30,13 @@ seen state store = record { log = seen_log state store.log; table = store.table;
 
 -- the largest batch fits behind the next gate
 abbrev pub IsRoomy : StoreState → Type 0
-IsRoomy s = s.log.next + LARGEST_BATCH ≤ s.log.area.end
+IsRoomy s = s.log.next + LARGEST_BATCH ≤ s.log.areas.live.end
 
 -- nothing is under way: the disk holds the store's table and number, and a crash changes nothing
 pub record IsSettled (s : StoreState) : Type 0 where
   pub contents : Contents
-  pub live : IsLive s.log.disk.content s.table.slots s.log.area contents.header
   pub rest : IsAtRest s.log contents
-  pub says : Says s.version s.log.area contents s.table s.seq
+  pub says : Says s.version contents s.table s.seq
 
 -- a store that was opened: it has what the disk held, and the disk holds nothing else
 pub record IsOpened (content : List ℕ) (s : StoreState) : Type 0 where

@@ -2,7 +2,7 @@
 ghost use Rattle.std.specs.Prelude.{◌≡◌};
 ghost use Rattle.store.specs.Image.{area_a, area_b};
 
-use gate_log::Area;
+use gate_log::{Area, Areas};
 use store_layout::Superblock;
 
 /// The version of the records in an area.
@@ -30,5 +30,15 @@ pub(crate) fn second_area(superblock: &Superblock) -> Area
     Area {
         start: first.end,
         end: first.end + superblock.area_len(),
+    }
+}
+
+/// Both areas, as they lie on a new disk: the first one is the live one.
+pub(crate) fn both_areas(superblock: &Superblock) -> Areas
+    ensures { result ≡ record { live = area_a superblock.now.slots; other = area_b superblock.now.slots } }
+{
+    Areas {
+        live: first_area(superblock),
+        other: second_area(superblock),
     }
 }

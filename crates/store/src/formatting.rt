@@ -5,8 +5,8 @@ ghost use Rattle.disk.specs.Outlook.{HasCause};
 ghost use Rattle.disk.specs.Outlook.Outlook.{AllSucceed};
 ghost use Rattle.disk.specs.State.{EveryImage, IsTorn, NothingOpen, written};
 ghost use Rattle.gate_log.specs.declared.layout.TheConstants.{RECORDS_AT};
-ghost use Rattle.gate_log.specs.Layout.{Holds, IsClosedArea, fresh_header};
-ghost use Rattle.gate_log.specs.Recover.{contents_in};
+ghost use Rattle.gate_log.specs.Areas.{HoldsIn, IsClosedArea};
+ghost use Rattle.gate_log.specs.Layout.{checkpoint, fresh_header};
 ghost use Rattle.sessions.specs.Table.{empty_table};
 ghost use Rattle.store_layout.specs.Superblock.{disk_len, superblock as superblock_bytes, superblock_body};
 ghost use Rattle.store.specs.Faults.{IsFormatRefusal, IsSlots};
@@ -15,7 +15,7 @@ ghost use Rattle.store.specs.Image.{area_a, area_b};
 ghost use Rattle.store.specs.State.{seen, disk_of, IsSettled};
 
 use crate::Store;
-use crate::areas::{RECORD_VERSION, first_area, second_area};
+use crate::areas::{RECORD_VERSION, both_areas, first_area, second_area};
 use disk::Disk;
 use gate_log::{CLOSED, Log, OPEN, close_area, format_area, laws};
 use lw_types::{NetId, Refusal};
@@ -87,7 +87,7 @@ pub fn format_back<D: Disk>(
         (λ e. EveryImage (D.state e.0) (IsFormatImage net_id slots (D.state disk).content)) }
 {
     disk::laws::settled_disk_keeps_its_content();
-    laws::what_is_held_has_its_header();
+    laws::a_closed_area_is_older();
     let Some(slots) = Slots::new(slots) else {
         return Err((disk, Refusal::Damaged));
     };
@@ -102,7 +102,7 @@ pub fn format_back<D: Disk>(
     let mut disk = disk;
     match write_empty(&mut disk, &superblock) {
         Ok(next) => Ok(Store::new(
-            Log::new(disk, first_area(&superblock), next),
+            Log::new(disk, both_areas(&superblock), 1, next, false),
             table,
             0,
             RecordVersion::V1,
@@ -115,9 +115,8 @@ pub fn format_back<D: Disk>(
 // is closed first and opened last, when all else is on the disk.
 fn write_empty<D: Disk>(disk: &mut D, superblock: &Superblock) -> Result<u64, disk::DeviceFailed>
     requires { length (D.state disk.old).content ≡ disk_len superblock.now.slots }
-    ensures area { D.honest → OnOk result (Holds (area_a superblock.now.slots)
-        (contents_in (area_a superblock.now.slots) (D.state disk.new).content (fresh_header RECORD_VERSION) [] [])
-        (D.state disk.new).content) }
+    ensures area { D.honest → OnOk result (HoldsIn (area_a superblock.now.slots)
+        (checkpoint (fresh_header RECORD_VERSION) []) (D.state disk.new).content) }
     ensures other_area { D.honest → OnOk result
         (IsClosedArea (area_b superblock.now.slots) (D.state disk.new).content) }
     ensures front { D.honest → OnOk result (take Superblock.LEN (D.state disk.new).content
@@ -131,8 +130,8 @@ fn write_empty<D: Disk>(disk: &mut D, superblock: &Superblock) -> Result<u64, di
     ensures cause { HasCause (D.failures disk.old) (D.failures disk.new) result }
     ensures unarmed { D.outlook disk.old ≡ AllSucceed → IsTrue (is_ok result) × (D.outlook disk.new ≡ AllSucceed) }
 {
-    laws::contents_stay_where_others_change();
-    laws::what_is_held_has_its_header();
+    laws::a_journal_stays_where_others_change();
+    laws::a_closed_area_is_older();
     shut(disk)?;
     let next = write_closed(disk, superblock)?;
     disk.sync()?;
@@ -177,9 +176,8 @@ fn open_front<D: Disk>(disk: &mut D) -> Result<(), disk::DeviceFailed>
 // Writes the superblock behind its gate, and the gates of both areas.
 fn write_closed<D: Disk>(disk: &mut D, superblock: &Superblock) -> Result<u64, disk::DeviceFailed>
     requires { length (D.state disk.old).content ≡ disk_len superblock.now.slots }
-    ensures area { D.honest → OnOk result (Holds (area_a superblock.now.slots)
-        (contents_in (area_a superblock.now.slots) (D.state disk.new).content (fresh_header RECORD_VERSION) [] [])
-        (D.state disk.new).content) }
+    ensures area { D.honest → OnOk result (HoldsIn (area_a superblock.now.slots)
+        (checkpoint (fresh_header RECORD_VERSION) []) (D.state disk.new).content) }
     ensures other_area { D.honest → OnOk result
         (IsClosedArea (area_b superblock.now.slots) (D.state disk.new).content) }
     ensures body { D.honest → OnOk result (drop 1 (take Superblock.LEN (D.state disk.new).content)

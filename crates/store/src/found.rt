@@ -1,7 +1,7 @@
 // What was read of a disk that is opened.
 ghost use Rattle.std.specs.Prelude.{◌≡◌, ◌<◌};
 
-use gate_log::Area;
+use gate_log::Live;
 use sessions::Table;
 use store_layout::RecordVersion;
 
@@ -11,8 +11,8 @@ pub(crate) struct Found {
     pub(crate) table: Table,
     pub(crate) seq: u64,
     pub(crate) version: RecordVersion,
-    pub(crate) area: Area,
+    pub(crate) live: Live,
     /// The place of the next batch's gate.
     pub(crate) next: u64,
-    pub ghost room: { next < area.end },
+    pub ghost room: { next < live.areas.live.end },
 }

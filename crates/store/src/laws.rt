@@ -8,5 +8,4 @@ pub fn a_settled_store_is_on_its_disk()
     ensures { (s : StoreState) → IsSettled s → EveryImage s.log.disk (HoldsTable s.table s.seq) }
 {
     disk::laws::settled_disk_keeps_its_content();
-    gate_log::laws::what_is_held_has_its_header();
 }

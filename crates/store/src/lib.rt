@@ -7,17 +7,22 @@
 
 mod areas;
 mod begin;
+mod checkpointing;
 mod commit;
 mod formatting;
 mod found;
 pub mod laws;
 mod opening;
 mod phases;
+mod preparing;
 mod recover;
 mod restore;
 mod store;
 
 pub use areas::{LAST_GENERATION, RECORD_VERSION};
+pub use checkpointing::{
+    Checkpoint, CheckpointOpened, CheckpointSynced, CheckpointWritten, Retiring,
+};
 pub use formatting::{disk_len, format, format_back};
 pub use opening::{open, open_back};
 pub use phases::{Begun, BodySynced, Durable, GateWritten, Written};

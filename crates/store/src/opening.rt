@@ -4,6 +4,7 @@ ghost use Rattle.lw_types.specs.declared.refusal.Refusal.TheVariants.{DeviceFail
 ghost use Rattle.disk.specs.Outlook.{IsArmed};
 ghost use Rattle.disk.specs.Outlook.Outlook.{AllSucceed, FailsAfter};
 ghost use Rattle.disk.specs.State.{NothingOpen};
+ghost use Rattle.gate_log.specs.Areas.{AreLaidOut};
 ghost use Rattle.gate_log.specs.Opening.{opened};
 ghost use Rattle.store.specs.Faults.{HasGoodFront, IsFault};
 ghost use Rattle.store.specs.Found.{IsFound};
@@ -41,10 +42,12 @@ pub fn open<D: Disk + Drop>(alloc: Global, disk: D) -> Result<Store<D>, Refusal>
 /// of the disk failed; else the store has the table and the number that the disk holds, or, exactly
 /// where it holds none, the refusal is the first of these: `WrongSize` below 32 bytes, `NotFormatted`
 /// for a closed gate or another name, `WrongVersion` for another version, `Damaged` for another field
-/// out of range, `WrongSize` for another length than the superblock's, `Damaged` where the area is
-/// closed, `WrongVersion` for another version of records, and `Damaged` for all else. `OutOfMemory`
-/// comes for want of memory, and only where the superblock and the area's header are in order. With a
-/// refusal the disk comes back. The cost grows with the area's bytes.
+/// out of range, `WrongSize` for another length than the superblock's, `Damaged` where no area is live
+/// (the gates of both are closed, or both are open with one generation), `WrongVersion` for another
+/// version of the live area's records, and `Damaged` for all else that is wrong there; of the other
+/// area only the gate and the generation count. `OutOfMemory` comes for want of memory, and only where
+/// the superblock and the live area's header are in order. With a refusal the disk comes back. The
+/// cost grows with the bytes of the live area's journal.
 pub fn open_back<D: Disk>(alloc: Global, disk: D) -> Result<Store<D>, (D, Refusal)>
     ensures opened { D.honest → IfOk result (λ store. IsOpened (D.state disk).content (seen D.state store)) }
     ensures healthy { IfOk result (λ store. ((seen D.state store).failed ≡ false)
@@ -87,7 +90,7 @@ pub fn open_back<D: Disk>(alloc: Global, disk: D) -> Result<Store<D>, (D, Refusa
 impl Found {
     /// The store with what was found on this disk.
     pub(crate) fn into_store<D: Disk>(self, opening: Opening<D>) -> Store<D>
-        requires { self.area.end ≤ length (D.state (opened opening)).content }
+        requires { AreLaidOut self.live.areas (length (D.state (opened opening)).content) }
         ensures opened { D.honest → IsFound (D.state (opened opening)).content self
             → IsOpened (D.state (opened opening)).content (seen D.state result) }
         ensures healthy { (seen D.state result).failed ≡ false }
@@ -97,9 +100,9 @@ impl Found {
             table,
             seq,
             version,
-            area,
+            live,
             next,
         } = self;
-        Store::new(opening.into_log(area, next), table, seq, version)
+        Store::new(opening.into_log(live, next), table, seq, version)
     }
 }

@@ -59,7 +59,6 @@ impl Begun {
         ensures seq { (seen D.state store.new).seq ≡ (seen D.state store.old).seq }
         ensures call { IsOneCall D.failures D.outlook store.old store.new result }
     {
-        gate_log::laws::what_is_held_has_its_header();
         let Begun { phase, commit } = self;
         match phase.write(&mut store.log) {
             Ok(phase) => Ok(Written { phase, commit }),
@@ -91,7 +90,6 @@ impl Written {
         ensures seq { (seen D.state store.new).seq ≡ (seen D.state store.old).seq }
         ensures call { IsOneCall D.failures D.outlook store.old store.new result }
     {
-        gate_log::laws::what_is_held_has_its_header();
         let Written { phase, commit } = self;
         match phase.sync(&mut store.log) {
             Ok(phase) => Ok(BodySynced { phase, commit }),
@@ -123,7 +121,6 @@ impl BodySynced {
         ensures seq { (seen D.state store.new).seq ≡ (seen D.state store.old).seq }
         ensures call { IsOneCall D.failures D.outlook store.old store.new result }
     {
-        gate_log::laws::what_is_held_has_its_header();
         let BodySynced { phase, commit } = self;
         match phase.open_gate(&mut store.log) {
             Ok(phase) => Ok(GateWritten { phase, commit }),
@@ -161,7 +158,6 @@ impl GateWritten {
             (λ _. (seen D.state store.new).seq ≡ (seen D.state store.old).seq) }
         ensures call { IsOneCall D.failures D.outlook store.old store.new result }
     {
-        gate_log::laws::what_is_held_has_its_header();
         let GateWritten { phase, commit } = self;
         match phase.sync(&mut store.log) {
             Ok(durable) => {
@@ -196,7 +192,7 @@ impl<D: Disk> Store<D> {
     ghost use Rattle.store.specs.Commit.{change_of};
 
     // A call of the disk failed.
-    fn fail(&mut self) -> Refusal
+    pub(crate) fn fail(&mut self) -> Refusal
         ensures refusal { result ≡ DeviceFailed }
         ensures store { seen D.state self.new ≡ record (seen D.state self.old) { failed = true } }
         ensures disk { disk_of self.new ≡ disk_of self.old }

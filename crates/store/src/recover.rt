@@ -2,44 +2,39 @@
 ghost use Rattle.std.specs.Prelude.{◌≡◌, ◌≢◌, ◌<◌, ◌≤◌, ◌+◌, ◌⊎◌, ℕ, length, take, IfOk, IfErr, MatchResult};
 ghost use Rattle.lw_types.specs.declared.refusal.Refusal.TheVariants.{Damaged, DeviceFailed, OutOfMemory, WrongVersion};
 ghost use Rattle.gate_log.specs.declared.layout.TheConstants.{EMPTY_AREA_LEN};
-ghost use Rattle.gate_log.specs.Layout.{Contents, Holds};
+ghost use Rattle.gate_log.specs.declared.layout.Area.{Area};
+ghost use Rattle.gate_log.specs.Areas.{AreLaidOut, AreOf, Contents, Holds};
+ghost use Rattle.gate_log.specs.Live.{IsLiveAs};
 ghost use Rattle.gate_log.specs.Opening.{opened};
-ghost use Rattle.gate_log.specs.Recover.{OnlyReads, IsHeaderAt};
+ghost use Rattle.gate_log.specs.Recover.{OnlyReads};
 ghost use Rattle.gate_log.specs.Recovered.{IsRecovered};
 ghost use Rattle.store_layout.specs.Entries.{version_byte};
 ghost use Rattle.store_layout.specs.Superblock.{disk_len};
 ghost use Rattle.store.specs.Faults.{HasGoodFront, HeaderFault, IsFault, IsKnown, IsStoreOf, IsUsable};
 ghost use Rattle.store.specs.Found.{IsFound, is_device_refusal};
-ghost use Rattle.store.specs.Image.{IsLive, area_a};
+ghost use Rattle.store.specs.Image.{AreAreas};
 
-use crate::areas::{LAST_GENERATION, first_area};
+use crate::areas::{LAST_GENERATION, first_area, second_area};
 use crate::found::Found;
 use crate::restore::restore;
 use disk::Disk;
-use gate_log::{Area, Header, Opening, RecoverError, Recovered};
+use gate_log::{Area, Header, Live, Opening, RecoverError, Recovered};
 use lw_types::Refusal;
 use std::alloc::Global;
 use store_layout::{RecordVersion, Superblock, laws};
 
-/// An area that counts, its header, and the version of its records.
-#[derive(Clone, Copy)]
-struct Live {
-    area: Area,
-    header: Header,
-    version: RecordVersion,
-}
-
-/// What stands in front of a store's disk, and the area that counts.
+/// What stands in front of a store's disk: its superblock, the live area, and the version of the records there.
 #[derive(Clone, Copy)]
 struct Front {
     superblock: Superblock,
     live: Live,
+    version: RecordVersion,
 }
 
 /// Reads the store on a disk.
 pub(crate) fn read_store<D: Disk>(alloc: Global, opening: &mut Opening<D>) -> Result<Found, Refusal>
     ensures found { D.honest → IfOk result (IsFound (D.state (opened opening.old)).content) }
-    ensures within { IfOk result (λ found. found.area.end ≤ length (D.state (opened opening.old)).content) }
+    ensures layout { IfOk result (λ found. AreLaidOut found.live.areas (length (D.state (opened opening.old)).content)) }
     ensures refused { D.honest → IfErr result (λ e. e ≢ DeviceFailed → e ≢ OutOfMemory
         → IsFault (D.state (opened opening.old)).content e) }
     ensures memory { D.honest → IfErr result (λ e. e ≡ OutOfMemory
@@ -47,18 +42,19 @@ pub(crate) fn read_store<D: Disk>(alloc: Global, opening: &mut Opening<D>) -> Re
     ensures reads { OnlyReads D.honest D.state D.failures D.outlook
         (opened opening.old) (opened opening.new) (is_device_refusal result) }
 {
-    gate_log::laws::what_is_held_has_its_header();
-    gate_log::laws::a_place_has_one_header();
-    gate_log::laws::a_closed_area_holds_nothing();
+    gate_log::laws::what_is_held_is_live();
+    gate_log::laws::one_area_is_live();
+    gate_log::laws::none_live_holds_nothing();
+    gate_log::laws::a_disk_holds_one_contents();
     laws::entries_keep_the_network();
     let front = read_front(opening)?;
-    let recovered = recover(alloc, opening, front)?;
-    let (table, seq) = restore(alloc, &front.superblock, front.live.version, &recovered)?;
+    let recovered = recover(alloc, opening, front.live)?;
+    let (table, seq) = restore(alloc, &front.superblock, front.version, &recovered)?;
     Ok(Found {
         table,
         seq,
-        version: front.live.version,
-        area: front.live.area,
+        version: front.version,
+        live: front.live,
         next: recovered.next,
     })
 }
@@ -72,23 +68,28 @@ fn read_front<D: Disk>(opening: &mut Opening<D>) -> Result<Front, Refusal>
         → (net_id ≡ f.superblock.net_id) × (slots ≡ f.superblock.slots)) }
     ensures long { IfOk result
         (λ f. length (D.state (opened opening.old)).content ≡ disk_len f.superblock.slots) }
-    ensures area { IfOk result (λ f. f.live.area ≡ area_a f.superblock.slots) }
-    ensures live { D.honest → IfOk result
-        (λ f. IsLive (D.state (opened opening.old)).content f.superblock.slots f.live.area f.live.header) }
-    ensures version { IfOk result (λ f. f.live.header.version ≡ version_byte f.live.version) }
-    ensures usable { IfOk result (λ f. IsUsable f.live.area f.live.header) }
+    ensures layout { IfOk result (λ f. AreLaidOut f.live.areas (length (D.state (opened opening.old)).content)) }
+    ensures areas { IfOk result (λ f. AreAreas f.superblock.slots f.live.areas) }
+    ensures live { D.honest → IfOk result (λ f. IsLiveAs f.live (D.state (opened opening.old)).content) }
+    ensures version { IfOk result (λ f. f.live.header.version ≡ version_byte f.version) }
+    ensures usable { IfOk result (λ f. IsUsable f.live.areas.live f.live.header) }
     ensures refused { D.honest → IfErr result (λ e. e ≢ DeviceFailed
         → IsFault (D.state (opened opening.old)).content e) }
     ensures memory { IfErr result (λ e. e ≢ OutOfMemory) }
     ensures reads { OnlyReads D.honest D.state D.failures D.outlook
         (opened opening.old) (opened opening.new) (is_device_refusal result) }
 {
-    gate_log::laws::what_is_held_has_its_header();
-    gate_log::laws::a_place_has_one_header();
-    gate_log::laws::a_closed_area_holds_nothing();
+    gate_log::laws::what_is_held_is_live();
+    gate_log::laws::one_area_is_live();
+    gate_log::laws::none_live_holds_nothing();
+    gate_log::laws::a_disk_holds_one_contents();
     let superblock = read_superblock(opening)?;
-    let live = read_live(opening, &superblock)?;
-    Ok(Front { superblock, live })
+    let (live, version) = read_live(opening, &superblock)?;
+    Ok(Front {
+        superblock,
+        live,
+        version,
+    })
 }
 
 // The superblock of a store whose disk has its length.
@@ -133,29 +134,27 @@ fn read_bytes<D: Disk>(opening: &mut Opening<D>) -> Result<[u8; 32], Refusal>
     }
 }
 
-// The area that counts, where its header is of use.
-fn read_live<D: Disk>(opening: &mut Opening<D>, superblock: &Superblock) -> Result<Live, Refusal>
+// The live area, where its header is of use, and the version of its records.
+fn read_live<D: Disk>(
+    opening: &mut Opening<D>,
+    superblock: &Superblock,
+) -> Result<(Live, RecordVersion), Refusal>
     requires { length (D.state (opened opening.old)).content ≡ disk_len superblock.now.slots }
-    ensures area { IfOk result (λ live. live.area ≡ area_a superblock.now.slots) }
-    ensures live { D.honest → IfOk result
-        (λ live. IsLive (D.state (opened opening.old)).content superblock.now.slots live.area live.header) }
-    ensures version { IfOk result (λ live. live.header.version ≡ version_byte live.version) }
-    ensures usable { IfOk result (λ live. IsUsable live.area live.header) }
+    ensures layout { IfOk result (λ r. AreLaidOut r.0.areas (length (D.state (opened opening.old)).content)) }
+    ensures areas { IfOk result (λ r. AreAreas superblock.now.slots r.0.areas) }
+    ensures live { D.honest → IfOk result (λ r. IsLiveAs r.0 (D.state (opened opening.old)).content) }
+    ensures version { IfOk result (λ r. r.0.header.version ≡ version_byte r.1) }
+    ensures usable { IfOk result (λ r. IsUsable r.0.areas.live r.0.header) }
     ensures refused { D.honest → IfErr result (λ e. e ≢ DeviceFailed
         → HeaderFault (D.state (opened opening.old)).content superblock.now.slots e) }
     ensures memory { IfErr result (λ e. e ≢ OutOfMemory) }
     ensures reads { OnlyReads D.honest D.state D.failures D.outlook
         (opened opening.old) (opened opening.new) (is_device_refusal result) }
 {
-    let area = first_area(superblock);
-    match opening.header(area) {
-        Ok(Some(header)) => {
-            let version = usable_version(header, area)?;
-            Ok(Live {
-                area,
-                header,
-                version,
-            })
+    match opening.live(first_area(superblock), second_area(superblock)) {
+        Ok(Some(live)) => {
+            let version = usable_version(live.header, live.areas.live)?;
+            Ok((live, version))
         }
         Ok(None) => Err(Refusal::Damaged),
         Err(_) => Err(Refusal::DeviceFailed),
@@ -183,24 +182,22 @@ fn usable_version(header: Header, area: Area) -> Result<RecordVersion, Refusal>
 fn recover<D: Disk>(
     alloc: Global,
     opening: &mut Opening<D>,
-    front: Front,
+    live: Live,
 ) -> Result<Recovered, Refusal>
-    requires long { length (D.state (opened opening.old)).content ≡ disk_len front.superblock.slots }
-    requires area { front.live.area ≡ area_a front.superblock.slots }
-    requires usable { IsUsable front.live.area front.live.header }
-    ensures recovered { D.honest
-        → IsHeaderAt (D.state (opened opening.old)).content front.live.area.start front.live.header
-        → IfOk result (IsRecovered front.live.area (D.state (opened opening.old)).content) }
-    ensures header { IfOk result (λ recovered. recovered.header ≡ front.live.header) }
-    ensures next { IfOk result (λ recovered. recovered.next < front.live.area.end) }
-    ensures refused { D.honest
-        → IsHeaderAt (D.state (opened opening.old)).content front.live.area.start front.live.header
+    requires layout { AreLaidOut live.areas (length (D.state (opened opening.old)).content) }
+    requires usable { IsUsable live.areas.live live.header }
+    ensures recovered { D.honest → IsLiveAs live (D.state (opened opening.old)).content
+        → IfOk result (IsRecovered live.areas (D.state (opened opening.old)).content) }
+    ensures header { IfOk result (λ recovered. recovered.header ≡ live.header) }
+    ensures next { IfOk result (λ recovered. recovered.next < live.areas.live.end) }
+    ensures refused { D.honest → IsLiveAs live (D.state (opened opening.old)).content
         → IfErr result (λ e. e ≢ DeviceFailed → e ≢ OutOfMemory → (e ≡ Damaged)
-        × ((c : Contents) → ¬ Holds front.live.area c (D.state (opened opening.old)).content)) }
+        × ((a b : Area) → AreOf a b live.areas → (c : Contents) → AreOf a b c.areas
+        → ¬ Holds c (D.state (opened opening.old)).content)) }
     ensures reads { OnlyReads D.honest D.state D.failures D.outlook
         (opened opening.old) (opened opening.new) (is_device_refusal result) }
 {
-    match opening.recover(alloc, front.live.area, front.live.header) {
+    match opening.recover(alloc, live) {
         Ok(recovered) => Ok(recovered),
         Err(RecoverError::Device) => Err(Refusal::DeviceFailed),
         Err(RecoverError::OutOfMemory) => Err(Refusal::OutOfMemory),

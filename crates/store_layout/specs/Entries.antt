@@ -1,5 +1,5 @@
 -- Entries: what a store keeps of one device each, and what they make of a table one after another.
-use Rattle.std.specs.Prelude.{◌≡◌, ◌<◌, ◌^◌, ℕ, Bool, true, cond, ◌&&◌, ltb, leb, eqb, List, [], ◌∷◌, ◌++◌, length, map, Option, Some, None}
+use Rattle.std.specs.Prelude.{◌≡◌, ◌<◌, ◌^◌, ℕ, suc, Bool, true, cond, ◌&&◌, ltb, leb, eqb, List, [], ◌∷◌, ◌++◌, length, map, Option, Some, None}
 use Rattle.std.specs.List.{flat_map, AllByRecursion}
 use Rattle.std.specs.Option.{option_and_then}
 use Rattle.std.specs.Int.{to_be_bytes, w16}
@@ -69,3 +69,12 @@ pub record Replay (version : RecordVersion) (t : TableState) (bytes : List ℕ) 
 -- the entries of decisions: the record that each leaves, under its slot
 abbrev pub entries_of : List Decision → List Entry
 entries_of ds = map (λ d. Whole d.slot d.after) ds
+
+-- the entries of devices from a slot on: the record of each, under its slot
+abbrev pub entries_from : ℕ → List Device → List Entry
+entries_from slot [] = []
+entries_from slot (device ∷ devices) = Whole slot device ∷ entries_from (suc slot) devices
+
+-- the entries of a table, in order of slots
+abbrev pub entries_of_table : TableState → List Entry
+entries_of_table t = entries_from 0 t.devices

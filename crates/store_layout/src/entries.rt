@@ -4,7 +4,7 @@ ghost use Rattle.std.specs.Int.{to_be_bytes, w16};
 ghost use Rattle.lw_types.specs.declared.refusal.Refusal.TheVariants.{OutOfMemory, Damaged};
 ghost use Rattle.sessions.specs.Table.{TableState};
 ghost use Rattle.store_layout.specs.declared.entries.Entry.TheVariants.{Whole};
-ghost use Rattle.store_layout.specs.Entries.{AreEntries, IsEntry, Lacks, Replay, entries, entries_of, entry, put_one};
+ghost use Rattle.store_layout.specs.Entries.{AreEntries, IsEntry, Lacks, Replay, entries, entries_of, entries_of_table, entry, put_one};
 
 use crate::version::RecordVersion;
 use devices::Device;
@@ -92,6 +92,29 @@ pub fn batch_entries(
         put_entry(alloc, version, decision.slot, &decision.after, &mut bytes)?;
     }
     Ok(bytes)
+}
+
+/// Appends the entries of a table: the record of each device under its slot, in order of slots. After an `Err`, which is
+/// want of memory, a beginning of them was appended.
+pub fn put_table(
+    alloc: Global,
+    version: RecordVersion,
+    table: &Table,
+    out: &mut Vec<u8>,
+) -> Result<(), Refusal>
+    ensures { MatchResult result
+        (λ _. (out.new.items ≡ out.old.items ++ entries version (entries_of_table table.now))
+        × AreEntries version (entries_of_table table.now))
+        (λ e. e ≡ OutOfMemory) }
+{
+    // A table has at most 4,096 slots.
+    let _slots = table.slots();
+    let mut slot = 0;
+    for device in table.devices() {
+        put_entry(alloc, version, slot, device, out)?;
+        slot += 1;
+    }
+    Ok(())
 }
 
 // The entry at the front of some bytes, and the bytes behind it.

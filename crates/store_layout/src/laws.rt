@@ -1,11 +1,12 @@
 //! What follows from the layout alone. The functions do nothing: their contracts are the laws.
 ghost use Rattle.std.specs.Prelude.{◌≡◌, ◌≤◌, ◌*◌, ℕ, List, Some, length};
-ghost use Rattle.sessions.specs.Table.{TableState};
+ghost use Rattle.sessions.specs.Index.{HaveOwnSlots};
+ghost use Rattle.sessions.specs.Table.{TableState, empty_table};
 ghost use Rattle.sessions.specs.Decision.{FitAll, applied_all};
 ghost use Rattle.sessions.specs.declared.decision.Decision.{Decision};
 ghost use Rattle.store_layout.specs.declared.entries.Entry.{Entry};
 ghost use Rattle.store_layout.specs.declared.version.RecordVersion.{RecordVersion};
-ghost use Rattle.store_layout.specs.Entries.{AreEntries, Replay, entries, entries_of, put_all};
+ghost use Rattle.store_layout.specs.Entries.{AreEntries, Replay, entries, entries_of, entries_of_table, put_all};
 
 use record_codec::laws;
 
@@ -19,6 +20,15 @@ pub fn decisions_replay()
 {
     sessions::laws::decided_records_may_be_put();
 }
+
+/// The entries of a table in which no two devices have one DevEUI replay on the table without devices, and lead to it.
+pub fn a_table_replays()
+    ensures replay { (version : RecordVersion) (t : TableState) → HaveOwnSlots t.devices → length t.devices ≤ t.slots
+        → AreEntries version (entries_of_table t)
+        → Replay version (empty_table t.net_id t.slots) (entries version (entries_of_table t)) (length t.devices)
+        (entries_of_table t) t }
+    ensures number { (t : TableState) → length (entries_of_table t) ≡ length t.devices }
+{}
 
 /// Bytes are so many entries in one way at most, and lead to one table.
 pub fn bytes_replay_in_one_way()

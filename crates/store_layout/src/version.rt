@@ -27,6 +27,15 @@ impl RecordVersion {
         }
     }
 
+    /// The version's byte in a header.
+    pub fn byte(self) -> u8
+        ensures { result ≡ version_byte self }
+    {
+        match self {
+            RecordVersion::V1 => 1,
+        }
+    }
+
     // Appends the record of a device. After an `Err`, which is want of memory, nothing was appended.
     pub(crate) fn write(
         self,

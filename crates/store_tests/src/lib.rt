@@ -8,6 +8,8 @@ mod disk_tests;
 #[cfg(test)]
 mod gate_log_tests;
 #[cfg(test)]
+mod store_checkpoints_tests;
+#[cfg(test)]
 mod store_images_tests;
 #[cfg(test)]
 mod store_joins_tests;

@@ -1,6 +1,6 @@
 // Images of stores, opened.
 use crate::devices_under_test::{busy_device, idle_device};
-use crate::store_tests::{FRONT, LEN, found, provision, with_one_device};
+use crate::store_tests::{FRONT, LEN, SECOND_AREA, found, provision, with_one_device};
 use devices::Device;
 use disk::{MemDisk, Sim};
 use lw_types::{Eui, Refusal};
@@ -154,10 +154,11 @@ fn add_batch(bytes: &mut Vec<u8>, last: u8, count: u8, entries: &[u8]) -> Result
     Ok(())
 }
 
-// A disk with these bytes in front, then a closed gate, and open gates behind it.
+// A disk with these bytes in front, then a closed gate, and open gates behind it up to the second area, which is closed.
 fn disk_of(alloc: Global, mut bytes: Vec<u8>) -> Result<MemDisk, Refusal> {
     bytes.push(0x00)?;
-    bytes.resize(LEN, 0xA5)?;
+    bytes.resize(SECOND_AREA, 0xA5)?;
+    bytes.resize(LEN, 0x00)?;
     Ok(MemDisk::new(alloc, bytes)?)
 }
 
@@ -238,19 +239,46 @@ fn a_busy_device_has_a_long_entry(rt: HostRuntime) {
     assert!(rt; busy_entries(rt.alloc()).is_ok_and(|entries| entries.len() == 3 * 4_039));
 }
 
-// The refusal of a checkpoint with a device of DevEUI 1 at slot 0, and this one at this slot.
-fn refused_beside(alloc: Global, slot: u16, dev_eui: u64) -> Result<Option<Refusal>, Refusal> {
-    let mut records = idle_entry(alloc, 0, 1)?;
-    add_idle(alloc, &mut records, slot, dev_eui)?;
-    let disk = disk_of(alloc, checkpoint(alloc, 2, &records)?)?;
+// The refusal of a checkpoint that says so many records, and has those of idle devices at these slots.
+fn refused_records(
+    alloc: Global,
+    count: u8,
+    devices: &[(u16, u64)],
+) -> Result<Option<Refusal>, Refusal> {
+    let mut records = Vec::new(alloc);
+    for (slot, dev_eui) in devices {
+        add_idle(alloc, &mut records, *slot, *dev_eui)?;
+    }
+    let disk = disk_of(alloc, checkpoint(alloc, count, &records)?)?;
     Ok(open(alloc, disk).err())
 }
 
-// Entries that may not be put: a DevEUI in two slots, a slot passed over, one more record than slots.
+// Slots and DevEUIs of records that may not stand, and the number that the header says.
+const RECORDS: &[(u8, &[(u16, u64)])] = &[
+    // A DevEUI in two slots, a slot passed over, one more record than slots.
+    (2, &[(0, 1), (1, 1)]),
+    (2, &[(0, 1), (2, 2)]),
+    (2, &[(0, 1), (8, 9)]),
+    // A slot twice, of another device or of the same one, and behind others.
+    (2, &[(0, 1), (0, 2)]),
+    (2, &[(0, 1), (0, 1)]),
+    (3, &[(0, 1), (1, 2), (0, 3)]),
+    // Another order.
+    (2, &[(1, 2), (0, 1)]),
+    (1, &[(1, 1)]),
+    // Another number.
+    (0, &[(0, 1)]),
+    (1, &[(0, 1), (1, 2)]),
+    (3, &[(0, 1), (1, 2)]),
+];
+
 #[test]
 fn records_that_may_not_stand_are_refused(rt: HostRuntime) {
-    for (slot, dev_eui) in &[(1, 1), (2, 2), (8, 9)] {
-        let refused = refused_beside(rt.alloc(), *slot, *dev_eui);
-        assert!(rt; refused == Ok(Some(Refusal::Damaged)), "slot {slot}");
+    for (count, devices) in RECORDS {
+        let refused = refused_records(rt.alloc(), *count, devices);
+        assert!(rt;
+            refused == Ok(Some(Refusal::Damaged)),
+            "{count} of {devices:?}"
+        );
     }
 }

@@ -8,7 +8,7 @@ use store::{Store, disk_len, format, format_back, open};
 // The length of the disk of a store with 8 slots, and the place of its second area.
 pub const LEN: usize = 2_166_124;
 
-const SECOND_AREA: usize = 32 + 1_083_046;
+pub const SECOND_AREA: usize = 32 + 1_083_046;
 
 // The front of a new store of network 00002A with 8 slots, as the format spells it.
 pub const FRONT: [u8; 62] = [
@@ -20,7 +20,7 @@ pub const FRONT: [u8; 62] = [
 ];
 
 // A byte that stands nowhere on the disks of these tests.
-const TORN: u8 = 0xDD;
+pub const TORN: u8 = 0xDD;
 
 // A disk that was full of open gates.
 fn blank(alloc: Global, len: usize) -> Result<MemDisk, Refusal> {
@@ -176,7 +176,7 @@ fn cut_commit(alloc: Global, calls: u64) -> Result<MemDisk, Refusal> {
 }
 
 // The first torn position, and how many there are.
-fn torn(content: &[u8]) -> (Option<usize>, usize) {
+pub fn torn(content: &[u8]) -> (Option<usize>, usize) {
     let torn = content.iter().filter(|byte| **byte == TORN).count();
     (content.iter().position(|byte| *byte == TORN), torn)
 }

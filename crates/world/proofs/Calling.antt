@@ -17,10 +17,10 @@ use Rattle.world.specs.declared.commit.Commit.{Commit}
 use Rattle.world.specs.declared.commit.Commit.TheVariants as commits
 use Rattle.world.specs.declared.answer.Answer.TheVariants as answers
 use Rattle.world.specs.Folding.{RunLaws}
-use Rattle.world.specs.Course.{Origin, Course, Flight, Stage, flying, moved_on, succeeded, failed, table_from, number_from}
+use Rattle.world.specs.Course.{Checkpoint, Origin, Course, Flight, Stage, cut_off, flying, moved_on, no_call, one_call, one_call_on, succeeded, failed, table_from, number_from}
 use Rattle.world.specs.Course.Stage.{Durable}
 use Rattle.world.specs.Answers.{AnswersCall, MayLeave}
-use Rattle.world.specs.Commits.{GoesTo, HasCall, IsOn, decisions_in, flight, flights_in, stored}
+use Rattle.world.specs.Commits.{GoesTo, HasCall, IsOn, checkpoint_in, decisions_in, flight, flights_in, stored}
 use Rattle.world.specs.Follows.{HasFailed, IsAt, IsHealthy, IsLife}
 use Rattle.world.proofs.Flights.{flying_moved, leaves_from, stored_from}
 
@@ -85,29 +85,31 @@ has_call commit idle failed durable = tt
 pub on_refusal : {T E : Type 0} (r : Result T E) (e : E) (X Y : Type 0) → r ≡ Err e → Y → MatchResult r (λ _. X) (λ _. Y)
 on_refusal r e X Y is y = subst (λ r. MatchResult r (λ _. X) (λ _. Y)) (sym is) y
 
--- a commit with a call to make has one batch under way, which isn't durable
-record IsCallable (commit : Commit) : Type 0 where
+-- where there is a call to make, one batch is under way, which isn't durable, or a checkpoint
+record IsCallable (s : StoreState) (commit : Commit) : Type 0 where
   pub alone : (settled : List Command) → stored settled (flights_in commit) ≡ settled
-  pub succeeds : AnswersCall (flights_in commit) answers.Called
-  pub fails : AnswersCall (flights_in commit) (answers.Refused refusals.DeviceFailed)
-  pub failed_then : HasFailed (moved_on failed (flights_in commit))
+  pub succeeds : AnswersCall (flights_in commit) (checkpoint_in s commit) answers.Called
+  pub fails : AnswersCall (flights_in commit) (checkpoint_in s commit) (answers.Refused refusals.DeviceFailed)
+  pub failed_then : HasFailed (moved_on failed (flights_in commit)) (cut_off (checkpoint_in s commit))
 
-is_callable : (commit : Commit) → HasCall commit → IsCallable commit
-is_callable (commits.Begun phase room) call = record { alone = λ settled. refl; succeeds = inl refl; fails = inr refl; failed_then = inl refl }
-is_callable (commits.Written phase room) call = record { alone = λ settled. refl; succeeds = inl refl; fails = inr refl; failed_then = inl refl }
-is_callable (commits.BodySynced phase room) call = record { alone = λ settled. refl; succeeds = inl refl; fails = inr refl; failed_then = inr refl }
-is_callable (commits.GateWritten phase room) call = record { alone = λ settled. refl; succeeds = inl refl; fails = inr refl; failed_then = inr refl }
-is_callable commit call = absurd call
+is_callable : (s : StoreState) (commit : Commit) → HasCall commit → IsCallable s commit
+is_callable s (commits.Begun phase room) call = record { alone = λ settled. refl; succeeds = inl refl; fails = inr refl; failed_then = (inl refl, refl) }
+is_callable s (commits.Written phase room) call = record { alone = λ settled. refl; succeeds = inl refl; fails = inr refl; failed_then = (inl refl, refl) }
+is_callable s (commits.BodySynced phase room) call = record { alone = λ settled. refl; succeeds = inl refl; fails = inr refl; failed_then = (inr refl, refl) }
+is_callable s (commits.GateWritten phase room) call = record { alone = λ settled. refl; succeeds = inl refl; fails = inr refl; failed_then = (inr refl, refl) }
+is_callable s (commits.Checkpoint phase) call = record { alone = λ settled. refl; succeeds = inl refl; fails = inr refl; failed_then = refl }
+is_callable s commit call = absurd call
 
-at_call : (flights : List Flight) (t : TableState) (s : StoreState) (commit : Commit) → HasCall commit → IsAt flights t s commit
-    → (flights ≡ flights_in commit) × (FitAll t (decisions_in commit) × IsOn s commit)
-at_call flights t s commits.Failed call at = absurd call
-at_call flights t s commit call at = at
+at_call : (flights : List Flight) (checkpoint : Checkpoint) (t : TableState) (s : StoreState) (commit : Commit) → HasCall commit
+    → IsAt flights checkpoint t s commit
+    → (flights ≡ flights_in commit) × (FitAll t (decisions_in commit) × (IsOn s commit × (checkpoint ≡ checkpoint_in s commit)))
+at_call flights checkpoint t s commits.Failed call at = absurd call
+at_call flights checkpoint t s commit call at = at
 
-is_at : (flights : List Flight) (t : TableState) (s : StoreState) (commit : Commit) → flights ≡ flights_in commit → FitAll t (decisions_in commit)
-    → IsOn s commit → IsAt flights t s commit
-is_at flights t s commits.Failed is fit on = absurd on
-is_at flights t s commit is fit on = (is, (fit, on))
+is_at : (flights : List Flight) (checkpoint : Checkpoint) (t : TableState) (s : StoreState) (commit : Commit) → flights ≡ flights_in commit
+    → FitAll t (decisions_in commit) → IsOn s commit → checkpoint ≡ checkpoint_in s commit → IsAt flights checkpoint t s commit
+is_at flights checkpoint t s commits.Failed is fit on checkpoint_is = absurd on
+is_at flights checkpoint t s commit is fit on checkpoint_is = (is, (fit, (on, checkpoint_is)))
 
 still_healthy : (s s' : StoreState) (before after : Commit) → HasCall before → s'.failed ≡ s.failed → IsHealthy s before → IsHealthy s' after
 still_healthy s s' commits.Failed after call same healthy = absurd call
@@ -116,14 +118,24 @@ still_healthy s s' before after call same healthy = same ∙ healthy
 
 module _ (laws : RunLaws) (origin : Origin) (c : Course) (s s' : StoreState) (core : DecisionsState) (commit : Commit) (call : HasCall commit)
     (f : IsLife origin c s core commit) where
+  at : (c.flights ≡ flights_in commit)
+      × (FitAll (table_from origin c.settled) (decisions_in commit) × (IsOn s commit × (c.checkpoint ≡ checkpoint_in s commit)))
+  at = at_call c.flights c.checkpoint (table_from origin c.settled) s commit call f.under_way
+
   flights_are : c.flights ≡ flights_in commit
-  flights_are = (at_call c.flights (table_from origin c.settled) s commit call f.under_way).0
+  flights_are = at.0
 
   pub is_on : IsOn s commit
-  is_on = (at_call c.flights (table_from origin c.settled) s commit call f.under_way).1.1
+  is_on = at.1.1.0
+
+  checkpoint_is : c.checkpoint ≡ checkpoint_in s commit
+  checkpoint_is = at.1.1.1
+
+  callable : IsCallable s commit
+  callable = is_callable s commit call
 
   alone : stored c.settled c.flights ≡ c.settled
-  alone = ap (stored c.settled) flights_are ∙ (is_callable commit call).alone c.settled
+  alone = ap (stored c.settled) flights_are ∙ callable.alone c.settled
 
   table : s.table ≡ table_from origin c.settled
   table = f.table ∙ ap (table_from origin) alone
@@ -141,11 +153,11 @@ module _ (laws : RunLaws) (origin : Origin) (c : Course) (s s' : StoreState) (co
   folded_of more = ap (λ t. folded t more) table ∙ sym (laws.joined origin.table c.settled more)
 
   -- the life after a call
-  goes_on : (move : Stage → Stage) (next : Commit) → GoesTo (moved_on move (flights_in commit)) s s'
-      → IsAt (moved_on move (flights_in commit)) (table_from origin c.settled) s' next → IsHealthy s' next
-      → IsLife origin (record c { flights = moved_on move c.flights }) s' core next
-  goes_on move next goes at healthy =
-      subst (λ fl. IsLife origin (record c { flights = moved_on move fl }) s' core next) (sym flights_are) (
+  goes_on : (move : Stage → Stage) (checkpoint : Checkpoint) (next : Commit) → GoesTo (moved_on move (flights_in commit)) s s'
+      → IsAt (moved_on move (flights_in commit)) checkpoint (table_from origin c.settled) s' next → IsHealthy s' next
+      → IsLife origin (record c { flights = moved_on move c.flights; checkpoint = checkpoint }) s' core next
+  goes_on move checkpoint next goes there healthy =
+      subst (λ fl. IsLife origin (record c { flights = moved_on move fl; checkpoint = checkpoint }) s' core next) (sym flights_are) (
       let flights = moved_on move (flights_in commit) in
       let stored_is = sym (stored_from c.settled flights) in
       let flying_is : flying c.flights ≡ flying flights = ap flying flights_are ∙ sym (flying_moved move (flights_in commit)) in
@@ -156,7 +168,7 @@ module _ (laws : RunLaws) (origin : Origin) (c : Course) (s s' : StoreState) (co
         number = f.number ∙ ap (λ l. number_from origin (c.settled ++ (l ++ c.given_up))) flying_is;
         untaken = f.untaken;
         made = f.made;
-        under_way = at;
+        under_way = there;
         healthy = healthy;
         survives = λ image p.
             let found = goes.images image p in (
@@ -168,23 +180,26 @@ module _ (laws : RunLaws) (origin : Origin) (c : Course) (s s' : StoreState) (co
       )
 
   -- a call that succeeded
-  pub call_succeeds : (next : Commit) → flights_in next ≡ moved_on succeeded (flights_in commit) → decisions_in next ≡ decisions_in commit → IsOn s' next
+  pub call_succeeds : (next : Commit) → flights_in next ≡ moved_on succeeded (flights_in commit)
+      → checkpoint_in s' next ≡ one_call_on (checkpoint_in s commit) → decisions_in next ≡ decisions_in commit → IsOn s' next
       → GoesTo (moved_on succeeded (flights_in commit)) s s' → s'.failed ≡ s.failed
-      → AnswersCall c.flights answers.Called × IsLife origin (record c { flights = moved_on succeeded c.flights }) s' core next
-  call_succeeds next flights decisions on goes same =
+      → AnswersCall c.flights c.checkpoint answers.Called × IsLife origin (one_call c) s' core next
+  call_succeeds next flights checkpoint decisions on goes same =
       let t = table_from origin c.settled in (
-        subst (λ fl. AnswersCall fl answers.Called) (sym flights_are) (is_callable commit call).succeeds,
-        goes_on succeeded next goes
-            (is_at (moved_on succeeded (flights_in commit)) t s' next (sym flights)
-            (subst (FitAll t) (sym decisions) (at_call c.flights t s commit call f.under_way).1.0) on)
+        subst (λ k. AnswersCall c.flights k answers.Called) (sym checkpoint_is)
+            (subst (λ fl. AnswersCall fl (checkpoint_in s commit) answers.Called) (sym flights_are) callable.succeeds),
+        goes_on succeeded (one_call_on c.checkpoint) next goes
+            (is_at (moved_on succeeded (flights_in commit)) (one_call_on c.checkpoint) t s' next (sym flights)
+            (subst (FitAll t) (sym decisions) at.1.0) on (ap one_call_on checkpoint_is ∙ sym checkpoint))
             (still_healthy s s' commit next call same f.healthy),
       )
 
   -- and one that failed
   pub call_fails : GoesTo (moved_on failed (flights_in commit)) s s'
-      → AnswersCall c.flights (answers.Refused refusals.DeviceFailed)
-      × IsLife origin (record c { flights = moved_on failed c.flights }) s' core commits.Failed
+      → AnswersCall c.flights c.checkpoint (answers.Refused refusals.DeviceFailed) × IsLife origin (no_call c) s' core commits.Failed
   call_fails goes = (
-    subst (λ fl. AnswersCall fl (answers.Refused refusals.DeviceFailed)) (sym flights_are) (is_callable commit call).fails,
-    goes_on failed commits.Failed goes (is_callable commit call).failed_then tt,
+    subst (λ k. AnswersCall c.flights k (answers.Refused refusals.DeviceFailed)) (sym checkpoint_is)
+        (subst (λ fl. AnswersCall fl (checkpoint_in s commit) (answers.Refused refusals.DeviceFailed)) (sym flights_are) callable.fails),
+    goes_on failed (cut_off c.checkpoint) commits.Failed goes
+        (subst (λ k. HasFailed (moved_on failed (flights_in commit)) (cut_off k)) (sym checkpoint_is) callable.failed_then) tt,
   )

@@ -78,6 +78,10 @@ take_keeps origin c most (answers.GivenUp n) = keeps origin c _ refl refl refl r
 take_keeps origin c most (answers.Refused e) = refusal_keeps origin c most e
 take_keeps origin c most answer = same_keeps origin c
 
+checkpoint_keeps : (origin : Origin) (c : Course) (answer : Answer) → Keeps origin c (after origin c steps.Checkpoint answer)
+checkpoint_keeps origin c (answers.Begun calls) = keeps origin c _ refl refl refl refl
+checkpoint_keeps origin c answer = same_keeps origin c
+
 call_keeps : (origin : Origin) (c : Course) (answer : Answer) → Keeps origin c (after origin c steps.Call answer)
 call_keeps origin c answers.Called = keeps origin c _ refl refl refl refl
 call_keeps origin c (answers.Refused e) = keeps origin c _ refl refl refl refl
@@ -108,6 +112,7 @@ pub step_keeps : (laws : RunLaws) (origin : Origin) (c : Course) (step : Step) (
 step_keeps laws origin c (steps.Event moment event) answer own = event_keeps origin c moment event answer
 step_keeps laws origin c (steps.Piece link moment bytes) answer own = piece_keeps origin c link moment bytes.items answer
 step_keeps laws origin c (steps.Take most) answer own = take_keeps origin c most answer
+step_keeps laws origin c steps.Checkpoint answer own = checkpoint_keeps origin c answer
 step_keeps laws origin c steps.Call answer own = call_keeps origin c answer
 step_keeps laws origin c steps.Release answer own = release_keeps laws origin c answer
 step_keeps laws origin c steps.Fail answer own = same_keeps origin c

@@ -12,6 +12,7 @@ pub mod Releasing
 pub mod Emitting
 pub mod Known
 pub mod Taking
+pub mod Publishing
 pub mod Opening
 pub mod OneLife
 pub mod Stepping

@@ -17,9 +17,10 @@ use Rattle.world.specs.declared.answer.Answer.TheVariants as answers
 use Rattle.world.specs.declared.step.Step.{Step}
 use Rattle.world.specs.declared.event.Event.{Event}
 use Rattle.world.specs.declared.step.Step.TheVariants as steps
-use Rattle.world.specs.Course.{Course, Flight, Origin, Stage, after, beginning, course_of, decided, effects_from, number_from, pieced, released, table_from, told_more}
+use Rattle.world.specs.Course.{Checkpoint, Course, Flight, Origin, Stage, after, beginning, course_of, decided, effects_from, number_from, pieced, released, table_from, told_more}
+use Rattle.world.specs.Course.Checkpoint.{NotUnderWay, CallsLeft, CallFailed}
 use Rattle.world.specs.Course.Stage.{Durable, Stopped, Unsure}
-use Rattle.world.specs.Answers.{AreRight, IsRight, AnswersOpen, AnswersClosed, AnswersTake, AnswersCall, AnswersRelease, TakesBehind, Calls, Releases}
+use Rattle.world.specs.Answers.{AreRight, IsRight, AnswersOpen, AnswersClosed, AnswersTake, AnswersCall, AnswersCheckpoint, AnswersRelease, Behind, Beside, Calls, CallsFor, Checkpoints, IsCalled, Releases, Takes}
 use Rattle.world.specs.Follows.{IsOwn}
 use Rattle.world.specs.OneLife.{HasNoCrash, NoneGivenUp, NoneOutOfStep, emitted, IsOneLife}
 use Rattle.world.proofs.Shapes.{turned-shape, turned_all-shape}
@@ -50,16 +51,25 @@ apart : (e : Emission) (answer : Answer) → is_emitted answer ≡ 0 → answers
 apart e answer quiet h = let n = ap is_emitted h in absurd (omega (arith, quiet, n))
 
 -- no step but an emit is answered by what was emitted
-behind_quiet : (stage : Stage) (e : Emission) → TakesBehind stage (answers.Emitted e) → ⊥
+behind_quiet : (stage : Stage) (e : Emission) → Behind stage (answers.Emitted e) → ⊥
 behind_quiet Stopped e h = apart e (answers.Refused refusals.Failed) refl h
 behind_quiet Unsure e h = apart e (answers.Refused refusals.Failed) refl h
 behind_quiet stage e h = apart e answers.Idle refl h
 
+beside_quiet : (checkpoint : Checkpoint) (free : Type 0) (e : Emission) → (free → ⊥) → Beside checkpoint free (answers.Emitted e) → ⊥
+beside_quiet NotUnderWay free e none h = none h
+beside_quiet (CallsLeft n) free e none h = apart e answers.Idle refl h
+beside_quiet CallFailed free e none h = apart e (answers.Refused refusals.Failed) refl h
+
+checkpoint_quiet : (flights : List Flight) (checkpoint : Checkpoint) (e : Emission) → AnswersCheckpoint flights checkpoint (answers.Emitted e) → ⊥
+checkpoint_quiet [] checkpoint e h = beside_quiet checkpoint (Checkpoints (answers.Emitted e)) e (λ free. free) h
+checkpoint_quiet (flight ∷ flights) checkpoint e h = behind_quiet flight.stage e h
+
 take_quiet : (flights : List Flight) (c : Course) (most : ℕ) (e : Emission) → AnswersTake flights c most (answers.Emitted e) → ⊥
-take_quiet [] c most e h = h
+take_quiet [] c most e h = beside_quiet c.checkpoint (Takes c most (answers.Emitted e)) e (λ free. free) h
 take_quiet (flight ∷ flights) c most e h = behind_quiet flight.stage e h
 
-called_quiet : (e : Emission) → (answers.Emitted e ≡ answers.Called) ⊎ (answers.Emitted e ≡ answers.Refused refusals.DeviceFailed) → ⊥
+called_quiet : (e : Emission) → IsCalled (answers.Emitted e) → ⊥
 called_quiet e (inl h) = apart e answers.Called refl h
 called_quiet e (inr h) = apart e (answers.Refused refusals.DeviceFailed) refl h
 
@@ -69,9 +79,14 @@ calls_quiet Stopped e h = apart e answers.Idle refl h
 calls_quiet Unsure e h = apart e answers.Idle refl h
 calls_quiet stage e h = called_quiet e h
 
-call_quiet : (flights : List Flight) (e : Emission) → AnswersCall flights (answers.Emitted e) → ⊥
-call_quiet [] e h = apart e answers.Idle refl h
-call_quiet (flight ∷ flights) e h = calls_quiet flight.stage e h
+calls_for_quiet : (checkpoint : Checkpoint) (e : Emission) → CallsFor checkpoint (answers.Emitted e) → ⊥
+calls_for_quiet (CallsLeft n) e h = called_quiet e h
+calls_for_quiet NotUnderWay e h = apart e answers.Idle refl h
+calls_for_quiet CallFailed e h = apart e answers.Idle refl h
+
+call_quiet : (flights : List Flight) (checkpoint : Checkpoint) (e : Emission) → AnswersCall flights checkpoint (answers.Emitted e) → ⊥
+call_quiet [] checkpoint e h = calls_for_quiet checkpoint e h
+call_quiet (flight ∷ flights) checkpoint e h = calls_quiet flight.stage e h
 
 releases_quiet : (stage : Stage) (n : ℕ) (e : Emission) → Releases stage n (answers.Emitted e) → ⊥
 releases_quiet Durable n e h = apart e (answers.Released n) refl h
@@ -89,7 +104,8 @@ quiet : (origin : Origin) (c : Course) (step : Step) (e : Emission) → IsOwn st
 quiet origin c (steps.Event moment event) e own h = h
 quiet origin c (steps.Piece link moment bytes) e own h = h
 quiet origin c (steps.Take most) e own h = take_quiet c.flights c most e h
-quiet origin c steps.Call e own h = call_quiet c.flights e h
+quiet origin c steps.Checkpoint e own h = checkpoint_quiet c.flights c.checkpoint e h
+quiet origin c steps.Call e own h = call_quiet c.flights c.checkpoint e h
 quiet origin c steps.Fail e own h = apart e answers.Armed refl h
 quiet origin c steps.Release e own h = release_quiet origin c c.flights e h
 quiet origin c steps.List e own h = list_quiet e (answers.Listed (table_from origin (decided c)) (number_from origin (decided c))) refl h
@@ -174,6 +190,8 @@ step_lives laws origin c said (steps.Piece link moment bytes) answer calm right 
     own_lives laws origin c said (steps.Piece link moment bytes) answer tt (silent origin c (steps.Piece link moment bytes) answer tt right) lives
 step_lives laws origin c said (steps.Take most) answer calm right lives =
     own_lives laws origin c said (steps.Take most) answer tt (silent origin c (steps.Take most) answer tt right) lives
+step_lives laws origin c said steps.Checkpoint answer calm right lives =
+    own_lives laws origin c said steps.Checkpoint answer tt (silent origin c steps.Checkpoint answer tt right) lives
 step_lives laws origin c said steps.Call answer calm right lives = own_lives laws origin c said steps.Call answer tt (silent origin c steps.Call answer tt right) lives
 step_lives laws origin c said steps.Fail answer calm right lives = own_lives laws origin c said steps.Fail answer tt (silent origin c steps.Fail answer tt right) lives
 step_lives laws origin c said steps.Release answer calm right lives = own_lives laws origin c said steps.Release answer tt (silent origin c steps.Release answer tt right) lives
@@ -196,14 +214,23 @@ refused_with (answers.Refused e) = number_of e
 refused_with answer = 0
 
 -- a batch is out of step only behind one that was lost
-behind_in_step : (stage : Stage) → TakesBehind stage (answers.Refused OutOfStep) → ⊥
+behind_in_step : (stage : Stage) → Behind stage (answers.Refused OutOfStep) → ⊥
 behind_in_step Stopped h = let n = ap refused_with h in absurd (omega (arith, n))
 behind_in_step Unsure h = let n = ap refused_with h in absurd (omega (arith, n))
 behind_in_step stage h = let n = ap refused_with h in absurd (omega (arith, n))
 
+takes_out_of_step : (c : Course) (most : ℕ) → Takes c most (answers.Refused OutOfStep) → c.given_up ≢ []
+takes_out_of_step c most (some, inl h) = let n = ap number_of h in absurd (omega (arith, n))
+takes_out_of_step c most (some, inr h) = h.1
+
+beside_out_of_step : (c : Course) (most : ℕ) (checkpoint : Checkpoint) → Beside checkpoint (Takes c most (answers.Refused OutOfStep)) (answers.Refused OutOfStep)
+    → c.given_up ≢ []
+beside_out_of_step c most NotUnderWay h = takes_out_of_step c most h
+beside_out_of_step c most (CallsLeft n) h = let n = ap refused_with h in absurd (omega (arith, n))
+beside_out_of_step c most CallFailed h = let n = ap refused_with h in absurd (omega (arith, n))
+
 out_of_step : (flights : List Flight) (c : Course) (most : ℕ) → AnswersTake flights c most (answers.Refused OutOfStep) → c.given_up ≢ []
-out_of_step [] c most (some, inl h) = let n = ap number_of h in absurd (omega (arith, n))
-out_of_step [] c most (some, inr h) = h.1
+out_of_step [] c most h = beside_out_of_step c most c.checkpoint h
 out_of_step (flight ∷ flights) c most h = absurd (behind_in_step flight.stage h)
 
 none_before : (answer : Answer) (rest : List Answer) → NoneGivenUp (answer ∷ rest) → NoneGivenUp rest
@@ -218,6 +245,10 @@ piece_given : (origin : Origin) (c : Course) (link moment : ℕ) (bytes : List �
 piece_given origin c link moment bytes (answers.Turns turns fault) =
     ap (λ (k : Course). k.given_up) (turned_all-shape origin (told_more c link bytes) moment turns.items)
 piece_given origin c link moment bytes answer = refl
+
+checkpoint_given : (origin : Origin) (c : Course) (answer : Answer) → (after origin c steps.Checkpoint answer).given_up ≡ c.given_up
+checkpoint_given origin c (answers.Begun calls) = refl
+checkpoint_given origin c answer = refl
 
 call_given : (origin : Origin) (c : Course) (answer : Answer) → (after origin c steps.Call answer).given_up ≡ c.given_up
 call_given origin c answers.Called = refl
@@ -253,6 +284,7 @@ given_stays : (origin : Origin) (c : Course) (step : Step) (answer : Answer) (re
 given_stays origin c (steps.Event moment event) answer rest calm right up none = event_given origin c moment event answer ∙ none
 given_stays origin c (steps.Piece link moment bytes) answer rest calm right up none = piece_given origin c link moment bytes.items answer ∙ none
 given_stays origin c (steps.Take most) answer rest calm right up none = take_given origin c most answer rest right up none
+given_stays origin c steps.Checkpoint answer rest calm right up none = checkpoint_given origin c answer ∙ none
 given_stays origin c steps.Call answer rest calm right up none = call_given origin c answer ∙ none
 given_stays origin c steps.Fail answer rest calm right up none = none
 given_stays origin c steps.Release answer rest calm right up none = release_given origin c answer ∙ none
@@ -285,6 +317,7 @@ stays_open laws origin c (steps.Crash image) answer calm is = absurd calm
 stays_open laws origin c (steps.Event moment event) answer calm is = (step_keeps laws origin c (steps.Event moment event) answer tt).is_open ∙ is
 stays_open laws origin c (steps.Piece link moment bytes) answer calm is = (step_keeps laws origin c (steps.Piece link moment bytes) answer tt).is_open ∙ is
 stays_open laws origin c (steps.Take most) answer calm is = (step_keeps laws origin c (steps.Take most) answer tt).is_open ∙ is
+stays_open laws origin c steps.Checkpoint answer calm is = (step_keeps laws origin c steps.Checkpoint answer tt).is_open ∙ is
 stays_open laws origin c steps.Call answer calm is = (step_keeps laws origin c steps.Call answer tt).is_open ∙ is
 stays_open laws origin c steps.Fail answer calm is = (step_keeps laws origin c steps.Fail answer tt).is_open ∙ is
 stays_open laws origin c steps.Release answer calm is = (step_keeps laws origin c steps.Release answer tt).is_open ∙ is

@@ -53,7 +53,7 @@ life_opened origin c kept n s leaves n_is settled healthy table seq holds =
       number = omega (arith, seq_is, alone_length);
       untaken = refl;
       made = refl;
-      under_way = (refl, (tt, settled));
+      under_way = (refl, (tt, (settled, refl)));
       healthy = healthy;
       survives = λ image p. (take (n - origin.number) (decided c), refl, held s.table _ s.seq _ image table_is seq_is (holds image p));
     }

@@ -15,7 +15,7 @@ use Rattle.world.specs.declared.commit.Commit.TheVariants as commits
 use Rattle.world.specs.declared.event.Event.{Event}
 use Rattle.world.specs.declared.step.Step.TheVariants as steps
 use Rattle.world.specs.Folding.{RunLaws}
-use Rattle.world.specs.Course.{Course, Flight, Origin, after, pieced, released, table_from, told_more}
+use Rattle.world.specs.Course.{Checkpoint, Course, Flight, Origin, after, pieced, released, table_from, told_more}
 use Rattle.world.specs.Answers.{AnswersRelease, Releases}
 use Rattle.world.specs.Follows.{IsAt, IsLife}
 use Rattle.world.proofs.Shapes.{turned-shape, turned_all-shape}
@@ -59,24 +59,31 @@ module _ (laws : RunLaws) (origin : Origin) (c : Course) (s : StoreState) (core 
       ∙ (append_assoc origin.left (effects_of_all old) (effects_in (decisions_of durable)) ∙ ap (λ l. origin.left ++ l) (sym more))))
 
 -- a commit that isn't durable releases nothing
-pub holds_back : (origin : Origin) (c : Course) (t : TableState) (s : StoreState) (flights : List Flight) (commit : Commit)
-    → ((durable : Done) → commit ≡ commits.Durable durable → ⊥) → IsAt flights t s commit → AnswersRelease origin c flights answers.Idle
-holds_back origin c t s flights (commits.Durable durable) other at = absurd (other durable refl)
-holds_back origin c t s [] commits.Failed other at = absurd at
-holds_back origin c t s (flight ∷ []) commits.Failed other (inl is) = subst (λ st. Releases st (length (effects_of (table_from origin c.settled) flight.commands)) answers.Idle) (sym is) refl
-holds_back origin c t s (flight ∷ []) commits.Failed other (inr is) = subst (λ st. Releases st (length (effects_of (table_from origin c.settled) flight.commands)) answers.Idle) (sym is) refl
-holds_back origin c t s (flight ∷ next ∷ rest) commits.Failed other at = absurd at
-holds_back origin c t s flights commits.Idle other at = subst (λ fl. AnswersRelease origin c fl answers.Idle) (sym at.0) refl
-holds_back origin c t s flights (commits.Begun phase room) other at = subst (λ fl. AnswersRelease origin c fl answers.Idle) (sym at.0) refl
-holds_back origin c t s flights (commits.Written phase room) other at = subst (λ fl. AnswersRelease origin c fl answers.Idle) (sym at.0) refl
-holds_back origin c t s flights (commits.BodySynced phase room) other at = subst (λ fl. AnswersRelease origin c fl answers.Idle) (sym at.0) refl
-holds_back origin c t s flights (commits.GateWritten phase room) other at = subst (λ fl. AnswersRelease origin c fl answers.Idle) (sym at.0) refl
+pub holds_back : (origin : Origin) (c : Course) (t : TableState) (s : StoreState) (flights : List Flight) (checkpoint : Checkpoint)
+    (commit : Commit) → ((durable : Done) → commit ≡ commits.Durable durable → ⊥) → IsAt flights checkpoint t s commit
+    → AnswersRelease origin c flights answers.Idle
+holds_back origin c t s flights checkpoint (commits.Durable durable) other at = absurd (other durable refl)
+holds_back origin c t s [] checkpoint commits.Failed other at = refl
+holds_back origin c t s (flight ∷ []) checkpoint commits.Failed other (inl is, none) = subst (λ st. Releases st (length (effects_of (table_from origin c.settled) flight.commands)) answers.Idle) (sym is) refl
+holds_back origin c t s (flight ∷ []) checkpoint commits.Failed other (inr is, none) = subst (λ st. Releases st (length (effects_of (table_from origin c.settled) flight.commands)) answers.Idle) (sym is) refl
+holds_back origin c t s (flight ∷ next ∷ rest) checkpoint commits.Failed other at = absurd at
+holds_back origin c t s flights checkpoint commits.Idle other at = subst (λ fl. AnswersRelease origin c fl answers.Idle) (sym at.0) refl
+holds_back origin c t s flights checkpoint (commits.Begun phase room) other at = subst (λ fl. AnswersRelease origin c fl answers.Idle) (sym at.0) refl
+holds_back origin c t s flights checkpoint (commits.Written phase room) other at = subst (λ fl. AnswersRelease origin c fl answers.Idle) (sym at.0) refl
+holds_back origin c t s flights checkpoint (commits.BodySynced phase room) other at = subst (λ fl. AnswersRelease origin c fl answers.Idle) (sym at.0) refl
+holds_back origin c t s flights checkpoint (commits.GateWritten phase room) other at = subst (λ fl. AnswersRelease origin c fl answers.Idle) (sym at.0) refl
+holds_back origin c t s flights checkpoint (commits.Checkpoint phase) other at = subst (λ fl. AnswersRelease origin c fl answers.Idle) (sym at.0) refl
 
 -- a turn lets nothing out
 pub event_left : (origin : Origin) (c : Course) (moment : ℕ) (event : Event) (answer : Answer)
     → (after origin c (steps.Event moment event) answer).left ≡ c.left
 event_left origin c moment event (answers.Turn turn closings) = ap (λ (k : Course). k.left) (turned-shape origin c moment event turn.refused closings)
 event_left origin c moment event answer = refl
+
+-- nor does a checkpoint that begins
+pub checkpoint_left : (origin : Origin) (c : Course) (answer : Answer) → (after origin c steps.Checkpoint answer).left ≡ c.left
+checkpoint_left origin c (answers.Begun calls) = refl
+checkpoint_left origin c answer = refl
 
 pub piece_left : (origin : Origin) (c : Course) (link moment : ℕ) (bytes : List ℕ) (answer : Answer) → (pieced origin c link moment bytes answer).left ≡ c.left
 piece_left origin c link moment bytes (answers.Turns turns fault) = ap (λ (k : Course). k.left) (turned_all-shape origin (told_more c link bytes) moment turns.items)

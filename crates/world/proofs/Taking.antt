@@ -21,7 +21,7 @@ use Rattle.world.specs.declared.commit.Commit.{Commit}
 use Rattle.world.specs.declared.commit.Commit.TheVariants as commits
 use Rattle.world.specs.Course.{Origin, Course, begun, gave_up, table_from, number_from}
 use Rattle.world.specs.Course.Stage.{Begun as Began}
-use Rattle.world.specs.Answers.{AnswersTake, Takes}
+use Rattle.world.specs.Answers.{AnswersTake, Beside, Takes}
 use Rattle.world.specs.Follows.{IsLife}
 
 -- what holds of a course with nothing under way holds of it where its list of batches is the empty one
@@ -117,7 +117,7 @@ module _ (laws : RunLaws) (origin : Origin) (c : Course) (s : StoreState) (core 
     made = f.made;
     under_way = (
       ap (λ l. record { commands = l; stage = Began } ∷ []) (sym (ap commands_of decisions ∙ commands)),
-      (subst (λ t. FitAll t (begun_change phase).decisions) f.table fit, on),
+      (subst (λ t. FitAll t (begun_change phase).decisions) f.table fit, (on, f.under_way.1.1.1)),
     );
     healthy = f.healthy;
     survives = f.survives;
@@ -156,7 +156,9 @@ module _ (laws : RunLaws) (origin : Origin) (c : Course) (s : StoreState) (core 
   resting = to_rest (λ k. IsLife origin k s core commits.Idle) c f.under_way.0 f
 
   answers_so : (answer : Answer) → Takes c most answer → AnswersTake c.flights c most answer
-  answers_so answer takes = subst (λ fl. AnswersTake fl c most answer) (sym f.under_way.0) takes
+  answers_so answer takes =
+      subst (λ fl. AnswersTake fl c most answer) (sym f.under_way.0)
+      (subst (λ k. Beside k (Takes c most answer) answer) (sym f.under_way.1.1.1) takes)
 
   waiting : c.untaken ≢ []
   waiting = waits laws origin c s core lawful most resting some

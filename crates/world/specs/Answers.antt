@@ -21,7 +21,8 @@ use Rattle.world.specs.declared.step.Step.{Step}
 use Rattle.world.specs.declared.step.Step.TheVariants as steps
 use Rattle.world.specs.declared.answer.Answer.{Answer}
 use Rattle.world.specs.declared.answer.Answer.TheVariants as answers
-use Rattle.world.specs.Course.{Origin, Course, Flight, Stage, admit, after, at_moment, decided, due_frames, has_room, number_from, shutting, table_from, told_more, turned, wanted, windows_of}
+use Rattle.world.specs.Course.{Checkpoint, Origin, Course, Flight, Stage, admit, after, at_moment, decided, due_frames, has_room, number_from, shutting, table_from, told_more, turned, wanted, windows_of}
+use Rattle.world.specs.Course.Checkpoint.{NotUnderWay, CallsLeft, CallFailed}
 use Rattle.world.specs.Course.Stage.{Opened, Durable, Stopped, Unsure}
 
 -- what a command is answered: it is decided, or refused as it has to be; that there is no room is known before any memory
@@ -82,26 +83,51 @@ Takes c most (answers.GivenUp n) = (c.untaken ≢ []) × ((c.given_up ≡ []) ×
 Takes c most (answers.Refused e) = (c.untaken ≢ []) × ((e ≡ refusals.OutOfMemory) ⊎ ((e ≡ refusals.OutOfStep) × (c.given_up ≢ [])))
 Takes c most answer = ⊥
 
--- no batch is taken before the one under way was released, and none after a failed device call
-abbrev pub TakesBehind : Stage → Answer → Type 0
-TakesBehind Stopped answer = answer ≡ answers.Refused refusals.Failed
-TakesBehind Unsure answer = answer ≡ answers.Refused refusals.Failed
-TakesBehind stage answer = answer ≡ answers.Idle
+-- a checkpoint begins, of so many device calls; or there was no memory, or the live area has the last generation
+abbrev pub Checkpoints : Answer → Type 0
+Checkpoints (answers.Begun calls) = (calls ≡ 4) ⊎ (calls ≡ 6)
+Checkpoints (answers.Refused e) = (e ≡ refusals.OutOfMemory) ⊎ (e ≡ refusals.Damaged)
+Checkpoints answer = ⊥
+
+-- no batch is taken and no checkpoint begins beside a checkpoint, and none after a failed device call
+abbrev pub Beside : Checkpoint → Type 0 → Answer → Type 0
+Beside NotUnderWay free answer = free
+Beside (CallsLeft n) free answer = answer ≡ answers.Idle
+Beside CallFailed free answer = answer ≡ answers.Refused refusals.Failed
+
+-- nor before the batch under way was released
+abbrev pub Behind : Stage → Answer → Type 0
+Behind Stopped answer = answer ≡ answers.Refused refusals.Failed
+Behind Unsure answer = answer ≡ answers.Refused refusals.Failed
+Behind stage answer = answer ≡ answers.Idle
 
 abbrev pub AnswersTake : List Flight → Course → ℕ → Answer → Type 0
-AnswersTake [] c most answer = Takes c most answer
-AnswersTake (flight ∷ flights) c most answer = TakesBehind flight.stage answer
+AnswersTake [] c most answer = Beside c.checkpoint (Takes c most answer) answer
+AnswersTake (flight ∷ flights) c most answer = Behind flight.stage answer
 
--- one device call of the oldest batch
+abbrev pub AnswersCheckpoint : List Flight → Checkpoint → Answer → Type 0
+AnswersCheckpoint [] checkpoint answer = Beside checkpoint (Checkpoints answer) answer
+AnswersCheckpoint (flight ∷ flights) checkpoint answer = Behind flight.stage answer
+
+-- one device call succeeds, or the device fails
+abbrev pub IsCalled : Answer → Type 0
+IsCalled answer = (answer ≡ answers.Called) ⊎ (answer ≡ answers.Refused refusals.DeviceFailed)
+
+-- one of the oldest batch
 abbrev pub Calls : Stage → Answer → Type 0
 Calls Durable answer = answer ≡ answers.Idle
 Calls Stopped answer = answer ≡ answers.Idle
 Calls Unsure answer = answer ≡ answers.Idle
-Calls stage answer = (answer ≡ answers.Called) ⊎ (answer ≡ answers.Refused refusals.DeviceFailed)
+Calls stage answer = IsCalled answer
 
-abbrev pub AnswersCall : List Flight → Answer → Type 0
-AnswersCall [] answer = answer ≡ answers.Idle
-AnswersCall (flight ∷ flights) answer = Calls flight.stage answer
+-- or of the checkpoint
+abbrev pub CallsFor : Checkpoint → Answer → Type 0
+CallsFor (CallsLeft n) answer = IsCalled answer
+CallsFor checkpoint answer = answer ≡ answers.Idle
+
+abbrev pub AnswersCall : List Flight → Checkpoint → Answer → Type 0
+AnswersCall [] checkpoint answer = CallsFor checkpoint answer
+AnswersCall (flight ∷ flights) checkpoint answer = Calls flight.stage answer
 
 -- the oldest batch is released once it is durable
 abbrev pub Releases : Stage → ℕ → Answer → Type 0
@@ -157,7 +183,8 @@ abbrev pub AnswersOpen : Origin → Course → Step → Answer → Type 0
 AnswersOpen origin c (steps.Event moment event) answer = AnswersEvent origin c moment event answer
 AnswersOpen origin c (steps.Piece link moment bytes) answer = AnswersPiece origin c link moment bytes.items answer
 AnswersOpen origin c (steps.Take most) answer = AnswersTake c.flights c most answer
-AnswersOpen origin c steps.Call answer = AnswersCall c.flights answer
+AnswersOpen origin c steps.Checkpoint answer = AnswersCheckpoint c.flights c.checkpoint answer
+AnswersOpen origin c steps.Call answer = AnswersCall c.flights c.checkpoint answer
 AnswersOpen origin c steps.Fail answer = answer ≡ answers.Armed
 AnswersOpen origin c steps.Release answer = AnswersRelease origin c c.flights answer
 AnswersOpen origin c steps.Emit answer = AnswersEmit c answer

@@ -1,4 +1,4 @@
--- What a commit is, and what one device call of it does.
+-- What is under way, and what one device call of it does.
 use Rattle.std.specs.Prelude.{◌≡◌, ◌+◌, List, [], ◌∷◌, ◌++◌, length}
 use Rattle.devices.specs.declared.command.Command.{Command}
 use Rattle.disk.specs.State.{EveryImage}
@@ -11,7 +11,9 @@ use Rattle.store.specs.State.{StoreState, IsSettled}
 use Rattle.flusher.specs.Released.{decisions_of}
 use Rattle.world.specs.declared.commit.Commit.{Commit}
 use Rattle.world.specs.declared.commit.Commit.TheVariants as commits
-use Rattle.world.specs.Course.{Flight, Stage}
+use Rattle.world.specs.Checkpoints.{IsPublishingOn, calls_left}
+use Rattle.world.specs.Course.{Checkpoint, Flight, Stage}
+use Rattle.world.specs.Course.Checkpoint.{CallsLeft, NotUnderWay}
 use Rattle.world.specs.Course.Stage.{Begun, Written, Synced, Opened, Durable}
 use Rattle.world.specs.Answers.{MayLeave}
 
@@ -36,12 +38,18 @@ flights_in (commits.GateWritten phase room) = flight Opened (opened_change phase
 flights_in (commits.Durable durable) = flight Durable (decisions_of durable)
 flights_in commit = []
 
--- what the store's disk holds of it
+-- the checkpoint under way, where nothing has failed
+abbrev pub checkpoint_in : StoreState → Commit → Checkpoint
+checkpoint_in s (commits.Checkpoint phase) = CallsLeft (calls_left s phase)
+checkpoint_in s commit = NotUnderWay
+
+-- what the store's disk holds of what is under way
 abbrev pub IsOn : StoreState → Commit → Type 0
 IsOn s (commits.Begun phase room) = IsBegunOn s phase
 IsOn s (commits.Written phase room) = IsWrittenOn s phase
 IsOn s (commits.BodySynced phase room) = IsSyncedOn s phase
 IsOn s (commits.GateWritten phase room) = IsOpenedOn s phase
+IsOn s (commits.Checkpoint phase) = IsPublishingOn s phase
 IsOn s commits.Failed = ⊥
 IsOn s commit = IsSettled s
 

@@ -1,6 +1,6 @@
 -- The course of a world: what was decided, how far it is on its way to the disk, and what has left, as
 -- the steps and their answers alone tell it.
-use Rattle.std.specs.Prelude.{ℕ, ◌+◌, ◌-◌, Bool, true, false, List, [], ◌∷◌, ◌++◌, length, take, drop, map, filter, max, nat_lt, ◌&&◌, if◌then◌else◌, Option, Some, None, Result, Ok, Err}
+use Rattle.std.specs.Prelude.{ℕ, suc, ◌+◌, ◌-◌, Bool, true, false, List, [], ◌∷◌, ◌++◌, length, take, drop, map, filter, max, nat_lt, ◌&&◌, if◌then◌else◌, Option, Some, None, Result, Ok, Err}
 use Rattle.lw_types.specs.declared.refusal.Refusal.{Refusal}
 use Rattle.lw_types.specs.declared.refusal.Refusal.TheVariants.{Backlog, OutOfMemory, OutOfStep}
 use Rattle.lw_types.specs.declared.frame_copy.FrameCopy.{FrameCopy}
@@ -42,6 +42,15 @@ pub record Flight : Type 0 where
   pub commands : List Command
   pub stage : Stage
 
+-- a checkpoint
+pub data Checkpoint : Type 0 where
+  -- none is under way
+  NotUnderWay : Checkpoint
+  -- so many of its device calls are left
+  CallsLeft : ℕ → Checkpoint
+  -- a device call of it failed
+  CallFailed : Checkpoint
+
 -- where a course begins: the table and the number of the store, and the effects that had left before
 pub record Origin : Type 0 where
   pub table : TableState
@@ -67,6 +76,8 @@ pub record Course : Type 0 where
   pub settled : List Command
   -- the batches under way, the oldest first
   pub flights : List Flight
+  -- the checkpoint under way, which no batch is beside
+  pub checkpoint : Checkpoint
   -- the commands that were taken in this life, and lost for want of memory
   pub given_up : List Command
   -- those that wait
@@ -94,6 +105,7 @@ beginning origin =
     record {
       settled = [];
       flights = [];
+      checkpoint = NotUnderWay;
       given_up = [];
       untaken = [];
       made = 0;
@@ -235,6 +247,27 @@ abbrev pub moved_on : (Stage → Stage) → List Flight → List Flight
 moved_on move [] = []
 moved_on move (flight ∷ flights) = record flight { stage = move flight.stage } ∷ flights
 
+-- one device call of a checkpoint succeeded
+abbrev pub one_less : ℕ → Checkpoint
+one_less (suc (suc n)) = CallsLeft (suc n)
+one_less n = NotUnderWay
+
+abbrev pub one_call_on : Checkpoint → Checkpoint
+one_call_on (CallsLeft n) = one_less n
+one_call_on checkpoint = checkpoint
+
+-- or failed
+abbrev pub cut_off : Checkpoint → Checkpoint
+cut_off (CallsLeft n) = CallFailed
+cut_off checkpoint = checkpoint
+
+-- one device call of what is under way succeeded, or failed
+abbrev pub one_call : Course → Course
+one_call c = record c { flights = moved_on succeeded c.flights; checkpoint = one_call_on c.checkpoint }
+
+abbrev pub no_call : Course → Course
+no_call c = record c { flights = moved_on failed c.flights; checkpoint = cut_off c.checkpoint }
+
 -- the oldest batch is released: its effects leave
 abbrev pub released : Origin → Course → List Flight → Course
 released origin c [] = c
@@ -251,6 +284,7 @@ reopened origin c seq =
     record c {
       settled = take (seq - origin.number) (decided c);
       flights = [];
+      checkpoint = NotUnderWay;
       given_up = [];
       untaken = [];
       made = 0;
@@ -273,8 +307,9 @@ after origin c (steps.Piece link moment bytes) answer = pieced origin c link mom
 after origin c (steps.Take most) (answers.Taken n) = begun c most
 after origin c (steps.Take most) (answers.GivenUp n) = gave_up c most
 after origin c (steps.Take most) (answers.Refused OutOfStep) = gave_up c most
-after origin c steps.Call answers.Called = record c { flights = moved_on succeeded c.flights }
-after origin c steps.Call (answers.Refused e) = record c { flights = moved_on failed c.flights }
+after origin c steps.Checkpoint (answers.Begun calls) = record c { checkpoint = CallsLeft calls }
+after origin c steps.Call answers.Called = one_call c
+after origin c steps.Call (answers.Refused e) = no_call c
 after origin c steps.Release (answers.Released n) = released origin c c.flights
 after origin c steps.Emit (answers.Emitted e) = record c { emitted = c.emitted + 1 }
 after origin c (steps.Crash image) (answers.Opened devices seq) = reopened origin c seq

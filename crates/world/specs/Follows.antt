@@ -26,10 +26,11 @@ use Rattle.world.specs.declared.answer.EventTurn.{EventTurn}
 use Rattle.world.specs.declared.step.Step.{Step}
 use Rattle.world.specs.declared.step.Step.TheVariants as steps
 use Rattle.world.specs.declared.answer.Answer.{Answer}
-use Rattle.world.specs.Course.{Origin, Course, Flight, table_from, number_from, effects_from, flying, after, course_of, pieced, turned_all}
+use Rattle.world.specs.Course.{Checkpoint, Origin, Course, Flight, table_from, number_from, effects_from, flying, after, course_of, pieced, turned_all}
+use Rattle.world.specs.Course.Checkpoint.{CallFailed, NotUnderWay}
 use Rattle.world.specs.Course.Stage.{Stopped, Unsure}
 use Rattle.world.specs.Answers.{Leaves, AnswersOpen, AnswersCrash, AnswersPiece, IsRight, AreRight, AreTurns}
-use Rattle.world.specs.Commits.{IsOn, flights_in, decisions_in, stored}
+use Rattle.world.specs.Commits.{IsOn, checkpoint_in, flights_in, decisions_in, stored}
 
 -- whatever a crash leaves of this disk holds the table and the number of commands that a crash may leave
 abbrev pub Survives : Origin → Course → State → Type 0
@@ -40,15 +41,17 @@ Survives origin c state =
 abbrev pub taken : Course → List Command
 taken c = c.settled ++ (flying c.flights ++ c.given_up)
 
--- a call of the one batch under way failed
-abbrev pub HasFailed : List Flight → Type 0
-HasFailed (flight ∷ []) = (flight.stage ≡ Stopped) ⊎ (flight.stage ≡ Unsure)
-HasFailed flights = ⊥
+-- a call of the one batch under way failed, or of the checkpoint
+abbrev pub HasFailed : List Flight → Checkpoint → Type 0
+HasFailed [] checkpoint = checkpoint ≡ CallFailed
+HasFailed (flight ∷ []) checkpoint = ((flight.stage ≡ Stopped) ⊎ (flight.stage ≡ Unsure)) × (checkpoint ≡ NotUnderWay)
+HasFailed flights checkpoint = ⊥
 
--- the commit is that of the batch under way, if there is one, whose decisions were made of this table
-abbrev pub IsAt : List Flight → TableState → StoreState → Commit → Type 0
-IsAt flights t s commits.Failed = HasFailed flights
-IsAt flights t s commit = (flights ≡ flights_in commit) × (FitAll t (decisions_in commit) × IsOn s commit)
+-- what is under way is the batch of the course, if there is one, whose decisions were made of this table, or its checkpoint
+abbrev pub IsAt : List Flight → Checkpoint → TableState → StoreState → Commit → Type 0
+IsAt flights checkpoint t s commits.Failed = HasFailed flights checkpoint
+IsAt flights checkpoint t s commit =
+    (flights ≡ flights_in commit) × (FitAll t (decisions_in commit) × (IsOn s commit × (checkpoint ≡ checkpoint_in s commit)))
 
 -- no device call of this store failed
 abbrev pub IsHealthy : StoreState → Commit → Type 0
@@ -64,7 +67,7 @@ pub record IsLife (origin : Origin) (c : Course) (s : StoreState) (core : Decisi
   pub number : core.opening + core.taken ≡ number_from origin (taken c)
   pub untaken : commands_of core.log ≡ c.untaken
   pub made : core.made ≡ c.made
-  pub under_way : IsAt c.flights (table_from origin c.settled) s commit
+  pub under_way : IsAt c.flights c.checkpoint (table_from origin c.settled) s commit
   pub healthy : IsHealthy s commit
   pub survives : Survives origin c s.log.disk
 

@@ -1,18 +1,20 @@
--- The commit under way is the store's, and what it releases will fit.
+-- What is under way is the store's, and what it releases will fit.
 use Rattle.std.specs.Prelude.{◌≡◌, ℕ, ◌≤◌, ◌+◌, length, vec_capacity}
 use Rattle.disk.specs.State.{State}
+use Rattle.store.specs.Checkpointing.{FitsOther}
 use Rattle.store.specs.Commit.{IsUnderWay}
 use Rattle.store.specs.Phases.{begun_change, begun_size, written_change, written_size, synced_change, synced_size, opened_change, opened_size}
 use Rattle.store.specs.State.{StoreState, seen, disk_of}
 use Rattle.flusher.specs.declared.room.TheConstants.{MOST_EFFECTS}
 use Rattle.world.specs.declared.commit.Commit.{Commit}
-use Rattle.world.specs.declared.commit.Commit.TheVariants.{Idle, Failed, Begun, Written, BodySynced, GateWritten, Durable}
+use Rattle.world.specs.declared.commit.Commit.TheVariants.{Idle, Failed, Begun, Written, BodySynced, GateWritten, Durable, Checkpoint}
+use Rattle.world.specs.Checkpoints.{size_of}
 use Rattle.world.specs.declared.life.Life.{Life}
 use Rattle.world.specs.declared.place.Place.{Place}
 use Rattle.world.specs.declared.place.Place.TheVariants.{Open, Closed, Crashing}
 use Rattle.world.specs.declared.world.World.{World}
 
--- a batch on its way is a legal continuation of the store's table, and there is room for it
+-- a batch on its way is a legal continuation of the store's table, and there is room for it; so there is for a checkpoint
 abbrev pub IsOnItsWay : StoreState → Commit → Type 0
 IsOnItsWay s Idle = Unit {0}
 IsOnItsWay s Failed = Unit {0}
@@ -21,6 +23,7 @@ IsOnItsWay s (Written phase room) = IsUnderWay s (written_change phase) (written
 IsOnItsWay s (BodySynced phase room) = IsUnderWay s (synced_change phase) (synced_size phase)
 IsOnItsWay s (GateWritten phase room) = IsUnderWay s (opened_change phase) (opened_size phase)
 IsOnItsWay s (Durable durable) = Unit {0}
+IsOnItsWay s (Checkpoint phase) = FitsOther s (size_of phase)
 
 abbrev pub IsSoundLife : {D : Type 0} {g : _} → (D → State) → Life D g → Type 0
 IsSoundLife state life = IsOnItsWay (seen state life.store) life.commit
@@ -29,6 +32,7 @@ IsSoundLife state life = IsOnItsWay (seen state life.store) life.commit
 abbrev pub HasRoom : Commit → ℕ → ℕ → Type 0
 HasRoom Idle there fit = Unit {0}
 HasRoom Failed there fit = Unit {0}
+HasRoom (Checkpoint phase) there fit = Unit {0}
 HasRoom commit there fit = there + MOST_EFFECTS ≤ fit
 
 abbrev pub IsSoundPlace : {D : Type 0} {g : _} → (D → State) → Place D g → ℕ → ℕ → Type 0

@@ -1,11 +1,13 @@
--- What one step's answer tells of the disk: a full journal only where it is, and a crash leaves the image that it names.
-use Rattle.std.specs.Prelude.{◌≡◌, List, [], ◌∷◌}
+-- What one step's answer tells of the disk: a full journal only where it is, how long a checkpoint takes, and a crash leaves the image
+-- that it names.
+use Rattle.std.specs.Prelude.{◌≡◌, ◌<◌, ◌≤◌, List, [], ◌∷◌, if◌then◌else◌}
 use Rattle.lw_types.specs.declared.refusal.Refusal.{Refusal}
 use Rattle.lw_types.specs.declared.refusal.Refusal.TheVariants as refusals
 use Rattle.disk.specs.declared.sim.Image.{Image}
 use Rattle.disk.specs.Crash.{IsCrashed}
 use Rattle.disk.specs.State.{State}
 use Rattle.store.specs.State.{StoreState, seen, IsRoomy}
+use Rattle.store.specs.declared.areas.TheConstants.{LAST_GENERATION}
 use Rattle.world.specs.Sound.{HasDisk}
 use Rattle.world.specs.declared.place.Place.{Place}
 use Rattle.world.specs.declared.place.Place.TheVariants.{Open, Closed, Crashing}
@@ -27,8 +29,17 @@ TakeTellsRoom s (answers.GivenUp n) = IsRoomy s
 TakeTellsRoom s (answers.Refused e) = RefusalTellsRoom s e
 TakeTellsRoom s answer = Unit {0}
 
+-- A checkpoint takes two more calls where the other area's gate is open, and is refused as damaged exactly where the live area
+-- has the last generation.
+abbrev pub CheckpointTells : StoreState → Answer → Type 0
+CheckpointTells s (answers.Begun calls) = (s.log.generation < LAST_GENERATION) × (calls ≡ (if s.log.other_open then 6 else 4))
+CheckpointTells s (answers.Refused refusals.Damaged) = LAST_GENERATION ≤ s.log.generation
+CheckpointTells s (answers.Refused refusals.OutOfMemory) = s.log.generation < LAST_GENERATION
+CheckpointTells s answer = Unit {0}
+
 abbrev pub TellsRoom : StoreState → Step → Answer → Type 0
 TellsRoom s (steps.Take most) answer = TakeTellsRoom s answer
+TellsRoom s steps.Checkpoint answer = CheckpointTells s answer
 TellsRoom s step answer = Unit {0}
 
 abbrev pub PlaceTellsRoom : {D : Type 0} {g : _} → (D → State) → Place D g → Step → Answer → Type 0

@@ -34,10 +34,12 @@ pub enum Answer {
     /// To a take whose commit was refused for want of memory: so many decisions were taken and are
     /// lost in this life.
     GivenUp(usize),
-    /// To a take: the area has no room for another batch.
+    /// To a take: the area has no room for another batch before a checkpoint.
     Full,
-    /// There is nothing to take, call, release or emit; or, to a take, what is under way has to end
-    /// first; or the store could not be opened. Nothing has changed.
+    /// To a checkpoint: it began, and takes so many device calls.
+    Begun(u64),
+    /// There is nothing to take, call, release or emit; or, to a take or a checkpoint, what is under way
+    /// has to end first; or the store could not be opened. Nothing has changed.
     Idle,
     /// To a call: the device call succeeded.
     Called,

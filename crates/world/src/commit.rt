@@ -1,13 +1,14 @@
-// How far a commit is.
+// What is under way.
+use crate::checkpointing::Checkpointing;
 use disk::Sim;
 use flusher::{Durable, Room};
 use lw_types::Refusal;
 use store::{Begun, BodySynced, GateWritten, Store, Written};
 
-/// How far the commit of the batch that was taken last is. A batch on its way has the room for its
-/// effects with it.
+/// How far the commit of the batch that was taken last is, or a checkpoint. A batch on its way has the
+/// room for its effects with it.
 pub(crate) enum Commit {
-    /// No batch is on its way.
+    /// Nothing is on its way.
     Idle,
     /// A device call failed: nothing is committed before the store is opened again.
     Failed,
@@ -17,13 +18,15 @@ pub(crate) enum Commit {
     GateWritten(GateWritten, Room),
     /// The batch is durable, and its effects may leave.
     Durable(Durable),
+    /// A checkpoint is on its way.
+    Checkpoint(Checkpointing),
 }
 
 impl Commit {
     ghost use Rattle.std.specs.Prelude.{◌≡◌, ℕ, IfOk, MatchResult};
     ghost use Rattle.store.specs.State.{seen, IsOneCall};
-    ghost use Rattle.world.specs.Course.{moved_on, succeeded, failed};
-    ghost use Rattle.world.specs.Commits.{HasCall, IsOn, GoesTo, decisions_in, flights_in};
+    ghost use Rattle.world.specs.Course.{moved_on, one_call_on, succeeded, failed};
+    ghost use Rattle.world.specs.Commits.{HasCall, IsOn, GoesTo, checkpoint_in, decisions_in, flights_in};
     ghost use Rattle.world.specs.Sound.{IsOnItsWay, HasRoom};
 
     /// Makes the device call that is next. Refused with `DeviceFailed` exactly where the device
@@ -36,6 +39,8 @@ impl Commit {
             → IfOk result (λ next. HasRoom next there fit) }
         ensures decisions { IfOk result (λ next. decisions_in next ≡ decisions_in self) }
         ensures flights { IfOk result (λ next. flights_in next ≡ moved_on succeeded (flights_in self)) }
+        ensures checkpoint { IfOk result (λ next. checkpoint_in (seen D.state store.new) next
+            ≡ one_call_on (checkpoint_in (seen D.state store.old) self)) }
         ensures on { IsOn (seen D.state store.old) self → IfOk result (IsOn (seen D.state store.new)) }
         ensures goes { IsOn (seen D.state store.old) self → MatchResult result
             (λ _. GoesTo (moved_on succeeded (flights_in self)) (seen D.state store.old) (seen D.state store.new))
@@ -53,6 +58,10 @@ impl Commit {
             Commit::GateWritten(phase, room) => {
                 Ok(Commit::Durable(Durable::new(phase.sync(store)?, room)))
             }
+            Commit::Checkpoint(phase) => match phase.call(store)? {
+                Some(next) => Ok(Commit::Checkpoint(next)),
+                None => Ok(Commit::Idle),
+            },
             other => {
                 other.lose();
                 unreachable!()
@@ -60,7 +69,7 @@ impl Commit {
         }
     }
 
-    /// Lets the batch go, at a crash.
+    /// Lets what is under way go, at a crash.
     pub(crate) fn lose(self) {
         match self {
             Commit::Idle | Commit::Failed => {}
@@ -69,6 +78,7 @@ impl Commit {
             Commit::BodySynced(phase, _) => phase.lose(),
             Commit::GateWritten(phase, _) => phase.lose(),
             Commit::Durable(durable) => durable.lose(),
+            Commit::Checkpoint(phase) => phase.lose(),
         }
     }
 }

@@ -3,6 +3,7 @@
 #![tactic(auto)]
 
 mod answer;
+mod checkpointing;
 mod commit;
 mod event;
 pub mod laws;

@@ -2,6 +2,7 @@
 ghost use Rattle.std.specs.Prelude.{◌≡◌, ◌++◌, ◌+◌, ◌≤◌, MatchResult, length, vec_capacity};
 ghost use Rattle.lw_types.specs.declared.refusal.Refusal.TheVariants.{OutOfMemory};
 
+use crate::checkpointing::Checkpointing;
 use crate::commit::Commit;
 use crate::links::Links;
 use crate::{Answer, Step, laws};
@@ -30,7 +31,7 @@ impl<D: Sim> Life<D> {
     ghost use Rattle.world.specs.declared.step.Step.TheVariants as steps;
     ghost use Rattle.world.specs.declared.answer.Answer.TheVariants as answers;
     ghost use Rattle.world.specs.Calls.{Foretells};
-    ghost use Rattle.world.specs.Tells.{TellsRoom, TakeTellsRoom};
+    ghost use Rattle.world.specs.Tells.{CheckpointTells, TellsRoom, TakeTellsRoom};
     ghost use Rattle.world.specs.Links.{heard_on};
     ghost use Rattle.world.specs.Follows.{IsOwn, MovesLife, Lets};
     ghost use Rattle.world.specs.Sound.{IsSoundLife, HasRoom};
@@ -84,6 +85,7 @@ impl<D: Sim> Life<D> {
                 bytes,
             } => self.piece(*link, *moment, bytes.as_slice()),
             Step::Take(most) => self.take(alloc, *most, released),
+            Step::Checkpoint => self.checkpoint(alloc),
             Step::Call => self.call(),
             Step::Fail => self.fail(),
             Step::Release => self.release(released),
@@ -156,6 +158,31 @@ impl<D: Sim> Life<D> {
                 Refusal::OutOfStep => Ok(Answer::Refused(refusal)),
                 _ => Ok(Answer::GivenUp(count)),
             },
+        }
+    }
+
+    /// The flusher begins a checkpoint of the durable table. It makes no device call yet.
+    pub(crate) fn checkpoint(&mut self, alloc: Global) -> Answer
+        requires sound { IsSoundLife D.state self.old }
+        ensures sound { IsSoundLife D.state self.new }
+        ensures room { (there fit : ℕ) → HasRoom self.old.commit there fit → HasRoom self.new.commit there fit }
+        ensures told { CheckpointTells (seen D.state self.old.store) result }
+        ensures course { MovesLife D.state self.old steps.Checkpoint result self.new }
+        ensures calls { Foretells D.failures D.outlook (disk_of self.old.store) steps.Checkpoint result (disk_of self.new.store) }
+    {
+        match &self.commit {
+            Commit::Failed => return Answer::Refused(Refusal::Failed),
+            Commit::Idle => {}
+            _ => return Answer::Idle,
+        }
+        match self.store.checkpoint(alloc) {
+            Ok(checkpoint) => {
+                let checkpoint = Checkpointing::Begun(checkpoint);
+                let calls = checkpoint.calls_left(&self.store);
+                self.set(Commit::Checkpoint(checkpoint));
+                Answer::Begun(calls)
+            }
+            Err(refusal) => Answer::Refused(refusal),
         }
     }
 

@@ -20,6 +20,8 @@ pub enum Step {
     },
     /// The flusher takes the oldest decisions, at most so many, and begins their commit.
     Take(Most),
+    /// The flusher begins a checkpoint, which makes room in the journal.
+    Checkpoint,
     /// One device call of what is under way.
     Call,
     /// The next device call is to fail.

@@ -24,7 +24,7 @@ use std::mem;
 use world::{Answer, Event, Step};
 
 /// A world told plainly. Contracts see where its course begins, the course, and what is known of the
-/// disk's calls. Want of memory ends it, so that no batch is given up, and so does a piece of a link's bytes.
+/// disk's calls. Want of memory ends it, so that no batch is given up, and so do a piece of a link's bytes and a checkpoint.
 #[derive(Drop)]
 pub(crate) struct Plain {
     net_id: NetId,
@@ -51,6 +51,7 @@ impl Model for Plain {
     ghost use Rattle.std.specs.Prelude.{[], if◌then◌else◌};
     ghost use Rattle.disk.specs.Outlook.Outlook.{AllSucceed, FailsAfter};
     ghost use Rattle.world.specs.Course.{formatted};
+    ghost use Rattle.world.specs.Course.Checkpoint.{NotUnderWay};
     ghost use Rattle.world_tests.specs.Plain.{PlainState, flights_of};
 
     ghost Value = { PlainState };
@@ -64,6 +65,7 @@ impl Model for Plain {
       course = record {
         settled = m.settled.items;
         flights = flights_of m.flying;
+        checkpoint = NotUnderWay;
         given_up = [];
         untaken = m.untaken.items;
         made = m.made;
@@ -114,8 +116,8 @@ impl Plain {
             Step::Emit => self.emit(alloc),
             _ if !self.is_open => Ok(Answer::Idle),
             Step::Event { moment, event } => self.event(alloc, *moment, event),
-            // links are tested by rows
-            Step::Piece { .. } => Err(Refusal::OutOfMemory),
+            // links and checkpoints are tested by rows
+            Step::Piece { .. } | Step::Checkpoint => Err(Refusal::OutOfMemory),
             Step::Take(most) => self.take(*most),
             Step::Call => self.call(),
             Step::Fail => self.fail(),

@@ -2,7 +2,7 @@ use Rattle.std.proofs.Common.{List, ℕ, [], ◌∷◌, ◌++◌, refl, ◌∙�
 use Rattle.disk.specs.State.{written}
 use Rattle.gate_log.specs.declared.layout.TheConstants.{OPEN}
 use Rattle.gate_log.specs.Layout.{IsHeader, fresh_header}
-use Rattle.gate_log.proofs.AreaContents.{formatted}
+use Rattle.gate_log.proofs.Recovering.{formatted}
 use Rattle.gate_log.proofs.format.format_area.Goals as goal
 
 pub returns-clause-formatted : goal.returns-clause-formatted

@@ -1,5 +1,5 @@
-use Rattle.gate_log.proofs.AreaContents.{unique}
+use Rattle.gate_log.proofs.Unique.{one_contents}
 use Rattle.gate_log.proofs.laws.a_disk_holds_one_contents.Goals as goal
 
 pub returns : goal.returns
-returns c = unique
+returns c = one_contents

@@ -1,11 +1,11 @@
 use Rattle.std.proofs.Common.{◌≡◌, ◌∙◌, [], List, ℕ, length, take, drop, ap, subst, arith}
 use Rattle.gate_log.specs.declared.layout.Area.{Area}
-use Rattle.gate_log.specs.Layout.{Contents, Holds, fresh_header}
-use Rattle.gate_log.specs.Recover.{contents_in}
+use Rattle.gate_log.specs.Areas.{HoldsIn, IsClosedArea}
+use Rattle.gate_log.specs.Layout.{checkpoint, fresh_header}
 use Rattle.disk.specs.State.{IsTorn}
-use Rattle.store.specs.Image.{area_a}
+use Rattle.store.specs.Image.{area_b}
 use Rattle.store.specs.declared.areas.TheConstants.{RECORD_VERSION}
-use Rattle.store.proofs.EmptyStore.{OnOk-map, OnOk-of, contents_after, front_after, shut_after}
+use Rattle.store.proofs.EmptyStore.{closed_after, OnOk-map, OnOk-of, front_after, shut_after}
 use Rattle.store.proofs.formatting.write_closed.Goals as goal
 
 pub returns-clause-area : goal.returns-clause-area
@@ -14,11 +14,8 @@ returns-clause-area g c honest =
     let old = (g.D.Disk.state c.close_area.new.disk).content in
     let new = (g.D.Disk.state c.format_area.new.disk).content in
     let area = c.first_area.ensures in
-    let torn : IsTorn 32 31 old new = subst (λ (a : Area). IsTorn a.start 31 old new) area (c.format_area.ensures.opens honest).torn in
     OnOk-map c.format_area.result
-    (λ (holds : Holds c.first_area.result (contents_in c.first_area.result old (fresh_header RECORD_VERSION) [] []) new).
-    subst (λ (x : Contents). Holds (area_a slots) x new) (contents_after slots (fresh_header RECORD_VERSION) old new torn)
-    (subst (λ (a : Area). Holds a (contents_in a old (fresh_header RECORD_VERSION) [] []) new) area holds))
+    (λ (held : HoldsIn c.first_area.result (checkpoint (fresh_header RECORD_VERSION) []) new). subst (λ (a : Area). HoldsIn a (checkpoint (fresh_header RECORD_VERSION) []) new) area held)
     (c.format_area.ensures.formatted honest)
 
 pub returns-clause-body : goal.returns-clause-body
@@ -45,3 +42,13 @@ returns-clause-shut g c honest shut =
     shut_after c.first_area.result.start 31 (g.D.Disk.state c.close_area.new.disk) (g.D.Disk.state c.format_area.new.disk) (omega (arith, a)) (c.format_area.ensures.opens honest)
     (shut_after c.second_area.result.start 1 (g.D.Disk.state c.write_at.new.self) (g.D.Disk.state c.close_area.new.disk) (omega (arith, b)) (c.close_area.ensures.opens honest)
     (shut_after 1 _ (g.D.Disk.state c.args.disk.now) (g.D.Disk.state c.write_at.new.self) (omega arith) (c.write_at.ensures.opens honest) shut))
+
+pub returns-clause-other_area : goal.returns-clause-other_area
+returns-clause-other_area g c honest =
+    let slots = c.args.superblock.now.slots in
+    let old = (g.D.Disk.state c.close_area.new.disk).content in
+    let new = (g.D.Disk.state c.format_area.new.disk).content in
+    let area = ap (λ (a : Area). a.start) c.first_area.ensures in
+    let torn : IsTorn 32 31 old new = subst (λ at. IsTorn at 31 old new) area (c.format_area.ensures.opens honest).torn in
+    let closed : IsClosedArea (area_b slots) old = subst (λ (a : Area). IsClosedArea a old) c.second_area.ensures (c.in_ok-close_area.ensures.closed honest) in
+    OnOk-of c.format_area.result (closed_after 32 31 (area_b slots) old new torn (omega arith) closed)

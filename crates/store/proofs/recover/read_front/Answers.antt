@@ -3,7 +3,7 @@ use Rattle.std.proofs.lemmas.Result.{err_from_is_err_and}
 use Rattle.disk.specs.State.{State}
 use Rattle.gate_log.specs.Opening.{opened}
 use Rattle.store.specs.Faults.{HeaderFault}
-use Rattle.store.proofs.Finding.{HeaderLaws, header_fault}
+use Rattle.store.proofs.Finding.{AreaLaws, header_fault}
 use Rattle.store.proofs.recover.read_front.Goals as goal
 
 pub returns-in_err-live-clause-refused : goal.returns-in_err-live-clause-refused
@@ -15,7 +15,7 @@ returns-in_err-live-clause-refused g c honest =
     let same = ap (λ (x : State). x.content) (s.ensures.reads.same honest) in
     let e = c.in_err-live.field-0.0 in
     let slots = s.superblock.slots in
-    let laws : HeaderLaws =
-    record { room = c.what_is_held_has_its_header.ensures.room; one = c.a_place_has_one_header.ensures; closed = c.a_closed_area_holds_nothing.ensures } in
+    let laws : AreaLaws =
+    record { live = c.what_is_held_is_live.ensures.live; room = c.what_is_held_is_live.ensures.room; one = c.one_area_is_live.ensures; none = c.none_live_holds_nothing.ensures; same = c.a_disk_holds_one_contents.ensures } in
     header_fault content s.superblock.net_id slots (s.ensures.found honest) (s.ensures.only honest) s.ensures.length laws e
     (subst (λ (l : List ℕ). HeaderFault l slots e) same (c.in_err-live.ensures.refused honest device)))

@@ -1,4 +1,8 @@
 use Rattle.std.proofs.Common.{◌∙◌, false, sym, ap, subst, refl}
+use Rattle.std.specs.Prelude.{MatchBool}
+use Rattle.gate_log.specs.declared.layout.Areas.{Areas}
+use Rattle.gate_log.specs.declared.layout.Header.{Header}
+use Rattle.gate_log.specs.Areas.{IsClosedArea, IsOpenArea}
 use Rattle.gate_log.specs.Log.{LogState}
 use Rattle.gate_log.specs.Opening.{opened}
 use Rattle.store.specs.State.{IsOpened, StoreState}
@@ -11,8 +15,12 @@ returns-clause-opened g c honest found =
     subst (IsOpened content) (sym (c.new.ensures.store ∙ ap with_log c.into_log.ensures.log)) (record {
       settled = record {
         contents = found.contents;
-        live = found.live;
-        rest = record { settled = c.into_log.ensures.settled honest; holds = found.holds; next = found.next };
+        rest = record {
+          settled = c.into_log.ensures.settled honest;
+          holds = found.holds;
+          knows = record { areas = sym found.areas; generation = ap (λ (h : Header). h.generation) (sym found.header); next = found.next };
+          other_gate = subst (λ (x : Areas). MatchBool c.args.self.live.other_open (IsOpenArea x.other content) (IsClosedArea x.other content)) (sym found.areas) found.live.other_gate;
+        };
         says = found.says;
       };
       same = refl;

@@ -2,24 +2,23 @@ use Rattle.std.proofs.Common.{subst}
 use Rattle.disk.specs.State.{IsPermitted}
 use Rattle.store.specs.Phases.{synced_change}
 use Rattle.store.specs.State.{seen}
-use Rattle.gate_log.specs.Log.{seen as seen_log}
-use Rattle.store.proofs.Holding.{held_either, journals_at}
+use Rattle.store.proofs.Holding.{held_either}
 use Rattle.store.proofs.phases.BodySynced.open_gate.Goals as goal
 
 pub returns-in-Ok-clause-next : goal.returns-in-Ok-clause-next
 returns-in-Ok-clause-next g c honest on = record {
   contents = on.contents;
   batch = on.batch;
-  journals = journals_at (seen g.D.Disk.state c.args.store.now) (synced_change c.args.self) on.contents on.batch on.journals (seen_log g.D.Disk.state c.open_gate.new.log) c.in-Ok.ensures.area;
+  journals = record { slots = on.journals.slots; before = on.journals.before; after = on.journals.after };
   log = c.in-Ok.ensures.next honest on.contents on.batch on.log;
 }
 
 pub returns-in-Ok-clause-images : goal.returns-in-Ok-clause-images
 returns-in-Ok-clause-images g c honest on image permitted =
-    held_either c.what_is_held_has_its_header.ensures.header (seen g.D.Disk.state c.args.store.now) (synced_change c.args.self) on.contents on.batch on.journals image
+    held_either (seen g.D.Disk.state c.args.store.now) (synced_change c.args.self) on.contents on.batch on.journals image
     (c.in-Ok.ensures.images honest on.contents on.batch on.log image permitted)
 
 pub returns-in-Err-clause-images : goal.returns-in-Err-clause-images
 returns-in-Err-clause-images g c honest on image permitted =
-    held_either c.what_is_held_has_its_header.ensures.header (seen g.D.Disk.state c.args.store.now) (synced_change c.args.self) on.contents on.batch on.journals image
+    held_either (seen g.D.Disk.state c.args.store.now) (synced_change c.args.self) on.contents on.batch on.journals image
     (c.in-Err.ensures.images honest on.contents on.batch on.log image (subst (λ d. IsPermitted (g.D.Disk.state d) image) c.fail.ensures.disk permitted))

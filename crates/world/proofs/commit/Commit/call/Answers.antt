@@ -1,4 +1,4 @@
-use Rattle.std.proofs.Common.{refl, subst, sym}
+use Rattle.std.proofs.Common.{[], refl, subst, sym}
 use Rattle.std.proofs.lemmas.Result.{err_from_is_err_and}
 use Rattle.store.specs.Phases.{begun_change, written_change, synced_change, synced_size, opened_change, opened_size}
 use Rattle.store.specs.State.{seen}
@@ -93,3 +93,19 @@ returns-in_ok-sync-in-GateWritten-clause-goes g c on =
     subst (λ k. GoesTo (moved_on succeeded (flights_in k)) s s') (sym c.in-GateWritten.is)
     (lasts c.of_runs.ensures s s' (opened_change c.in-GateWritten.phase) (opened_size c.in-GateWritten.phase) (subst (IsOnItsWay s) c.in-GateWritten.is c.requires.way)
     e.table e.seq (e.durable g.met.D.Sim.is_honest (subst (IsOn s) c.in-GateWritten.is on)))
+
+pub returns-in-Some-clause-goes : goal.returns-in-Some-clause-goes
+returns-in-Some-clause-goes g c on =
+    let s = seen g.D.Disk.state c.args.store.now in
+    let s' = seen g.D.Disk.state c.call.new.store in
+    let e = c.call.ensures in
+    subst (λ k. GoesTo (moved_on succeeded (flights_in k)) s s') (sym c.in-Checkpoint.is)
+    (stays s s' [] refl refl e.table e.seq (e.images (subst (IsOn s) c.in-Checkpoint.is on)))
+
+pub returns-in-None-clause-goes : goal.returns-in-None-clause-goes
+returns-in-None-clause-goes g c on =
+    let s = seen g.D.Disk.state c.args.store.now in
+    let s' = seen g.D.Disk.state c.call.new.store in
+    let e = c.call.ensures in
+    subst (λ k. GoesTo (moved_on succeeded (flights_in k)) s s') (sym c.in-Checkpoint.is)
+    (stays s s' [] refl refl e.table e.seq (e.images (subst (IsOn s) c.in-Checkpoint.is on)))

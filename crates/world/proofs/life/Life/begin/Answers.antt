@@ -26,7 +26,7 @@ returns-in-Ok-clause-course g c origin course f =
     let way = when_healthy s.failed _ _ idle.healthy c.in-Ok.ensures.answer in
     let found =
     takes c.of_runs.ensures origin course s life.core.decisions c.take.ensures.lawful.decisions most idle c.requires.some c.in-Ok.begun c.in_ok-room.room c.len-count.result
-    (c.in-Ok.ensures.batch ∙ took.0) way.legal (c.in-Ok.ensures.begun idle.under_way.1.1)
+    (c.in-Ok.ensures.batch ∙ took.0) way.legal (c.in-Ok.ensures.begun idle.under_way.1.1.0)
     (c.len-count.ensures.len ∙ ap (λ (ds : List Decision). length ds) took.0) in (
       found.0,
       (

@@ -2,7 +2,7 @@ use Rattle.std.proofs.Common.{◌∙◌, true, ap, refl, subst, sym}
 use Rattle.disk.specs.Outlook.{IsForeseen}
 use Rattle.store.specs.State.{seen, disk_of}
 use Rattle.world.specs.declared.answer.Answer.TheVariants as answers
-use Rattle.world.specs.Course.{moved_on, succeeded, failed}
+use Rattle.world.specs.Course.{no_call, one_call}
 use Rattle.world.specs.Answers.{AnswersCall}
 use Rattle.world.specs.Commits.{HasCall}
 use Rattle.world.specs.Follows.{IsLife}
@@ -37,12 +37,12 @@ returns-in-Ok g c =
           let call = subst HasCall same (has_call life.commit c.in_default.not-Idle c.in_default.not-Failed c.in_default.not-Durable) in
           let on = is_on c.of_runs.ensures origin course s s' life.core.decisions commit call f1 in
           let found =
-          call_succeeds c.of_runs.ensures origin course s s' life.core.decisions commit call f1 c.in-Ok.next e.flights e.decisions (e.on on) (e.goes on) e.one_call.failed in (
+          call_succeeds c.of_runs.ensures origin course s s' life.core.decisions commit call f1 c.in-Ok.next e.flights e.checkpoint e.decisions (e.on on) (e.goes on) e.one_call.failed in (
             found.0,
             (
-              moved origin (record course { flights = moved_on succeeded course.flights }) s' (seen state new.store) life.core.decisions new.core.decisions c.in-Ok.next new.commit
+              moved origin (one_call course) s' (seen state new.store) life.core.decisions new.core.decisions c.in-Ok.next new.commit
                   (ap (seen state) c.set.ensures.store) (ap (λ (k : CoreState). k.decisions) c.set.ensures.core) c.set.ensures.commit found.1,
-              listens-on course (record course { flights = moved_on succeeded course.flights }) life.core new.core life.links new.links refl refl refl refl (ap (λ (k : CoreState). k.clock) c.set.ensures.core) (ap (λ (k : CoreState). k.windows) c.set.ensures.core) c.set.ensures.links f.1,
+              listens-on course (one_call course) life.core new.core life.links new.links refl refl refl refl (ap (λ (k : CoreState). k.clock) c.set.ensures.core) (ap (λ (k : CoreState). k.windows) c.set.ensures.core) c.set.ensures.links f.1,
             ),
           );
       calls = λ calls are.
@@ -71,10 +71,10 @@ returns-in-Err g c =
           let call = subst HasCall same (has_call life.commit c.in_default.not-Idle c.in_default.not-Failed c.in_default.not-Durable) in
           let on = is_on c.of_runs.ensures origin course s s' life.core.decisions commit call f1 in
           let found = call_fails c.of_runs.ensures origin course s s' life.core.decisions commit call f1 (e.goes on) in (
-            subst (λ e. AnswersCall course.flights (answers.Refused e)) (sym e.one_call.failed.0) found.0,
+            subst (λ e. AnswersCall course.flights course.checkpoint (answers.Refused e)) (sym e.one_call.failed.0) found.0,
             (
-              subst (λ k. IsLife origin (record course { flights = moved_on failed course.flights }) s' life.core.decisions k) stopped found.1,
-              listens-on course (record course { flights = moved_on failed course.flights }) life.core life.core life.links life.links refl refl refl refl refl refl refl f.1,
+              subst (λ k. IsLife origin (no_call course) s' life.core.decisions k) stopped found.1,
+              listens-on course (no_call course) life.core life.core life.links life.links refl refl refl refl refl refl refl f.1,
             ),
           );
       calls = λ calls are.

@@ -50,7 +50,7 @@ returns-in_default g c =
           (subst (λ d. IsOnItsWay (seen state d) life.commit) (sym c.set.ensures.store) c.requires.sound);
       room = subst (λ k. HasRoom k (length c.args.released.now.items) (vec_capacity c.args.released.now)) (sym same) c.requires.room;
       course = λ origin course f. (
-        holds_back origin course (table_from origin course.settled) (seen state life.store) course.flights life.commit
+        holds_back origin course (table_from origin course.settled) (seen state life.store) course.flights course.checkpoint life.commit
             (λ durable is. c.in_default.not-Durable durable (cc (is, c.replace.ensures.value))) f.0.under_way,
         (
           moved origin course (seen state life.store) (seen state new.store) life.core.decisions new.core.decisions life.commit new.commit

@@ -2,7 +2,7 @@ use Rattle.std.proofs.Common.{◌≡◌, ◌∙◌, ◌++◌, subst, sym}
 use Rattle.flusher.specs.Released.{effects_of_all}
 use Rattle.world.specs.declared.answer.Answer.TheVariants as answers
 use Rattle.world.specs.Course.{after}
-use Rattle.world.proofs.Releasing.{event_left, piece_left}
+use Rattle.world.proofs.Releasing.{checkpoint_left, event_left, piece_left}
 use Rattle.world.proofs.life.Life.step.Goals as goal
 
 pub returns-in-Event-clause-left : goal.returns-in-Event-clause-left
@@ -15,3 +15,8 @@ pub returns-in-Piece-clause-left : goal.returns-in-Piece-clause-left
 returns-in-Piece-clause-left g c origin course f is =
     subst (λ step. (after origin course step c.piece.result).left ≡ origin.left ++ effects_of_all c.args.released.now.items) (sym c.in-Piece.is)
     (piece_left origin course _ _ _ c.piece.result ∙ is)
+
+pub returns-in-Checkpoint-clause-left : goal.returns-in-Checkpoint-clause-left
+returns-in-Checkpoint-clause-left g c origin course f is =
+    subst (λ step. (after origin course step c.checkpoint.result).left ≡ origin.left ++ effects_of_all c.args.released.now.items) (sym c.in-Checkpoint.is)
+    (checkpoint_left origin course c.checkpoint.result ∙ is)

@@ -8,6 +8,7 @@ use Rattle.world.specs.declared.step.Step.TheVariants.{Crash}
 use Rattle.world.specs.declared.answer.Answer.TheVariants.{Opened}
 use Rattle.world.specs.Answers.{Leaves}
 use Rattle.world.specs.Calls.{Calls, MaySucceed, passed_some}
+use Rattle.world.specs.Course.Checkpoint.{NotUnderWay}
 use Rattle.world.specs.Course.{Course, decided, formatted, table_from}
 use Rattle.world_tests.specs.Plain.{PlainState, Goes, kept_with}
 use Rattle.world_tests.proofs.model.Plain.crash.Goals as goal
@@ -21,6 +22,7 @@ landed old calls settled untaken emitted arrivals =
       course = record {
         settled = settled;
         flights = [];
+        checkpoint = NotUnderWay;
         given_up = [];
         untaken = untaken;
         made = 0;

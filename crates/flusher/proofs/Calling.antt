@@ -1,0 +1,59 @@
+-- Calls of a store's disk, one after another.
+use Rattle.std.proofs.Common.{◌≡◌, ◌⊎◌, ◌∙◌, ◌+◌, ℕ, List, ap, subst, sym, refl, inl, inr, arith}
+use Rattle.lw_types.specs.declared.refusal.Refusal.{Refusal}
+use Rattle.lw_types.specs.declared.refusal.Refusal.TheVariants.{DeviceFailed}
+use Rattle.disk.specs.Outlook.{Outlook}
+use Rattle.disk.specs.State.{EveryImage, IsPermitted, State}
+use Rattle.sessions.specs.declared.decision.Decision.{Decision}
+use Rattle.store.specs.Image.{HoldsTable}
+use Rattle.store.specs.declared.store.Store.{Store}
+use Rattle.store.specs.State.{IsSettled, StoreState, disk_of, seen}
+use Rattle.flusher.proofs.Holding.{held_along, with_or_without_along}
+use Rattle.flusher.specs.Cycle.{HoldsWithOrWithout}
+use Rattle.flusher.specs.Calls.{IsUntouched, LastFailed, NoneFailed}
+
+none_untouched : {D : Type 0} {g : _} (state : D → State) (failures : D → ℕ) (outlook : D → Outlook) (old new : Store D g)
+    → IsUntouched state old new → NoneFailed failures outlook old new
+none_untouched state failures outlook old new (same, disk) = record {
+  count = ap failures disk;
+  unarmed = λ all. ap outlook disk ∙ all;
+  failed = ap (λ s. s.failed) same;
+}
+
+-- calls that succeeded, and then a refusal
+pub then_refused : {D : Type 0} {g : _} (state : D → State) (failures : D → ℕ) (outlook : D → Outlook) (old mid new : Store D g) (e : Refusal)
+    → NoneFailed failures outlook old mid
+    → IsUntouched state mid new ⊎ ((e ≡ DeviceFailed) × LastFailed failures outlook mid new)
+    → NoneFailed failures outlook old new ⊎ ((e ≡ DeviceFailed) × LastFailed failures outlook old new)
+then_refused state failures outlook old mid new e first (inl same) =
+    let next = none_untouched state failures outlook mid new same in
+    inl (record { count = next.count ∙ first.count; unarmed = λ all. next.unarmed (first.unarmed all); failed = next.failed ∙ first.failed })
+then_refused state failures outlook old mid new e first (inr (is, last)) =
+    inr (is, record { count = last.count ∙ ap (λ n. n + 1) first.count; armed = λ all. last.armed (first.unarmed all); failed = last.failed })
+
+-- no call
+pub none_yet : {D : Type 0} {g : _} (failures : D → ℕ) (outlook : D → Outlook) (s : Store D g) → NoneFailed failures outlook s s
+none_yet failures outlook s = record { count = refl; unarmed = λ all. all; failed = refl }
+
+-- where none of the calls failed, a refused store is settled still
+pub settled_still : {D : Type 0} {g : _} (state : D → State) (failures : D → ℕ) (outlook : D → Outlook) (old mid new : Store D g) (e : Refusal)
+    → NoneFailed failures outlook old mid
+    → IsUntouched state mid new ⊎ ((e ≡ DeviceFailed) × LastFailed failures outlook mid new)
+    → IsSettled (seen state mid) → NoneFailed failures outlook old new → IsSettled (seen state new)
+settled_still state failures outlook old mid new e first (inl same) settled none = subst IsSettled (sym same.0) settled
+settled_still state failures outlook old mid new e first (inr (is, last)) settled none =
+    absurd (omega (arith, none.count, first.count, last.count))
+
+-- what a crash leaves, where a store was refused behind calls that succeeded
+pub refused_images : {D : Type 0} {g : _} (state : D → State) (failures : D → ℕ) (outlook : D → Outlook) (mid new : Store D g) (e : Refusal)
+    (s : StoreState) (batch : List Decision)
+    → ((s : StoreState) → IsSettled s → EveryImage s.log.disk (HoldsTable s.table s.seq))
+    → (seen state mid).table ≡ s.table → (seen state mid).seq ≡ s.seq → IsSettled (seen state mid)
+    → IsUntouched state mid new ⊎ ((e ≡ DeviceFailed) × LastFailed failures outlook mid new)
+    → EveryImage (state (disk_of new)) (HoldsWithOrWithout (seen state mid) batch)
+    → EveryImage (state (disk_of new)) (HoldsTable s.table s.seq)
+    ⊎ ((e ≡ DeviceFailed) × EveryImage (state (disk_of new)) (HoldsWithOrWithout s batch))
+refused_images state failures outlook mid new e s batch law table seq settled (inl same) images =
+    inl (λ image p. held_along s (seen state mid) image table seq (law (seen state mid) settled image (subst (λ d. IsPermitted (state d) image) same.1 p)))
+refused_images state failures outlook mid new e s batch law table seq settled (inr (is, last)) images =
+    inr (is, λ image p. with_or_without_along s (seen state mid) batch image table seq (images image p))

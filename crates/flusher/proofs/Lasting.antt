@@ -1,0 +1,31 @@
+-- What has left over several lives.
+use Rattle.std.proofs.Common.{◌≡◌, List, [], ◌∷◌, ◌++◌, refl, subst, sym, true, false}
+use Rattle.devices.specs.declared.command.Command.{Command}
+use Rattle.devices.specs.declared.effect.Effect.{Effect}
+use Rattle.sessions.specs.Marks.{IsSubsequence}
+use Rattle.sessions.specs.Table.{TableState, effects_of, folded}
+use Rattle.flusher.specs.Lives.{Event, Lives, after, after_all}
+use Rattle.flusher.specs.Lives.Event.{Released, Torn, Opened}
+use Rattle.flusher.proofs.Subsequences.{extended, longer}
+
+-- the effects of two runs of commands are those of both in order
+abbrev pub AreComposed : Type 0
+AreComposed = (t : TableState) (first second : List Command) → effects_of t (first ++ second) ≡ effects_of t first ++ effects_of (folded t first) second
+
+abbrev IsPart : TableState → Lives → Type 0
+IsPart t lives = IsSubsequence lives.left (effects_of t lives.durable)
+
+part_after : AreComposed → (t : TableState) (lives : Lives) (event : Event) → IsPart t lives → IsPart t (after t lives event)
+part_after law t lives (Released commands) h =
+    subst (λ es. IsSubsequence (lives.left ++ effects_of (folded t lives.durable) commands) es) (sym (law t lives.durable commands))
+    (extended lives.left (effects_of t lives.durable) (effects_of (folded t lives.durable) commands) h)
+part_after law t lives (Torn commands) h = h
+part_after law t lives (Opened true) h =
+    subst (λ es. IsSubsequence lives.left es) (sym (law t lives.durable lives.torn))
+    (longer lives.left (effects_of t lives.durable) (effects_of (folded t lives.durable) lives.torn) h)
+part_after law t lives (Opened false) h = h
+
+pub part_after_all : AreComposed → (t : TableState) (lives : Lives) (events : List Event) → IsSubsequence lives.left (effects_of t lives.durable)
+    → IsSubsequence (after_all t lives events).left (effects_of t (after_all t lives events).durable)
+part_after_all law t lives [] h = h
+part_after_all law t lives (event ∷ events) h = part_after_all law t (after t lives event) events (part_after law t lives event h)

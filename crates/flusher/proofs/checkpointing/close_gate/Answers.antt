@@ -1,0 +1,16 @@
+use Rattle.store.specs.State.{seen}
+use Rattle.flusher.proofs.Holding.{held_along, on_both, on_refused}
+use Rattle.flusher.proofs.checkpointing.close_gate.Goals as goal
+
+pub returns-in_err-retiring-clause-images : goal.returns-in_err-retiring-clause-images
+returns-in_err-retiring-clause-images g c honest on =
+    on_refused c.from_residual.result c.in_err-retiring.field-0.0 _ _ c.from_residual.ensures.1 (c.in_err-retiring.ensures.images honest on)
+
+pub returns-in_ok-retiring-clause-images : goal.returns-in_ok-retiring-clause-images
+returns-in_ok-retiring-clause-images g c honest on =
+    let s = seen g.D.Disk.state c.args.store.now in
+    let s1 = seen g.D.Disk.state c.retire.new.store in
+    let first = c.in_ok-retiring.ensures in
+    let retiring = first.next honest on in
+    on_both c.sync.result _ _ (c.sync.ensures.next honest retiring)
+    (λ image p. held_along s s1 image first.table first.seq (c.sync.ensures.images honest retiring image p))

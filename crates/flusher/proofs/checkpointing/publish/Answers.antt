@@ -1,0 +1,50 @@
+use Rattle.std.proofs.Common.{◌∙◌}
+use Rattle.store.specs.State.{seen}
+use Rattle.flusher.proofs.Holding.{held_along, on_both, on_refused}
+use Rattle.flusher.proofs.checkpointing.publish.Goals as goal
+
+pub returns-in_err-checkpoint-clause-images : goal.returns-in_err-checkpoint-clause-images
+returns-in_err-checkpoint-clause-images g c honest on =
+    on_refused c.from_residual.result c.in_err-checkpoint.field-0.0 _ _ c.from_residual.ensures.1 (c.in_err-checkpoint.ensures.images honest on)
+
+pub returns-in_err-written-clause-images : goal.returns-in_err-written-clause-images
+returns-in_err-written-clause-images g c honest on =
+    let s = seen g.D.Disk.state c.args.store.now in
+    let s1 = seen g.D.Disk.state c.close_gate.new.store in
+    let closed = c.in_ok-checkpoint.ensures in
+    on_refused c.from_residual-in_err-written.result c.in_err-written.field-0.0 _ _ c.from_residual-in_err-written.ensures.1
+    (λ image p. held_along s s1 image closed.table closed.seq (c.in_err-written.ensures.images honest (closed.images honest on) image p))
+
+pub returns-in_err-synced-clause-images : goal.returns-in_err-synced-clause-images
+returns-in_err-synced-clause-images g c honest on =
+    let s = seen g.D.Disk.state c.args.store.now in
+    let s2 = seen g.D.Disk.state c.write.new.store in
+    let closed = c.in_ok-checkpoint.ensures in
+    let first = c.in_ok-written.ensures in
+    on_refused c.from_residual-in_err-synced.result c.in_err-synced.field-0.0 _ _ c.from_residual-in_err-synced.ensures.1
+    (λ image p. held_along s s2 image (first.table ∙ closed.table) (first.seq ∙ closed.seq)
+    (c.in_err-synced.ensures.images honest (first.next honest (closed.images honest on)) image p))
+
+pub returns-in_err-opened-clause-images : goal.returns-in_err-opened-clause-images
+returns-in_err-opened-clause-images g c honest on =
+    let s = seen g.D.Disk.state c.args.store.now in
+    let s3 = seen g.D.Disk.state c.sync.new.store in
+    let closed = c.in_ok-checkpoint.ensures in
+    let first = c.in_ok-written.ensures in
+    let second = c.in_ok-synced.ensures in
+    on_refused c.from_residual-in_err-opened.result c.in_err-opened.field-0.0 _ _ c.from_residual-in_err-opened.ensures.1
+    (λ image p. held_along s s3 image (second.table ∙ (first.table ∙ closed.table)) (second.seq ∙ (first.seq ∙ closed.seq))
+    (c.in_err-opened.ensures.images honest (second.next honest (first.next honest (closed.images honest on))) image p))
+
+pub returns-clause-images : goal.returns-clause-images
+returns-clause-images g c honest on =
+    let s = seen g.D.Disk.state c.args.store.now in
+    let s4 = seen g.D.Disk.state c.open_gate.new.store in
+    let closed = c.in_ok-checkpoint.ensures in
+    let first = c.in_ok-written.ensures in
+    let second = c.in_ok-synced.ensures in
+    let third = c.in_ok-opened.ensures in
+    let opened = third.next honest (second.next honest (first.next honest (closed.images honest on))) in
+    on_both c.sync-2.result _ _ (c.sync-2.ensures.settled honest opened)
+    (λ image p. held_along s s4 image (third.table ∙ (second.table ∙ (first.table ∙ closed.table))) (third.seq ∙ (second.seq ∙ (first.seq ∙ closed.seq)))
+    (c.sync-2.ensures.images honest opened image p))

@@ -1,0 +1,80 @@
+// Whole checkpoints.
+ghost use Rattle.std.specs.Prelude.{◌≡◌, ◌⊎◌, true, false, IfOk, IfErr, OnOk, MatchResult};
+ghost use Rattle.disk.specs.State.{EveryImage};
+ghost use Rattle.flusher.specs.Calls.{AreCalls, IsUntouched, LastFailed, NoneFailed};
+ghost use Rattle.flusher.specs.Cycle.{IsReady, IsUnready};
+ghost use Rattle.lw_types.specs.declared.refusal.Refusal.TheVariants.{DeviceFailed};
+ghost use Rattle.store.specs.Checkpointing.{FitsOther, IsCheckpointOn, checkpoint_size};
+ghost use Rattle.store.specs.Image.{HoldsTable};
+ghost use Rattle.store.specs.State.{seen, disk_of, IsRoomy, IsSettled};
+
+use disk::Disk;
+use lw_types::Refusal;
+use std::alloc::Global;
+use store::{Checkpoint, Store};
+
+/// Makes room for the largest batch: where there is none, a checkpoint is written.
+pub(crate) fn make_room<D: Disk>(alloc: Global, store: &mut Store<D>) -> Result<(), Refusal>
+    ensures calls { MatchResult result
+        (λ _. NoneFailed D.failures D.outlook store.old store.new)
+        (λ e. IsUnready (seen D.state store.old) (LastFailed D.failures D.outlook store.old store.new) e) }
+    ensures ready { OnOk result (IsReady (seen D.state store.old)) }
+    ensures roomy { OnOk result (IsRoomy (seen D.state store.new)) }
+    ensures images { D.honest → IsSettled (seen D.state store.old) → MatchResult result
+        (λ _. IsSettled (seen D.state store.new))
+        (λ _. EveryImage (D.state (disk_of store.new))
+        (HoldsTable (seen D.state store.old).table (seen D.state store.old).seq)) }
+    ensures refused { IfErr result (λ e. IsUntouched D.state store.old store.new
+        ⊎ ((e ≡ DeviceFailed) × LastFailed D.failures D.outlook store.old store.new)) }
+    ensures closed { (seen D.state store.old).failed ≡ true
+        → IsUntouched D.state store.old store.new }
+    ensures table { (seen D.state store.new).table ≡ (seen D.state store.old).table }
+    ensures seq { (seen D.state store.new).seq ≡ (seen D.state store.old).seq }
+{
+    store::laws::a_settled_store_is_on_its_disk();
+    if store.roomy() {
+        return Ok(());
+    }
+    let checkpoint = store.checkpoint(alloc)?;
+    publish(store, checkpoint)
+}
+
+// Writes a checkpoint by four calls of the disk, or six where the other area's gate is open.
+fn publish<D: Disk>(store: &mut Store<D>, checkpoint: Checkpoint) -> Result<(), Refusal>
+    requires { FitsOther (seen D.state store.old) (checkpoint_size checkpoint) }
+    ensures calls { AreCalls D.failures D.outlook store.old store.new result }
+    ensures roomy { OnOk result (IsRoomy (seen D.state store.new)) }
+    ensures images { D.honest → IsCheckpointOn (seen D.state store.old) checkpoint → MatchResult result
+        (λ _. IsSettled (seen D.state store.new))
+        (λ _. EveryImage (D.state (disk_of store.new))
+        (HoldsTable (seen D.state store.old).table (seen D.state store.old).seq)) }
+    ensures table { (seen D.state store.new).table ≡ (seen D.state store.old).table }
+    ensures seq { (seen D.state store.new).seq ≡ (seen D.state store.old).seq }
+{
+    let checkpoint = close_gate(store, checkpoint)?;
+    let written = checkpoint.write(store)?;
+    let synced = written.sync(store)?;
+    let opened = synced.open_gate(store)?;
+    opened.sync(store)
+}
+
+// Closes the other area's gate, where it is open.
+fn close_gate<D: Disk>(store: &mut Store<D>, checkpoint: Checkpoint) -> Result<Checkpoint, Refusal>
+    requires { FitsOther (seen D.state store.old) (checkpoint_size checkpoint) }
+    ensures calls { AreCalls D.failures D.outlook store.old store.new result }
+    ensures closed { OnOk result ((seen D.state store.new).log.other_open ≡ false) }
+    ensures fits { IfOk result (λ phase. FitsOther (seen D.state store.new) (checkpoint_size phase)) }
+    ensures images { D.honest → IsCheckpointOn (seen D.state store.old) checkpoint → MatchResult result
+        (IsCheckpointOn (seen D.state store.new))
+        (λ _. EveryImage (D.state (disk_of store.new))
+        (HoldsTable (seen D.state store.old).table (seen D.state store.old).seq)) }
+    ensures table { (seen D.state store.new).table ≡ (seen D.state store.old).table }
+    ensures seq { (seen D.state store.new).seq ≡ (seen D.state store.old).seq }
+{
+    if store.must_retire() {
+        let retiring = checkpoint.retire(store)?;
+        retiring.sync(store)
+    } else {
+        Ok(checkpoint)
+    }
+}

@@ -1,0 +1,63 @@
+// Where batches come from.
+use lw_types::{Ranged, Refusal};
+use sessions::Batch;
+use std::alloc::Global;
+use std::collections::VecDeque;
+
+/// The decisions of the largest batch.
+const LARGEST: u64 = Batch::MOST as u64;
+
+/// How many decisions are asked for at most, from 1 to 64.
+pub type Most = Ranged<1, LARGEST>;
+
+/// Where the batches of a flusher come from. Each kind of feed says what it gives.
+pub trait Feed {
+    ghost use Rattle.std.specs.Prelude.{ℕ, List, Result};
+    ghost use Rattle.lw_types.specs.declared.refusal.Refusal.{Refusal};
+    ghost use Rattle.sessions.specs.declared.decision.Decision.{Decision};
+
+    /// The feed as it was, how many decisions were asked for at most, the answer, and the feed as it
+    /// is then.
+    ghost gives: { Self → ℕ → Result (List Decision) Refusal → Self → Type 0 };
+
+    /// The next decisions that are to be committed together, at most so many. Where none wait, the
+    /// batch is empty.
+    fn next(&mut self, most: Most) -> Result<Batch, Refusal>
+        ensures { gives self.old most result self.new };
+}
+
+/// Batches that are handed out in order, each whole, and empty batches behind them. Refused with
+/// `OutOfMemory` alone, where there is no memory for an empty one.
+#[derive(Drop)]
+pub struct StoredBatches {
+    alloc: Global,
+    batches: VecDeque<Batch>,
+}
+
+impl StoredBatches {
+    ghost use Rattle.std.specs.Prelude.{◌≡◌};
+    ghost use Rattle.flusher.specs.Feed.{stored_in};
+
+    /// The batches of this vector. Takes no memory.
+    pub fn new(alloc: Global, batches: Vec<Batch>) -> Self
+        ensures { stored_in result ≡ batches.items }
+    {
+        StoredBatches {
+            alloc,
+            batches: VecDeque::from(batches),
+        }
+    }
+}
+
+impl Feed for StoredBatches {
+    ghost use Rattle.flusher.specs.Feed.{GivesStored, stored_in};
+
+    ghost gives = { λ old _ answer new. GivesStored (stored_in old) answer (stored_in new) };
+
+    fn next(&mut self, _most: Most) -> Result<Batch, Refusal> {
+        match self.batches.pop_front() {
+            Some(batch) => Ok(batch),
+            None => Batch::new(self.alloc),
+        }
+    }
+}

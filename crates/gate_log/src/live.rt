@@ -1,0 +1,62 @@
+// Tells which of two areas is the live one.
+ghost use Rattle.std.specs.Prelude.{◌≡◌, ◌≤◌, ◌+◌, ℕ, List, MatchOption};
+ghost use Rattle.gate_log.specs.declared.layout.TheConstants.{EMPTY_AREA_LEN};
+ghost use Rattle.gate_log.specs.Areas.{AreOf, HasHeader, IsClosedArea, NoneLive};
+
+use crate::layout::{Area, Areas, Header};
+
+/// Which of a disk's areas is the live one, its header, and whether the other one's gate is open.
+#[derive(Clone, Copy, Debug, PartialEq, Eq)]
+pub struct Live {
+    pub areas: Areas,
+    pub header: Header,
+    pub other_open: bool,
+}
+
+impl Live {
+    ghost use Rattle.gate_log.specs.Live.{IsLiveAs};
+
+    /// Of two areas, with the headers of those that are open, the one that is live: the open one of the greater
+    /// generation. None is where both are closed, or both open with one generation.
+    pub(crate) fn of(
+        a: Area,
+        header_a: Option<Header>,
+        b: Area,
+        header_b: Option<Header>,
+    ) -> Option<Live>
+        requires room_a { a.start + EMPTY_AREA_LEN ≤ a.end }
+        requires room_b { b.start + EMPTY_AREA_LEN ≤ b.end }
+        ensures live { (disk : List ℕ)
+            → MatchOption header_a (IsClosedArea a disk) (λ h. HasHeader a h disk)
+            → MatchOption header_b (IsClosedArea b disk) (λ h. HasHeader b h disk)
+            → MatchOption result (NoneLive a b disk) (λ live. IsLiveAs live disk) }
+        ensures areas { MatchOption result (Unit {0}) (λ live. AreOf a b live.areas) }
+    {
+        let first = Areas { live: a, other: b };
+        let second = Areas { live: b, other: a };
+        match (header_a, header_b) {
+            (None, None) => None,
+            (Some(header), None) => Some(Live::new(first, header, false)),
+            (None, Some(header)) => Some(Live::new(second, header, false)),
+            (Some(h), Some(k)) => {
+                if h.generation > k.generation {
+                    Some(Live::new(first, h, true))
+                } else if k.generation > h.generation {
+                    Some(Live::new(second, k, true))
+                } else {
+                    None
+                }
+            }
+        }
+    }
+
+    fn new(areas: Areas, header: Header, other_open: bool) -> Self
+        ensures { result ≡ record { areas = areas; header = header; other_open = other_open } }
+    {
+        Live {
+            areas,
+            header,
+            other_open,
+        }
+    }
+}

@@ -1,0 +1,96 @@
+-- What the disk of a store holds while a checkpoint is under way: the same table and number throughout.
+use Rattle.std.specs.Prelude.{◌≡◌, ◌≤◌, ℕ, ◌+◌, List, length}
+use Rattle.gate_log.specs.declared.layout.Header.{Header}
+use Rattle.gate_log.specs.Areas.{Contents, MayFollow, published}
+use Rattle.gate_log.specs.Checkpointing.{IsCheckpoint as IsLogCheckpoint, IsRetiring as IsLogRetiring, IsCheckpointWritten as IsLogWritten, IsCheckpointSynced as IsLogSynced, IsCheckpointOpened as IsLogOpened, checkpoint_bytes, written_front, synced_front, opened_front}
+use Rattle.gate_log.specs.Log.{IsAtRest}
+use Rattle.sessions.specs.Table.{TableState}
+use Rattle.store_layout.specs.declared.version.RecordVersion.{RecordVersion}
+use Rattle.store_layout.specs.Entries.{version_byte}
+use Rattle.store.specs.declared.checkpointing.Checkpoint.{Checkpoint}
+use Rattle.store.specs.declared.checkpointing.Retiring.{Retiring}
+use Rattle.store.specs.declared.checkpointing.CheckpointWritten.{CheckpointWritten}
+use Rattle.store.specs.declared.checkpointing.CheckpointSynced.{CheckpointSynced}
+use Rattle.store.specs.declared.checkpointing.CheckpointOpened.{CheckpointOpened}
+use Rattle.store.specs.declared.store.TheConstants.{LARGEST_BATCH}
+use Rattle.store.specs.Image.{Says}
+use Rattle.store.specs.State.{StoreState}
+
+-- how far behind its area's gate that of a checkpoint's first batch stands, in each phase
+abbrev pub checkpoint_size : Checkpoint → ℕ
+checkpoint_size begun = length (checkpoint_bytes begun.phase)
+
+abbrev pub retiring_size : Retiring → ℕ
+retiring_size retiring = length (checkpoint_bytes retiring.checkpoint)
+
+abbrev pub checkpoint_written_size : CheckpointWritten → ℕ
+checkpoint_written_size written = (written_front written.phase).len
+
+abbrev pub checkpoint_synced_size : CheckpointSynced → ℕ
+checkpoint_synced_size synced = (synced_front synced.phase).len
+
+abbrev pub checkpoint_opened_size : CheckpointOpened → ℕ
+checkpoint_opened_size opened = (opened_front opened.phase).len
+
+-- a checkpoint of this size fits the other area, and leaves room there for the largest batch
+abbrev pub FitsOther : StoreState → ℕ → Type 0
+FitsOther s size = s.log.areas.other.start + size + LARGEST_BATCH ≤ s.log.areas.other.end
+
+-- the header of a checkpoint of a store's table, with so many bytes of records: the next generation
+abbrev pub next_header : StoreState → ℕ → Header
+next_header s records_len = record {
+  version = version_byte s.version;
+  generation = s.log.generation + 1;
+  sequence = s.seq;
+  record_count = length s.table.devices;
+  records_len = records_len;
+}
+
+-- the contents say a table and a number, and so does the checkpoint that may follow them, of the next generation
+pub record Republishes (version : RecordVersion) (t : TableState) (seq : ℕ) (c : Contents) (header : Header) (records : List ℕ) : Type 0 where
+  pub before : Says version c t seq
+  pub after : Says version (published c header records) t seq
+  pub follows : MayFollow c header records
+  pub next : header.generation ≡ c.journal.header.generation + 1
+
+-- nothing of the checkpoint is written
+pub record IsCheckpointOn (s : StoreState) (begun : Checkpoint) : Type 0 where
+  pub contents : Contents
+  pub header : Header
+  pub records : List ℕ
+  pub republishes : Republishes s.version s.table s.seq contents header records
+  pub rest : IsAtRest s.log contents
+  pub bytes : IsLogCheckpoint begun.phase header records
+
+-- the other area's gate is closed, and may be torn
+pub record IsRetiringOn (s : StoreState) (retiring : Retiring) : Type 0 where
+  pub contents : Contents
+  pub header : Header
+  pub records : List ℕ
+  pub republishes : Republishes s.version s.table s.seq contents header records
+  pub log : IsLogRetiring s.log contents
+  pub bytes : IsLogCheckpoint retiring.checkpoint header records
+
+-- the checkpoint is written, and may be torn
+pub record IsCheckpointWrittenOn (s : StoreState) (written : CheckpointWritten) : Type 0 where
+  pub contents : Contents
+  pub header : Header
+  pub records : List ℕ
+  pub republishes : Republishes s.version s.table s.seq contents header records
+  pub log : IsLogWritten s.log contents header records (written_front written.phase)
+
+-- it is on the disk
+pub record IsCheckpointSyncedOn (s : StoreState) (synced : CheckpointSynced) : Type 0 where
+  pub contents : Contents
+  pub header : Header
+  pub records : List ℕ
+  pub republishes : Republishes s.version s.table s.seq contents header records
+  pub log : IsLogSynced s.log contents header records (synced_front synced.phase)
+
+-- its gate is open, and may be torn
+pub record IsCheckpointOpenedOn (s : StoreState) (opened : CheckpointOpened) : Type 0 where
+  pub contents : Contents
+  pub header : Header
+  pub records : List ℕ
+  pub republishes : Republishes s.version s.table s.seq contents header records
+  pub log : IsLogOpened s.log contents header records (opened_front opened.phase)

@@ -1,0 +1,216 @@
+// The phases of a checkpoint, each spent by one call of the disk.
+ghost use Rattle.std.specs.Prelude.{◌≡◌, ◌≤◌, ◌+◌, true, false, IfOk, OnOk};
+ghost use Rattle.disk.specs.State.{EveryImage};
+ghost use Rattle.store.specs.Checkpointing.{FitsOther, IsCheckpointOn, IsCheckpointOpenedOn, IsCheckpointSyncedOn, IsCheckpointWrittenOn, IsRetiringOn, checkpoint_opened_size, checkpoint_size, checkpoint_synced_size, checkpoint_written_size, retiring_size};
+ghost use Rattle.store.specs.Image.{HoldsTable};
+ghost use Rattle.store.specs.State.{seen, disk_of, IsOneCall, IsRoomy, IsSettled};
+
+use crate::Store;
+use disk::Disk;
+use lw_types::Refusal;
+
+/// A checkpoint of which nothing is written yet.
+pub struct Checkpoint {
+    pub(crate) phase: gate_log::Checkpoint,
+}
+
+/// A checkpoint for which the other area's gate is closed, which may be torn.
+pub struct Retiring {
+    phase: gate_log::Retiring,
+    checkpoint: gate_log::Checkpoint,
+}
+
+/// A checkpoint that is written, and may be torn.
+pub struct CheckpointWritten {
+    phase: gate_log::CheckpointWritten,
+}
+
+/// A checkpoint that is on the disk, behind its closed gate.
+pub struct CheckpointSynced {
+    phase: gate_log::CheckpointSynced,
+}
+
+/// A checkpoint whose gate is open, and may be torn.
+pub struct CheckpointOpened {
+    phase: gate_log::CheckpointOpened,
+}
+
+impl Checkpoint {
+    /// Closes the other area's gate, which is open. Refused with `DeviceFailed` exactly where the disk failed; then the
+    /// store has failed.
+    pub fn retire<D: Disk>(self, store: &mut Store<D>) -> Result<Retiring, Refusal>
+        requires open { (seen D.state store.old).log.other_open ≡ true }
+        requires fits { FitsOther (seen D.state store.old) (checkpoint_size self) }
+        ensures next { D.honest → IsCheckpointOn (seen D.state store.old) self
+            → IfOk result (IsRetiringOn (seen D.state store.new)) }
+        ensures images { D.honest → IsCheckpointOn (seen D.state store.old) self
+            → EveryImage (D.state (disk_of store.new))
+            (HoldsTable (seen D.state store.old).table (seen D.state store.old).seq) }
+        ensures fits { IfOk result (λ phase. FitsOther (seen D.state store.new) (retiring_size phase)) }
+        ensures table { (seen D.state store.new).table ≡ (seen D.state store.old).table }
+        ensures seq { (seen D.state store.new).seq ≡ (seen D.state store.old).seq }
+        ensures call { IsOneCall D.failures D.outlook store.old store.new result }
+    {
+        let Checkpoint { phase: checkpoint } = self;
+        match store.log.retire() {
+            Ok(phase) => Ok(Retiring { phase, checkpoint }),
+            Err(_) => {
+                checkpoint.lose();
+                Err(store.fail())
+            }
+        }
+    }
+
+    /// Writes the checkpoint and the closed gate of its first batch into the other area, whose gate is
+    /// closed: so many bytes as the table has records, and no more. Refused with `DeviceFailed` exactly where the disk failed; then the
+    /// store has failed.
+    pub fn write<D: Disk>(self, store: &mut Store<D>) -> Result<CheckpointWritten, Refusal>
+        requires closed { (seen D.state store.old).log.other_open ≡ false }
+        requires fits { FitsOther (seen D.state store.old) (checkpoint_size self) }
+        ensures next { D.honest → IsCheckpointOn (seen D.state store.old) self
+            → IfOk result (IsCheckpointWrittenOn (seen D.state store.new)) }
+        ensures images { D.honest → IsCheckpointOn (seen D.state store.old) self
+            → EveryImage (D.state (disk_of store.new))
+            (HoldsTable (seen D.state store.old).table (seen D.state store.old).seq) }
+        ensures fits { IfOk result (λ phase. FitsOther (seen D.state store.new) (checkpoint_written_size phase)) }
+        ensures table { (seen D.state store.new).table ≡ (seen D.state store.old).table }
+        ensures seq { (seen D.state store.new).seq ≡ (seen D.state store.old).seq }
+        ensures call { IsOneCall D.failures D.outlook store.old store.new result }
+    {
+        let Checkpoint { phase } = self;
+        match phase.write(&mut store.log) {
+            Ok(phase) => Ok(CheckpointWritten { phase }),
+            Err(_) => Err(store.fail()),
+        }
+    }
+
+    /// Lets the checkpoint go, at a crash.
+    pub fn lose(self) {
+        let Checkpoint { phase } = self;
+        phase.lose();
+    }
+}
+
+impl Retiring {
+    /// Syncs the other area's closed gate. Afterwards the checkpoint may be written. Refused with `DeviceFailed` exactly where the disk failed; then the
+    /// store has failed.
+    pub fn sync<D: Disk>(self, store: &mut Store<D>) -> Result<Checkpoint, Refusal>
+        requires fits { FitsOther (seen D.state store.old) (retiring_size self) }
+        ensures next { D.honest → IsRetiringOn (seen D.state store.old) self
+            → IfOk result (IsCheckpointOn (seen D.state store.new)) }
+        ensures images { D.honest → IsRetiringOn (seen D.state store.old) self
+            → EveryImage (D.state (disk_of store.new))
+            (HoldsTable (seen D.state store.old).table (seen D.state store.old).seq) }
+        ensures fits { IfOk result (λ phase. FitsOther (seen D.state store.new) (checkpoint_size phase)) }
+        ensures closed { OnOk result ((seen D.state store.new).log.other_open ≡ false) }
+        ensures table { (seen D.state store.new).table ≡ (seen D.state store.old).table }
+        ensures seq { (seen D.state store.new).seq ≡ (seen D.state store.old).seq }
+        ensures call { IsOneCall D.failures D.outlook store.old store.new result }
+    {
+        let Retiring { phase, checkpoint } = self;
+        match phase.sync(&mut store.log) {
+            Ok(()) => Ok(Checkpoint { phase: checkpoint }),
+            Err(_) => {
+                checkpoint.lose();
+                Err(store.fail())
+            }
+        }
+    }
+
+    /// Lets the checkpoint go, at a crash.
+    pub fn lose(self) {
+        let Retiring { phase, checkpoint } = self;
+        phase.lose();
+        checkpoint.lose();
+    }
+}
+
+impl CheckpointWritten {
+    /// Syncs the checkpoint. Refused with `DeviceFailed` exactly where the disk failed; then the
+    /// store has failed.
+    pub fn sync<D: Disk>(self, store: &mut Store<D>) -> Result<CheckpointSynced, Refusal>
+        requires fits { FitsOther (seen D.state store.old) (checkpoint_written_size self) }
+        ensures next { D.honest → IsCheckpointWrittenOn (seen D.state store.old) self
+            → IfOk result (IsCheckpointSyncedOn (seen D.state store.new)) }
+        ensures images { D.honest → IsCheckpointWrittenOn (seen D.state store.old) self
+            → EveryImage (D.state (disk_of store.new))
+            (HoldsTable (seen D.state store.old).table (seen D.state store.old).seq) }
+        ensures fits { IfOk result (λ phase. FitsOther (seen D.state store.new) (checkpoint_synced_size phase)) }
+        ensures table { (seen D.state store.new).table ≡ (seen D.state store.old).table }
+        ensures seq { (seen D.state store.new).seq ≡ (seen D.state store.old).seq }
+        ensures call { IsOneCall D.failures D.outlook store.old store.new result }
+    {
+        let CheckpointWritten { phase } = self;
+        match phase.sync(&mut store.log) {
+            Ok(phase) => Ok(CheckpointSynced { phase }),
+            Err(_) => Err(store.fail()),
+        }
+    }
+
+    /// Lets the checkpoint go, at a crash.
+    pub fn lose(self) {
+        let CheckpointWritten { phase } = self;
+        phase.lose();
+    }
+}
+
+impl CheckpointSynced {
+    /// Opens the checkpoint's gate. Refused with `DeviceFailed` exactly where the disk failed; then the
+    /// store has failed.
+    pub fn open_gate<D: Disk>(self, store: &mut Store<D>) -> Result<CheckpointOpened, Refusal>
+        requires fits { FitsOther (seen D.state store.old) (checkpoint_synced_size self) }
+        ensures next { D.honest → IsCheckpointSyncedOn (seen D.state store.old) self
+            → IfOk result (IsCheckpointOpenedOn (seen D.state store.new)) }
+        ensures images { D.honest → IsCheckpointSyncedOn (seen D.state store.old) self
+            → EveryImage (D.state (disk_of store.new))
+            (HoldsTable (seen D.state store.old).table (seen D.state store.old).seq) }
+        ensures fits { IfOk result (λ phase. FitsOther (seen D.state store.new) (checkpoint_opened_size phase)) }
+        ensures table { (seen D.state store.new).table ≡ (seen D.state store.old).table }
+        ensures seq { (seen D.state store.new).seq ≡ (seen D.state store.old).seq }
+        ensures call { IsOneCall D.failures D.outlook store.old store.new result }
+    {
+        let CheckpointSynced { phase } = self;
+        match phase.open_gate(&mut store.log) {
+            Ok(phase) => Ok(CheckpointOpened { phase }),
+            Err(_) => Err(store.fail()),
+        }
+    }
+
+    /// Lets the checkpoint go, at a crash.
+    pub fn lose(self) {
+        let CheckpointSynced { phase } = self;
+        phase.lose();
+    }
+}
+
+impl CheckpointOpened {
+    /// Syncs the checkpoint's gate. Afterwards its area is the live one, and has room for the largest batch.
+    /// Refused with `DeviceFailed` exactly where the disk failed; then the
+    /// store has failed.
+    pub fn sync<D: Disk>(self, store: &mut Store<D>) -> Result<(), Refusal>
+        requires fits { FitsOther (seen D.state store.old) (checkpoint_opened_size self) }
+        ensures settled { D.honest → IsCheckpointOpenedOn (seen D.state store.old) self
+            → OnOk result (IsSettled (seen D.state store.new)) }
+        ensures roomy { OnOk result (IsRoomy (seen D.state store.new)) }
+        ensures generation { D.honest → IsCheckpointOpenedOn (seen D.state store.old) self → OnOk result
+            ((seen D.state store.new).log.generation ≡ (seen D.state store.old).log.generation + 1) }
+        ensures images { D.honest → IsCheckpointOpenedOn (seen D.state store.old) self
+            → EveryImage (D.state (disk_of store.new))
+            (HoldsTable (seen D.state store.old).table (seen D.state store.old).seq) }
+        ensures table { (seen D.state store.new).table ≡ (seen D.state store.old).table }
+        ensures seq { (seen D.state store.new).seq ≡ (seen D.state store.old).seq }
+        ensures call { IsOneCall D.failures D.outlook store.old store.new result }
+    {
+        let CheckpointOpened { phase } = self;
+        match phase.sync(&mut store.log) {
+            Ok(()) => Ok(()),
+            Err(_) => Err(store.fail()),
+        }
+    }
+
+    /// Lets the checkpoint go, at a crash.
+    pub fn lose(self) {
+        let CheckpointOpened { phase } = self;
+        phase.lose();
+    }
+}

@@ -1,0 +1,100 @@
+// Begins a checkpoint.
+ghost use Rattle.std.specs.Prelude.{◌≡◌, ◌⊎◌, ◌<◌, ◌≤◌, ◌+◌, Err, IfOk, MatchBool, MatchResult, drop, length};
+ghost use Rattle.gate_log.specs.Layout.{IsHeader};
+ghost use Rattle.lw_types.specs.declared.refusal.Refusal.TheVariants.{Damaged, Failed, OutOfMemory};
+ghost use Rattle.store.specs.Checkpointing.{FitsOther, IsCheckpointOn, checkpoint_size, next_header};
+ghost use Rattle.store_layout.specs.Entries.{AreEntries, entries, entries_of_table};
+
+use crate::areas::LAST_GENERATION;
+use crate::store::LARGEST_BATCH;
+use crate::{Checkpoint, Store};
+use disk::Disk;
+use gate_log::Header;
+use lw_types::Refusal;
+use std::alloc::Global;
+use store_layout::{laws, put_table};
+
+/// An entry has at most so many bytes.
+const LONGEST_ENTRY: usize = 4185;
+
+impl<D: Disk> Store<D> {
+    ghost use Rattle.store.specs.State.{seen, IsSettled};
+
+    /// Begins a checkpoint of the durable table, on a store with nothing under way. The other area then gets the
+    /// table's records alone, and the batches so far no longer count; the table and its number stay the same.
+    /// It takes four calls of the disk, or six where [`Store::must_retire`]. Refused with `Failed` exactly
+    /// where an earlier call of the disk failed, else with `Damaged` exactly where the live area has the last
+    /// generation, and with `OutOfMemory` for want of memory, before any call. All the memory that the checkpoint
+    /// needs is taken here, at most an area's length beside the table. The cost grows with the table's records.
+    pub fn checkpoint(&self, alloc: Global) -> Result<Checkpoint, Refusal>
+        ensures answer { MatchBool (seen D.state self.now).failed
+            (result ≡ Err Failed)
+            (MatchResult result
+            (λ _. (seen D.state self.now).log.generation < LAST_GENERATION)
+            (λ e. ((e ≡ Damaged) × (LAST_GENERATION ≤ (seen D.state self.now).log.generation))
+            ⊎ ((e ≡ OutOfMemory) × ((seen D.state self.now).log.generation < LAST_GENERATION)))) }
+        ensures fits { IfOk result (λ begun. FitsOther (seen D.state self.now) (checkpoint_size begun)) }
+        ensures begun { IsSettled (seen D.state self.now)
+            → IfOk result (IsCheckpointOn (seen D.state self.now)) }
+    {
+        if self.failed {
+            return Err(Refusal::Failed);
+        }
+        if self.log.generation() >= LAST_GENERATION {
+            return Err(Refusal::Damaged);
+        }
+        let records = self.checkpoint_records(alloc)?;
+        laws::a_table_replays();
+        let _devices = self.table.devices();
+        let header = self.checkpoint_header((records.len() - Header::LEN) as u64);
+        let phase = gate_log::Checkpoint::new(records, header)?;
+        Ok(Checkpoint { phase })
+    }
+
+    /// Whether the other area's gate is open, so that a checkpoint has to close it before it is written.
+    pub fn must_retire(&self) -> bool
+        ensures { result ≡ (seen D.state self.now).log.other_open }
+    {
+        self.log.is_other_open()
+    }
+
+    // The durable table's records, behind room for a header. The areas of each store have room for them; a disk without that
+    // counts as want of memory.
+    fn checkpoint_records(&self, alloc: Global) -> Result<Vec<u8>, Refusal>
+        ensures { MatchResult result
+            (λ bytes. (Header.LEN ≤ length bytes.items)
+            × ((drop Header.LEN bytes.items
+            ≡ entries (seen D.state self.now).version (entries_of_table (seen D.state self.now).table))
+            × (AreEntries (seen D.state self.now).version (entries_of_table (seen D.state self.now).table)
+            × FitsOther (seen D.state self.now) (length bytes.items + 1))))
+            (λ e. e ≡ OutOfMemory) }
+    {
+        // A table has at most 4,096 slots.
+        let _slots = self.table.slots();
+        let most = self.table.devices().len() * LONGEST_ENTRY;
+        let mut bytes = gate_log::Checkpoint::buffer(alloc, most)?;
+        put_table(alloc, self.version, &self.table, &mut bytes)?;
+        let room = self.log.other_len();
+        if room <= LARGEST_BATCH || bytes.len() as u64 >= room - LARGEST_BATCH {
+            return Err(Refusal::OutOfMemory);
+        }
+        Ok(bytes)
+    }
+
+    // The header of a checkpoint of the durable table with so many bytes of records.
+    fn checkpoint_header(&self, records_len: u64) -> Header
+        requires { (seen D.state self.now).log.generation < LAST_GENERATION }
+        ensures header { result ≡ next_header (seen D.state self.now) records_len }
+        ensures in_range { IsHeader result }
+    {
+        // A table has at most 4,096 slots.
+        let _slots = self.table.slots();
+        Header {
+            version: self.version.byte(),
+            generation: self.log.generation() + 1,
+            sequence: self.seq(),
+            record_count: self.table.devices().len() as u32,
+            records_len,
+        }
+    }
+}
