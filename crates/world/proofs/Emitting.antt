@@ -14,6 +14,7 @@ use Rattle.world.specs.declared.place.Place.TheVariants.{Open, Closed, Crashing}
 use Rattle.world.specs.Course.{Origin, Course}
 use Rattle.world.specs.Answers.{AnswersEmit}
 use Rattle.world.specs.Follows.{FollowsPlace}
+use Rattle.world.proofs.Shapes.{same-life}
 
 get_behind : {A : Type 0} (xs ys : List A) (n : ℕ) → slice_get (xs ++ ys) (length xs + n) ≡ slice_get ys n
 get_behind [] ys n = ap (slice_get ys) (omega arith)
@@ -55,9 +56,6 @@ emits origin c items n released answer left emitted there right =
 -- where the world is has nothing to do with how much was emitted
 pub same_place : {D : Type 0} {g : _} (state : D → State) (origin : Origin) (c : Course) (n : ℕ) (place : Place D g) → FollowsPlace state origin c place
     → FollowsPlace state origin (record c { emitted = n }) place
-same_place state origin c n (Open life) (is, (f, listens)) = (
-  is,
-  (record { table = f.table; seq = f.seq; base = f.base; number = f.number; untaken = f.untaken; made = f.made; under_way = f.under_way; healthy = f.healthy; survives = f.survives }, record { clock = listens.clock; windows = listens.windows; said = listens.said }),
-)
+same_place state origin c n (Open life) (is, (f, listens)) = (is, (same-life f, record { clock = listens.clock; windows = listens.windows; said = listens.said }))
 same_place state origin c n (Closed disk) f = f
 same_place state origin c n Crashing f = f

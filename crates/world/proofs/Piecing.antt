@@ -7,13 +7,10 @@ use Rattle.world.specs.declared.life.Life.{Life}
 use Rattle.world.specs.declared.step.Step.TheVariants as steps
 use Rattle.world.specs.Answers.{AreTurns, IsTurn}
 use Rattle.session_core.specs.Core.{CoreState}
-use Rattle.session_core.specs.State.{DecisionsState}
-use Rattle.store.specs.State.{StoreState}
-use Rattle.world.specs.declared.commit.Commit.{Commit}
 use Rattle.world.specs.declared.links.Links.{Links}
 use Rattle.world.specs.Course.{Origin, Course, told_more, turned, turned_all}
 use Rattle.world.specs.Links.{HasSaid, heard_on, stream_on}
-use Rattle.world.specs.Follows.{FollowsLife, IsLife, IsListening, MovesLife, MovesThrough}
+use Rattle.world.specs.Follows.{FollowsLife, IsListening, MovesLife, MovesThrough}
 
 one_more : (origin : Origin) (c : Course) (moment : ℕ) (turns : List EventTurn) (t : EventTurn) → AreTurns origin c moment turns
     → IsTurn origin (turned_all origin c moment turns) moment t.event t.turn t.closings
@@ -33,12 +30,7 @@ moves_on state old mid new moment turns t through move origin c f =
     let more = one_more origin c moment turns t before.0 moved.0 in
     (more.0, subst (λ k. FollowsLife state origin k new) (sym more.1) moved.1)
 
--- the same life once more came over a link
-pub life-told : (origin : Origin) (c : Course) (link : ℕ) (bytes : List ℕ) (s : StoreState) (core : DecisionsState) (commit : Commit) → IsLife origin c s core commit
-    → IsLife origin (told_more c link bytes) s core commit
-life-told origin c link bytes s core commit f =
-    record { table = f.table; seq = f.seq; base = f.base; number = f.number; untaken = f.untaken; made = f.made; under_way = f.under_way; healthy = f.healthy; survives = f.survives }
-
+-- what a core has heard once more came over a link
 pub listens-told : (c : Course) (core : CoreState) (links links' : Links) (link : ℕ) (bytes : List ℕ) → IsListening c core links
     → ((l : ℕ) → HasSaid (stream_on l (c.pieces ++ record { link = link; bytes = bytes } ∷ [])) (heard_on links' l)) → IsListening (told_more c link bytes) core links'
 listens-told c core links links' link bytes f said = record { clock = f.clock; windows = f.windows; said = said }

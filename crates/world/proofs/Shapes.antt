@@ -4,11 +4,23 @@ use Rattle.lw_types.specs.declared.refusal.Refusal.{Refusal}
 use Rattle.lw_types.specs.declared.frame_copy.FrameCopy.{FrameCopy}
 use Rattle.devices.specs.declared.command.Command.{Command}
 use Rattle.sessions.specs.Table.{Step as TableStep}
+use Rattle.dedup.specs.Groups.{Arrival}
+use Rattle.session_core.specs.State.{DecisionsState}
+use Rattle.store.specs.State.{StoreState}
+use Rattle.world.specs.declared.commit.Commit.{Commit}
 use Rattle.world.specs.declared.answer.EventTurn.{EventTurn}
 use Rattle.world.specs.declared.event.Event.{Event}
 use Rattle.world.specs.declared.event.Event.TheVariants as events
 use Rattle.world.specs.declared.step.Step.TheVariants as steps
 use Rattle.world.specs.Course.{Origin, Course, accepted, admit, at_moment, commands_of, gone, listened, shutting, turned, turned_all, wanted, went}
+use Rattle.world.specs.Follows.{IsLife}
+use Rattle.world.specs.Links.{Piece}
+
+-- the same life, whatever was heard, and however much was emitted
+pub same-life : {origin : Origin} {c : Course} {s : StoreState} {core : DecisionsState} {commit : Commit} {emitted clock shut : ℕ} {arrivals : List Arrival} {pieces : List Piece}
+    → IsLife origin c s core commit → IsLife origin (record c { emitted = emitted; clock = clock; arrivals = arrivals; shut = shut; pieces = pieces }) s core commit
+same-life f =
+    record { table = f.table; seq = f.seq; base = f.base; number = f.number; untaken = f.untaken; made = f.made; under_way = f.under_way; healthy = f.healthy; survives = f.survives }
 
 -- the same course, but for what waits and how many were decided
 abbrev pub with_decisions_of : Course → Course → Course

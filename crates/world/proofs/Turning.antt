@@ -28,7 +28,7 @@ use Rattle.world.specs.Course.{Origin, Course, admit, at_moment, command_in, due
 use Rattle.world.specs.Answers.{IsAsked, IsHeard, IsOwnRight, IsTurn}
 use Rattle.world.specs.declared.links.Links.{Links}
 use Rattle.world.specs.Follows.{IsLife, IsListening}
-use Rattle.world.proofs.Shapes.{admit-shape}
+use Rattle.world.proofs.Shapes.{admit-shape, same-life}
 use Rattle.world.proofs.Deciding.{answered, becomes, with-memory}
 
 -- ---- lists
@@ -164,18 +164,9 @@ outcome_closings s d (Err refusal) = refl
 -- ---- closings
 
 module _ (laws : RunLaws) (origin : Origin) (s : StoreState) (commit : Commit) where
-  -- the same life of a course that differs in what a core hears alone
-  pub at-moment : (c : Course) (core : DecisionsState) (moment : ℕ) → IsLife origin c s core commit → IsLife origin (at_moment c moment) s core commit
-  at-moment c core moment f =
-      record { table = f.table; seq = f.seq; base = f.base; number = f.number; untaken = f.untaken; made = f.made; under_way = f.under_way; healthy = f.healthy; survives = f.survives }
-
-  pub at-shutting : (c : Course) (core : DecisionsState) (n : ℕ) → IsLife origin c s core commit → IsLife origin (shutting n c) s core commit
-  at-shutting c core n f =
-      record { table = f.table; seq = f.seq; base = f.base; number = f.number; untaken = f.untaken; made = f.made; under_way = f.under_way; healthy = f.healthy; survives = f.survives }
-
+  -- the same life once a copy was accepted, or wasn't
   pub at-listened : (c : Course) (core : DecisionsState) (copy : FrameCopy) (refused : Option Refusal) → IsLife origin c s core commit → IsLife origin (listened copy refused c) s core commit
-  at-listened c core copy None f =
-      record { table = f.table; seq = f.seq; base = f.base; number = f.number; untaken = f.untaken; made = f.made; under_way = f.under_way; healthy = f.healthy; survives = f.survives }
+  at-listened c core copy None f = same-life f
   at-listened c core copy (Some e) f = f
 
   -- so many windows were closed, and their frames were gone through
@@ -249,7 +240,7 @@ module _ (laws : RunLaws) (origin : Origin) (s : StoreState) (commit : Commit) w
       → IsLife origin c s old.decisions commit → IsListening c old links → IsLawful old.decisions → (h : IsCoreTurn old moment Own turn new) → Closed c moment h.between
   closed c old links moment Own turn new f listens lawful h =
       let now = (at_moment c moment).clock in
-      let so = shut_all (at_moment c moment) h.between.closings (moved old moment) h.closed.last h.closed.closed (at-moment c old.decisions moment f) lawful in
+      let so = shut_all (at_moment c moment) h.between.closings (moved old moment) h.closed.last h.closed.closed (same-life f) lawful in
       let then : (moved old moment).clock ≡ now = ap (λ k. max k moment) listens.clock in
       let last_clock : h.closed.last.clock ≡ now = so.clock ∙ then in
       let clock : h.between.clock ≡ now = ap (λ (k : CoreState). k.clock) h.closed.new_is ∙ last_clock in
@@ -310,8 +301,7 @@ module _ (laws : RunLaws) (origin : Origin) (s : StoreState) (commit : Commit) w
 
     there_life : IsLife origin there s between.decisions commit
     there_life =
-        at-shutting (admit origin (at_moment c moment) (take between.closings (due_frames (at_moment c moment)))) between.decisions between.closings
-        (subst (λ l. IsLife origin (admit origin (at_moment c moment) l) s between.decisions commit) (sym frames_taken) k.life)
+        same-life (subst (λ l. IsLife origin (admit origin (at_moment c moment) l) s between.decisions commit) (sym frames_taken) k.life)
 
     abbrev Own : Event → Option Refusal → Type 0
     Own event refused =

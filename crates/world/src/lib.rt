@@ -17,6 +17,7 @@ mod world;
 
 pub use answer::{Answer, EventTurn};
 pub use event::Event;
+pub use links::events_of;
 pub use runs::run;
 pub use step::Step;
 pub use world::World;

@@ -69,8 +69,9 @@ impl Links {
     }
 }
 
-// The events that the messages of a link hand in.
-fn events_of(
+/// The events that messages of a link hand in, whose peer this is before them: each copy, and the command of each line that is
+/// a request of an application. Refused with `OutOfMemory` alone.
+pub fn events_of(
     alloc: Global,
     peer: Option<Peer>,
     messages: Vec<Message>,

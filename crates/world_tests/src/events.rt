@@ -1,6 +1,6 @@
 // Events of the scripts here.
 use devices::{Application, AskedBytes, Command, MacQueueing, Queueing, Tag};
-use lw_types::{Eui, FrameCopy};
+use lw_types::{Eui, FrameCopy, read_hex};
 use session_core::Moment;
 use session_tests::fixture;
 use std::alloc::Global;
@@ -65,9 +65,24 @@ fn mac_queueing(alloc: Global) -> Result<Command, Fail> {
     }))
 }
 
+// What a gateway says on its link: its greeting, and a copy of that Join-Request, cut in two.
+const PIECES: [&str; 2] = [
+    "00090000000000000000B1002D0100000000000000B133BE27A005",
+    "FFECFFA10000C35000010000000000000000000000000000000100D684CEBF",
+];
+
+// These bytes come on the gateway's link.
+fn piece(alloc: Global, moment: u64, digits: &str) -> Result<Step, Fail> {
+    Ok(Step::Piece {
+        link: 7,
+        moment: Moment::new(moment).ok_or("moment")?,
+        bytes: read_hex(alloc, digits)?,
+    })
+}
+
 /// The events that scripts are made of, each by its letter: copies of the device's Join-Request, of which the second
-/// joins the first and the third doesn't; one on no channel; a moment; an item and a MAC command for it. `None` for
-/// another letter.
+/// joins the first and the third doesn't; one on no channel; a moment; two pieces of a link's bytes, which together have a
+/// copy; an item and a MAC command for the device. `None` for another letter.
 pub(crate) fn event_of(alloc: Global, letter: char) -> Result<Option<Step>, Fail> {
     let step = match letter {
         'h' => at(0, Event::Hear(copy(alloc, 0xB1, REQUEST)?))?,
@@ -75,6 +90,8 @@ pub(crate) fn event_of(alloc: Global, letter: char) -> Result<Option<Step>, Fail
         'G' => at(200, Event::Hear(copy(alloc, 0xB2, REQUEST)?))?,
         'u' => at(200, Event::Hear(stray(alloc, 0xB1, REQUEST)?))?,
         'k' => at(400, Event::Tick)?,
+        'w' => piece(alloc, 0, PIECES[0])?,
+        'W' => piece(alloc, 150, PIECES[1])?,
         'q' => at(200, Event::Ask(queueing(alloc)?))?,
         'm' => at(200, Event::Ask(mac_queueing(alloc)?))?,
         _ => return Ok(None),

@@ -1,4 +1,4 @@
-// A batch under way, as the model has it. It stands apart from the tests, since the definitions of the model name it.
+// What is under way, as the model has it. It stands apart from the tests, since the definitions of the model name it.
 use devices::Command;
 
 /// How far the commit of a batch is.
@@ -13,9 +13,20 @@ pub(crate) enum Stage {
     Unsure,
 }
 
-/// The batch under way.
+/// A batch.
 #[derive(Drop)]
 pub(crate) struct Flight {
     pub(crate) commands: Vec<Command>,
     pub(crate) stage: Stage,
+}
+
+/// What is under way.
+#[derive(Drop)]
+pub(crate) enum UnderWay {
+    Nothing,
+    Batch(Flight),
+    /// A checkpoint, of which so many device calls are left.
+    Checkpoint(u64),
+    /// A checkpoint of which a device call failed.
+    FailedCheckpoint,
 }

@@ -1,5 +1,5 @@
-//! Tests of the public calls of `world`, beside a plain model whose contract is the definition, and of
-//! `headline`.
+//! Tests of the public calls of `world`, beside a plain model whose contract is the definition, of
+//! `headline` and of `scripts`.
 #![tactic(auto)]
 
 #[cfg(test)]
@@ -13,6 +13,10 @@ mod headline_tests;
 mod model;
 #[cfg(test)]
 mod piece_tests;
+#[cfg(test)]
+mod scripts_tests;
+#[cfg(test)]
+mod streams;
 #[cfg(test)]
 mod window_tests;
 #[cfg(test)]

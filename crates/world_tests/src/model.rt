@@ -1,17 +1,19 @@
 // The world told plainly: whole lists of commands and of copies, and the table and the windows made anew from
 // all of them each time that they are wanted.
-ghost use Rattle.std.specs.Prelude.{◌≡◌, ◌≢◌, ◌++◌, ℕ, true, length, Err, IfOk, IfErr, MatchResult};
+ghost use Rattle.std.specs.Prelude.{◌≡◌, ◌≢◌, ◌++◌, ℕ, [], true, length, Err, IfOk, IfErr, MatchResult};
 ghost use Rattle.lw_types.specs.declared.refusal.Refusal.TheVariants.{OutOfMemory};
 ghost use Rattle.sessions.specs.Decision.{Fits, IsDecision};
 ghost use Rattle.disk.specs.Outlook.Outlook.{AllSucceed};
 ghost use Rattle.sessions.specs.Table.{folded, effects_of, step, stepped, step_effects};
+ghost use Rattle.world.specs.declared.answer.Answer.TheVariants as answers;
 ghost use Rattle.world.specs.declared.step.Step.TheVariants as steps;
 ghost use Rattle.world.specs.Answers.{Leaves, IsHeard, IsOwnRight};
-ghost use Rattle.world.specs.Course.{admit, at_moment, beginning, decided, due_frames, flying, formatted, listened, shutting, table_from, wanted, went, windows_of};
-ghost use Rattle.world_tests.specs.Plain.{Goes, IsRefusal, at_course, flights_of, kept_with, own_after};
+ghost use Rattle.world.specs.Course.{admit, at_moment, beginning, decided, due_frames, flying, formatted, listened, shutting, table_from, told_more, wanted, went, windows_of};
+ghost use Rattle.world_tests.specs.Plain.{Goes, GoesPiece, GoesThrough, IsBusy, IsRefusal, at_course, flights_of, kept_with, own_after};
 
-use crate::flight::{Flight, Stage};
+use crate::flight::{Flight, Stage, UnderWay};
 use crate::gathering::{PlainArrival, PlainWindow, due_frames, refusal_by, windows_of};
+use crate::streams::{PlainPiece, completed};
 use devices::{Command, Effect, is_receivable};
 use disk::Image;
 use gateway_wire::Emission;
@@ -21,16 +23,16 @@ use sessions::{Decision, Slots, Table};
 use std::alloc::Global;
 use std::marker::Model;
 use std::mem;
-use world::{Answer, Event, Step};
+use world::{Answer, Event, EventTurn, Step};
 
 /// A world told plainly. Contracts see where its course begins, the course, and what is known of the
-/// disk's calls. Want of memory ends it, so that no batch is given up, and so do a piece of a link's bytes and a checkpoint.
+/// disk's calls. Want of memory ends it, so that no batch is given up.
 #[derive(Drop)]
 pub(crate) struct Plain {
     net_id: NetId,
     slots: Slots,
     settled: Vec<Command>,
-    flying: Option<Flight>,
+    under_way: UnderWay,
     untaken: Vec<Command>,
     made: u64,
     left: Vec<Effect>,
@@ -39,20 +41,23 @@ pub(crate) struct Plain {
     clock: u64,
     arrivals: Vec<PlainArrival>,
     shut: usize,
+    pieces: Vec<PlainPiece>,
     // Whether the next device call fails, and how many have failed.
     armed: bool,
     failures: u64,
     // Whether the gate of the batch under way is open on the disk, as written and as synced.
     gate_written: bool,
     gate_synced: bool,
+    // The same of the gate of the area that isn't live, after an opening.
+    other_written: bool,
+    other_synced: bool,
 }
 
 impl Model for Plain {
     ghost use Rattle.std.specs.Prelude.{[], if◌then◌else◌};
     ghost use Rattle.disk.specs.Outlook.Outlook.{AllSucceed, FailsAfter};
     ghost use Rattle.world.specs.Course.{formatted};
-    ghost use Rattle.world.specs.Course.Checkpoint.{NotUnderWay};
-    ghost use Rattle.world_tests.specs.Plain.{PlainState, flights_of};
+    ghost use Rattle.world_tests.specs.Plain.{PlainState, checkpoint_of, flights_of};
 
     ghost Value = { PlainState };
 
@@ -64,8 +69,8 @@ impl Model for Plain {
       };
       course = record {
         settled = m.settled.items;
-        flights = flights_of m.flying;
-        checkpoint = NotUnderWay;
+        flights = flights_of m.under_way;
+        checkpoint = checkpoint_of m.under_way;
         given_up = [];
         untaken = m.untaken.items;
         made = m.made;
@@ -75,7 +80,7 @@ impl Model for Plain {
         clock = m.clock;
         arrivals = m.arrivals.items;
         shut = m.shut;
-        pieces = [];
+        pieces = m.pieces.items;
       };
     } };
 }
@@ -91,7 +96,7 @@ impl Plain {
             net_id,
             slots,
             settled: Vec::new(alloc),
-            flying: None,
+            under_way: UnderWay::Nothing,
             untaken: Vec::new(alloc),
             made: 0,
             left: Vec::new(alloc),
@@ -100,10 +105,13 @@ impl Plain {
             clock: 0,
             arrivals: Vec::new(alloc),
             shut: 0,
+            pieces: Vec::new(alloc),
             armed: false,
             failures: 0,
             gate_written: false,
             gate_synced: false,
+            other_written: false,
+            other_synced: false,
         }
     }
 
@@ -115,10 +123,20 @@ impl Plain {
             Step::Crash(image) => self.crash(alloc, image),
             Step::Emit => self.emit(alloc),
             _ if !self.is_open => Ok(Answer::Idle),
-            Step::Event { moment, event } => self.event(alloc, *moment, event),
-            // links and checkpoints are tested by rows
-            Step::Piece { .. } | Step::Checkpoint => Err(Refusal::OutOfMemory),
+            Step::Event { moment, event } => {
+                let (turn, closings) = self.event(alloc, *moment, event)?;
+                Ok(Answer::Turn { turn, closings })
+            }
+            Step::Piece {
+                link,
+                moment,
+                bytes,
+            } => {
+                let (turns, fault) = self.piece(alloc, *link, *moment, bytes)?;
+                Ok(Answer::Turns { turns, fault })
+            }
             Step::Take(most) => self.take(*most),
+            Step::Checkpoint => Ok(self.checkpoint()),
             Step::Call => self.call(),
             Step::Fail => self.fail(),
             Step::Release => self.release(alloc),
@@ -127,22 +145,71 @@ impl Plain {
     }
 
     // The windows that are due are closed, and then the event's own is done.
-    fn event(&mut self, alloc: Global, moment: Moment, event: &Event) -> Result<Answer, Refusal>
+    fn event(
+        &mut self,
+        alloc: Global,
+        moment: Moment,
+        event: &Event,
+    ) -> Result<(Turn, usize), Refusal>
         requires { self.old.course.is_open ≡ true }
-        ensures { IfOk result (λ answer. Goes self.old (steps.Event moment event.now) answer self.new) }
+        ensures { IfOk result (λ told. Goes self.old (steps.Event moment event.now) (answers.Turn told.0 told.1) self.new) }
     {
         let from = self.made;
         self.reach(moment);
         let closings = self.close_due(alloc)?;
         let refused = self.own(alloc, event)?;
-        Ok(Answer::Turn {
-            turn: Turn {
-                from,
-                to: self.made,
-                refused,
-            },
-            closings,
-        })
+        let turn = Turn {
+            from,
+            to: self.made,
+            refused,
+        };
+        Ok((turn, closings))
+    }
+
+    // A piece of a link's bytes comes: the events that it hands in, one after another.
+    fn piece(
+        &mut self,
+        alloc: Global,
+        link: u64,
+        moment: Moment,
+        bytes: &[u8],
+    ) -> Result<(Vec<EventTurn>, Option<Refusal>), Refusal>
+        requires { self.old.course.is_open ≡ true }
+        ensures { IfOk result (λ told. GoesPiece self.old link moment bytes.now told.0.items told.1 self.new) }
+    {
+        let (events, fault) = completed(alloc, &self.pieces, link, bytes)?;
+        self.tell(alloc, link, bytes)?;
+        Ok((self.turns_of(alloc, moment, events)?, fault))
+    }
+
+    // These bytes come over a link.
+    fn tell(&mut self, alloc: Global, link: u64, bytes: &[u8]) -> Result<(), Refusal>
+        ensures { IfOk result (λ _. self.new ≡ at_course self.old (told_more self.old.course link bytes.now)) }
+    {
+        self.pieces.push(PlainPiece::new(alloc, link, bytes)?)?;
+        Ok(())
+    }
+
+    // The turns of events that come at this moment.
+    fn turns_of(
+        &mut self,
+        alloc: Global,
+        moment: Moment,
+        events: Vec<Event>,
+    ) -> Result<Vec<EventTurn>, Refusal>
+        requires { self.old.course.is_open ≡ true }
+        ensures { IfOk result (λ turns. GoesThrough self.old moment events.items turns.items self.new) }
+    {
+        let mut turns = Vec::new(alloc);
+        for event in events {
+            let (turn, closings) = self.event(alloc, moment, &event)?;
+            turns.push(EventTurn {
+                event,
+                turn,
+                closings,
+            })?;
+        }
+        Ok(turns)
     }
 
     // The effective time is at least this moment.
@@ -251,22 +318,47 @@ impl Plain {
         refusal_on(alloc, &table, command)
     }
 
+    // What a take or a checkpoint is answered while something is under way or has failed.
+    fn busy(&self) -> Option<Answer>
+        ensures { IsBusy self.now.course.flights self.now.course.checkpoint result }
+    {
+        match &self.under_way {
+            UnderWay::Nothing => None,
+            UnderWay::Batch(flight) => Some(match flight.stage {
+                Stage::Stopped | Stage::Unsure => Answer::Refused(Refusal::Failed),
+                _ => Answer::Idle,
+            }),
+            UnderWay::Checkpoint(_) => Some(Answer::Idle),
+            UnderWay::FailedCheckpoint => Some(Answer::Refused(Refusal::Failed)),
+        }
+    }
+
+    // A checkpoint begins. It closes the other area's gate first where that is open.
+    fn checkpoint(&mut self) -> Answer
+        requires { self.old.course.is_open ≡ true }
+        ensures { Goes self.old steps.Checkpoint result self.new }
+    {
+        if let Some(answer) = self.busy() {
+            return answer;
+        }
+        let calls = if self.other_synced { 6 } else { 4 };
+        self.under_way = UnderWay::Checkpoint(calls);
+        Answer::Begun(calls)
+    }
+
     fn take(&mut self, most: Most) -> Result<Answer, Refusal>
         requires { self.old.course.is_open ≡ true }
         ensures { IfOk result (λ answer. Goes self.old (steps.Take most) answer self.new) }
     {
-        if let Some(flight) = &self.flying {
-            return Ok(match flight.stage {
-                Stage::Stopped | Stage::Unsure => Answer::Refused(Refusal::Failed),
-                _ => Answer::Idle,
-            });
+        if let Some(answer) = self.busy() {
+            return Ok(answer);
         }
         if self.untaken.is_empty() {
             return Ok(Answer::Idle);
         }
         let count = self.untaken.len().min(most.get() as usize);
         let rest = self.untaken.split_off(count)?;
-        self.flying = Some(Flight {
+        self.under_way = UnderWay::Batch(Flight {
             commands: mem::replace(&mut self.untaken, rest),
             stage: Stage::Begun,
         });
@@ -291,8 +383,8 @@ impl Plain {
         requires { self.old.course.is_open ≡ true }
         ensures { IfOk result (λ answer. Goes self.old steps.Call answer self.new) }
     {
-        let Some(flight) = &mut self.flying else {
-            return Ok(Answer::Idle);
+        let UnderWay::Batch(flight) = &mut self.under_way else {
+            return self.call_of_checkpoint();
         };
         let (succeeded, failed) = match flight.stage {
             Stage::Begun => (Stage::Written, Stage::Stopped),
@@ -312,12 +404,40 @@ impl Plain {
         Ok(Answer::Called)
     }
 
+    // Where two calls are left the new area's gate is written, and the old one stays open; where six are, the other one is closed.
+    fn call_of_checkpoint(&mut self) -> Result<Answer, Refusal>
+        requires open { self.old.course.is_open ≡ true }
+        requires alone { self.old.course.flights ≡ [] }
+        ensures { IfOk result (λ answer. Goes self.old steps.Call answer self.new) }
+    {
+        let UnderWay::Checkpoint(left) = self.under_way else {
+            return Ok(Answer::Idle);
+        };
+        if self.armed {
+            self.failures = self.failures.checked_add(1).ok_or(Refusal::OutOfMemory)?;
+            self.armed = false;
+            self.under_way = UnderWay::FailedCheckpoint;
+            return Ok(Answer::Refused(Refusal::DeviceFailed));
+        }
+        match left {
+            6 => self.other_written = false,
+            2 => self.other_written = true,
+            _ => self.other_synced = self.other_written,
+        }
+        self.under_way = if left > 1 {
+            UnderWay::Checkpoint(left - 1)
+        } else {
+            UnderWay::Nothing
+        };
+        Ok(Answer::Called)
+    }
+
     fn release(&mut self, alloc: Global) -> Result<Answer, Refusal>
         requires { self.old.course.is_open ≡ true }
         ensures { IfOk result (λ answer. Goes self.old steps.Release answer self.new) }
     {
-        match self.flying.take() {
-            Some(flight) if flight.stage == Stage::Durable => {
+        match mem::replace(&mut self.under_way, UnderWay::Nothing) {
+            UnderWay::Batch(flight) if flight.stage == Stage::Durable => {
                 let mut table = self.table(alloc, &self.settled)?;
                 let mut effects = fold(alloc, &mut table, &flight.commands)?;
                 let count = effects.len();
@@ -327,7 +447,7 @@ impl Plain {
                 Ok(Answer::Released(count))
             }
             other => {
-                self.flying = other;
+                self.under_way = other;
                 Ok(Answer::Idle)
             }
         }
@@ -367,6 +487,10 @@ impl Plain {
         let flew = self.flew(image);
         self.gate_written = flew;
         self.gate_synced = flew;
+        match image {
+            Image::Old => self.other_written = self.other_synced,
+            _ => self.other_synced = self.other_written,
+        }
         if self.armed {
             self.failures = self.failures.checked_add(1).ok_or(Refusal::OutOfMemory)?;
             self.armed = false;
@@ -376,12 +500,13 @@ impl Plain {
         let kept = self.kept(alloc, flew)?;
         let table = self.table(alloc, &kept)?;
         self.settled = kept;
-        self.flying = None;
+        self.under_way = UnderWay::Nothing;
         self.untaken.clear();
         self.made = 0;
         self.is_open = true;
         self.clock = 0;
         self.arrivals.clear();
+        self.pieces.clear();
         self.shut = 0;
         Ok(Answer::Opened {
             devices: table.devices().len(),
@@ -393,16 +518,16 @@ impl Plain {
     fn flew(&self, image: &Image) -> bool
         ensures { Leaves self.now.course (kept_with result self.now.course) }
     {
-        match &self.flying {
-            None => false,
-            Some(flight) => match flight.stage {
-                Stage::Durable => true,
-                Stage::Opened | Stage::Unsure => match image {
-                    Image::Old => self.gate_synced,
-                    _ => self.gate_written,
-                },
-                _ => false,
+        let UnderWay::Batch(flight) = &self.under_way else {
+            return false;
+        };
+        match flight.stage {
+            Stage::Durable => true,
+            Stage::Opened | Stage::Unsure => match image {
+                Image::Old => self.gate_synced,
+                _ => self.gate_written,
             },
+            _ => false,
         }
     }
 
@@ -412,10 +537,8 @@ impl Plain {
     {
         let mut kept = Vec::new(alloc);
         add(&mut kept, &self.settled)?;
-        if let Some(flight) = &self.flying {
-            if flew {
-                add(&mut kept, &flight.commands)?;
-            }
+        if flew {
+            add_flying(&mut kept, &self.under_way)?;
         }
         Ok(kept)
     }
@@ -427,7 +550,7 @@ impl Plain {
     {
         let mut all = Vec::new(alloc);
         add(&mut all, &self.settled)?;
-        add_flying(&mut all, &self.flying)?;
+        add_flying(&mut all, &self.under_way)?;
         add(&mut all, &self.untaken)?;
         Ok(all)
     }
@@ -443,12 +566,12 @@ impl Plain {
 }
 
 // Adds the commands of the batch under way behind others.
-fn add_flying(commands: &mut Vec<Command>, batch: &Option<Flight>) -> Result<(), Refusal>
-    ensures { IfOk result (λ _. commands.new.items ≡ commands.old.items ++ flying (flights_of batch.now)) }
+fn add_flying(commands: &mut Vec<Command>, under_way: &UnderWay) -> Result<(), Refusal>
+    ensures { IfOk result (λ _. commands.new.items ≡ commands.old.items ++ flying (flights_of under_way.now)) }
 {
-    match batch {
-        Some(flight) => add(commands, &flight.commands),
-        None => Ok(()),
+    match under_way {
+        UnderWay::Batch(flight) => add(commands, &flight.commands),
+        _ => Ok(()),
     }
 }
 

@@ -1,5 +1,5 @@
 // Pieces of the bytes of links, by the events that they hand in.
-use crate::world_tests::answers_to;
+use crate::world_tests::{SLOTS, answers_to, compare};
 use disk::Image;
 use lw_types::read_hex;
 use session_core::Moment;
@@ -188,6 +188,7 @@ fn links_say_the_same_wherever_they_are_cut(rt: HostRuntime) -> Result<(), Fail>
         for (link, hex, _, _) in row {
             steps.push(step_of(alloc, *link, hex)?)?;
         }
+        compare(&rt, alloc, SLOTS, &steps, "links")?;
         let answers = answers_to(alloc, &steps)?;
         for (number, (answer, (_, _, letters, fault))) in answers.iter().zip(row).enumerate() {
             assert!(rt; is_told(answer, letters, *fault), "piece {number}");

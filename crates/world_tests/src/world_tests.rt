@@ -13,10 +13,10 @@ use sessions::Slots;
 use std::alloc::Global;
 use std::process::Abort;
 use std::test::Fail;
-use world::{Answer, Event, Step, World, run};
+use world::{Answer, Event, EventTurn, Step, World, run};
 
-/// The slots of the worlds here, which the devices of eleven scripts can fill.
-const SLOTS: u64 = 20;
+/// The slots of the worlds here, which the devices of twelve scripts can fill.
+pub(crate) const SLOTS: u64 = 20;
 
 // A world with so many slots, on a disk that isn't empty.
 fn new_world(alloc: Global, slots: u64) -> Result<World<MemDisk>, Fail>
@@ -57,6 +57,7 @@ fn step_of(alloc: Global, script: char, letter: char) -> Result<Step, Fail> {
         'b' => provision(device + 1)?,
         't' => Step::Take(Most::new(1).ok_or("most")?),
         'T' => Step::Take(Most::new(64).ok_or("most")?),
+        'p' => Step::Checkpoint,
         'c' => Step::Call,
         'f' => Step::Fail,
         'r' => Step::Release,
@@ -67,19 +68,43 @@ fn step_of(alloc: Global, script: char, letter: char) -> Result<Step, Fail> {
     })
 }
 
-const LETTERS: &str = "abtTcfreonl";
+const LETTERS: &str = "abtTpcfreonl";
 
 // Scripts that lead to a stage: nothing is there, two commands wait, a batch has begun, so many of its
 // four device calls succeeded, and one of them failed.
-const OPENINGS: [&str; 11] = [
+const BATCHES: [&str; 11] = [
     "", "ab", "abt", "abtc", "abtcc", "abtccc", "abtcccc", "abtfc", "abtcfc", "abtccfc", "abtcccfc",
 ];
 
-const EVENTS: &str = "hgGukqmaTcro";
+// The same of a checkpoint: it has begun, so many of its four device calls succeeded, and one of them failed; and of a
+// second one, which takes six.
+const CHECKPOINTS: [&str; 9] = [
+    "ap",
+    "apcc",
+    "apccc",
+    "apfc",
+    "apccfc",
+    "apcccfc",
+    "apccccpc",
+    "apccccpccccc",
+    "apccccpcfc",
+];
 
-// Scripts with windows: of a device that is there or not, one is open, has two copies, was closed, or is open beside a
-// commit; and a join's own commit.
-const WINDOWS: [&str; 6] = ["h", "ah", "ahg", "ahk", "aTccch", "ahkTcccc"];
+const EVENTS: &str = "hgGukwWqmaTcro";
+
+// Scripts with windows: of a device that is there or not, one is open, has two copies, was closed, is open beside a
+// commit or a checkpoint, or was opened by a link; and a join's own commit.
+const WINDOWS: [&str; 8] = [
+    "h", "ah", "ahg", "ahk", "aTccch", "ahpcc", "awW", "ahkTcccc",
+];
+
+// Whether these events and their turns are the same.
+fn are_same(turns: &[EventTurn], others: &[EventTurn]) -> bool {
+    turns.len() == others.len()
+        && turns.iter().zip(others).all(|(one, other)| {
+            one.event == other.event && one.turn == other.turn && one.closings == other.closings
+        })
+}
 
 // Whether the answers are the same, tables by their devices.
 fn same(one: &Answer, other: &Answer) -> bool {
@@ -91,7 +116,15 @@ fn same(one: &Answer, other: &Answer) -> bool {
                 closings: other_closings,
             },
         ) => turn == other_turn && closings == other_closings,
+        (
+            Answer::Turns { turns, fault },
+            Answer::Turns {
+                turns: other_turns,
+                fault: other_fault,
+            },
+        ) => are_same(turns, other_turns) && fault == other_fault,
         (Answer::Taken(a), Answer::Taken(b)) => a == b,
+        (Answer::Begun(a), Answer::Begun(b)) => a == b,
         (Answer::Idle, Answer::Idle) => true,
         (Answer::Called, Answer::Called) => true,
         (Answer::Armed, Answer::Armed) => true,
@@ -161,8 +194,8 @@ pub(crate) fn answers_to(alloc: Global, steps: &[Step]) -> Result<Vec<Answer>, F
     Ok(answers?)
 }
 
-// Takes steps on a new world and on a new model, and compares their answers.
-fn compare(
+/// Takes steps on a new world and on a new model, and compares their answers.
+pub(crate) fn compare(
     rt: &impl Abort,
     alloc: Global,
     slots: u64,
@@ -183,15 +216,27 @@ fn compare(
     Ok(())
 }
 
-// Every step after every other, from each stage.
+// Every step after every other, from a stage.
+fn compare_from(rt: &impl Abort, alloc: Global, opening: &str) -> Result<(), Fail> {
+    for first in LETTERS.chars() {
+        let steps = scripts(alloc, opening, first)?;
+        compare(rt, alloc, SLOTS, &steps, opening)?;
+    }
+    Ok(())
+}
+
 #[test]
-fn worlds_answer_as_their_model(rt: HostRuntime) -> Result<(), Fail> {
-    let alloc = rt.alloc();
-    for opening in OPENINGS {
-        for first in LETTERS.chars() {
-            let steps = scripts(alloc, opening, first)?;
-            compare(&rt, alloc, SLOTS, &steps, opening)?;
-        }
+fn batches_answer_as_their_model(rt: HostRuntime) -> Result<(), Fail> {
+    for opening in BATCHES {
+        compare_from(&rt, rt.alloc(), opening)?;
+    }
+    Ok(())
+}
+
+#[test]
+fn checkpoints_answer_as_their_model(rt: HostRuntime) -> Result<(), Fail> {
+    for opening in CHECKPOINTS {
+        compare_from(&rt, rt.alloc(), opening)?;
     }
     Ok(())
 }

@@ -1,8 +1,8 @@
-use Rattle.store.specs.State.{seen}
 use Rattle.std.proofs.Common.{sym, subst}
 use Rattle.world.specs.Course.{told_more}
 use Rattle.world.specs.Links.{Completes, stream_on}
-use Rattle.world.proofs.Piecing.{life-told, listens-same, listens-told}
+use Rattle.world.proofs.Piecing.{listens-same, listens-told}
+use Rattle.world.proofs.Shapes.{same-life}
 use Rattle.world.proofs.Saying.{says-more}
 use Rattle.world.proofs.life.Life.piece.Goals as goal
 
@@ -14,12 +14,11 @@ returns-in-Err-clause-course g c origin course f =
 pub returns-in-Ok-clause-course : goal.returns-in-Ok-clause-course
 returns-in-Ok-clause-course g c origin course f =
     let life = c.args.self.now in
-    let s = seen g.D.Disk.state life.store in
     let link = c.args.link in
     let bytes = c.args.bytes.now in
     let law = c.cuts_make_no_difference.ensures in
     let handed_in = c.in-Ok.handed_in in
     let more = says-more law.rest law.fault course.pieces life.links c.say.new.self link bytes handed_in.events.items handed_in.fault f.1.said c.in-Ok.ensures.said in
     let told = c.go_through-turns.ensures.course origin (told_more course link bytes)
-    (life-told origin course link bytes s life.core.decisions life.commit f.0, listens-told course life.core life.links c.say.new.self link bytes f.1 more.1) in
+    (same-life f.0, listens-told course life.core life.links c.say.new.self link bytes f.1 more.1) in
     ((subst (λ l. Completes (stream_on link course.pieces) bytes l handed_in.fault) (sym c.go_through-turns.ensures.events) more.0, told.0), told.1)

@@ -1,6 +1,6 @@
 // A device's way from its provisioning to a crash, and what stands of its last uplink behind it. The MICs were made by
 // OpenSSL, keys and payloads by Python's `cryptography`.
-use crate::plays::compare;
+use super::plays::compare;
 use std::test::Fail;
 
 // Lines and their answers.

@@ -1,9 +1,8 @@
-use crate::outcome::{Outcome, write_outcome};
-use crate::{read_step, script, write_answer};
 use devices::{Application, Command, Provisioning, Rx1Offset, RxDelay};
 use disk::Image;
 use gateway_wire::{Emission, WireFrame};
 use lw_types::{Eui, Key, Refusal};
+use scripts::{Outcome, read_step, script, write_answer, write_outcome};
 use session_core::{Moment, Most};
 use std::io;
 use std::io::{ErrorKind, Read, Write};

@@ -1,5 +1,5 @@
 // Scripts that are played and compared with what they have to be answered.
-use crate::script;
+use scripts::script;
 use std::alloc::Global;
 use std::io::Write;
 use std::process::Abort;
@@ -7,7 +7,7 @@ use std::str;
 use std::test::Fail;
 
 /// The answers to a script.
-pub(crate) fn played(alloc: Global, input: &[u8]) -> Result<Vec<u8>, Fail> {
+pub(super) fn played(alloc: Global, input: &[u8]) -> Result<Vec<u8>, Fail> {
     let mut input = input;
     let mut out = Vec::new(alloc);
     script(alloc, &mut input, &mut out)?;
@@ -24,7 +24,7 @@ fn joined(alloc: Global, pieces: &[&str]) -> Result<Vec<u8>, Fail> {
 }
 
 /// Plays the pieces of a script, and compares the answers with the pieces of what is wanted.
-pub(crate) fn compare(
+pub(super) fn compare(
     rt: &impl Abort,
     alloc: Global,
     pieces: &[&str],

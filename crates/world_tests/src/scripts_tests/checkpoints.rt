@@ -1,6 +1,6 @@
 // Checkpoints, by scripts.
-use crate::plays::{compare, played};
-use crate::rows::{COMMIT, FIRST, FORMAT, SECOND, repeat};
+use super::plays::{compare, played};
+use super::rows::{COMMIT, FIRST, FORMAT, SECOND, repeat};
 use std::alloc::Global;
 use std::io::Write;
 use std::str;

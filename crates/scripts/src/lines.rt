@@ -1,6 +1,6 @@
 // The lines of an input.
 ghost use Rattle.std.specs.Prelude.{◌≡◌};
-ghost use Rattle.lns_sim.specs.Lines.{IsLine, IsSplit};
+ghost use Rattle.scripts.specs.Lines.{IsLine, IsSplit};
 
 /// The lines that are left to read. A line ends at a newline or where the input ends, so no input has
 /// no line, and a newline at the end begins no further one.
@@ -21,7 +21,7 @@ impl<'a> Lines<'a> {
 impl<'a> Iterator for Lines<'a> {
     ghost use Rattle.std.specs.Prelude.{length};
     ghost use Rattle.std.specs.Iterator.{at_most};
-    ghost use Rattle.lns_sim.specs.Lines.{TakesLine};
+    ghost use Rattle.scripts.specs.Lines.{TakesLine};
 
     type Item = &'a [u8];
 

@@ -1,15 +1,15 @@
 // Scripts and their whole answers.
-use crate::plays::{compare, played};
+use super::plays::{compare, played};
 use std::io::Write;
 use std::str;
 use std::test::Fail;
 
-pub(crate) const FORMAT: &str = "format 00002A 8\n";
+pub(super) const FORMAT: &str = "format 00002A 8\n";
 
-pub(crate) const FIRST: &str =
+pub(super) const FIRST: &str =
     "provision 0 3 1112131415161718 0102030405060708 2B7E151628AED2A6ABF7158809CF4F3C 0 1\n";
 
-pub(crate) const SECOND: &str =
+pub(super) const SECOND: &str =
     "provision 7 4 00000000000000D2 0102030405060708 2B7E151628AED2A6ABF7158809CF4F3C 5 15\n";
 
 const THIRD: &str =
@@ -27,7 +27,7 @@ provision 8 3 00000000000000D8 0102030405060708 2B7E151628AED2A6ABF7158809CF4F3C
 provision 8 3 00000000000000D9 0102030405060708 2B7E151628AED2A6ABF7158809CF4F3C 0 1
 ";
 
-pub(crate) const COMMIT: &str = "take 64\ncall\ncall\ncall\ncall\n";
+pub(super) const COMMIT: &str = "take 64\ncall\ncall\ncall\ncall\n";
 
 // The pieces of a script, and its answers.
 type Script = (&'static [&'static str], &'static str);
@@ -692,7 +692,7 @@ call\xFF
 ";
 
 /// The same line so often.
-pub(crate) fn repeat(out: &mut Vec<u8>, line: &str, times: u8) -> Result<(), Fail> {
+pub(super) fn repeat(out: &mut Vec<u8>, line: &str, times: u8) -> Result<(), Fail> {
     for _ in 0..times {
         out.write_all(line.as_bytes())?;
     }
