@@ -69,6 +69,13 @@ impl<D: Disk> Log<D> {
         self.other_open
     }
 
+    /// The length of the other area in bytes.
+    pub fn other_len(&self) -> u64
+        ensures { (seen D.state self.now).areas.other.start + result ≡ (seen D.state self.now).areas.other.end }
+    {
+        self.areas.other.end - self.areas.other.start
+    }
+
     /// Gives the disk back.
     pub fn close(self) -> D
         ensures { result ≡ disk_of self }
