@@ -1,5 +1,5 @@
 // The phases of a checkpoint, each spent by one call of the disk.
-ghost use Rattle.std.specs.Prelude.{◌≡◌, ◌<◌, ◌≤◌, ◌+◌, ◌++◌, ◌∷◌, ◌^◌, false, true, [], List, ℕ, length, drop, IfOk, OnOk, OnErr};
+ghost use Rattle.std.specs.Prelude.{◌≡◌, ◌<◌, ◌≤◌, ◌+◌, ◌++◌, ◌∷◌, ◌^◌, false, true, [], List, ℕ, length, drop, vec_capacity, IfOk, IsOk, OnOk, OnErr};
 ghost use Rattle.disk.specs.State.{EveryImage};
 ghost use Rattle.gate_log.specs.declared.layout.TheConstants.{EMPTY_AREA_LEN};
 ghost use Rattle.gate_log.specs.Areas.{Contents, Holds, HoldsEither, MayFollow, published, swapped};
@@ -95,7 +95,8 @@ impl Checkpoint {
     /// no more memory.
     pub fn buffer(alloc: Global, records_len: usize) -> Result<Vec<u8>, AllocError>
         requires { EMPTY_AREA_LEN + records_len < 2 ^ 64 }
-        ensures { IfOk result (λ bytes. length bytes.items ≡ Header.LEN) }
+        ensures len { IfOk result (λ bytes. length bytes.items ≡ Header.LEN) }
+        ensures room { IfOk result (λ bytes. Header.LEN + records_len < vec_capacity bytes) }
     {
         let mut bytes = Vec::with_capacity(alloc, EMPTY_AREA_LEN as usize + records_len)?;
         bytes.extend_from_slice(&[0; Header::LEN])?;
@@ -103,13 +104,14 @@ impl Checkpoint {
     }
 
     /// A checkpoint with this header and the records that stand behind a buffer's room for it. All the memory that its
-    /// phases need is taken here.
+    /// phases need is taken here, and none where the buffer has room for one byte more.
     pub fn new(buffer: Vec<u8>, header: Header) -> Result<Checkpoint, AllocError>
         requires { Header.LEN ≤ length buffer.items }
         ensures checkpoint { IfOk result
             (λ begun. IsCheckpoint begun header (drop Header.LEN buffer.items)) }
         ensures size { IfOk result
             (λ begun. length (checkpoint_bytes begun) ≡ length buffer.items + 1) }
+        ensures memory { length buffer.items < vec_capacity buffer → IsOk result }
     {
         let mut bytes = buffer;
         header.put(&mut bytes);

@@ -46,6 +46,13 @@ lead_slots keep v t seq [] u n lead = ap (λ (x : TableState). x.slots) lead.0
 lead_slots keep v t seq (b ∷ batches) u n lead =
     lead_slots keep v lead.1 b.last_sequence batches u n lead.3 ∙ keep.slots t lead.1 lead.0 lead.2.replay.leads
 
+-- what is restored has the slots that it was restored for
+pub restored_slots : KeepLaws → (v : RecordVersion) (net slots : ℕ) (header : Header) (records : List ℕ) (batches : List BatchValue) (t : TableState) (seq : ℕ)
+    → Restores v net slots header records batches t seq → t.slots ≡ slots
+restored_slots keep v net slots header records batches t seq r =
+    lead_slots keep v r.base header.sequence batches t seq r.batches
+    ∙ keep.slots (empty_table net slots) r.base r.checkpoint.entries r.checkpoint.replay.leads
+
 -- each version has a byte of its own
 one_version : (v w : RecordVersion) → version_byte v ≡ version_byte w → v ≡ w
 one_version V1 V1 same = refl
@@ -127,9 +134,7 @@ module _ (content : List ℕ) (net slots : ℕ) (store : IsStoreOf content net s
           let net_is : found.table.net_id ≡ net =
           lead_net keep v base r.header.sequence r.batches.items found.table found.seq journal.batches
           ∙ keep.net_id (empty_table net slots) base first.entries first.replay.leads in
-          let slots_is : found.table.slots ≡ slots =
-          lead_slots keep v base r.header.sequence r.batches.items found.table found.seq journal.batches
-          ∙ keep.slots (empty_table net slots) base first.entries first.replay.leads in
+          let slots_is : found.table.slots ≡ slots = restored_slots keep v net slots r.header r.records.items r.batches.items found.table found.seq journal in
           let says : Says v c found.table found.seq = record {
             net_id = subst (λ k. k < 64) (sym net_is) store.net_id_range;
             slots = subst (λ k. (1 ≤ k) × (k ≤ 4096)) (sym slots_is) store.slots_range;

@@ -1,15 +1,17 @@
 -- What an image holds, from what is in it.
-use Rattle.std.proofs.Common.{◌≡◌, ◌≢◌, ◌↔◌, ◌⊎◌, inl, inr, ◌≤◌, ◌+◌, ◌∙◌, ℕ, List, length, get_or, min, take, sym, ap, subst, refl, arith}
+use Rattle.std.proofs.Common.{◌≡◌, ◌≢◌, ◌↔◌, ◌⊎◌, inl, inr, ◌≤◌, ◌+◌, ◌∙◌, ℕ, List, [], ◌∷◌, length, get_or, min, take, sym, ap, subst, refl, arith}
 use Rattle.gate_log.specs.declared.layout.Areas.{Areas}
 use Rattle.gate_log.specs.Areas.{AreLaidOut, Contents, Holds, HoldsEither as LogHoldsEither, batched, front_len}
 use Rattle.gate_log.specs.Layout.{BatchValue}
 use Rattle.lw_types.specs.declared.refusal.Refusal.{Refusal}
 use Rattle.lw_types.specs.declared.refusal.Refusal.TheVariants.{NotFormatted, Damaged, WrongVersion, WrongSize}
-use Rattle.sessions.specs.Table.{TableState}
+use Rattle.sessions.specs.Decision.{applied_all}
+use Rattle.sessions.specs.declared.decision.Decision.{Decision}
+use Rattle.sessions.specs.Table.{TableState, placed}
 use Rattle.store_layout.specs.Superblock.{area_len, disk_len}
 use Rattle.store.specs.Commit.{Change, table_after}
 use Rattle.store.specs.Faults.{IsStoreOf, IsFault, IsNamed, IsNoSuperblock, SuperblockFault}
-use Rattle.store.specs.Image.{AreAreas, HoldsTable, area_a, area_b}
+use Rattle.store.specs.Image.{AreAreas, HaveLength, HoldsTable, area_a, area_b}
 use Rattle.store.specs.Phases.{HoldsEither, Journals}
 use Rattle.store.specs.State.{StoreState}
 
@@ -28,6 +30,20 @@ module _ (s : StoreState) (change : Change) (c : Contents) (b : BatchValue) (jou
 pub front_is : (slots : ℕ) (areas : Areas) → AreAreas slots areas → front_len areas ≡ 32
 front_is slots areas (inl is) = let start : min 32 (32 + area_len slots) ≡ 32 = omega arith in ap front_len is ∙ start
 front_is slots areas (inr is) = let start : min (32 + area_len slots) 32 ≡ 32 = omega arith in ap front_len is ∙ start
+
+-- the areas of a store have their length
+pub have_length : (slots : ℕ) (areas : Areas) → AreAreas slots areas → HaveLength slots areas
+have_length slots areas (inl is) = subst (HaveLength slots) (sym is) (record { live = refl; other = refl })
+have_length slots areas (inr is) = subst (HaveLength slots) (sym is) (record { live = refl; other = refl })
+
+-- decisions leave the number of slots
+slots_after : (t : TableState) (ds : List Decision) → (applied_all t ds).slots ≡ t.slots
+slots_after t [] = refl
+slots_after t (d ∷ ds) = slots_after (placed t d.slot d.after) ds
+
+-- so the areas have their length still
+pub have_length_after : (t u : TableState) (ds : List Decision) (areas : Areas) → u ≡ applied_all t ds → HaveLength t.slots areas → HaveLength u.slots areas
+have_length_after t u ds areas is long = subst (λ n. HaveLength n areas) (sym (ap (λ (x : TableState). x.slots) is ∙ slots_after t ds)) long
 
 -- the areas of a store lie on its disk
 pub laid_out : (slots size : ℕ) → size ≡ disk_len slots → AreLaidOut (record { live = area_a slots; other = area_b slots }) size

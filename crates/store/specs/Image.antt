@@ -26,6 +26,11 @@ area_b slots = record { start = LEN + area_len slots; end = LEN + area_len slots
 abbrev pub AreAreas : ℕ → Areas → Type 0
 AreAreas slots areas = AreOf (area_a slots) (area_b slots) areas
 
+-- each of the two areas has the length of one for so many slots
+pub record HaveLength (slots : ℕ) (areas : Areas) : Type 0 where
+  pub live : areas.live.start + area_len slots ≡ areas.live.end
+  pub other : areas.other.start + area_len slots ≡ areas.other.end
+
 -- the live area of a store with so many slots, and its header
 pub record IsLive (image : List ℕ) (slots : ℕ) (areas : Areas) (header : Header) : Type 0 where
   pub place : AreAreas slots areas

@@ -1,5 +1,6 @@
 // What was read of a disk that is opened.
 ghost use Rattle.std.specs.Prelude.{◌≡◌, ◌<◌};
+ghost use Rattle.store.specs.Image.{HaveLength};
 
 use gate_log::Live;
 use sessions::Table;
@@ -15,4 +16,5 @@ pub(crate) struct Found {
     /// The place of the next batch's gate.
     pub(crate) next: u64,
     pub ghost room: { next < live.areas.live.end },
+    pub ghost long: { HaveLength table.slots live.areas },
 }

@@ -6,7 +6,6 @@ ghost use Rattle.store.specs.Checkpointing.{FitsOther, IsCheckpointOn, checkpoin
 ghost use Rattle.store_layout.specs.Entries.{AreEntries, entries, entries_of_table};
 
 use crate::areas::LAST_GENERATION;
-use crate::store::LARGEST_BATCH;
 use crate::{Checkpoint, Store};
 use disk::Disk;
 use gate_log::Header;
@@ -58,8 +57,7 @@ impl<D: Disk> Store<D> {
         self.log.is_other_open()
     }
 
-    // The durable table's records, behind room for a header. The areas of each store have room for them; a disk without that
-    // counts as want of memory.
+    // The durable table's records, behind room for a header. The other area has room for them, and for the largest batch.
     fn checkpoint_records(&self, alloc: Global) -> Result<Vec<u8>, Refusal>
         ensures { MatchResult result
             (λ bytes. (Header.LEN ≤ length bytes.items)
@@ -71,13 +69,11 @@ impl<D: Disk> Store<D> {
     {
         // A table has at most 4,096 slots.
         let _slots = self.table.slots();
+        laws::a_table_replays();
+        laws::entries_are_short();
         let most = self.table.devices().len() * LONGEST_ENTRY;
         let mut bytes = gate_log::Checkpoint::buffer(alloc, most)?;
         put_table(alloc, self.version, &self.table, &mut bytes)?;
-        let room = self.log.other_len();
-        if room <= LARGEST_BATCH || bytes.len() as u64 >= room - LARGEST_BATCH {
-            return Err(Refusal::OutOfMemory);
-        }
         Ok(bytes)
     }
 

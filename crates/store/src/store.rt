@@ -2,6 +2,7 @@
 ghost use Rattle.std.specs.Prelude.{◌≡◌, ◌<◌, ◌+◌, ◌-◌, ◌^◌, ◌↔◌, IsTrue, false};
 ghost use Rattle.disk.specs.Outlook.Outlook.{FailsAfter};
 ghost use Rattle.gate_log.specs.Log.{seen as seen_log, disk_of as disk_of_log};
+ghost use Rattle.store.specs.Image.{HaveLength};
 
 use disk::{Disk, Sim};
 use gate_log::Log;
@@ -21,6 +22,7 @@ pub struct Store<D: Disk> {
     pub(crate) seq: u64,
     pub(crate) version: RecordVersion,
     pub(crate) failed: bool,
+    ghost long: { HaveLength table.slots log.areas },
 }
 
 impl<D: Disk> Store<D> {
@@ -28,6 +30,7 @@ impl<D: Disk> Store<D> {
 
     /// The store of a table and the number of its last decision, in an area with records of a version.
     pub(crate) fn new(log: Log<D>, table: Table, seq: u64, version: RecordVersion) -> Self
+        requires { HaveLength table.slots log.areas }
         ensures store { seen D.state result
             ≡ record { log = seen_log D.state log; table = table; seq = seq; version = version; failed = false } }
         ensures disk { disk_of result ≡ disk_of_log log }

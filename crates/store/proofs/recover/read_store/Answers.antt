@@ -5,8 +5,9 @@ use Rattle.gate_log.specs.Areas.{Holds}
 use Rattle.gate_log.specs.Opening.{opened}
 use Rattle.gate_log.specs.Live.{IsLiveAs}
 use Rattle.gate_log.specs.Recovered.{IsRecovered}
-use Rattle.store.proofs.Finding.{AreaLaws, KeepLaws, area_fault, found_in, good_front, journal_fault}
-use Rattle.store.specs.Image.{IsLive, area_a, area_b}
+use Rattle.store.proofs.Finding.{AreaLaws, KeepLaws, area_fault, found_in, good_front, journal_fault, restored_slots}
+use Rattle.store.proofs.Holding.{have_length}
+use Rattle.store.specs.Image.{HaveLength, IsLive, Restores, area_a, area_b}
 use Rattle.store.proofs.recover.read_store.Goals as goal
 
 pub returns-in_err-recovered-clause-refused : goal.returns-in_err-recovered-clause-refused
@@ -77,3 +78,16 @@ returns-in_err-table-clause-memory g c honest =
     good_front (g.D.Disk.state (opened c.args.opening.now)).content c.in_ok-front.front.superblock.net_id c.in_ok-front.front.superblock.slots
     (c.in_ok-front.ensures.store honest) c.in_ok-front.ensures.long c.in_ok-front.front.live.areas c.in_ok-front.front.live.header
     (record { place = c.in_ok-front.ensures.areas; at = (c.in_ok-front.ensures.live honest).is }) c.in_ok-front.ensures.usable)
+
+pub invariant_of-result-clause-long : goal.invariant_of-result-clause-long
+invariant_of-result-clause-long g c =
+    let front = c.in_ok-front.front in
+    let net = front.superblock.net_id in
+    let slots = front.superblock.slots in
+    let r = c.in_ok-recovered.recovered in
+    let found = c.in_ok-table in
+    let keep : KeepLaws = record { net_id = c.entries_keep_the_network.ensures.net_id; slots = c.entries_keep_the_network.ensures.slots } in
+    let journal : Restores front.version net slots r.header r.records.items r.batches.items found.table found.seq = (found.ensures found.table found.seq).1 (refl, refl) in
+    subst (λ n. HaveLength n front.live.areas)
+    (sym (restored_slots keep front.version net slots r.header r.records.items r.batches.items found.table found.seq journal))
+    (have_length slots front.live.areas c.in_ok-front.ensures.areas)

@@ -5,16 +5,16 @@ use Rattle.store.proofs.store.Store.checkpoint_records.Goals as goal
 
 pub returns : goal.returns
 returns g c =
+    let s = c.args.self.now in
     let front = c.in_ok-bytes.bytes.items in
-    let records = entries c.args.self.now.version (entries_of_table c.args.self.now.table) in
+    let records = entries s.version (entries_of_table s.table) in
     let spelled = c.in_ok-put_table.ensures.0 in
-    let long = ap (λ (l : List ℕ). length l) spelled ∙ length-append front records in (
-      omega (arith, long, c.in_ok-bytes.ensures),
+    let long = ap (λ (l : List ℕ). length l) spelled ∙ length-append front records in
+    let short = c.entries_are_short.ensures s.version (entries_of_table s.table) c.in_ok-put_table.ensures.1 in
+    let number = c.a_table_replays.ensures.number s.table in (
+      omega (arith, long, c.in_ok-bytes.ensures.len),
       (
-        ap (drop 29) spelled ∙ drop_at front records 29 c.in_ok-bytes.ensures,
-        (
-          c.in_ok-put_table.ensures.1,
-          omega (arith, c.other_len-room.ensures, c.len.ensures, c.if-len-room.false, c.if-room-le-LARGEST_BATCH.false),
-        ),
+        ap (drop 29) spelled ∙ drop_at front records 29 c.in_ok-bytes.ensures.len,
+        (c.in_ok-put_table.ensures.1, omega (arith, long, short, number, c.in_ok-bytes.ensures.len, c.devices.ensures.few, s.long.other)),
       ),
     )
