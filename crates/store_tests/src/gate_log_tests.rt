@@ -457,19 +457,23 @@ fn the_bytes_of_a_checkpoint_are_those_of_the_layout(rt: HostRuntime) -> Result<
     Ok(())
 }
 
-// The disk after a checkpoint whose nth call fails: the first one of a log, or the second one.
-fn cut(rt: &impl Abort, alloc: Global, first: bool, n: u64) -> Result<MemDisk, Fail> {
-    let mut log = if first {
-        with_a_batch(rt, alloc, b"first")?
+// A log whose next checkpoint is of this generation: of 2 the first one, else the second one.
+fn before(rt: &impl Abort, alloc: Global, generation: u64) -> Result<Log<MemDisk>, Fail> {
+    if generation == 2 {
+        with_a_batch(rt, alloc, b"first")
     } else {
-        with_a_checkpoint(rt, alloc)?
-    };
+        with_a_checkpoint(rt, alloc)
+    }
+}
+
+// The disk after a checkpoint of this generation whose nth call fails, of four or six.
+fn cut(rt: &impl Abort, alloc: Global, generation: u64, n: u64) -> Result<MemDisk, Fail> {
+    let mut log = before(rt, alloc, generation)?;
     if n > 0 {
         log.arm(n);
     }
-    let generation = if first { 2 } else { 3 };
     let done = checkpoint(alloc, &mut log, generation, b"abc")?;
-    assert_eq!(rt; done, n > if first { 4 } else { 6 });
+    assert_eq!(rt; done, n > if generation == 2 { 4 } else { 6 });
     Ok(log.close())
 }
 
@@ -485,22 +489,22 @@ fn open_positions(disk: MemDisk) -> (Option<usize>, usize) {
 // that is open is closed first.
 #[test]
 fn a_checkpoint_writes_behind_a_closed_gate(rt: HostRuntime) -> Result<(), Fail> {
-    for (first, n, wanted) in [
-        (true, 1, (Some(101), 33)),
-        (true, 2, (Some(101), 33)),
-        (true, 3, (Some(100), 1)),
-        (true, 4, (Some(100), 1)),
-        (true, 5, (None, 0)),
-        (false, 1, (Some(4), 1)),
-        (false, 2, (Some(4), 1)),
-        (false, 3, (Some(5), 33)),
-        (false, 4, (Some(5), 33)),
-        (false, 5, (Some(4), 1)),
-        (false, 6, (Some(4), 1)),
-        (false, 7, (None, 0)),
+    for (generation, n, wanted) in [
+        (2, 1, (Some(101), 33)),
+        (2, 2, (Some(101), 33)),
+        (2, 3, (Some(100), 1)),
+        (2, 4, (Some(100), 1)),
+        (2, 5, (None, 0)),
+        (3, 1, (Some(4), 1)),
+        (3, 2, (Some(4), 1)),
+        (3, 3, (Some(5), 33)),
+        (3, 4, (Some(5), 33)),
+        (3, 5, (Some(4), 1)),
+        (3, 6, (Some(4), 1)),
+        (3, 7, (None, 0)),
     ] {
-        let positions = open_positions(cut(&rt, rt.alloc(), first, n)?);
-        assert_eq!(rt; positions, wanted, "{first}, call {n}");
+        let positions = open_positions(cut(&rt, rt.alloc(), generation, n)?);
+        assert_eq!(rt; positions, wanted, "generation {generation}, call {n}");
     }
     Ok(())
 }
@@ -522,42 +526,26 @@ fn a_crash_leaves_the_old_area_or_the_checkpoint(rt: HostRuntime) -> Result<(), 
     let two = (2, None);
     let two_and_a_batch = (2, Some(8));
     let three = (3, None);
-    for (first, n, wanted) in [
-        (true, 1, [one, one, one]),
-        (true, 2, [one, one, one]),
-        (true, 3, [one, one, two]),
-        (true, 4, [one, two, two]),
-        (true, 5, [two, two, two]),
-        (
-            false,
-            1,
-            [two_and_a_batch, two_and_a_batch, two_and_a_batch],
-        ),
-        (
-            false,
-            2,
-            [two_and_a_batch, two_and_a_batch, two_and_a_batch],
-        ),
-        (
-            false,
-            3,
-            [two_and_a_batch, two_and_a_batch, two_and_a_batch],
-        ),
-        (
-            false,
-            4,
-            [two_and_a_batch, two_and_a_batch, two_and_a_batch],
-        ),
-        (false, 5, [two_and_a_batch, two_and_a_batch, three]),
-        (false, 6, [two_and_a_batch, three, three]),
-        (false, 7, [three, three, three]),
+    for (generation, n, wanted) in [
+        (2, 1, [one, one, one]),
+        (2, 2, [one, one, one]),
+        (2, 3, [one, one, two]),
+        (2, 4, [one, two, two]),
+        (2, 5, [two, two, two]),
+        (3, 1, [two_and_a_batch, two_and_a_batch, two_and_a_batch]),
+        (3, 2, [two_and_a_batch, two_and_a_batch, two_and_a_batch]),
+        (3, 3, [two_and_a_batch, two_and_a_batch, two_and_a_batch]),
+        (3, 4, [two_and_a_batch, two_and_a_batch, two_and_a_batch]),
+        (3, 5, [two_and_a_batch, two_and_a_batch, three]),
+        (3, 6, [two_and_a_batch, three, three]),
+        (3, 7, [three, three, three]),
     ] {
         for (image, want) in [Image::Old, Image::New, Image::Fill(0xA5)]
             .iter()
             .zip(wanted)
         {
-            let kept = kept(rt.alloc(), cut(&rt, rt.alloc(), first, n)?, image)?;
-            assert_eq!(rt; kept, want, "{first}, call {n}, {image:?}");
+            let kept = kept(rt.alloc(), cut(&rt, rt.alloc(), generation, n)?, image)?;
+            assert_eq!(rt; kept, want, "generation {generation}, call {n}, {image:?}");
         }
     }
     Ok(())
