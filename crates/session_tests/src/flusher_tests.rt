@@ -107,12 +107,7 @@ fn effects_are_lost_at_a_crash(rt: HostRuntime) {
 type Round = (Result<usize, Refusal>, usize, bool);
 
 // A round, in which the effects of so many provisionings are due.
-fn round(
-    alloc: Global,
-    store: &mut Store<MemDisk>,
-    feed: &mut impl Feed,
-    count: u16,
-) -> Round {
+fn round(alloc: Global, store: &mut Store<MemDisk>, feed: &mut impl Feed, count: u16) -> Round {
     let mut calls: usize = 0;
     let mut are_due = true;
     let mut out = |released: Vec<Released>| {
@@ -153,8 +148,10 @@ fn nothing_leaves(alloc: Global) -> Result<bool, Refusal> {
     let mut feed = stored(alloc, store.table(), &[0])?;
     let empty = round(alloc, &mut store, &mut feed, 0);
     let none = round(alloc, &mut store, &mut feed, 0);
-    Ok(refused == (Err(Refusal::Backlog), 0, true)
-        && (empty, none) == ((Ok(0), 0, true), (Ok(0), 0, true)))
+    Ok(
+        refused == (Err(Refusal::Backlog), 0, true)
+            && (empty, none) == ((Ok(0), 0, true), (Ok(0), 0, true)),
+    )
 }
 
 #[test]
@@ -168,10 +165,12 @@ fn leaves_once(alloc: Global, count: u16) -> Result<bool, Refusal> {
     let mut feed = stored(alloc, store.table(), &[count, 1])?;
     let left = round(alloc, &mut store, &mut feed, count);
     let stale = round(alloc, &mut store, &mut feed, count);
-    let kept = (store.seq(), store.table().devices().len()) == (u64::from(count), usize::from(count));
-    Ok(kept
-        && left == (Ok(usize::from(count)), 1, true)
-        && stale == (Err(Refusal::OutOfStep), 0, true))
+    let kept = (store.seq(), store.table().devices().len())
+        == (u64::from(count), usize::from(count));
+    Ok(
+        kept && left == (Ok(usize::from(count)), 1, true)
+            && stale == (Err(Refusal::OutOfStep), 0, true),
+    )
 }
 
 #[test]
@@ -223,8 +222,9 @@ fn item(alloc: Global, tag: u32) -> Result<Command, Refusal> {
 // Its Join-Request with this DevNonce.
 fn request(alloc: Global, dev_nonce: u16, mic: u32) -> Result<Command, Refusal> {
     let [low, high] = dev_nonce.to_le_bytes();
-    let digits =
-        format!(in alloc; "0008070605040302011817161514131211{low:02X}{high:02X}{mic:08X}")?;
+    let digits = format!(in alloc;
+        "0008070605040302011817161514131211{low:02X}{high:02X}{mic:08X}"
+    )?;
     heard(alloc, &digits)
 }
 
@@ -268,7 +268,10 @@ impl Flushed {
 
     // The device is brought, and sixteen items are queued for it.
     fn queue(&mut self, alloc: Global) -> Result<(), Refusal> {
-        self.carry_out(alloc, Command::Provision(joining().ok_or(Refusal::Damaged)?))?;
+        self.carry_out(
+            alloc,
+            Command::Provision(joining().ok_or(Refusal::Damaged)?),
+        )?;
         for tag in 0..16 {
             self.carry_out(alloc, item(alloc, tag)?)?;
         }
@@ -339,7 +342,10 @@ impl Flushed {
 fn nothing_leaves_where_a_checkpoint_fails(rt: HostRuntime) {
     for call in 1..=8 {
         let failed = (Some(Refusal::DeviceFailed), 0, true);
-        assert!(rt; failing_checkpoint(rt.alloc(), call) == Ok(failed), "{call}");
+        assert!(rt;
+            failing_checkpoint(rt.alloc(), call) == Ok(failed),
+            "{call}"
+        );
     }
     assert!(rt; failing_checkpoint(rt.alloc(), 9) == Ok((None, 1, false)));
 }
