@@ -2,59 +2,62 @@ use crate::fixtures::{
     DEVICE, application, brought, current, empty_downlink, item, items, name, session,
 };
 use devices::{
-    Activation, Application, CurrentSession, Device, Effect, Effects, Hearing, Hearings, ItemQueue,
+    Activation, Application, CurrentSession, Effect, Effects, Hearing, Hearings, Item, ItemQueue,
     MacQueue, Mark, NextDown, Port, Report, RxDelay, Session, Tag, dev_addr, slot_at,
 };
-use lw_types::{DevAddr, Eui, JoinNonce, NetId, Reception, read_hex};
+use lw_types::{DevAddr, Eui, JoinNonce, NetId, Reception, Refusal, read_hex};
 use mac_commands::are_queueable;
 use std::alloc::Global;
-use std::test::Fail;
+
+// Numbers, and whether each is an application, a port and a delay.
+const RANGES: &[(u64, bool, bool, bool)] = &[
+    (0, true, false, false),
+    (1, true, true, true),
+    (15, true, true, true),
+    (16, false, true, false),
+    (223, false, true, false),
+    (224, false, false, false),
+];
 
 #[test]
 fn ranges_have_their_ends(rt: HostRuntime) {
-    for (value, application, port, delay) in [
-        (0, true, false, false),
-        (1, true, true, true),
-        (15, true, true, true),
-        (16, false, true, false),
-        (223, false, true, false),
-        (224, false, false, false),
-    ] {
+    for (value, application, port, delay) in RANGES {
         assert!(rt;
-            Application::new(value).is_some() == application,
-            "application {value}"
+            Application::new(*value).is_some() == *application,
+            "{value}"
         );
-        assert!(rt; Port::new(value).is_some() == port, "port {value}");
-        assert!(rt; RxDelay::new(value).is_some() == delay, "delay {value}");
+        assert!(rt; Port::new(*value).is_some() == *port, "{value}");
+        assert!(rt; RxDelay::new(*value).is_some() == *delay, "{value}");
     }
     assert!(rt; NextDown::new(1 << 32).is_some());
     assert!(rt; NextDown::new((1 << 32) + 1).is_none());
 }
 
 // Whether a device may have these bytes for a MAC queue.
-fn may_wait(alloc: Global, hex: &str) -> Result<bool, Fail> {
+fn may_wait(alloc: Global, hex: &str) -> Result<bool, Refusal> {
     Ok(MacQueue::new(read_hex(alloc, hex)?).is_ok())
 }
 
+const QUEUES: &[(&str, bool)] = &[
+    ("", true),
+    ("0350070001", true),
+    ("06040F06", true),
+    ("03500700", false),
+    ("04", false),
+    ("02", false),
+    ("060D", false),
+    ("0500000000", false),
+];
+
 #[test]
-fn a_mac_queue_is_whole_commands_that_may_be_queued(rt: HostRuntime) -> Result<(), Fail> {
-    for (hex, may) in [
-        ("", true),
-        ("0350070001", true),
-        ("06040F06", true),
-        ("03500700", false),
-        ("04", false),
-        ("02", false),
-        ("060D", false),
-        ("0500000000", false),
-    ] {
-        assert!(rt; may_wait(rt.alloc(), hex)? == may, "{hex}");
+fn a_mac_queue_is_whole_commands_that_may_be_queued(rt: HostRuntime) {
+    for (hex, may) in QUEUES {
+        assert!(rt; may_wait(rt.alloc(), hex) == Ok(*may), "{hex}");
     }
-    Ok(())
 }
 
 // The length of a MAC queue of so many commands of one byte; `None` where they are too many.
-fn queue_len(alloc: Global, count: usize) -> Result<Option<usize>, Fail> {
+fn queue_len(alloc: Global, count: usize) -> Result<Option<usize>, Refusal> {
     match MacQueue::new(vec![in alloc; 0x06; count]?) {
         Ok(queue) => Ok(Some(queue.as_slice().len())),
         Err(_) => Ok(None),
@@ -62,86 +65,107 @@ fn queue_len(alloc: Global, count: usize) -> Result<Option<usize>, Fail> {
 }
 
 #[test]
-fn a_mac_queue_has_64_bytes(rt: HostRuntime) -> Result<(), Fail> {
-    assert!(rt; queue_len(rt.alloc(), 64)? == Some(64));
-    assert!(rt; queue_len(rt.alloc(), 65)? == None);
-    Ok(())
+fn a_mac_queue_has_64_bytes(rt: HostRuntime) {
+    assert!(rt; queue_len(rt.alloc(), 64) == Ok(Some(64)));
+    assert!(rt; queue_len(rt.alloc(), 65) == Ok(None));
+}
+
+// Whether these bytes are a queue, and a queue is made of them.
+fn is_made(alloc: Global, bytes: &[u8]) -> Result<bool, Refusal> {
+    if !are_queueable(bytes) || bytes.len() > 64 {
+        return Ok(false);
+    }
+    Ok(MacQueue::from_slice(alloc, bytes)?.as_slice() == bytes)
 }
 
 #[test]
-fn a_mac_queue_is_made_of_a_slice(rt: HostRuntime) -> Result<(), Fail> {
-    let bytes = [0x06, 0x04, 0x0F];
-    assert!(rt; are_queueable(&bytes));
-    let copy = MacQueue::from_slice(rt.alloc(), &bytes)?;
-    assert!(rt; copy.as_slice() == bytes.as_slice());
-    Ok(())
+fn a_mac_queue_is_made_of_a_slice(rt: HostRuntime) {
+    assert!(rt; is_made(rt.alloc(), &[0x06, 0x04, 0x0F]) == Ok(true));
 }
 
-// How many bytes fit the room, and what is left of the queue where they leave it.
-fn left(alloc: Global, hex: &str, room: u8) -> Result<(usize, Vec<u8>), Fail> {
-    let mut queue = MacQueue::new(read_hex(alloc, hex)?).ok().ok_or("a queue")?;
-    let fits = queue.fitting(room);
+// Whether so many bytes of a queue fit the room, and these are left where they leave it.
+fn leaves(alloc: Global, hex: &str, room: u8, fits: usize, rest: &str) -> Result<bool, Refusal> {
+    let mut queue = MacQueue::new(read_hex(alloc, hex)?).map_err(|_| Refusal::BadMac)?;
+    let is_fitting = queue.fitting(room) == fits;
     queue.leave(room);
-    Ok((fits, Vec::from_slice(alloc, queue.as_slice())?))
+    Ok(is_fitting && queue.as_slice() == read_hex(alloc, rest)?.as_slice())
 }
 
+const ROOMS: &[(&str, u8, usize, &str)] = &[
+    ("035007000103500700010350070001", 12, 10, "0350070001"),
+    ("035007000103500700010350070001", 15, 15, ""),
+    ("0350070001", 4, 0, "0350070001"),
+    ("06040F06", 2, 1, "040F06"),
+    ("", 15, 0, ""),
+];
+
 #[test]
-fn whole_commands_leave_the_queue(rt: HostRuntime) -> Result<(), Fail> {
-    for (hex, room, fits, rest) in [
-        ("035007000103500700010350070001", 12, 10, "0350070001"),
-        ("035007000103500700010350070001", 15, 15, ""),
-        ("0350070001", 4, 0, "0350070001"),
-        ("06040F06", 2, 1, "040F06"),
-        ("", 15, 0, ""),
-    ] {
-        let (fitting, left) = left(rt.alloc(), hex, room)?;
-        assert!(rt; fitting == fits, "{hex}");
-        assert!(rt; left == read_hex(rt.alloc(), rest)?, "{hex}");
+fn whole_commands_leave_the_queue(rt: HostRuntime) {
+    for (hex, room, fits, rest) in ROOMS {
+        let leaves = leaves(rt.alloc(), hex, *room, *fits, rest);
+        assert!(rt; leaves == Ok(true), "{hex}");
     }
-    Ok(())
 }
 
-#[test]
-fn items_leave_in_order(rt: HostRuntime) -> Result<(), Fail> {
-    let queue = ItemQueue::new(items(rt.alloc(), 3, 1)?);
-    let mut queue = queue.ok().ok_or("at most 16")?;
+fn is_tagged(item: Option<&Item>, tag: u32) -> bool {
+    item.is_some_and(|item| item.tag == Tag(tag))
+}
+
+// Whether three items leave in the order of their tags.
+fn leave_in_order(alloc: Global) -> Result<bool, Refusal> {
+    let mut queue = ItemQueue::new(items(alloc, 3, 1)?).map_err(|_| Refusal::QueueFull)?;
+    let mut are_right = true;
     for tag in 0..3 {
-        assert!(rt; queue.first().is_some_and(|item| item.tag == Tag(tag)));
-        assert!(rt; queue.pop_first().is_some_and(|item| item.tag == Tag(tag)));
+        are_right = are_right && is_tagged(queue.first(), tag);
+        are_right = are_right && is_tagged(queue.pop_first().as_ref(), tag);
     }
-    assert!(rt; queue.is_empty());
-    assert!(rt; queue.pop_first().is_none());
-    Ok(())
+    Ok(are_right && queue.is_empty() && queue.pop_first().is_none())
 }
 
 #[test]
-fn sixteen_items_wait(rt: HostRuntime) -> Result<(), Fail> {
-    let queue = ItemQueue::new(items(rt.alloc(), 16, 242)?.clone()?);
-    assert!(rt; queue.is_ok_and(|queue| queue.as_slice().len() == 16));
-    assert!(rt; ItemQueue::new(items(rt.alloc(), 17, 242)?).is_err());
-    Ok(())
+fn items_leave_in_order(rt: HostRuntime) {
+    assert!(rt; leave_in_order(rt.alloc()) == Ok(true));
+}
+
+// How many items of a copy of so many wait; `None` where they are too many.
+fn waiting_items(alloc: Global, count: u32) -> Result<Option<usize>, Refusal> {
+    match ItemQueue::new(items(alloc, count, 242)?.clone()?) {
+        Ok(queue) => Ok(Some(queue.as_slice().len())),
+        Err(_) => Ok(None),
+    }
 }
 
 #[test]
-fn items_wait_in_order(rt: HostRuntime) -> Result<(), Fail> {
-    let alloc = rt.alloc();
+fn sixteen_items_wait(rt: HostRuntime) {
+    assert!(rt; waiting_items(rt.alloc(), 16) == Ok(Some(16)));
+    assert!(rt; waiting_items(rt.alloc(), 17) == Ok(None));
+}
+
+// Sixteen items that came one after another.
+fn pushed(alloc: Global) -> Result<ItemQueue, Refusal> {
     let mut queue = ItemQueue::empty(alloc);
     for tag in 0..16 {
-        assert!(rt; queue.as_slice().len() < ItemQueue::MOST);
+        if queue.as_slice().len() >= ItemQueue::MOST {
+            return Err(Refusal::QueueFull);
+        }
         queue.push(item(alloc, tag, 1)?)?;
     }
-    assert!(rt;
-        queue
-            .as_slice()
-            .iter()
-            .zip(0..16)
-            .all(|(item, tag)| item.tag == Tag(tag))
-    );
-    Ok(())
+    Ok(queue)
+}
+
+fn wait_in_order(alloc: Global) -> Result<bool, Refusal> {
+    let queue = pushed(alloc)?;
+    let mut tagged = queue.as_slice().iter().zip(0..16);
+    Ok(tagged.all(|(item, tag)| item.tag == Tag(tag)))
+}
+
+#[test]
+fn items_wait_in_order(rt: HostRuntime) {
+    assert!(rt; wait_in_order(rt.alloc()) == Ok(true));
 }
 
 // The session of this JoinNonce, in use.
-fn in_use(number: Option<u32>) -> Result<Option<CurrentSession>, Fail> {
+fn in_use(number: Option<u32>) -> Result<Option<CurrentSession>, Refusal> {
     match number {
         None => Ok(None),
         Some(number) => Ok(Some(current(number, 5)?)),
@@ -149,7 +173,7 @@ fn in_use(number: Option<u32>) -> Result<Option<CurrentSession>, Fail> {
 }
 
 // The session of this JoinNonce, not in use yet.
-fn waiting(number: Option<u32>) -> Result<Option<Session>, Fail> {
+fn waiting(number: Option<u32>) -> Result<Option<Session>, Refusal> {
     match number {
         None => Ok(None),
         Some(number) => Ok(Some(session(number)?)),
@@ -161,39 +185,51 @@ fn activation(
     granted: u32,
     current: Option<u32>,
     pending: Option<u32>,
-) -> Result<Option<Activation>, Fail> {
+) -> Result<Option<Activation>, Refusal> {
     let (current, pending) = (in_use(current)?, waiting(pending)?);
     Ok(Activation::new(JoinNonce::new(granted), current, pending))
 }
 
+// Whether sessions with these JoinNonces are in order.
+fn are_in_order(granted: u32, current: Option<u32>, pending: Option<u32>) -> Result<bool, Refusal> {
+    Ok(activation(granted, current, pending)?.is_some())
+}
+
 // Nothing was granted where the first number is 0.
+const ORDERS: &[(u32, Option<u32>, Option<u32>, bool)] = &[
+    (0, None, None, true),
+    (2, Some(1), Some(2), true),
+    (2, Some(2), None, true),
+    (2, Some(2), Some(2), false),
+    (2, Some(3), None, false),
+    (2, None, Some(3), false),
+    (0, None, Some(1), false),
+    (0, Some(1), None, false),
+];
+
 #[test]
-fn sessions_are_in_order(rt: HostRuntime) -> Result<(), Fail> {
-    for (granted, current, pending, in_order) in [
-        (0, None, None, true),
-        (2, Some(1), Some(2), true),
-        (2, Some(2), None, true),
-        (2, Some(2), Some(2), false),
-        (2, Some(3), None, false),
-        (2, None, Some(3), false),
-        (0, None, Some(1), false),
-        (0, Some(1), None, false),
-    ] {
-        assert!(rt;
-            activation(granted, current, pending)?.is_some() == in_order,
-            "granted {granted}"
-        );
+fn sessions_are_in_order(rt: HostRuntime) {
+    for (granted, current, pending, wanted) in ORDERS {
+        let are_in_order = are_in_order(*granted, *current, *pending);
+        assert!(rt; are_in_order == Ok(*wanted), "granted {granted}");
     }
-    Ok(())
+}
+
+// An activation with two sessions.
+fn both() -> Result<Activation, Refusal> {
+    activation(2, Some(1), Some(2))?.ok_or(Refusal::Damaged)
+}
+
+fn has_parts() -> Result<bool, Refusal> {
+    let activation = both()?;
+    let is_granted = activation.granted() == JoinNonce::new(2);
+    let is_in_use = activation.current() == in_use(Some(1))?;
+    Ok(is_granted && is_in_use && activation.pending() == waiting(Some(2))?)
 }
 
 #[test]
-fn an_activation_has_its_parts(rt: HostRuntime) -> Result<(), Fail> {
-    let activation = activation(2, Some(1), Some(2))?.ok_or("in order")?;
-    assert!(rt; activation.granted() == JoinNonce::new(2));
-    assert!(rt; activation.current() == in_use(Some(1))?);
-    assert!(rt; activation.pending() == waiting(Some(2))?);
-    Ok(())
+fn an_activation_has_its_parts(rt: HostRuntime) {
+    assert!(rt; has_parts() == Ok(true));
 }
 
 // The counters of a session in use.
@@ -203,149 +239,174 @@ fn counters(activation: &Activation) -> Option<(u32, u64)> {
 }
 
 // What is left of sessions 1 and 2 after the first uplink under session 2.
-fn begun(up: u32) -> Result<Activation, Fail> {
-    let mut activation = activation(2, Some(1), Some(2))?.ok_or("in order")?;
-    let session = activation.pending().ok_or("one waits")?;
-    activation.begin(session, up);
+fn begun(up: u32) -> Result<Activation, Refusal> {
+    let mut activation = both()?;
+    match activation.pending() {
+        Some(session) => activation.begin(session, up),
+        None => return Err(Refusal::Damaged),
+    }
     Ok(activation)
 }
 
-#[test]
-fn a_session_begins_with_its_first_uplink(rt: HostRuntime) -> Result<(), Fail> {
+fn begins() -> Result<bool, Refusal> {
     let activation = begun(7)?;
-    assert!(rt; activation.pending() == None);
-    assert!(rt; activation.granted() == JoinNonce::new(2));
-    assert!(rt; counters(&activation) == Some((7, 0)));
-    Ok(())
+    let is_granted = activation.granted() == JoinNonce::new(2);
+    let is_in_use = counters(&activation) == Some((7, 0));
+    Ok(is_granted && is_in_use && activation.pending().is_none())
+}
+
+#[test]
+fn a_session_begins_with_its_first_uplink(rt: HostRuntime) {
+    assert!(rt; begins() == Ok(true));
 }
 
 // The activation after an uplink of this counter and an answer to it.
-fn answered(mut activation: Activation, up: u32) -> Result<Activation, Fail> {
-    let current = activation.current().ok_or("one is in use")?;
+fn answered(mut activation: Activation, up: u32) -> Result<Activation, Refusal> {
+    let current = activation.current().ok_or(Refusal::Damaged)?;
     activation.advance(current, up);
-    let current = activation.current().ok_or("one is in use")?;
+    let current = activation.current().ok_or(Refusal::Damaged)?;
     if current.next_down.get() < 1 << 32 {
         activation.use_down(current);
     }
     Ok(activation)
 }
 
-#[test]
-fn counters_of_a_session_grow(rt: HostRuntime) -> Result<(), Fail> {
+fn grown() -> Result<Option<(u32, u64)>, Refusal> {
     let activation = answered(answered(begun(7)?, 8)?, 4_000_000_000)?;
-    assert!(rt; counters(&activation) == Some((4_000_000_000, 2)));
-    Ok(())
+    Ok(counters(&activation))
 }
 
 #[test]
-fn addresses_have_network_slot_and_join(rt: HostRuntime) -> Result<(), Fail> {
-    for (network, slot, join_nonce, address) in [
-        (42, 1, 1, 0x5400_2001),
-        (0, 0, 8191, 0x0000_1FFF),
-        (0, 0, 8192, 0x0000_0000),
-        (63, 4095, 16_777_215, 0x7FFF_FFFF),
-    ] {
-        let network = NetId::new(network).ok_or("below 64")?;
-        let found = dev_addr(network, slot, join_nonce);
-        assert!(rt; found == DevAddr(address), "slot {slot}");
-        assert!(rt; slot_at(found) == slot, "slot {slot}");
+fn counters_of_a_session_grow(rt: HostRuntime) {
+    assert!(rt; grown() == Ok(Some((4_000_000_000, 2))));
+}
+
+const ADDRESSES: &[(u8, u16, u32, u32)] = &[
+    (42, 1, 1, 0x5400_2001),
+    (0, 0, 8191, 0x0000_1FFF),
+    (0, 0, 8192, 0x0000_0000),
+    (63, 4095, 16_777_215, 0x7FFF_FFFF),
+];
+
+// Whether a session of a network has this address, which leads to its slot.
+fn has_address(network: u8, slot: u16, join_nonce: u32, address: u32) -> bool {
+    match NetId::new(u32::from(network)) {
+        Some(network) => {
+            let found = dev_addr(network, slot, join_nonce);
+            found == DevAddr(address) && slot_at(found) == slot
+        }
+        None => false,
+    }
+}
+
+#[test]
+fn addresses_have_network_slot_and_join(rt: HostRuntime) {
+    for (network, slot, join_nonce, address) in ADDRESSES {
+        assert!(rt;
+            has_address(*network, *slot, *join_nonce, *address),
+            "{slot}"
+        );
     }
     assert!(rt; slot_at(DevAddr(0x49BE_7DF1)) == 3571);
-    Ok(())
+}
+
+fn has_empty_queues(alloc: Global) -> Result<bool, Refusal> {
+    let device = brought(alloc, DEVICE)?;
+    let is_named = device.dev_eui == DEVICE;
+    Ok(is_named && device.items.as_slice().is_empty() && device.mac_queue.as_slice().is_empty())
 }
 
 #[test]
-fn a_new_device_has_empty_queues(rt: HostRuntime) -> Result<(), Fail> {
-    let device = brought(rt.alloc(), DEVICE)?;
-    assert!(rt; device.dev_eui == DEVICE);
-    assert!(rt; device.items.as_slice().is_empty());
-    assert!(rt; device.mac_queue.as_slice().is_empty());
-    Ok(())
+fn a_new_device_has_empty_queues(rt: HostRuntime) {
+    assert!(rt; has_empty_queues(rt.alloc()) == Ok(true));
 }
 
-fn is_as_its_copy(device: &Device) -> bool {
-    match device.copy() {
-        Ok(copy) => copy.same_as(device),
-        Err(_) => false,
-    }
+fn is_as_its_copy(alloc: Global) -> Result<bool, Refusal> {
+    let device = brought(alloc, DEVICE)?;
+    Ok(device.copy()?.same_as(&device))
 }
 
 #[test]
-fn a_device_is_copied_whole(rt: HostRuntime) -> Result<(), Fail> {
-    assert!(rt; is_as_its_copy(&brought(rt.alloc(), DEVICE)?));
-    Ok(())
+fn a_device_is_copied_whole(rt: HostRuntime) {
+    assert!(rt; is_as_its_copy(rt.alloc()) == Ok(true));
 }
 
-#[test]
-fn a_device_with_another_tag_is_another(rt: HostRuntime) -> Result<(), Fail> {
-    let mut device = brought(rt.alloc(), DEVICE)?;
+fn is_as_with_a_tag(alloc: Global) -> Result<bool, Refusal> {
+    let mut device = brought(alloc, DEVICE)?;
     device.awaited = Some(Tag(1));
-    assert!(rt; !device.same_as(&brought(rt.alloc(), DEVICE)?));
-    Ok(())
+    Ok(device.same_as(&brought(alloc, DEVICE)?))
 }
 
 #[test]
-fn effects_leave_in_order(rt: HostRuntime) -> Result<(), Fail> {
-    let alloc = rt.alloc();
+fn a_device_with_another_tag_is_another(rt: HostRuntime) {
+    assert!(rt; is_as_with_a_tag(rt.alloc()) == Ok(false));
+}
+
+// The report that a device was brought to a slot.
+fn provisioned(slot: u16) -> Result<Effect, Refusal> {
+    Ok(Effect::Report {
+        application: application()?,
+        dev_eui: DEVICE,
+        report: Report::Provisioned { slot },
+    })
+}
+
+// Reports of the slots from 4 to 7.
+fn four_effects(alloc: Global) -> Result<Effects, Refusal> {
     let mut effects = Effects::empty(alloc);
-    for slot in [4, 5, 6, 7] {
-        assert!(rt; effects.as_slice().len() < Effects::MOST);
-        effects.push(Effect::Report {
-            application: application()?,
-            dev_eui: DEVICE,
-            report: Report::Provisioned { slot },
-        })?;
+    for slot in 4..8 {
+        if effects.as_slice().len() >= Effects::MOST {
+            return Err(Refusal::QueueFull);
+        }
+        effects.push(provisioned(slot)?)?;
     }
-    assert_eq!(rt; effects.as_slice().len(), 4);
+    Ok(effects)
+}
+
+fn effects_are_in_order(alloc: Global) -> Result<bool, Refusal> {
+    let effects = four_effects(alloc)?;
+    let are_four = effects.as_slice().len() == 4;
     let effects = effects.into_vec();
-    assert!(rt;
-        matches!(
-            &effects[0],
-            Effect::Report {
-                report: Report::Provisioned { slot: 4 },
-                ..
-            }
-        )
-    );
-    Ok(())
+    Ok(are_four && effects.first() == Some(&provisioned(4)?))
 }
 
 #[test]
-fn a_downlink_has_its_mark(rt: HostRuntime) -> Result<(), Fail> {
-    let session = name(7)?;
+fn effects_leave_in_order(rt: HostRuntime) {
+    assert!(rt; effects_are_in_order(rt.alloc()) == Ok(true));
+}
+
+fn sent_is_marked(alloc: Global) -> Result<bool, Refusal> {
+    let (session, counter) = (name(7)?, 9);
     let down = Effect::Down {
         session,
-        counter: 9,
-        downlink: empty_downlink(rt.alloc())?,
+        counter,
+        downlink: empty_downlink(alloc)?,
     };
-    let mark = Mark::Sent {
-        session,
-        counter: 9,
-    };
-    assert!(rt; down.mark() == Some(mark));
-    Ok(())
+    Ok(down.mark() == Some(Mark::Sent { session, counter }))
 }
 
 #[test]
-fn an_accept_has_its_mark(rt: HostRuntime) -> Result<(), Fail> {
+fn a_downlink_has_its_mark(rt: HostRuntime) {
+    assert!(rt; sent_is_marked(rt.alloc()) == Ok(true));
+}
+
+fn granted_is_marked(alloc: Global) -> Result<bool, Refusal> {
     let session = name(7)?;
     let accept = Effect::Accept {
         session,
-        downlink: empty_downlink(rt.alloc())?,
+        downlink: empty_downlink(alloc)?,
     };
-    assert!(rt; accept.mark() == Some(Mark::Granted { session }));
-    Ok(())
+    Ok(accept.mark() == Some(Mark::Granted { session }))
 }
 
 #[test]
-fn a_report_has_no_mark(rt: HostRuntime) -> Result<(), Fail> {
-    let report = Effect::Report {
-        application: application()?,
-        dev_eui: DEVICE,
-        report: Report::Provisioned { slot: 0 },
-    };
-    assert!(rt; report.mark() == None);
-    Ok(())
+fn an_accept_has_its_mark(rt: HostRuntime) {
+    assert!(rt; granted_is_marked(rt.alloc()) == Ok(true));
+}
+
+#[test]
+fn a_report_has_no_mark(rt: HostRuntime) {
+    assert!(rt; provisioned(0).is_ok_and(|report| report.mark().is_none()));
 }
 
 // How a gateway heard a frame.
@@ -363,86 +424,93 @@ fn hearing(gateway: u64, frequency: u32, data_rate: u8) -> Hearing {
 }
 
 // So many copies, each of a gateway of its own.
-fn hearings(alloc: Global, count: u64) -> Result<Vec<Hearing>, Fail> {
+fn hearings(alloc: Global, count: u64) -> Result<Vec<Hearing>, Refusal> {
     let mut hearings = Vec::new(alloc);
     for gateway in 0..count {
         let hearing = hearing(gateway, 868_500_000, 5);
-        hearings.push(hearing).ok().ok_or("memory")?;
+        hearings.push(hearing)?;
     }
     Ok(hearings)
 }
 
 // A frame that so many gateways heard.
-fn heard(alloc: Global, count: u64) -> Result<Option<Hearings>, Fail> {
+fn heard(alloc: Global, count: u64) -> Result<Option<Hearings>, Refusal> {
     Ok(Hearings::new(hearings(alloc, count)?))
 }
 
+const COUNTS: &[(u64, bool)] = &[(0, false), (1, true), (32, true), (33, false)];
+
 #[test]
-fn from_1_to_32_gateways_hear_a_frame(rt: HostRuntime) -> Result<(), Fail> {
-    for (count, may) in [(0, false), (1, true), (32, true), (33, false)] {
-        assert!(rt; heard(rt.alloc(), count)?.is_some() == may, "{count}");
+fn from_1_to_32_gateways_hear_a_frame(rt: HostRuntime) {
+    for (count, may) in COUNTS {
+        let heard = heard(rt.alloc(), *count);
+        assert!(rt; heard.is_ok_and(|heard| heard.is_some() == *may), "{count}");
     }
-    Ok(())
+}
+
+// Whether so many copies stay in their order.
+fn keep_their_order(alloc: Global, count: u64) -> Result<bool, Refusal> {
+    match heard(alloc, count)? {
+        Some(heard) => Ok(heard.as_slice() == hearings(alloc, count)?.as_slice()),
+        None => Ok(false),
+    }
 }
 
 #[test]
-fn copies_keep_their_order(rt: HostRuntime) -> Result<(), Fail> {
-    for count in [1, 32] {
-        let heard = heard(rt.alloc(), count)?.ok_or("at most 32")?;
-        assert!(rt;
-            heard.as_slice() == hearings(rt.alloc(), count)?.as_slice(),
-            "{count}"
-        );
-    }
-    Ok(())
+fn copies_keep_their_order(rt: HostRuntime) {
+    assert!(rt; keep_their_order(rt.alloc(), 1) == Ok(true));
+    assert!(rt; keep_their_order(rt.alloc(), 32) == Ok(true));
 }
 
 // Whether a frame that gateways 0 and 1 heard may also be heard so.
-fn may_be_heard(alloc: Global, last: Hearing) -> Result<bool, Fail> {
+fn may_be_heard(alloc: Global, last: Hearing) -> Result<bool, Refusal> {
     let mut hearings = hearings(alloc, 2)?;
-    hearings.push(last).ok().ok_or("memory")?;
+    hearings.push(last)?;
     Ok(Hearings::new(hearings).is_some())
 }
 
+const LAST_COPIES: &[(u32, u8, u64, bool)] = &[
+    (868_100_000, 0, 9, true),
+    (868_300_000, 5, 9, true),
+    (868_200_000, 0, 9, false),
+    (868_100_000, 6, 9, false),
+    (868_100_000, 0, 1, false),
+];
+
 #[test]
-fn copies_are_of_different_gateways_on_channels(rt: HostRuntime) -> Result<(), Fail> {
-    for (frequency, data_rate, gateway, may) in [
-        (868_100_000, 0, 9, true),
-        (868_300_000, 5, 9, true),
-        (868_200_000, 0, 9, false),
-        (868_100_000, 6, 9, false),
-        (868_100_000, 0, 1, false),
-    ] {
-        let last = hearing(gateway, frequency, data_rate);
+fn copies_are_of_different_gateways_on_channels(rt: HostRuntime) {
+    for (frequency, data_rate, gateway, may) in LAST_COPIES {
+        let last = hearing(*gateway, *frequency, *data_rate);
+        let may_be_heard = may_be_heard(rt.alloc(), last);
         assert!(rt;
-            may_be_heard(rt.alloc(), last)? == may,
+            may_be_heard == Ok(*may),
             "{frequency} {data_rate} {gateway}"
         );
     }
-    Ok(())
 }
 
 // The best of the copies that these gateways have, of these SNR and RSSI.
-fn best(alloc: Global, copies: &[(u64, i16, i16)]) -> Result<Option<u64>, Fail> {
+fn best(alloc: Global, copies: &[(u64, i16, i16)]) -> Result<Option<u64>, Refusal> {
     let mut hearings = Vec::new(alloc);
     for (gateway, snr, rssi) in copies {
         let mut hearing = hearing(*gateway, 868_100_000, 0);
         hearing.reception.snr = *snr;
         hearing.reception.rssi = *rssi;
-        hearings.push(hearing).ok().ok_or("memory")?;
+        hearings.push(hearing)?;
     }
     Ok(Hearings::new(hearings).map(|hearings| hearings.best().reception.gateway.0))
 }
 
+const COPIES: &[(&[(u64, i16, i16)], u64)] = &[
+    (&[(2, -20, -100), (1, -20, -100), (3, -20, -100)], 1),
+    (&[(1, -20, -100), (2, -20, -99), (3, -20, -100)], 2),
+    (&[(1, -20, -90), (2, -20, -99), (3, -19, -120)], 3),
+    (&[(9, 7, -90), (2, 7, -90), (3, 6, -20)], 2),
+];
+
 #[test]
-fn the_best_copy_is_the_clearest(rt: HostRuntime) -> Result<(), Fail> {
-    for (copies, wanted) in [
-        ([(2, -20, -100), (1, -20, -100), (3, -20, -100)], 1),
-        ([(1, -20, -100), (2, -20, -99), (3, -20, -100)], 2),
-        ([(1, -20, -90), (2, -20, -99), (3, -19, -120)], 3),
-        ([(9, 7, -90), (2, 7, -90), (3, 6, -20)], 2),
-    ] {
-        assert!(rt; best(rt.alloc(), &copies)? == Some(wanted), "{wanted}");
+fn the_best_copy_is_the_clearest(rt: HostRuntime) {
+    for (copies, wanted) in COPIES {
+        assert!(rt; best(rt.alloc(), copies) == Ok(Some(*wanted)), "{wanted}");
     }
-    Ok(())
 }

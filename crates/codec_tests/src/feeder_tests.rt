@@ -2,8 +2,6 @@ use crate::fixtures::{GATEWAY, application};
 use gateway_wire::{Fed, Feeder, Message, Peer};
 use lw_types::{FrameCopy, Reception, Refusal, read_hex};
 use std::alloc::Global;
-use std::process::Abort;
-use std::test::Fail;
 
 // The greeting of a gateway, and its copy of a frame of 17 bytes.
 const GREETING: &str = "00090000000000000000B1";
@@ -68,134 +66,141 @@ fn says(
     Ok(same && ended && is_fed(&fed, count, fault))
 }
 
-// Each text with so many of 41 behind it, its number of messages, and what it ends in.
+// Whether each text with so many of 41 behind it says so many messages, and what it ends in.
 fn each_says(
-    rt: &impl Abort,
     alloc: Global,
     rows: &[(&str, usize, usize)],
     fault: Option<Refusal>,
     end: Option<Refusal>,
-) -> Result<(), Fail> {
+) -> Result<bool, Refusal> {
     for (hex, filled, count) in rows {
         let bytes = stream(alloc, hex, *filled)?;
-        assert!(rt; says(alloc, bytes.as_slice(), *count, fault, end)?, "{hex}");
+        if !says(alloc, &bytes, *count, fault, end)? {
+            return Ok(false);
+        }
     }
-    Ok(())
+    Ok(true)
 }
 
-#[test]
-fn whole_frames_are_messages(rt: HostRuntime) -> Result<(), Fail> {
-    let rows = [
-        ("", 0, 0),
-        (GREETING, 0, 1),
-        // no PHYPayload, and the longest
-        (
-            "00090000000000000000B100160100000000000000B133BE27A005FFECFFA10000C350",
-            0,
-            2,
-        ),
-        (
-            "00090000000000000000B101150100000000000000B133BE27A005FFECFFA10000C350",
-            255,
-            2,
-        ),
-        // no line, one of the last ASCII, two, and the longest
-        ("00020203000103", 0, 2),
-        ("000202030002037F", 0, 2),
-        ("0002020300020341000303417E", 0, 3),
-        ("0002020F02BC03", 699, 2),
-    ];
-    each_says(&rt, rt.alloc(), &rows, None, None)
-}
+// Texts, how many of 41 stand behind them, and how many messages they say.
+const FRAMES: &[(&str, usize, usize)] = &[
+    ("", 0, 0),
+    (GREETING, 0, 1),
+    // no PHYPayload, and the longest
+    (
+        "00090000000000000000B100160100000000000000B133BE27A005FFECFFA10000C350",
+        0,
+        2,
+    ),
+    (
+        "00090000000000000000B101150100000000000000B133BE27A005FFECFFA10000C350",
+        255,
+        2,
+    ),
+    // no line, one of the last ASCII, two, and the longest
+    ("00020203000103", 0, 2),
+    ("000202030002037F", 0, 2),
+    ("0002020300020341000303417E", 0, 3),
+    ("0002020F02BC03", 699, 2),
+];
 
 #[test]
-fn a_part_of_a_frame_is_cut_short(rt: HostRuntime) -> Result<(), Fail> {
-    let rows = [
-        ("00", 0, 0),
-        ("02BC", 0, 0),
-        ("00090000000000000000", 0, 0),
-        ("00090000000000000000B100", 0, 1),
-        (
-            "00090000000000000000B100270100000000000000B133BE27A005FFECFFA10000C35040F17DBE4900020001954378762B11FF",
-            0,
-            1,
-        ),
-        ("0002020302BC03", 698, 1),
-    ];
-    each_says(&rt, rt.alloc(), &rows, None, Some(Refusal::CutShort))
+fn whole_frames_are_messages(rt: HostRuntime) {
+    assert!(rt; each_says(rt.alloc(), FRAMES, None, None) == Ok(true));
 }
 
+const CUT: &[(&str, usize, usize)] = &[
+    ("00", 0, 0),
+    ("02BC", 0, 0),
+    ("00090000000000000000", 0, 0),
+    ("00090000000000000000B100", 0, 1),
+    (
+        "00090000000000000000B100270100000000000000B133BE27A005FFECFFA10000C35040F17DBE4900020001954378762B11FF",
+        0,
+        1,
+    ),
+    ("0002020302BC03", 698, 1),
+];
+
 #[test]
-fn a_length_above_700_is_too_long(rt: HostRuntime) -> Result<(), Fail> {
-    let rows = [
-        ("02BD", 0, 0),
-        ("FFFF", 9, 0),
-        ("00090000000000000000B102BD", 701, 1),
-        // what follows a fault says nothing
-        ("02BD00020203", 0, 0),
-    ];
+fn a_part_of_a_frame_is_cut_short(rt: HostRuntime) {
+    assert!(rt; each_says(rt.alloc(), CUT, None, Some(Refusal::CutShort)) == Ok(true));
+}
+
+const TOO_LONG: &[(&str, usize, usize)] = &[
+    ("02BD", 0, 0),
+    ("FFFF", 9, 0),
+    ("00090000000000000000B102BD", 701, 1),
+    // what follows a fault says nothing
+    ("02BD00020203", 0, 0),
+];
+
+#[test]
+fn a_length_above_700_is_too_long(rt: HostRuntime) {
     let fault = Some(Refusal::FrameTooLong);
-    each_says(&rt, rt.alloc(), &rows, fault, fault)
+    assert!(rt; each_says(rt.alloc(), TOO_LONG, fault, fault) == Ok(true));
 }
 
-#[test]
-fn other_content_is_no_message(rt: HostRuntime) -> Result<(), Fail> {
-    let rows = [
-        // no content, no kind of these, and nothing behind a fault
-        ("0000", 0, 0),
-        ("000104", 0, 0),
-        ("00021141", 0, 0),
-        ("000000020203", 0, 0),
-        // greetings that are too short, too long, or of no application
-        ("000800000000000000B1", 0, 0),
-        ("000A0000000000000000B100", 0, 0),
-        ("000102", 0, 0),
-        ("0003020300", 0, 0),
-        ("00020210", 0, 0),
-        // a copy that is too short, and one of 256 bytes
-        (
-            "00090000000000000000B100150100000000000000B133BE27A005FFECFFA10000C3",
-            0,
-            1,
-        ),
-        (
-            "00090000000000000000B101160100000000000000B133BE27A005FFECFFA10000C350",
-            256,
-            1,
-        ),
-        // bytes that aren't ASCII, and newlines
-        ("0002020300020380", 0, 1),
-        ("00020203000403410A41", 0, 1),
-    ];
-    let fault = Some(Refusal::BadMessage);
-    each_says(&rt, rt.alloc(), &rows, fault, fault)
-}
+const NO_MESSAGES: &[(&str, usize, usize)] = &[
+    // no content, no kind of these, and nothing behind a fault
+    ("0000", 0, 0),
+    ("000104", 0, 0),
+    ("00021141", 0, 0),
+    ("000000020203", 0, 0),
+    // greetings that are too short, too long, or of no application
+    ("000800000000000000B1", 0, 0),
+    ("000A0000000000000000B100", 0, 0),
+    ("000102", 0, 0),
+    ("0003020300", 0, 0),
+    ("00020210", 0, 0),
+    // a copy that is too short, and one of 256 bytes
+    (
+        "00090000000000000000B100150100000000000000B133BE27A005FFECFFA10000C3",
+        0,
+        1,
+    ),
+    (
+        "00090000000000000000B101160100000000000000B133BE27A005FFECFFA10000C350",
+        256,
+        1,
+    ),
+    // bytes that aren't ASCII, and newlines
+    ("0002020300020380", 0, 1),
+    ("00020203000403410A41", 0, 1),
+];
 
 #[test]
-fn each_message_has_its_link(rt: HostRuntime) -> Result<(), Fail> {
-    let rows = [
-        // before a greeting
-        (COPY, 0, 0),
-        ("00020341", 0, 0),
-        // a second greeting
-        ("00090000000000000000B100090000000000000000B1", 0, 1),
-        ("00090000000000000000B100020203", 0, 1),
-        ("0002020300020203", 0, 1),
-        // another gateway's copy, a line of a gateway, and a copy of an application
-        (
-            "00090000000000000000B100160100000000000000B233BE27A005FFECFFA10000C350",
-            0,
-            1,
-        ),
-        ("00090000000000000000B100020341", 0, 1),
-        (
-            "0002020300160100000000000000B133BE27A005FFECFFA10000C350",
-            0,
-            1,
-        ),
-    ];
+fn other_content_is_no_message(rt: HostRuntime) {
     let fault = Some(Refusal::BadMessage);
-    each_says(&rt, rt.alloc(), &rows, fault, fault)
+    assert!(rt; each_says(rt.alloc(), NO_MESSAGES, fault, fault) == Ok(true));
+}
+
+const LINKS: &[(&str, usize, usize)] = &[
+    // before a greeting
+    (COPY, 0, 0),
+    ("00020341", 0, 0),
+    // a second greeting
+    ("00090000000000000000B100090000000000000000B1", 0, 1),
+    ("00090000000000000000B100020203", 0, 1),
+    ("0002020300020203", 0, 1),
+    // another gateway's copy, a line of a gateway, and a copy of an application
+    (
+        "00090000000000000000B100160100000000000000B233BE27A005FFECFFA10000C350",
+        0,
+        1,
+    ),
+    ("00090000000000000000B100020341", 0, 1),
+    (
+        "0002020300160100000000000000B133BE27A005FFECFFA10000C350",
+        0,
+        1,
+    ),
+];
+
+#[test]
+fn each_message_has_its_link(rt: HostRuntime) {
+    let fault = Some(Refusal::BadMessage);
+    assert!(rt; each_says(rt.alloc(), LINKS, fault, fault) == Ok(true));
 }
 
 fn copy(alloc: Global) -> Result<FrameCopy, Refusal> {
@@ -210,15 +215,18 @@ fn copy(alloc: Global) -> Result<FrameCopy, Refusal> {
     FrameCopy::new(alloc, reception, 50_000, frame.as_slice())
 }
 
-#[test]
-fn a_gateway_hands_in_its_copy(rt: HostRuntime) -> Result<(), Fail> {
-    let alloc = rt.alloc();
+// What a gateway's greeting and its copy say.
+fn hands_in_a_copy(alloc: Global) -> Result<bool, Refusal> {
     let mut bytes = read_hex(alloc, GREETING)?;
-    bytes.extend_from_slice(read_hex(alloc, COPY)?.as_slice())?;
-    let fed = cut(alloc, &mut Feeder::new(alloc), bytes.as_slice())?;
+    bytes.extend_from_slice(&read_hex(alloc, COPY)?)?;
+    let fed = cut(alloc, &mut Feeder::new(alloc), &bytes)?;
     let greeting = Message::Greeting(Peer::Gateway(GATEWAY));
-    assert!(rt; fed.messages == vec![in alloc; greeting, Message::Copy(copy(alloc)?)]?);
-    Ok(())
+    Ok(fed.messages == vec![in alloc; greeting, Message::Copy(copy(alloc)?)]?)
+}
+
+#[test]
+fn a_gateway_hands_in_its_copy(rt: HostRuntime) {
+    assert!(rt; hands_in_a_copy(rt.alloc()) == Ok(true));
 }
 
 fn is_line(message: Option<&Message>, text: &str) -> bool {
@@ -228,13 +236,15 @@ fn is_line(message: Option<&Message>, text: &str) -> bool {
     }
 }
 
-#[test]
-fn an_application_hands_in_its_line(rt: HostRuntime) -> Result<(), Fail> {
-    let alloc = rt.alloc();
+// Whether an application's greeting and its line are told.
+fn hands_in_a_line(alloc: Global) -> Result<bool, Refusal> {
     let bytes = read_hex(alloc, "000202030006036D6163202D")?;
-    let fed = whole(alloc, &mut Feeder::new(alloc), bytes.as_slice())?;
+    let fed = whole(alloc, &mut Feeder::new(alloc), &bytes)?;
     let greeting = Message::Greeting(Peer::Application(application()?));
-    assert!(rt; fed.messages.first() == Some(&greeting));
-    assert!(rt; is_line(fed.messages.get(1), "mac -"));
-    Ok(())
+    Ok(fed.messages.first() == Some(&greeting) && is_line(fed.messages.get(1), "mac -"))
+}
+
+#[test]
+fn an_application_hands_in_its_line(rt: HostRuntime) {
+    assert!(rt; hands_in_a_line(rt.alloc()) == Ok(true));
 }

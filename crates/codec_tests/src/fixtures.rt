@@ -3,9 +3,8 @@ use devices::{
     Application, CurrentSession, Device, Downlink, Item, NextDown, Payload, Port, Provisioning,
     Rx1Offset, RxDelay, Session, SessionName, Tag, Windows,
 };
-use lw_types::{Eui, JoinNonce, Key, PhyPayload};
+use lw_types::{Eui, JoinNonce, Key, PhyPayload, Refusal};
 use std::alloc::Global;
-use std::test::Fail;
 
 pub const DEVICE: Eui = Eui(0x1112_1314_1516_1718);
 
@@ -18,38 +17,38 @@ pub const KEY: Key = Key([
     0x2B, 0x7E, 0x15, 0x16, 0x28, 0xAE, 0xD2, 0xA6, 0xAB, 0xF7, 0x15, 0x88, 0x09, 0xCF, 0x4F, 0x3C,
 ]);
 
-pub fn application() -> Result<Application, Fail> {
-    Ok(Application::new(3).ok_or("application")?)
+pub fn application() -> Result<Application, Refusal> {
+    Application::new(3).ok_or(Refusal::Damaged)
 }
 
 // A device of application 3, with RX1 after a second.
-pub fn provisioning(dev_eui: Eui) -> Result<Provisioning, Fail> {
+pub fn provisioning(dev_eui: Eui) -> Result<Provisioning, Refusal> {
     Ok(Provisioning {
         application: application()?,
         dev_eui,
         join_eui: JOIN_EUI,
         app_key: KEY,
-        rx1_offset: Rx1Offset::new(0).ok_or("offset")?,
-        rx_delay: RxDelay::new(1).ok_or("delay")?,
+        rx1_offset: Rx1Offset::new(0).ok_or(Refusal::Damaged)?,
+        rx_delay: RxDelay::new(1).ok_or(Refusal::Damaged)?,
     })
 }
 
-pub fn brought(alloc: Global, dev_eui: Eui) -> Result<Device, Fail> {
+pub fn brought(alloc: Global, dev_eui: Eui) -> Result<Device, Refusal> {
     Ok(Device::provisioned(alloc, &provisioning(dev_eui)?))
 }
 
-pub fn nonce(number: u32) -> Result<JoinNonce, Fail> {
-    Ok(JoinNonce::new(number).ok_or("join nonce")?)
+pub fn nonce(number: u32) -> Result<JoinNonce, Refusal> {
+    JoinNonce::new(number).ok_or(Refusal::Damaged)
 }
 
-pub fn name(number: u32) -> Result<SessionName, Fail> {
+pub fn name(number: u32) -> Result<SessionName, Refusal> {
     Ok(SessionName {
         dev_eui: DEVICE,
         join_nonce: nonce(number)?,
     })
 }
 
-pub fn session(number: u32) -> Result<Session, Fail> {
+pub fn session(number: u32) -> Result<Session, Refusal> {
     Ok(Session {
         join_nonce: nonce(number)?,
         nwk_skey: Key([0xAA; 16]),
@@ -58,43 +57,45 @@ pub fn session(number: u32) -> Result<Session, Fail> {
 }
 
 // A session whose last downlink counter was used.
-pub fn current(number: u32, last_up: u32) -> Result<CurrentSession, Fail> {
+pub fn current(number: u32, last_up: u32) -> Result<CurrentSession, Refusal> {
     Ok(CurrentSession {
         session: session(number)?,
         last_up,
-        next_down: NextDown::new(1 << 32).ok_or("next down")?,
+        next_down: NextDown::new(1 << 32).ok_or(Refusal::Damaged)?,
     })
 }
 
 // An item of so many bytes.
-pub fn item(alloc: Global, tag: u32, len: usize) -> Result<Item, Fail> {
-    let payload = Payload::new(vec![in alloc; 0xA5; len]?);
-    Ok(Item {
-        tag: Tag(tag),
-        port: Port::new(223).ok_or("port")?,
-        confirmed: true,
-        payload: payload.ok().ok_or("at most 242 bytes")?,
-    })
+pub fn item(alloc: Global, tag: u32, len: usize) -> Result<Item, Refusal> {
+    match Payload::new(vec![in alloc; 0xA5; len]?) {
+        Ok(payload) => Ok(Item {
+            tag: Tag(tag),
+            port: Port::new(223).ok_or(Refusal::Damaged)?,
+            confirmed: true,
+            payload,
+        }),
+        Err(_) => Err(Refusal::TooLong),
+    }
 }
 
 // A downlink of no bytes, five seconds later.
-pub fn empty_downlink(alloc: Global) -> Result<Downlink, Fail> {
+pub fn empty_downlink(alloc: Global) -> Result<Downlink, Refusal> {
     Ok(Downlink {
         gateway: GATEWAY,
         stamp: 1,
         frequency: 868_500_000,
         data_rate: 2,
-        delay: RxDelay::new(5).ok_or("delay")?,
+        delay: RxDelay::new(5).ok_or(Refusal::Damaged)?,
         windows: Windows::Rx1OrRx2,
         frame: PhyPayload::empty(alloc),
     })
 }
 
 // So many items of this length, tagged from 0 on.
-pub fn items(alloc: Global, count: u32, len: usize) -> Result<Vec<Item>, Fail> {
+pub fn items(alloc: Global, count: u32, len: usize) -> Result<Vec<Item>, Refusal> {
     let mut items = Vec::new(alloc);
     for tag in 0..count {
-        items.push(item(alloc, tag, len)?).ok().ok_or("memory")?;
+        items.push(item(alloc, tag, len)?)?;
     }
     Ok(items)
 }

@@ -1,10 +1,8 @@
-use crate::fixtures::{DEVICE, brought, current, item, items, session};
+use crate::fixtures::{DEVICE, brought, current, items, session};
 use devices::{Activation, Device, Item, ItemQueue, MacQueue, Tag};
 use lw_types::{JoinNonce, Refusal};
 use record_codec::{read_device, write_device};
 use std::alloc::Global;
-use std::process::Abort;
-use std::test::Fail;
 
 // The record of a device that was just brought.
 const BROUGHT: [u8; 50] = [
@@ -20,17 +18,17 @@ const BROUGHT: [u8; 50] = [
 ];
 
 // Both sessions, the second one pending.
-fn both_sessions() -> Result<Activation, Fail> {
+fn both_sessions() -> Result<Activation, Refusal> {
     let current = current(0x01_0203, u32::MAX)?;
     let pending = session(0x01_0204)?;
     let activation = Activation::new(JoinNonce::new(0x01_0204), Some(current), Some(pending));
-    Ok(activation.ok_or("in order")?)
+    activation.ok_or(Refusal::Damaged)
 }
 
 // A device with both sessions, a tag awaited, a DevNonce of 0, and these queues.
-fn busy(alloc: Global, mac_queue: Vec<u8>, items: Vec<Item>) -> Result<Device, Fail> {
-    let mac_queue = MacQueue::new(mac_queue).ok().ok_or("whole commands")?;
-    let items = ItemQueue::new(items).ok().ok_or("at most 16 items")?;
+fn busy(alloc: Global, mac_queue: Vec<u8>, items: Vec<Item>) -> Result<Device, Refusal> {
+    let mac_queue = MacQueue::new(mac_queue).map_err(|_| Refusal::BadMac)?;
+    let items = ItemQueue::new(items).map_err(|_| Refusal::QueueFull)?;
     Ok(Device {
         last_dev_nonce: Some(0),
         activation: both_sessions()?,
@@ -41,105 +39,114 @@ fn busy(alloc: Global, mac_queue: Vec<u8>, items: Vec<Item>) -> Result<Device, F
     })
 }
 
-// The record of the device, which has so many bytes, and is read as the device.
-fn record_of(rt: &impl Abort, alloc: Global, device: &Device, len: usize) -> Result<Vec<u8>, Fail> {
+// The record of the device, which is read as the device.
+fn record_of(alloc: Global, device: &Device) -> Result<Vec<u8>, Refusal> {
     let mut out = Vec::new(alloc);
     write_device(alloc, device, &mut out)?;
-    assert_eq!(rt; out.len(), len);
-    assert!(rt; read_device(alloc, out.as_slice())? == *device);
-    Ok(out)
+    if read_device(alloc, &out)? == *device {
+        Ok(out)
+    } else {
+        Err(Refusal::Damaged)
+    }
+}
+
+fn is_brought(alloc: Global) -> Result<bool, Refusal> {
+    let record = record_of(alloc, &brought(alloc, DEVICE)?)?;
+    Ok(record.as_slice() == BROUGHT.as_slice())
 }
 
 #[test]
-fn a_new_device_has_50_bytes(rt: HostRuntime) -> Result<(), Fail> {
-    let device = brought(rt.alloc(), DEVICE)?;
-    let record = record_of(&rt, rt.alloc(), &device, 50)?;
-    assert!(rt; record.as_slice() == BROUGHT.as_slice());
-    Ok(())
+fn a_new_device_has_50_bytes(rt: HostRuntime) {
+    assert!(rt; is_brought(rt.alloc()) == Ok(true));
 }
 
-// The record of a new device behind 9.
-fn behind_9(alloc: Global) -> Result<Vec<u8>, Fail> {
+// Whether the record of a new device is written behind 9.
+fn is_behind_9(alloc: Global) -> Result<bool, Refusal> {
     let mut out = Vec::from_slice(alloc, &[9])?;
     write_device(alloc, &brought(alloc, DEVICE)?, &mut out)?;
-    Ok(out)
+    Ok(out.as_slice().strip_prefix(&[9]) == Some(BROUGHT.as_slice()))
 }
 
 #[test]
-fn a_record_is_written_behind_what_is_there(rt: HostRuntime) -> Result<(), Fail> {
-    let out = behind_9(rt.alloc())?;
-    assert_eq!(rt; out.len(), 51);
-    assert!(rt; out.first() == Some(&9));
-    assert!(rt; out.as_slice().ends_with(&BROUGHT));
-    Ok(())
+fn a_record_is_written_behind_what_is_there(rt: HostRuntime) {
+    assert!(rt; is_behind_9(rt.alloc()) == Ok(true));
 }
 
-fn with_a_pending_session(alloc: Global) -> Result<Device, Fail> {
+fn with_a_pending_session(alloc: Global) -> Result<Device, Refusal> {
     let activation = Activation::new(JoinNonce::new(1), None, Some(session(1)?));
     Ok(Device {
-        activation: activation.ok_or("the grants are in order")?,
+        activation: activation.ok_or(Refusal::Damaged)?,
         ..brought(alloc, DEVICE)?
     })
 }
 
-#[test]
-fn a_pending_session_takes_35_bytes_more(rt: HostRuntime) -> Result<(), Fail> {
-    let device = with_a_pending_session(rt.alloc())?;
-    let _ = record_of(&rt, rt.alloc(), &device, 85)?;
-    Ok(())
+fn pending_len(alloc: Global) -> Result<usize, Refusal> {
+    Ok(record_of(alloc, &with_a_pending_session(alloc)?)?.len())
 }
 
 #[test]
-fn a_busy_device_is_read_back(rt: HostRuntime) -> Result<(), Fail> {
-    let alloc = rt.alloc();
-    let items = vec![in alloc; item(alloc, 7, 2)?]?;
-    let device = busy(alloc, Vec::from_slice(alloc, &[6, 4, 0])?, items)?;
-    let _ = record_of(&rt, alloc, &device, 50 + 47 + 35 + 3 + 9)?;
-    Ok(())
+fn a_pending_session_takes_35_bytes_more(rt: HostRuntime) {
+    assert!(rt; pending_len(rt.alloc()) == Ok(85));
+}
+
+// The length of the record of a busy device with these MAC commands and so many items of this length.
+fn busy_len(alloc: Global, mac_queue: &[u8], count: u32, len: usize) -> Result<usize, Refusal> {
+    let items = items(alloc, count, len)?;
+    let device = busy(alloc, Vec::from_slice(alloc, mac_queue)?, items)?;
+    Ok(record_of(alloc, &device)?.len())
 }
 
 #[test]
-fn the_largest_record_has_4180_bytes(rt: HostRuntime) -> Result<(), Fail> {
-    let alloc = rt.alloc();
-    let device = busy(alloc, vec![in alloc; 6; 64]?, items(alloc, 16, 242)?)?;
-    let _ = record_of(&rt, alloc, &device, 4180)?;
-    Ok(())
-}
-
-fn is_damaged(rt: &impl Abort, alloc: Global, bytes: &[u8], fault: &str) {
-    let found = read_device(alloc, bytes);
-    assert!(rt; matches!(found, Err(Refusal::Damaged)), "{fault}");
+fn a_busy_device_is_read_back(rt: HostRuntime) {
+    assert!(rt; busy_len(rt.alloc(), &[6, 4, 0], 1, 2) == Ok(50 + 47 + 35 + 3 + 9));
 }
 
 #[test]
-fn a_field_out_of_range_is_damaged(rt: HostRuntime) -> Result<(), Fail> {
-    let table = [
-        (32, 16, "application"),
-        (33, 6, "RX1DROffset"),
-        (34, 0, "delay"),
-        (34, 16, "delay"),
-        (35, 2, "flag of the DevNonce"),
-        (37, 1, "a DevNonce that is not there"),
-        (41, 1, "a current session that is cut short"),
-        (43, 3, "flag of the tag"),
-        (47, 1, "a tag that is not there"),
-        (48, 1, "a MAC queue of no command"),
-        (49, 1, "an item that is cut short"),
-    ];
-    for (place, value, fault) in table {
-        let mut bytes = BROUGHT;
-        bytes[place] = value;
-        is_damaged(&rt, rt.alloc(), &bytes, fault);
+fn the_largest_record_has_4180_bytes(rt: HostRuntime) {
+    assert!(rt; busy_len(rt.alloc(), &[6; 64], 16, 242) == Ok(4180));
+}
+
+// A place of a new device's record, and a byte there that is out of range.
+const FAULTS: &[(usize, u8, &str)] = &[
+    (32, 16, "application"),
+    (33, 6, "RX1DROffset"),
+    (34, 0, "delay"),
+    (34, 16, "delay"),
+    (35, 2, "flag of the DevNonce"),
+    (37, 1, "a DevNonce that is not there"),
+    (41, 1, "a current session that is cut short"),
+    (43, 3, "flag of the tag"),
+    (47, 1, "a tag that is not there"),
+    (48, 1, "a MAC queue of no command"),
+    (49, 1, "an item that is cut short"),
+];
+
+// What the record with another byte at a place is refused.
+fn refused(alloc: Global, place: usize, byte: u8) -> Option<Refusal> {
+    let mut bytes = BROUGHT;
+    *bytes.get_mut(place)? = byte;
+    read_device(alloc, &bytes).err()
+}
+
+#[test]
+fn a_field_out_of_range_is_damaged(rt: HostRuntime) {
+    for (place, byte, fault) in FAULTS {
+        let refused = refused(rt.alloc(), *place, *byte);
+        assert!(rt; refused == Some(Refusal::Damaged), "{fault}");
     }
-    Ok(())
+}
+
+// What the record with one byte more is refused.
+fn refused_long(alloc: Global) -> Result<Option<Refusal>, Refusal> {
+    let mut long = Vec::from_slice(alloc, &BROUGHT)?;
+    long.push(0)?;
+    Ok(read_device(alloc, &long).err())
 }
 
 #[test]
-fn a_record_of_another_length_is_damaged(rt: HostRuntime) -> Result<(), Fail> {
-    let mut long = Vec::from_slice(rt.alloc(), &BROUGHT)?;
-    long.push(0)?;
-    is_damaged(&rt, rt.alloc(), long.as_slice(), "51 bytes");
-    is_damaged(&rt, rt.alloc(), &BROUGHT[..49], "49 bytes");
-    is_damaged(&rt, rt.alloc(), &[], "no bytes");
-    Ok(())
+fn a_record_of_another_length_is_damaged(rt: HostRuntime) {
+    assert!(rt; refused_long(rt.alloc()) == Ok(Some(Refusal::Damaged)));
+    let short = read_device(rt.alloc(), &BROUGHT[..49]);
+    assert!(rt; short.err() == Some(Refusal::Damaged));
+    assert!(rt; read_device(rt.alloc(), &[]).err() == Some(Refusal::Damaged));
 }

@@ -364,6 +364,25 @@ fn in_use() -> Option<Activation> {
     Activation::new(Some(session.join_nonce), Some(current), None)
 }
 
+// The device at slot 0.
+fn first_of(table: &Table) -> Result<Device, Refusal> {
+    match table.devices().first() {
+        Some(device) => device.copy(),
+        None => Err(Refusal::Damaged),
+    }
+}
+
+// What the table decides of a frame, and carries out.
+fn joined(
+    alloc: Global,
+    table: &mut Table,
+    dev_nonce: u16,
+    digits: &str,
+) -> Result<Decision, Refusal> {
+    let command = heard(alloc, digits)?;
+    carry_out(alloc, table, u64::from(dev_nonce), command)
+}
+
 // Whether the device at slot 0 is granted this, and the table has its new record then.
 fn joins_on(
     alloc: Global,
@@ -372,9 +391,8 @@ fn joins_on(
     digits: &str,
     grant: &Grant,
 ) -> Result<bool, Refusal> {
-    let before = table.devices().first().ok_or(Refusal::Damaged)?.copy()?;
-    let seq = u64::from(dev_nonce);
-    let decision = carry_out(alloc, table, seq, heard(alloc, digits)?)?;
+    let before = first_of(table)?;
+    let decision = joined(alloc, table, dev_nonce, digits)?;
     let is_there = table.devices().first() == Some(&decision.after);
     Ok(is_there && is_join(alloc, &decision, &before, dev_nonce, grant)?)
 }
@@ -410,12 +428,17 @@ fn copies(alloc: Global, heard: &[(u8, i16, i16)]) -> Result<Vec<Hearing>, Refus
     Ok(copies)
 }
 
+// What is decided of a first join that was heard so.
+fn first_join(alloc: Global, copies: &[Hearing]) -> Result<Decision, Refusal> {
+    let table = table_with(alloc, 0, device(alloc, None, after(0))?)?;
+    let command = heard_by(alloc, REQUEST_1, copies)?;
+    table.decide(alloc, 9, command)
+}
+
 // Whether the accept of a first join leaves by the gateway of this copy.
 fn is_best(alloc: Global, heard: &[(u8, i16, i16)], best: usize) -> Result<bool, Refusal> {
     let copies = copies(alloc, heard)?;
-    let table = table_with(alloc, 0, device(alloc, None, after(0))?)?;
-    let command = heard_by(alloc, REQUEST_1, &copies)?;
-    let decision = table.decide(alloc, 9, command)?;
+    let decision = first_join(alloc, &copies)?;
     match copies.get(best) {
         Some(best) => accepts(alloc, &decision, best, &FIRST),
         None => Ok(false),

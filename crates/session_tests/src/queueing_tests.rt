@@ -118,11 +118,16 @@ fn an_item_is_refused_as_it_should_be(rt: HostRuntime) {
     }
 }
 
-// Whether an item waits alone, and nothing else of the record has changed.
-fn is_queued(alloc: Global, port: u8, len: usize) -> Result<bool, Refusal> {
+// What is decided of an item.
+fn queued_item(alloc: Global, port: u8, len: usize) -> Result<Decision, Refusal> {
     let mut table = table(alloc)?;
     let asked = item(alloc, 3, 50, port, len)?;
-    let decision = carry_out(alloc, &mut table, 1, asked)?;
+    carry_out(alloc, &mut table, 1, asked)
+}
+
+// Whether an item waits alone, and nothing else of the record has changed.
+fn is_queued(alloc: Global, port: u8, len: usize) -> Result<bool, Refusal> {
+    let decision = queued_item(alloc, port, len)?;
     let reported = reports(&decision, Report::Queued { tag: Tag(9) });
     Ok(reported && waits_alone(&decision, waiting(alloc, port, len)?)?)
 }

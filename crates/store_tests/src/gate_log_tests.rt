@@ -7,9 +7,7 @@ use gate_log::{
     Area, Areas, Begun, Checkpoint, EMPTY_AREA_LEN, Header, Live, Log, Opening, RecoverError,
     Recovered, close_area, format_area,
 };
-use std::alloc::Global;
-use std::process::Abort;
-use std::test::Fail;
+use std::alloc::{AllocError, Global};
 
 const AREA: Area = Area { start: 4, end: 100 };
 
@@ -42,10 +40,10 @@ fn are_laid_out(areas: Areas, len: u64) -> bool
 }
 
 // The log of a fresh live area of a disk that was full of open gates.
-fn fresh_in(alloc: Global, areas: Areas, len: usize) -> Result<Log<MemDisk>, Fail> {
+fn fresh_in(alloc: Global, areas: Areas, len: usize) -> Result<Log<MemDisk>, RecoverError> {
     let mut disk = MemDisk::new(alloc, vec![in alloc; 0xA5; len]?)?;
     if !are_laid_out(areas, disk.len()) {
-        return Err(Fail::from("no areas"));
+        return Err(RecoverError::Damaged);
     }
     let next = format_area(&mut disk, areas.live, 1)?;
     close_area(&mut disk, areas.other)?;
@@ -53,7 +51,7 @@ fn fresh_in(alloc: Global, areas: Areas, len: usize) -> Result<Log<MemDisk>, Fai
     Ok(Log::new(disk, areas, 1, next, false))
 }
 
-fn fresh(alloc: Global) -> Result<Log<MemDisk>, Fail> {
+fn fresh(alloc: Global) -> Result<Log<MemDisk>, RecoverError> {
     fresh_in(alloc, AREAS, LEN)
 }
 
@@ -63,9 +61,9 @@ fn commit(
     log: &mut Log<MemDisk>,
     last_sequence: u64,
     entries: &[u8],
-) -> Result<bool, Fail> {
+) -> Result<bool, RecoverError> {
     if entries.len() > 1_000_000 || log.room() < 16 + entries.len() as u64 {
-        return Err(Fail::from("no room"));
+        return Err(RecoverError::Damaged);
     }
     let begun = Begun::new(alloc, last_sequence, 1, entries)?;
     let Ok(written) = begun.write(log) else {
@@ -85,16 +83,19 @@ fn commit(
 }
 
 // The log with one batch.
-fn with_a_batch(rt: &impl Abort, alloc: Global, entries: &[u8]) -> Result<Log<MemDisk>, Fail> {
+fn with_a_batch(alloc: Global, entries: &[u8]) -> Result<Log<MemDisk>, RecoverError> {
     let mut log = fresh(alloc)?;
-    assert!(rt; commit(alloc, &mut log, 1, entries)?);
-    Ok(log)
+    if commit(alloc, &mut log, 1, entries)? {
+        Ok(log)
+    } else {
+        Err(RecoverError::Device)
+    }
 }
 
-fn opening(disk: MemDisk) -> Result<Opening<MemDisk>, Fail> {
+fn opening(disk: MemDisk) -> Result<Opening<MemDisk>, RecoverError> {
     match Opening::new(disk) {
         Ok(opening) => Ok(opening),
-        Err((error, _)) => Err(Fail::from(error)),
+        Err((error, _)) => Err(RecoverError::from(error)),
     }
 }
 
@@ -114,7 +115,11 @@ fn recover(
 }
 
 // The sequence numbers of the batches that are recovered, and the bytes of their entries together.
-fn recovered_in(alloc: Global, disk: MemDisk, areas: Areas) -> Result<(Vec<u64>, usize), Fail> {
+fn recovered_in(
+    alloc: Global,
+    disk: MemDisk,
+    areas: Areas,
+) -> Result<(Vec<u64>, usize), RecoverError> {
     let recovered = recover(alloc, &mut opening(disk)?, areas)?;
     let mut numbers = Vec::new(alloc);
     let mut len: usize = 0;
@@ -125,30 +130,35 @@ fn recovered_in(alloc: Global, disk: MemDisk, areas: Areas) -> Result<(Vec<u64>,
     Ok((numbers, len))
 }
 
-#[test]
-fn the_bytes_are_those_of_the_layout(rt: HostRuntime) -> Result<(), Fail> {
-    let alloc = rt.alloc();
+// The live area's header, a batch of three bytes, and a closed gate; behind it the disk is as it was.
+const LAYOUT: &[u8] = &[
+    0xA5, 1, 0, 0, 0, 0, 0, 0, 0, 1, 0, 0, 0, 0, 0, 0, 0, 0, 0, 0, 0, 0, 0, 0, 0, 0, 0, 0, 0, 0,
+    0xA5, 0, 0, 0, 3, 0, 0, 0, 0, 0, 0, 1, 2, 0, 1, b'a', b'b', b'c', 0, 0xA5,
+];
+
+// Whether such a batch is written so.
+fn is_laid_out(alloc: Global) -> Result<bool, RecoverError> {
     let mut log = fresh(alloc)?;
-    assert!(rt; commit(alloc, &mut log, 0x0102, b"abc")?);
-    assert_eq!(rt; log.room(), 48);
+    let is_done = commit(alloc, &mut log, 0x0102, b"abc")?;
+    let room = log.room();
     let disk = log.close();
-    let area = [
-        0xA5, 1, 0, 0, 0, 0, 0, 0, 0, 1, 0, 0, 0, 0, 0, 0, 0, 0, 0, 0, 0, 0, 0, 0, 0, 0, 0, 0, 0,
-        0, 0xA5, 0, 0, 0, 3, 0, 0, 0, 0, 0, 0, 1, 2, 0, 1, b'a', b'b', b'c', 0, 0xA5,
-    ];
-    assert!(rt; disk.content().len() >= 54);
-    assert_eq!(rt; &disk.content()[4..54], area.as_slice());
-    Ok(())
+    Ok(is_done && room == 48 && disk.content().get(4..54) == Some(LAYOUT))
 }
 
-// What a crash leaves after a second commit whose nth call fails.
-fn crashed(rt: &impl Abort, alloc: Global, n: u64, image: &Image) -> Result<MemDisk, Fail> {
-    let mut log = with_a_batch(rt, alloc, b"first")?;
+#[test]
+fn the_bytes_are_those_of_the_layout(rt: HostRuntime) {
+    assert!(rt; is_laid_out(rt.alloc()) == Ok(true));
+}
+
+// What a crash leaves after a second commit whose nth call fails, of four.
+fn crashed(alloc: Global, n: u64, image: &Image) -> Result<MemDisk, RecoverError> {
+    let mut log = with_a_batch(alloc, b"first")?;
     if n > 0 {
         log.arm(n);
     }
-    let done = commit(alloc, &mut log, 2, b"second")?;
-    assert_eq!(rt; done, n > 4);
+    if commit(alloc, &mut log, 2, b"second")? != (n > 4) {
+        return Err(RecoverError::Device);
+    }
     let mut disk = log.close();
     disk.crash(image);
     disk.arm(99);
@@ -156,188 +166,217 @@ fn crashed(rt: &impl Abort, alloc: Global, n: u64, image: &Image) -> Result<MemD
 }
 
 // How many batches that leaves, which are numbered from 1 on.
-fn left(rt: &impl Abort, alloc: Global, n: u64, image: &Image) -> Result<usize, Fail> {
-    let (numbers, _) = recovered_in(alloc, crashed(rt, alloc, n, image)?, AREAS)?;
-    assert!(rt; [1, 2].starts_with(&numbers));
-    Ok(numbers.len())
+fn left(alloc: Global, n: u64, image: &Image) -> Result<usize, RecoverError> {
+    let (numbers, _) = recovered_in(alloc, crashed(alloc, n, image)?, AREAS)?;
+    if [1, 2].starts_with(&numbers) {
+        Ok(numbers.len())
+    } else {
+        Err(RecoverError::Damaged)
+    }
 }
+
+// How many batches each image holds, by the call that fails: the old bytes, the new ones, open gates.
+const BATCHES: &[(u64, [usize; 3])] = &[
+    (1, [1, 1, 1]),
+    (2, [1, 1, 1]),
+    (3, [1, 1, 2]),
+    (4, [1, 2, 2]),
+    (5, [2, 2, 2]),
+];
 
 // Each call of a commit fails in turn, and each image of a crash holds the first batch, the second once its gate
 // is written or may be, and both once the commit is done.
 #[test]
-fn a_crash_leaves_a_beginning_of_the_batches(rt: HostRuntime) -> Result<(), Fail> {
+fn a_crash_leaves_a_beginning_of_the_batches(rt: HostRuntime) {
     let alloc = rt.alloc();
-    for (n, old, new, fill) in [
-        (1, 1, 1, 1),
-        (2, 1, 1, 1),
-        (3, 1, 1, 2),
-        (4, 1, 2, 2),
-        (5, 2, 2, 2),
-    ] {
-        for (image, want) in [
-            (Image::Old, old),
-            (Image::New, new),
-            (Image::Fill(0xA5), fill),
-        ] {
-            assert_eq!(rt; left(&rt, alloc, n, &image)?, want, "call {n}, {image:?}");
+    for (n, [old, new, fill]) in BATCHES {
+        assert!(rt; left(alloc, *n, &Image::Old) == Ok(*old), "call {n}, old");
+        assert!(rt; left(alloc, *n, &Image::New) == Ok(*new), "call {n}, new");
+        let open = left(alloc, *n, &Image::Fill(0xA5));
+        assert!(rt; open == Ok(*fill), "call {n}, open");
+    }
+}
+
+const LONG_AREAS: Areas = Areas {
+    live: Area {
+        start: 1,
+        end: 120_001,
+    },
+    other: Area {
+        start: 120_001,
+        end: 120_032,
+    },
+};
+
+// A log of ten batches of 10,000 bytes.
+fn ten_long_batches(alloc: Global) -> Result<Log<MemDisk>, RecoverError> {
+    let mut log = fresh_in(alloc, LONG_AREAS, 120_032)?;
+    let entries = vec![in alloc; 0xA5; 10_000]?;
+    for number in 1..11 {
+        if !commit(alloc, &mut log, number, &entries)? {
+            return Err(RecoverError::Device);
         }
     }
-    Ok(())
+    Ok(log)
+}
+
+fn ten_are_recovered(alloc: Global) -> Result<bool, RecoverError> {
+    let log = ten_long_batches(alloc)?;
+    let (numbers, len) = recovered_in(alloc, log.close(), LONG_AREAS)?;
+    Ok(len == 100_000 && numbers.as_slice() == [1, 2, 3, 4, 5, 6, 7, 8, 9, 10].as_slice())
 }
 
 #[test]
-fn ten_long_batches_are_recovered(rt: HostRuntime) -> Result<(), Fail> {
-    let alloc = rt.alloc();
-    let areas = Areas {
-        live: Area {
-            start: 1,
-            end: 120_001,
-        },
-        other: Area {
-            start: 120_001,
-            end: 120_032,
-        },
-    };
-    let mut log = fresh_in(alloc, areas, 120_032)?;
-    let entries = vec![in alloc; 0xA5; 10_000]?;
-    for number in 1..11 {
-        assert!(rt; commit(alloc, &mut log, number, &entries)?);
-    }
-    let (numbers, len) = recovered_in(alloc, log.close(), areas)?;
-    assert_eq!(rt;
-        numbers.as_slice(),
-        [1, 2, 3, 4, 5, 6, 7, 8, 9, 10].as_slice()
-    );
-    assert_eq!(rt; len, 100_000);
-    Ok(())
+fn ten_long_batches_are_recovered(rt: HostRuntime) {
+    assert!(rt; ten_are_recovered(rt.alloc()) == Ok(true));
 }
 
 // A disk with one batch, of which a byte is changed, and the area's last byte is a closed gate.
-fn changed(rt: &impl Abort, alloc: Global, at: usize, byte: u8) -> Result<MemDisk, Fail> {
-    let log = with_a_batch(rt, alloc, b"abc")?;
+fn changed(alloc: Global, at: usize, byte: u8) -> Result<MemDisk, RecoverError> {
+    let log = with_a_batch(alloc, b"abc")?;
     let mut bytes = log.close().content().to_vec(alloc)?;
-    assert_eq!(rt; bytes.len(), LEN);
-    bytes[99] = 0;
-    assert!(rt; at < LEN);
-    bytes[at] = byte;
+    for (place, value) in [(99, 0), (at, byte)] {
+        match bytes.get_mut(place) {
+            Some(there) => *there = value,
+            None => return Err(RecoverError::Damaged),
+        }
+    }
     Ok(MemDisk::new(alloc, bytes)?)
 }
 
 // What is wrong with that disk's area.
-fn damage(
-    rt: &impl Abort,
-    alloc: Global,
-    at: usize,
-    byte: u8,
-) -> Result<Option<RecoverError>, Fail> {
-    let mut opening = opening(changed(rt, alloc, at, byte)?)?;
+fn damage(alloc: Global, at: usize, byte: u8) -> Result<Option<RecoverError>, RecoverError> {
+    let mut opening = opening(changed(alloc, at, byte)?)?;
     Ok(recover(alloc, &mut opening, AREAS).err())
 }
 
+const DAMAGES: &[(usize, u8, Option<RecoverError>)] = &[
+    // Nothing, by a byte of the entries.
+    (49, b'z', None),
+    // The area's gate.
+    (4, 0, Some(RecoverError::Damaged)),
+    // The length of the records: as long as fits the area, and one longer.
+    (33, 65, None),
+    (33, 66, Some(RecoverError::Damaged)),
+    // The length of the entries, likewise.
+    (38, 50, None),
+    (38, 51, Some(RecoverError::Damaged)),
+    // The batch's gate, behind which nothing counts.
+    (34, 0, None),
+];
+
 #[test]
-fn a_damaged_area_is_refused(rt: HostRuntime) -> Result<(), Fail> {
-    let alloc = rt.alloc();
-    for (at, byte, want) in [
-        // Nothing, by a byte of the entries.
-        (49, b'z', None),
-        // The area's gate.
-        (4, 0, Some(RecoverError::Damaged)),
-        // The length of the records: as long as fits the area, and one longer.
-        (33, 65, None),
-        (33, 66, Some(RecoverError::Damaged)),
-        // The length of the entries, likewise.
-        (38, 50, None),
-        (38, 51, Some(RecoverError::Damaged)),
-        // The batch's gate, behind which nothing counts.
-        (34, 0, None),
-    ] {
-        assert_eq!(rt; damage(&rt, alloc, at, byte)?, want, "{at} is {byte}");
+fn a_damaged_area_is_refused(rt: HostRuntime) {
+    for (at, byte, want) in DAMAGES {
+        assert!(rt;
+            damage(rt.alloc(), *at, *byte) == Ok(*want),
+            "{at} is {byte}"
+        );
     }
-    Ok(())
 }
 
 // The error of a recovery, and whether the sync before it failed.
-fn fault(alloc: Global, disk: MemDisk) -> Result<(bool, Option<RecoverError>), Fail> {
+fn fault(alloc: Global, disk: MemDisk) -> (bool, Option<RecoverError>) {
     match Opening::new(disk) {
-        Err((DeviceFailed, _)) => Ok((true, None)),
-        Ok(mut opening) => Ok((false, recover(alloc, &mut opening, AREAS).err())),
+        Err((DeviceFailed, _)) => (true, None),
+        Ok(mut opening) => (false, recover(alloc, &mut opening, AREAS).err()),
     }
 }
 
-#[test]
-fn a_failing_disk_is_told_apart(rt: HostRuntime) -> Result<(), Fail> {
-    let alloc = rt.alloc();
-    for n in 1..=6 {
-        let mut log = with_a_batch(&rt, alloc, b"abc")?;
-        log.arm(n);
-        let wanted = if n == 1 {
-            (true, None)
-        } else {
-            (false, Some(RecoverError::Device))
-        };
-        assert_eq!(rt; fault(alloc, log.close())?, wanted, "call {n}");
-    }
-    Ok(())
+// The same of a disk with one batch whose nth call fails.
+fn failing(alloc: Global, n: u8) -> Result<(bool, Option<RecoverError>), RecoverError> {
+    let mut log = with_a_batch(alloc, b"abc")?;
+    log.arm(u64::from(n) + 1);
+    Ok(fault(alloc, log.close()))
 }
 
 #[test]
-fn a_disk_that_fails_to_sync_comes_back(rt: HostRuntime) -> Result<(), Fail> {
-    let mut log = fresh(rt.alloc())?;
+fn a_failing_disk_is_told_apart(rt: HostRuntime) {
+    assert!(rt; failing(rt.alloc(), 0) == Ok((true, None)));
+    for n in 1..6 {
+        let wanted = (false, Some(RecoverError::Device));
+        assert!(rt; failing(rt.alloc(), n) == Ok(wanted), "behind {n}");
+    }
+}
+
+// The length of the disk that comes back where the sync fails.
+fn len_back(alloc: Global) -> Result<Option<u64>, RecoverError> {
+    let mut log = fresh(alloc)?;
     log.arm(1);
     match Opening::new(log.close()) {
-        Ok(_) => return Err(Fail::from("synced")),
-        Err((DeviceFailed, disk)) => assert_eq!(rt; disk.len(), 200),
+        Ok(_) => Ok(None),
+        Err((DeviceFailed, disk)) => Ok(Some(disk.len())),
     }
-    Ok(())
+}
+
+#[test]
+fn a_disk_that_fails_to_sync_comes_back(rt: HostRuntime) {
+    assert!(rt; len_back(rt.alloc()) == Ok(Some(200)));
 }
 
 // Which of the two areas is live.
-fn live(opening: &mut Opening<MemDisk>) -> Result<Option<Live>, Fail> {
+fn live(opening: &mut Opening<MemDisk>) -> Result<Option<Live>, RecoverError> {
     if !are_laid_out(AREAS, opening.len()) {
-        return Err(Fail::from("no areas"));
+        return Err(RecoverError::Damaged);
     }
     Ok(opening.live(AREA, OTHER)?)
 }
 
-#[test]
-fn a_header_is_read_where_the_gate_is_open(rt: HostRuntime) -> Result<(), Fail> {
-    let mut opening = opening(fresh(rt.alloc())?.close())?;
-    assert_eq!(rt; opening.len(), 200);
-    let header = live(&mut opening)?.ok_or("closed")?.header;
-    assert_eq!(rt;
-        (header.version, header.generation, header.sequence),
-        (1, 1, 0)
-    );
-    assert_eq!(rt; (header.record_count, header.records_len), (0, 0));
+// The header of a new area.
+const HEADER: Header = Header {
+    version: 1,
+    generation: 1,
+    sequence: 0,
+    record_count: 0,
+    records_len: 0,
+};
+
+// The header of the live area, and its gate.
+fn header(alloc: Global) -> Result<(Option<Header>, [u8; 1]), RecoverError> {
+    let mut opening = opening(fresh(alloc)?.close())?;
+    let header = live(&mut opening)?.map(|live| live.header);
     let mut gate = [0; 1];
-    assert!(rt; opening.len() >= 5);
+    if opening.len() != 200 {
+        return Err(RecoverError::Damaged);
+    }
     opening.read_at(4, &mut gate)?;
-    assert_eq!(rt; gate, [0xA5]);
-    Ok(())
+    Ok((header, gate))
 }
 
 #[test]
-fn the_log_of_an_opened_disk_goes_on(rt: HostRuntime) -> Result<(), Fail> {
-    let mut opening = opening(fresh(rt.alloc())?.close())?;
-    let live = live(&mut opening)?.ok_or("closed")?;
-    if !are_laid_out(live.areas, opening.len()) || live.areas.live.end <= 34 {
-        return Err(Fail::from("no areas"));
+fn a_header_is_read_where_the_gate_is_open(rt: HostRuntime) {
+    assert!(rt; header(rt.alloc()) == Ok((Some(HEADER), [0xA5])));
+}
+
+// The log that goes on behind a header.
+fn opened(alloc: Global) -> Result<Log<MemDisk>, RecoverError> {
+    let mut opening = opening(fresh(alloc)?.close())?;
+    match live(&mut opening)? {
+        Some(live) if are_laid_out(live.areas, opening.len()) && live.areas.live.end > 34 => {
+            Ok(opening.into_log(live, 34))
+        }
+        _ => Err(RecoverError::Damaged),
     }
-    let log = opening.into_log(live, 34);
-    assert_eq!(rt;
-        (
-            log.room(),
-            log.generation(),
-            log.is_other_open(),
-            log.other_len()
-        ),
-        (66, 1, false, 96)
-    );
-    Ok(())
+}
+
+// A log's room, its generation, whether the other area is open, and how long that is.
+fn state_of(log: &Log<MemDisk>) -> (u64, u64, bool, u64) {
+    (
+        log.room(),
+        log.generation(),
+        log.is_other_open(),
+        log.other_len(),
+    )
+}
+
+#[test]
+fn the_log_of_an_opened_disk_goes_on(rt: HostRuntime) {
+    let opened = opened(rt.alloc());
+    assert!(rt; opened.is_ok_and(|log| state_of(&log) == (66, 1, false, 96)));
 }
 
 // The disk of two fresh areas, each with this gate and this last byte of its generation.
-fn with_gates(alloc: Global, first: (u8, u8), second: (u8, u8)) -> Result<MemDisk, Fail> {
+fn with_gates(alloc: Global, first: (u8, u8), second: (u8, u8)) -> Result<MemDisk, RecoverError> {
     let mut bytes = [0; LEN];
     (bytes[4], bytes[13]) = first;
     (bytes[100], bytes[109]) = second;
@@ -345,36 +384,45 @@ fn with_gates(alloc: Global, first: (u8, u8), second: (u8, u8)) -> Result<MemDis
 }
 
 // The live area, its generation, and whether the other one's gate is open.
-fn live_of(disk: MemDisk) -> Result<Option<(Area, u64, bool)>, Fail> {
+fn live_of(
+    alloc: Global,
+    first: (u8, u8),
+    second: (u8, u8),
+) -> Result<Option<(Area, u64, bool)>, RecoverError> {
+    let disk = with_gates(alloc, first, second)?;
     let live = live(&mut opening(disk)?)?;
     Ok(live.map(|live| (live.areas.live, live.header.generation, live.other_open)))
 }
 
+type Gates = ((u8, u8), (u8, u8), Option<(Area, u64, bool)>);
+
+const GATES: &[Gates] = &[
+    ((0xA5, 1), (0, 2), Some((AREA, 1, false))),
+    ((0x5A, 3), (0xA5, 2), Some((OTHER, 2, false))),
+    ((0xA5, 1), (0xA5, 2), Some((OTHER, 2, true))),
+    ((0xA5, 3), (0xA5, 2), Some((AREA, 3, true))),
+    ((0xA5, 2), (0xA5, 2), None),
+    ((0, 1), (0x5A, 2), None),
+];
+
 #[test]
-fn the_open_area_of_the_greater_generation_is_live(rt: HostRuntime) -> Result<(), Fail> {
-    for (first, second, wanted) in [
-        ((0xA5, 1), (0, 2), Some((AREA, 1, false))),
-        ((0x5A, 3), (0xA5, 2), Some((OTHER, 2, false))),
-        ((0xA5, 1), (0xA5, 2), Some((OTHER, 2, true))),
-        ((0xA5, 3), (0xA5, 2), Some((AREA, 3, true))),
-        ((0xA5, 2), (0xA5, 2), None),
-        ((0, 1), (0x5A, 2), None),
-    ] {
-        let live = live_of(with_gates(rt.alloc(), first, second)?)?;
-        assert_eq!(rt; live, wanted, "{first:?}, {second:?}");
+fn the_open_area_of_the_greater_generation_is_live(rt: HostRuntime) {
+    for (first, second, wanted) in GATES {
+        let live = live_of(rt.alloc(), *first, *second);
+        assert!(rt; live == Ok(*wanted), "{first:?}, {second:?}");
     }
-    Ok(())
+}
+
+// The length of a disk that is opened and closed, and the other area's gate.
+fn closed(alloc: Global) -> Result<(u64, Option<u8>), RecoverError> {
+    let opening = opening(fresh(alloc)?.close())?;
+    let len = opening.len();
+    Ok((len, opening.close().content().get(100).copied()))
 }
 
 #[test]
-fn a_closed_disk_comes_back(rt: HostRuntime) -> Result<(), Fail> {
-    let disk = fresh(rt.alloc())?.close();
-    let opening = opening(disk)?;
-    assert_eq!(rt; opening.len(), 200);
-    let disk = opening.close();
-    assert!(rt; disk.content().len() > 100);
-    assert_eq!(rt; disk.content()[100], 0);
-    Ok(())
+fn a_closed_disk_comes_back(rt: HostRuntime) {
+    assert!(rt; closed(rt.alloc()) == Ok((200, Some(0))));
 }
 
 // Closes the other area's gate where it is open, and whether no call of the disk failed.
@@ -389,7 +437,7 @@ fn retire(log: &mut Log<MemDisk>) -> bool {
 }
 
 // A checkpoint at number 7 of two records that are these bytes.
-fn begun(alloc: Global, generation: u64, records: &[u8]) -> Result<Checkpoint, Fail>
+fn begun(alloc: Global, generation: u64, records: &[u8]) -> Result<Checkpoint, AllocError>
     requires { length records.now ≤ 60 }
     ensures { IfOk result (λ begun. length (checkpoint_bytes begun) ≡ 30 + length records.now) }
 {
@@ -402,7 +450,7 @@ fn begun(alloc: Global, generation: u64, records: &[u8]) -> Result<Checkpoint, F
         record_count: 2,
         records_len: records.len() as u64,
     };
-    Ok(Checkpoint::new(bytes, header)?)
+    Checkpoint::new(bytes, header)
 }
 
 // Makes a checkpoint, and whether no call of the disk failed.
@@ -411,12 +459,12 @@ fn checkpoint(
     log: &mut Log<MemDisk>,
     generation: u64,
     records: &[u8],
-) -> Result<bool, Fail> {
+) -> Result<bool, RecoverError> {
     if !retire(log) {
         return Ok(false);
     }
     if records.len() > 60 || log.other_len() <= 30 + records.len() as u64 {
-        return Err(Fail::from("no room"));
+        return Err(RecoverError::Damaged);
     }
     let Ok(written) = begun(alloc, generation, records)?.write(log) else {
         return Ok(false);
@@ -431,83 +479,104 @@ fn checkpoint(
 }
 
 // The log with one batch, and a checkpoint and another batch behind it.
-fn with_a_checkpoint(rt: &impl Abort, alloc: Global) -> Result<Log<MemDisk>, Fail> {
-    let mut log = with_a_batch(rt, alloc, b"first")?;
-    assert!(rt; checkpoint(alloc, &mut log, 2, b"abc")?);
-    assert!(rt; commit(alloc, &mut log, 8, b"second")?);
-    Ok(log)
+fn with_a_checkpoint(alloc: Global) -> Result<Log<MemDisk>, RecoverError> {
+    let mut log = with_a_batch(alloc, b"first")?;
+    if checkpoint(alloc, &mut log, 2, b"abc")? && commit(alloc, &mut log, 8, b"second")? {
+        Ok(log)
+    } else {
+        Err(RecoverError::Device)
+    }
+}
+
+// The other area's header, two records of three bytes, and a closed gate; behind it the disk is as it was.
+const CHECKPOINT: &[u8] = &[
+    0xA5, 1, 0, 0, 0, 0, 0, 0, 2, 3, 0, 0, 0, 0, 0, 0, 0, 7, 0, 0, 0, 2, 0, 0, 0, 0, 0, 0, 0, 3,
+    b'a', b'b', b'c', 0, 0xA5,
+];
+
+// Whether such a checkpoint is written so.
+fn is_checkpoint_laid_out(alloc: Global) -> Result<bool, RecoverError> {
+    let mut log = with_a_batch(alloc, b"first")?;
+    let is_done = checkpoint(alloc, &mut log, 0x0203, b"abc")?;
+    let is_right = state_of(&log) == (63, 0x0203, true, 96);
+    let disk = log.close();
+    Ok(is_done && is_right && disk.content().get(100..135) == Some(CHECKPOINT))
 }
 
 #[test]
-fn the_bytes_of_a_checkpoint_are_those_of_the_layout(rt: HostRuntime) -> Result<(), Fail> {
-    let alloc = rt.alloc();
-    let mut log = with_a_batch(&rt, alloc, b"first")?;
-    assert!(rt; checkpoint(alloc, &mut log, 0x0203, b"abc")?);
-    assert_eq!(rt;
-        (log.room(), log.generation(), log.is_other_open()),
-        (63, 0x0203, true)
-    );
-    let disk = log.close();
-    let area = [
-        0xA5, 1, 0, 0, 0, 0, 0, 0, 2, 3, 0, 0, 0, 0, 0, 0, 0, 7, 0, 0, 0, 2, 0, 0, 0, 0, 0, 0, 0,
-        3, b'a', b'b', b'c', 0, 0xA5,
-    ];
-    assert!(rt; disk.content().len() >= 135);
-    assert_eq!(rt; &disk.content()[100..135], area.as_slice());
-    Ok(())
+fn the_bytes_of_a_checkpoint_are_those_of_the_layout(rt: HostRuntime) {
+    assert!(rt; is_checkpoint_laid_out(rt.alloc()) == Ok(true));
 }
 
-// The disk after a checkpoint whose nth call fails: the first one of a log, or the second one.
-fn cut(rt: &impl Abort, alloc: Global, first: bool, n: u64) -> Result<MemDisk, Fail> {
-    let mut log = if first {
-        with_a_batch(rt, alloc, b"first")?
+// A log whose next checkpoint is of this generation: of 2 the first one, else the second one.
+fn before(alloc: Global, generation: u64) -> Result<Log<MemDisk>, RecoverError> {
+    if generation == 2 {
+        with_a_batch(alloc, b"first")
     } else {
-        with_a_checkpoint(rt, alloc)?
-    };
+        with_a_checkpoint(alloc)
+    }
+}
+
+// The disk after a checkpoint of this generation whose nth call fails, of four or six.
+fn cut(alloc: Global, generation: u64, n: u64) -> Result<MemDisk, RecoverError> {
+    let mut log = before(alloc, generation)?;
+    let calls = if generation == 2 { 4 } else { 6 };
     if n > 0 {
         log.arm(n);
     }
-    let generation = if first { 2 } else { 3 };
-    let done = checkpoint(alloc, &mut log, generation, b"abc")?;
-    assert_eq!(rt; done, n > if first { 4 } else { 6 });
+    if checkpoint(alloc, &mut log, generation, b"abc")? != (n > calls) {
+        return Err(RecoverError::Device);
+    }
     Ok(log.close())
 }
 
-// The first open position, and how many there are.
-fn open_positions(disk: MemDisk) -> (Option<usize>, usize) {
-    let mut disk = disk;
+// The first position that is open then, and how many are.
+fn open_positions(
+    alloc: Global,
+    generation: u64,
+    n: u64,
+) -> Result<(Option<usize>, usize), RecoverError> {
+    let mut disk = cut(alloc, generation, n)?;
     disk.crash(&Image::Fill(TORN));
     let torn = disk.content().iter().filter(|byte| **byte == TORN).count();
-    (disk.content().iter().position(|byte| *byte == TORN), torn)
+    let first = disk.content().iter().position(|byte| *byte == TORN);
+    Ok((first, torn))
 }
+
+// Generations, calls that fail, the first open position and how many there are.
+const OPEN_POSITIONS: &[(u64, u64, Option<usize>, usize)] = &[
+    (2, 1, Some(101), 33),
+    (2, 2, Some(101), 33),
+    (2, 3, Some(100), 1),
+    (2, 4, Some(100), 1),
+    (2, 5, None, 0),
+    (3, 1, Some(4), 1),
+    (3, 2, Some(4), 1),
+    (3, 3, Some(5), 33),
+    (3, 4, Some(5), 33),
+    (3, 5, Some(4), 1),
+    (3, 6, Some(4), 1),
+    (3, 7, None, 0),
+];
 
 // A checkpoint writes its header, its records and a gate behind the closed gate of the other area, and then that; one
 // that is open is closed first.
 #[test]
-fn a_checkpoint_writes_behind_a_closed_gate(rt: HostRuntime) -> Result<(), Fail> {
-    for (first, n, wanted) in [
-        (true, 1, (Some(101), 33)),
-        (true, 2, (Some(101), 33)),
-        (true, 3, (Some(100), 1)),
-        (true, 4, (Some(100), 1)),
-        (true, 5, (None, 0)),
-        (false, 1, (Some(4), 1)),
-        (false, 2, (Some(4), 1)),
-        (false, 3, (Some(5), 33)),
-        (false, 4, (Some(5), 33)),
-        (false, 5, (Some(4), 1)),
-        (false, 6, (Some(4), 1)),
-        (false, 7, (None, 0)),
-    ] {
-        let positions = open_positions(cut(&rt, rt.alloc(), first, n)?);
-        assert_eq!(rt; positions, wanted, "{first}, call {n}");
+fn a_checkpoint_writes_behind_a_closed_gate(rt: HostRuntime) {
+    for (generation, n, first, count) in OPEN_POSITIONS {
+        let positions = open_positions(rt.alloc(), *generation, *n);
+        assert!(rt;
+            positions == Ok((*first, *count)),
+            "generation {generation}, call {n}"
+        );
     }
-    Ok(())
 }
 
-// The generation of what a crash leaves, and the numbers of its batches.
-fn kept(alloc: Global, disk: MemDisk, image: &Image) -> Result<(u64, Option<u64>), Fail> {
-    let mut disk = disk;
+// The generation of what a crash leaves, and the number of its first batch.
+type Kept = (u64, Option<u64>);
+
+fn kept(alloc: Global, generation: u64, n: u64, image: &Image) -> Result<Kept, RecoverError> {
+    let mut disk = cut(alloc, generation, n)?;
     disk.crash(image);
     disk.arm(99);
     let recovered = recover(alloc, &mut opening(disk)?, AREAS)?;
@@ -515,63 +584,60 @@ fn kept(alloc: Global, disk: MemDisk, image: &Image) -> Result<(u64, Option<u64>
     Ok((recovered.header.generation, batch))
 }
 
+const ONE: Kept = (1, Some(1));
+
+const TWO: Kept = (2, None);
+
+const TWO_AND_A_BATCH: Kept = (2, Some(8));
+
+const THREE: Kept = (3, None);
+
+// What each image holds, by the checkpoint's generation and the call that fails: the old bytes, the new ones, open gates.
+const IMAGES: &[(u64, u64, (Kept, Kept, Kept))] = &[
+    (2, 1, (ONE, ONE, ONE)),
+    (2, 2, (ONE, ONE, ONE)),
+    (2, 3, (ONE, ONE, TWO)),
+    (2, 4, (ONE, TWO, TWO)),
+    (2, 5, (TWO, TWO, TWO)),
+    (3, 1, (TWO_AND_A_BATCH, TWO_AND_A_BATCH, TWO_AND_A_BATCH)),
+    (3, 2, (TWO_AND_A_BATCH, TWO_AND_A_BATCH, TWO_AND_A_BATCH)),
+    (3, 3, (TWO_AND_A_BATCH, TWO_AND_A_BATCH, TWO_AND_A_BATCH)),
+    (3, 4, (TWO_AND_A_BATCH, TWO_AND_A_BATCH, TWO_AND_A_BATCH)),
+    (3, 5, (TWO_AND_A_BATCH, TWO_AND_A_BATCH, THREE)),
+    (3, 6, (TWO_AND_A_BATCH, THREE, THREE)),
+    (3, 7, (THREE, THREE, THREE)),
+];
+
+// Whether the images of a checkpoint cut at this call hold these.
+fn keeps(alloc: Global, generation: u64, n: u64, wanted: (Kept, Kept, Kept)) -> bool {
+    let (old, new, open) = wanted;
+    kept(alloc, generation, n, &Image::Old) == Ok(old)
+        && kept(alloc, generation, n, &Image::New) == Ok(new)
+        && kept(alloc, generation, n, &Image::Fill(0xA5)) == Ok(open)
+}
+
 // Each call of a checkpoint fails in turn, and each image of a crash holds the batch from before or the checkpoint.
 #[test]
-fn a_crash_leaves_the_old_area_or_the_checkpoint(rt: HostRuntime) -> Result<(), Fail> {
-    let one = (1, Some(1));
-    let two = (2, None);
-    let two_and_a_batch = (2, Some(8));
-    let three = (3, None);
-    for (first, n, wanted) in [
-        (true, 1, [one, one, one]),
-        (true, 2, [one, one, one]),
-        (true, 3, [one, one, two]),
-        (true, 4, [one, two, two]),
-        (true, 5, [two, two, two]),
-        (
-            false,
-            1,
-            [two_and_a_batch, two_and_a_batch, two_and_a_batch],
-        ),
-        (
-            false,
-            2,
-            [two_and_a_batch, two_and_a_batch, two_and_a_batch],
-        ),
-        (
-            false,
-            3,
-            [two_and_a_batch, two_and_a_batch, two_and_a_batch],
-        ),
-        (
-            false,
-            4,
-            [two_and_a_batch, two_and_a_batch, two_and_a_batch],
-        ),
-        (false, 5, [two_and_a_batch, two_and_a_batch, three]),
-        (false, 6, [two_and_a_batch, three, three]),
-        (false, 7, [three, three, three]),
-    ] {
-        for (image, want) in [Image::Old, Image::New, Image::Fill(0xA5)]
-            .iter()
-            .zip(wanted)
-        {
-            let kept = kept(rt.alloc(), cut(&rt, rt.alloc(), first, n)?, image)?;
-            assert_eq!(rt; kept, want, "{first}, call {n}, {image:?}");
-        }
+fn a_crash_leaves_the_old_area_or_the_checkpoint(rt: HostRuntime) {
+    for (generation, n, wanted) in IMAGES {
+        assert!(rt;
+            keeps(rt.alloc(), *generation, *n, *wanted),
+            "generation {generation}, call {n}"
+        );
     }
-    Ok(())
+}
+
+fn has_text(alloc: Global, error: RecoverError, wanted: &str) -> bool {
+    match error.to_string(alloc) {
+        Ok(text) => text.as_str() == wanted,
+        Err(_) => false,
+    }
 }
 
 #[test]
-fn an_error_has_a_text(rt: HostRuntime) -> Result<(), Fail> {
+fn an_error_has_a_text(rt: HostRuntime) {
     let alloc = rt.alloc();
-    for (error, text) in [
-        (RecoverError::Device, "the device failed"),
-        (RecoverError::OutOfMemory, "out of memory"),
-        (RecoverError::Damaged, "the area is damaged"),
-    ] {
-        assert_eq!(rt; format!(in alloc; "{error}")?.as_str(), text);
-    }
-    Ok(())
+    assert!(rt; has_text(alloc, RecoverError::Device, "the device failed"));
+    assert!(rt; has_text(alloc, RecoverError::OutOfMemory, "out of memory"));
+    assert!(rt; has_text(alloc, RecoverError::Damaged, "the area is damaged"));
 }

@@ -60,7 +60,7 @@ fn write<D: Disk>(checkpoint: Checkpoint, store: &mut Store<D>, calls: u64) -> R
 }
 
 // A checkpoint whole.
-fn checkpoint(alloc: Global, store: &mut Store<MemDisk>) -> Result<(), Refusal> {
+pub fn checkpoint(alloc: Global, store: &mut Store<MemDisk>) -> Result<(), Refusal> {
     begin_checkpoint(alloc, store, 6)
 }
 
@@ -204,11 +204,10 @@ type Answers = (
     Result<(), Refusal>,
 );
 
-// The answers of such a checkpoint, the first of a store or the second, and whether the store that is opened then has its
-// two devices.
-fn fails(alloc: Global, is_first: bool, calls: u8) -> Result<(Answers, bool), Refusal> {
+// The answers of such a checkpoint behind so many others, and whether the store that is opened then has its two devices.
+fn fails(alloc: Global, others: u8, calls: u8) -> Result<(Answers, bool), Refusal> {
     let mut store = with_one_device(alloc)?;
-    if !is_first {
+    for _ in 0..others {
         checkpoint(alloc, &mut store)?;
     }
     provision(alloc, &mut store, 1)?;
@@ -229,10 +228,13 @@ const FAILURES: Answers = (
 
 #[test]
 fn a_store_whose_checkpoint_failed_is_opened_again(rt: HostRuntime) {
-    for (is_first, most) in [(true, 4), (false, 6)] {
+    for (others, most) in [(0, 4), (1, 6)] {
         for calls in 0..most {
-            let answer = fails(rt.alloc(), is_first, calls);
-            assert!(rt; answer == Ok((FAILURES, true)), "behind {calls}");
+            let answer = fails(rt.alloc(), others, calls);
+            assert!(rt;
+                answer == Ok((FAILURES, true)),
+                "behind {others} and {calls}"
+            );
         }
     }
 }
@@ -259,10 +261,10 @@ fn two_generations(alloc: Global) -> Result<MemDisk, Refusal> {
 }
 
 // Other bytes of an image: the first place, and the bytes from there on.
-type Change = (usize, &'static [u8]);
+pub type Change<'a> = (usize, &'a [u8]);
 
 // Puts them there.
-fn change(disk: &mut MemDisk, changes: &[Change]) -> Result<(), Refusal> {
+pub fn change(disk: &mut MemDisk, changes: &[Change]) -> Result<(), Refusal> {
     for (place, bytes) in changes {
         let (place, len) = (*place as u64, bytes.len() as u64);
         if len > disk.len() || place > disk.len() - len {
@@ -276,7 +278,7 @@ fn change(disk: &mut MemDisk, changes: &[Change]) -> Result<(), Refusal> {
 }
 
 // The devices and the number of the store that is opened on a disk, and the disk.
-fn opened(alloc: Global, disk: MemDisk) -> (MemDisk, Result<(usize, u64), Refusal>) {
+pub fn opened(alloc: Global, disk: MemDisk) -> (MemDisk, Result<(usize, u64), Refusal>) {
     match open_back(alloc, disk) {
         Ok(store) => {
             let found = (store.table().devices().len(), store.seq());
@@ -288,23 +290,23 @@ fn opened(alloc: Global, disk: MemDisk) -> (MemDisk, Result<(usize, u64), Refusa
 
 // The gates of both areas, their versions, the first and the last byte of their generations, and the first bytes of the
 // length of their records.
-const GATE_A: usize = 32;
+pub const GATE_A: usize = 32;
 
-const GATE_B: usize = SECOND_AREA;
+pub const GATE_B: usize = SECOND_AREA;
 
 const VERSION_A: usize = 33;
 
-const VERSION_B: usize = SECOND_AREA + 1;
+pub const VERSION_B: usize = SECOND_AREA + 1;
 
 const HIGH_A: usize = 34;
 
-const HIGH_B: usize = SECOND_AREA + 2;
+pub const HIGH_B: usize = SECOND_AREA + 2;
 
-const LOW_A: usize = 41;
+pub const LOW_A: usize = 41;
 
 const LEN_A: usize = 54;
 
-const LEN_B: usize = SECOND_AREA + 22;
+pub const LEN_B: usize = SECOND_AREA + 22;
 
 // What each change in turn of one disk makes an opening answer; each takes back the one before.
 const OPENINGS: &[(&[Change], Result<(usize, u64), Refusal>)] = &[

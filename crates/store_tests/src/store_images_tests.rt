@@ -36,12 +36,16 @@ fn refused(alloc: Global, len: usize, place: (usize, usize), byte: u8) -> Option
 
 const SUPERBLOCKS: &[(usize, (usize, usize), u8, Refusal)] = &[
     (31, (0, 0), 0, Refusal::WrongSize),
+    (31, (0, 1), 0x00, Refusal::WrongSize),
     (LEN - 1, (0, 0), 0, Refusal::WrongSize),
     (LEN + 1, (0, 0), 0, Refusal::WrongSize),
     // The gate, the version and the NetID.
     (LEN, (0, 1), 0x00, Refusal::NotFormatted),
     (LEN, (8, 9), 0x02, Refusal::WrongVersion),
     (LEN, (9, 10), 0x01, Refusal::Damaged),
+    // Its fields count before the length, and the areas behind it.
+    (LEN - 1, (9, 10), 0x01, Refusal::Damaged),
+    (LEN - 1, (32, 33), 0x00, Refusal::WrongSize),
 ];
 
 #[test]

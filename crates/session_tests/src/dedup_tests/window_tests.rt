@@ -50,40 +50,45 @@ fn plays(
     Ok(answers.as_slice() == wanted && closed.as_slice() == windows)
 }
 
+const JOINING: &[Row] = &[
+    (0, 0xB1, 7),
+    (199, 0xB2, 7),
+    (199, 0xB1, 7),
+    (100, 0xB3, 7),
+    (200, 0xB1, 7),
+];
+
+const JOINED: &[Closed] = &[(Some(7), 3), (Some(7), 1)];
+
 // Copies join for 200 ms from the window's opening; then the window is due, and the frame opens another.
 #[test]
 fn a_window_takes_copies_for_200_ms(rt: HostRuntime) {
-    let rows = [
-        (0, 0xB1, 7),
-        (199, 0xB2, 7),
-        (199, 0xB1, 7),
-        (100, 0xB3, 7),
-        (200, 0xB1, 7),
-    ];
-    let (answers, closed) = ([0, 0, 21, 0, 0], [(Some(7), 3), (Some(7), 1)]);
-    assert!(rt; plays(rt.alloc(), &rows, 400, &answers, &closed) == Ok(true));
+    assert!(rt; plays(rt.alloc(), JOINING, 400, &[0, 0, 21, 0, 0], JOINED) == Ok(true));
 }
+
+const SEVERAL: &[Row] = &[
+    (10, 1, 3),
+    (10, 1, 2),
+    (20, 1, 1),
+    (50, 2, 2),
+    (209, 2, 3),
+    (210, 3, 2),
+    (u64::MAX / 2, 1, 1),
+];
+
+const SEVERAL_CLOSED: &[Closed] = &[
+    (Some(3), 2),
+    (Some(2), 2),
+    (Some(1), 1),
+    (Some(2), 1),
+    (Some(1), 1),
+];
 
 // Windows of several frames are open side by side, and close in the order in which they opened.
 #[test]
 fn windows_close_in_order(rt: HostRuntime) {
-    let rows = [
-        (10, 1, 3),
-        (10, 1, 2),
-        (20, 1, 1),
-        (50, 2, 2),
-        (209, 2, 3),
-        (210, 3, 2),
-        (u64::MAX / 2, 1, 1),
-    ];
-    let closed = [
-        (Some(3), 2),
-        (Some(2), 2),
-        (Some(1), 1),
-        (Some(2), 1),
-        (Some(1), 1),
-    ];
-    assert!(rt; plays(rt.alloc(), &rows, u64::MAX, &[0; 7], &closed) == Ok(true));
+    let plays = plays(rt.alloc(), SEVERAL, u64::MAX, &[0; 7], SEVERAL_CLOSED);
+    assert!(rt; plays == Ok(true));
 }
 
 // How many of so many copies of one frame are taken, from so many gateways in turn, and what the last is answered.
@@ -107,17 +112,18 @@ fn taken_of(alloc: Global, copies: u64, gateways: u64) -> Result<(u64, u8), Refu
 // A gateway that was heard before is refused as such, in a full window too.
 #[test]
 fn a_window_has_32_copies_at_most(rt: HostRuntime) {
-    for (copies, gateways, wanted) in [
-        (32, 32, (32, 0)),
-        (33, 33, (32, 22)),
-        (33, 32, (32, 21)),
-        (2, 1, (1, 21)),
-    ] {
-        assert!(rt;
-            taken_of(rt.alloc(), copies, gateways) == Ok(wanted),
-            "{copies}"
-        );
-    }
+    assert!(rt; taken_of(rt.alloc(), 32, 32) == Ok((32, 0)));
+    assert!(rt; taken_of(rt.alloc(), 33, 33) == Ok((32, 22)));
+    assert!(rt; taken_of(rt.alloc(), 33, 32) == Ok((32, 21)));
+    assert!(rt; taken_of(rt.alloc(), 2, 1) == Ok((1, 21)));
+}
+
+// A frame of 255 bytes that ends in this number.
+fn long_frame(number: u16) -> [u8; 255] {
+    let mut bytes = [0; 255];
+    bytes[253] = (number / 256) as u8;
+    bytes[254] = (number % 256) as u8;
+    bytes
 }
 
 // How many of so many frames, each of 255 bytes, open a window, and what the last is answered.
@@ -127,10 +133,7 @@ fn opened_of(alloc: Global, frames: u16) -> Result<(u64, u8), Refusal> {
     let mut taken = 0;
     let mut last = 0;
     for frame in 0..frames {
-        let mut bytes = [0; 255];
-        bytes[253] = (frame / 256) as u8;
-        bytes[254] = (frame % 256) as u8;
-        let copy = copy_of(alloc, 1, bytes.as_slice())?;
+        let copy = copy_of(alloc, 1, &long_frame(frame))?;
         last = event(&mut windows, 5, copy, &mut closed)?;
         if last == 0 {
             taken += 1;

@@ -42,7 +42,7 @@ fn goes_on(alloc: Global, core: &mut Core, comes: &Comes, wanted: Turn) -> Resul
 }
 
 // What comes, from which number of decisions to which, and its refusal.
-const COMMANDS: [(Comes, u64, u64, Option<Refusal>); 9] = [
+const COMMANDS: &[(Comes, u64, u64, Option<Refusal>)] = &[
     (Comes::Device(50), 0, 1, None),
     (Comes::Device(50), 1, 1, Some(Refusal::DevEuiTaken)),
     (Comes::Item(51), 1, 1, Some(Refusal::UnknownDevEui)),
@@ -69,7 +69,7 @@ const OUTCOMES: [Outcome; 7] = [
 fn core_after(alloc: Global) -> Result<Option<Core>, Refusal> {
     let mut core = new_core(alloc, 8, 6)?;
     for (comes, from, to, refused) in COMMANDS {
-        if !goes_on(alloc, &mut core, &comes, turn(from, to, refused))? {
+        if !goes_on(alloc, &mut core, comes, turn(*from, *to, *refused))? {
             return Ok(None);
         }
     }
