@@ -487,10 +487,9 @@ impl Plain {
         let flew = self.flew(image);
         self.gate_written = flew;
         self.gate_synced = flew;
-        match image {
-            Image::Old => self.other_written = self.other_synced,
-            _ => self.other_synced = self.other_written,
-        }
+        let is_other_open = self.is_other_left_open(image);
+        self.other_written = is_other_open;
+        self.other_synced = is_other_open;
         if self.armed {
             self.failures = self.failures.checked_add(1).ok_or(Refusal::OutOfMemory)?;
             self.armed = false;
@@ -512,6 +511,14 @@ impl Plain {
             devices: table.devices().len(),
             seq: self.settled.len() as u64,
         })
+    }
+
+    // Whether a crash leaves the gate open of the area that isn't live.
+    fn is_other_left_open(&self, image: &Image) -> bool {
+        match image {
+            Image::Old => self.other_synced,
+            _ => self.other_written,
+        }
     }
 
     // Whether the batch under way is part of what a crash leaves.
