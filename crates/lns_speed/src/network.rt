@@ -114,6 +114,12 @@ fn item(alloc: Global, tag: u32) -> Result<Item, Refusal> {
     })
 }
 
+// The longest payload of an item.
+fn longest_payload(alloc: Global) -> Result<AskedBytes, Refusal> {
+    let bytes = vec![in alloc; 0; 242]?;
+    AskedBytes::new(bytes).ok().ok_or(Refusal::Damaged)
+}
+
 /// An item of 242 bytes is queued for the device at a slot.
 pub fn longest_item(alloc: Global, slot: u16, tag: u32) -> Result<Queueing, Refusal> {
     Ok(Queueing {
@@ -122,7 +128,7 @@ pub fn longest_item(alloc: Global, slot: u16, tag: u32) -> Result<Queueing, Refu
         tag: Tag(tag),
         port: 1,
         confirmed: false,
-        payload: AskedBytes::from_slice(alloc, &[0; 242])?,
+        payload: longest_payload(alloc)?,
     })
 }
 

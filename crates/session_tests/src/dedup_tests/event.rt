@@ -4,24 +4,23 @@ ghost use Rattle.devices.specs.Heard.{IsReceivable};
 ghost use Rattle.dedup.specs.Windows.{IsCurrent};
 
 use dedup::{Windows, laws};
+use devices::Heard;
 use lw_types::{FrameCopy, Refusal};
 use std::alloc::AllocError;
 
-// A window that closed: the first byte of its frame, and how many copies it had.
-pub type Closed = (Option<u8>, usize);
+// What a window that closed is told as: the first byte of its frame, times 100, and how many copies it had.
+fn told(heard: &Heard) -> usize {
+    let first = heard.phy_payload.as_slice().first().copied().unwrap_or(0);
+    usize::from(first) * 100 + heard.hearings.as_slice().len()
+}
 
 // Closes each window that is due.
-pub fn close_due(
-    windows: &mut Windows,
-    now: u64,
-    closed: &mut Vec<Closed>,
-) -> Result<(), AllocError>
+pub fn close_due(windows: &mut Windows, now: u64, closed: &mut Vec<usize>) -> Result<(), AllocError>
     requires { All (λ w. w.opened ≤ now) windows.old }
     ensures { OnOk result (IsCurrent now windows.new) }
 {
     while let Some(heard) = windows.close(now) {
-        let first = heard.phy_payload.as_slice().first().copied();
-        closed.push((first, heard.hearings.as_slice().len()))?;
+        closed.push(told(&heard))?;
     }
     Ok(())
 }
@@ -31,7 +30,7 @@ pub fn event(
     windows: &mut Windows,
     now: u64,
     copy: FrameCopy,
-    closed: &mut Vec<Closed>,
+    closed: &mut Vec<usize>,
 ) -> Result<u8, AllocError>
     requires earlier { All (λ w. w.opened ≤ now) windows.old }
     requires receivable { IsReceivable copy.reception }

@@ -1,7 +1,7 @@
 ghost use Rattle.std.specs.Prelude.{◌<◌, IfOk};
 ghost use Rattle.devices.specs.Heard.{IsReceivable};
 
-use crate::dedup_tests::event::{Closed, close_due, event};
+use crate::dedup_tests::event::{close_due, event};
 use dedup::Windows;
 use lw_types::{Eui, FrameCopy, Reception, Refusal};
 use std::alloc::Global;
@@ -23,8 +23,8 @@ fn copy_of(alloc: Global, gateway: u64, bytes: &[u8]) -> Result<FrameCopy, Refus
 // A moment, a gateway, and the frame's one byte.
 type Row = (u64, u64, u8);
 
-// What each of these copies is answered, and the windows that close till the last moment.
-fn play(alloc: Global, rows: &[Row], last: u64) -> Result<(Vec<u8>, Vec<Closed>), Refusal> {
+// What each of these copies is answered, and the windows that close till the last moment, as `event` tells them.
+fn play(alloc: Global, rows: &[Row], last: u64) -> Result<(Vec<u8>, Vec<usize>), Refusal> {
     let mut windows = Windows::new(alloc);
     let mut clock = 0;
     let mut answers = Vec::new(alloc);
@@ -44,7 +44,7 @@ fn plays(
     rows: &[Row],
     last: u64,
     wanted: &[u8],
-    windows: &[Closed],
+    windows: &[usize],
 ) -> Result<bool, Refusal> {
     let (answers, closed) = play(alloc, rows, last)?;
     Ok(answers.as_slice() == wanted && closed.as_slice() == windows)
@@ -58,7 +58,7 @@ const JOINING: &[Row] = &[
     (200, 0xB1, 7),
 ];
 
-const JOINED: &[Closed] = &[(Some(7), 3), (Some(7), 1)];
+const JOINED: &[usize] = &[703, 701];
 
 // Copies join for 200 ms from the window's opening; then the window is due, and the frame opens another.
 #[test]
@@ -76,13 +76,7 @@ const SEVERAL: &[Row] = &[
     (u64::MAX / 2, 1, 1),
 ];
 
-const SEVERAL_CLOSED: &[Closed] = &[
-    (Some(3), 2),
-    (Some(2), 2),
-    (Some(1), 1),
-    (Some(2), 1),
-    (Some(1), 1),
-];
+const SEVERAL_CLOSED: &[usize] = &[302, 202, 101, 201, 101];
 
 // Windows of several frames are open side by side, and close in the order in which they opened.
 #[test]
