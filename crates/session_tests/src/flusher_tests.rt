@@ -309,7 +309,7 @@ fn joins(alloc: Global, mics: &[u32]) -> Result<(usize, usize, u64), Refusal> {
 // A record with sixteen such items has some 4,200 bytes, of which 807,510 fit into an area's journal.
 #[test]
 fn a_store_never_fills(rt: HostRuntime) {
-    assert!(rt; joins(rt.alloc(), MICS) == Ok((400, 2, 417)));
+    assert!(rt; joins(rt.alloc(), mics()) == Ok((400, 2, 417)));
 }
 
 // A round that has to write a checkpoint, where this call of the disk fails: its refusal, how many accepts left by it,
@@ -317,7 +317,7 @@ fn a_store_never_fills(rt: HostRuntime) {
 fn failing_checkpoint(alloc: Global, call: u64) -> Result<(Option<Refusal>, usize, bool), Refusal> {
     let mut flushed = Flushed::new(alloc)?;
     flushed.queue(alloc)?;
-    for (dev_nonce, mic) in (1..=u16::MAX).zip(MICS) {
+    for (dev_nonce, mic) in (1..=u16::MAX).zip(mics()) {
         let next = request(alloc, dev_nonce, *mic)?;
         if !flushed.store.roomy() {
             return Ok(flushed.armed(alloc, call, next));
@@ -350,7 +350,11 @@ fn nothing_leaves_where_a_checkpoint_fails(rt: HostRuntime) {
     assert!(rt; failing_checkpoint(rt.alloc(), 9) == Ok((None, 1, false)));
 }
 
-// The MICs of the Join-Requests with the DevNonces from 1 to 400.
+// The MICs of the Join-Requests with the DevNonces from 1 to 400. (Whoever calls this has no list of 400 in its proof.)
+fn mics() -> &'static [u32] {
+    MICS
+}
+
 const MICS: &[u32] = &[
     0x9E7419CE, 0xC13BE455, 0xE85E42DA, 0xE910B050, 0x6CBC3E21, 0xEDE8A375, 0x97B62126, 0xF078C661,
     0xC4137B0B, 0x9F3E5DD9, 0xF0AB96CD, 0x7008C948, 0x23008C2F, 0x4DE71E84, 0x7C35F2D6, 0x2DC31F35,

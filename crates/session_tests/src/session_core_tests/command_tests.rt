@@ -1,7 +1,7 @@
 // Commands that come to a core, also at a moment at which a window is due. The last decision before has the number 6.
 use crate::fixture::{JOINER, REQUEST_0, hearing};
 use crate::session_core_tests::fixture::{
-    FRAME, at, commands, copy_of, device, item, joiner, new_core, outcomes_are, turn,
+    FRAME, at, bring, commands, copy_of, device, hear, joiner, new_core, outcomes_are, queue, turn,
 };
 use devices::{Command, Effect};
 use lw_types::{Refusal, read_hex};
@@ -25,12 +25,12 @@ enum Comes {
 
 fn answer(alloc: Global, core: &mut Core, moment: Moment, comes: &Comes) -> Result<Turn, Refusal> {
     match comes {
-        Comes::Device(dev_eui) => Ok(core.provision(moment, device(*dev_eui)?)),
+        Comes::Device(dev_eui) => bring(core, moment, *dev_eui),
         Comes::StarvedDevice(dev_eui) => {
             let command = Command::Provision(device(*dev_eui)?);
             Ok(core.starve(moment, &command))
         }
-        Comes::Item(dev_eui) => Ok(core.queue(moment, item(alloc, *dev_eui)?)),
+        Comes::Item(dev_eui) => queue(alloc, core, moment, *dev_eui),
         Comes::Commands(byte) => Ok(core.queue_mac(moment, commands(alloc, 50, *byte)?)),
         Comes::Missed => Ok(core.miss(moment)),
     }
@@ -91,8 +91,8 @@ fn each_command_has_its_turn_and_its_outcome(rt: HostRuntime) {
 // A core with the device 50, which a frame of an unknown device came to at 0.
 fn core_with_a_window(alloc: Global) -> Result<Core, Refusal> {
     let mut core = new_core(alloc, 8, 6)?;
-    let _ = core.provision(at(0)?, device(50)?);
-    let _ = core.hear(at(0)?, copy_of(alloc, 0xB1, FRAME.as_slice())?);
+    let _ = bring(&mut core, at(0)?, 50)?;
+    let _ = hear(&mut core, 0, copy_of(alloc, 0xB1, FRAME.as_slice())?)?;
     Ok(core)
 }
 
@@ -145,15 +145,29 @@ fn what_is_due_closes_first(rt: HostRuntime) {
     }
 }
 
-// A Join-Request of which two gateways have a copy is due at 210 ms, at which an item comes for the device that joins.
-fn joined(alloc: Global) -> Result<(Core, Turn), Refusal> {
+fn hear_request(
+    alloc: Global,
+    core: &mut Core,
+    moment: u64,
+    gateway: u64,
+) -> Result<Turn, Refusal> {
+    let request = read_hex(alloc, REQUEST_0)?;
+    hear(core, moment, copy_of(alloc, gateway, request.as_slice())?)
+}
+
+// A core with the device that joins.
+fn core_with_joiner(alloc: Global) -> Result<Core, Refusal> {
     let mut core = new_core(alloc, 8, 6)?;
     let _ = core.decide(at(0)?, joiner()?);
-    let request = read_hex(alloc, REQUEST_0)?;
-    for (moment, gateway) in [(10, 0xB1), (20, 0xB2)] {
-        let _ = core.hear(at(moment)?, copy_of(alloc, gateway, request.as_slice())?);
-    }
-    let turn = core.queue(at(210)?, item(alloc, JOINER)?);
+    Ok(core)
+}
+
+// A Join-Request of which two gateways have a copy is due at 210 ms, at which an item comes for the device that joins.
+fn joined(alloc: Global) -> Result<(Core, Turn), Refusal> {
+    let mut core = core_with_joiner(alloc)?;
+    let _ = hear_request(alloc, &mut core, 10, 0xB1)?;
+    let _ = hear_request(alloc, &mut core, 20, 0xB2)?;
+    let turn = queue(alloc, &mut core, at(210)?, JOINER)?;
     Ok((core, turn))
 }
 

@@ -32,6 +32,26 @@ pub(crate) fn copy_of(alloc: Global, gateway: u64, frame: &[u8]) -> Result<Frame
     FrameCopy::new(alloc, hearing.reception, hearing.stamp, frame)
 }
 
+/// What the core answers to this copy.
+pub(crate) fn hear(core: &mut Core, moment: u64, copy: FrameCopy) -> Result<Turn, Refusal> {
+    Ok(core.hear(at(moment)?, copy))
+}
+
+/// What it answers to a provisioning of a device of this DevEUI.
+pub(crate) fn bring(core: &mut Core, moment: Moment, dev_eui: u64) -> Result<Turn, Refusal> {
+    Ok(core.provision(moment, device(dev_eui)?))
+}
+
+/// What it answers to an item for this device.
+pub(crate) fn queue(
+    alloc: Global,
+    core: &mut Core,
+    moment: Moment,
+    dev_eui: u64,
+) -> Result<Turn, Refusal> {
+    Ok(core.queue(moment, item(alloc, dev_eui)?))
+}
+
 /// What brings a device of this DevEUI.
 pub(crate) fn device(dev_eui: u64) -> Result<Provisioning, Refusal> {
     provisioning(dev_eui).ok_or(Refusal::Damaged)

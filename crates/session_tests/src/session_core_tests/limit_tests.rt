@@ -1,6 +1,6 @@
 // The limits of a core: how many outcomes are kept, windows are open, copies are gathered, and decisions wait.
 use crate::session_core_tests::fixture::{
-    FRAME, at, commands, copy_of, device, new_core, outcomes_are, turn,
+    FRAME, at, bring, commands, copy_of, hear, new_core, turn,
 };
 use lw_types::Refusal;
 use session_core::{Core, Most, Outcome, Turn};
@@ -10,7 +10,7 @@ use std::alloc::Global;
 fn outcomes_of(alloc: Global, times: u64) -> Result<(usize, Option<Outcome>), Refusal> {
     let mut core = new_core(alloc, 8, 0)?;
     for _ in 0..times {
-        let _ = core.provision(at(0)?, device(50)?);
+        let _ = bring(&mut core, at(0)?, 50)?;
     }
     let outcomes = core.outcomes();
     Ok((outcomes.len(), outcomes.front().copied()))
@@ -37,9 +37,7 @@ fn hear_frames(alloc: Global, core: &mut Core, frames: u16) -> Result<Option<Ref
         let mut bytes = FRAME;
         bytes[6] = (frame % 256) as u8;
         bytes[7] = (frame / 256) as u8;
-        refused = core
-            .hear(at(0)?, copy_of(alloc, 0xB1, bytes.as_slice())?)
-            .refused;
+        refused = hear(core, 0, copy_of(alloc, 0xB1, bytes.as_slice())?)?.refused;
     }
     Ok(refused)
 }
@@ -76,9 +74,7 @@ fn last_copy(alloc: Global, gateways: u64) -> Result<Option<Refusal>, Refusal> {
     let mut core = new_core(alloc, 8, 0)?;
     let mut refused = None;
     for gateway in 0..gateways {
-        refused = core
-            .hear(at(0)?, copy_of(alloc, gateway, FRAME.as_slice())?)
-            .refused;
+        refused = hear(&mut core, 0, copy_of(alloc, gateway, FRAME.as_slice())?)?.refused;
     }
     Ok(refused)
 }
@@ -97,7 +93,7 @@ fn a_window_has_32_copies_at_most(rt: HostRuntime) {
 fn core_with(alloc: Global, devices: u64) -> Result<Core, Refusal> {
     let mut core = new_core(alloc, 4096, 0)?;
     for dev_eui in 0..devices {
-        let _ = core.provision(at(0)?, device(dev_eui)?);
+        let _ = bring(&mut core, at(0)?, dev_eui)?;
     }
     Ok(core)
 }
@@ -115,7 +111,7 @@ fn take(core: &mut Core, most: u64) -> Result<usize, Refusal> {
 
 // Whether a window that is due is closed while 4,096 decisions wait, and its frame and a command are refused.
 fn is_full(alloc: Global, core: &mut Core) -> Result<bool, Refusal> {
-    let heard = core.hear(at(0)?, copy_of(alloc, 0xB1, FRAME.as_slice())?);
+    let heard = hear(core, 0, copy_of(alloc, 0xB1, FRAME.as_slice())?)?;
     let gathers = core.untaken() == 4096 && heard == turn(4096, 4096, None);
     let full = turn(4096, 4096, Some(Refusal::Backlog));
     let refused = ask_status(alloc, core)? == full;
