@@ -1,10 +1,13 @@
 // The devices that these tests bring.
+ghost use Rattle.std.specs.Prelude.{IfOk};
+ghost use Rattle.sessions.specs.Decision.{Fits};
+
 use devices::{
     Application, Command, Device, Item, ItemQueue, Payload, Port, Provisioning, Rx1Offset, RxDelay,
     Tag,
 };
 use lw_types::{Eui, Key, NetId, Refusal};
-use sessions::{Batch, Slots, Table};
+use sessions::{Batch, Decision, Slots, Table};
 use std::alloc::Global;
 
 pub fn net_id() -> Result<NetId, Refusal> {
@@ -39,7 +42,7 @@ pub fn provisionings(alloc: Global, table: &Table, seq: u64, count: u64) -> Resu
     Ok(batch)
 }
 
-// Decides a command on the table, under the number after `seq`, and adds the decision to the batch.
+/// Decides a command on the table, under the number after `seq`, and adds the decision to the batch.
 pub fn add(
     alloc: Global,
     table: &mut Table,
@@ -47,14 +50,24 @@ pub fn add(
     batch: &mut Batch,
     command: Command,
 ) -> Result<(), Refusal> {
-    let decision = table.decide(alloc, seq.saturating_add(1), command)?;
-    let is_admitted = table.admits(seq, &decision);
+    let decision = decided(alloc, table, seq, command)?;
     table.apply(&decision)?;
-    if !is_admitted || batch.len() >= Batch::MOST {
+    if batch.len() >= Batch::MOST {
         return Err(Refusal::OutOfStep);
     }
     batch.push(decision);
     Ok(())
+}
+
+// The decision, where the table admits it.
+fn decided(alloc: Global, table: &Table, seq: u64, command: Command) -> Result<Decision, Refusal>
+    ensures { IfOk result (λ decision. Fits table.now decision) }
+{
+    let decision = table.decide(alloc, seq.saturating_add(1), command)?;
+    if !table.admits(seq, &decision) {
+        return Err(Refusal::OutOfStep);
+    }
+    Ok(decision)
 }
 
 pub fn idle_device(alloc: Global, dev_eui: u64) -> Result<Device, Refusal> {

@@ -12,7 +12,7 @@ use world::{Answer, Event, EventTurn, Step};
 // refused), and the number of the fault behind them, or 0. Link 0 is a crash.
 type Piece = (u64, &'static str, &'static str, u8);
 
-const STREAMS: [&[Piece]; 6] = [
+const STREAMS: &[&[Piece]] = &[
     // A gateway greets, and has a copy; the same again is refused, and another one isn't.
     &[
         (1, "00090000000000000000B1", "", 0),
@@ -180,19 +180,30 @@ fn is_told(answer: &Answer, letters: &str, number: u8) -> bool {
     }
 }
 
+// The steps that hand in these pieces.
+fn steps_of(alloc: Global, row: &[Piece]) -> Result<Vec<Step>, Fail> {
+    let mut steps = Vec::new(alloc);
+    for (link, hex, _, _) in row {
+        steps.push(step_of(alloc, *link, hex)?)?;
+    }
+    Ok(steps)
+}
+
+// Whether each piece is answered as its row says.
+fn are_told(answers: &[Answer], row: &[Piece]) -> bool {
+    answers.iter().zip(row).all(|(answer, (_, _, letters, fault))| is_told(answer, letters, *fault))
+}
+
 #[test]
 fn links_say_the_same_wherever_they_are_cut(rt: HostRuntime) -> Result<(), Fail> {
     let alloc = rt.alloc();
-    for row in STREAMS {
-        let mut steps = Vec::new(alloc);
-        for (link, hex, _, _) in row {
-            steps.push(step_of(alloc, *link, hex)?)?;
-        }
+    for (number, row) in STREAMS.iter().enumerate() {
+        let steps = steps_of(alloc, row)?;
         compare(&rt, alloc, SLOTS, &steps, "links")?;
-        let answers = answers_to(alloc, &steps)?;
-        for (number, (answer, (_, _, letters, fault))) in answers.iter().zip(row).enumerate() {
-            assert!(rt; is_told(answer, letters, *fault), "piece {number}");
-        }
+        assert!(rt;
+            are_told(&answers_to(alloc, &steps)?, row),
+            "stream {number}"
+        );
     }
     Ok(())
 }

@@ -1,8 +1,8 @@
 // Checkpoints, by scripts.
-use super::plays::{compare, played};
+use super::plays::{compare, joined, played};
 use super::rows::{COMMIT, FIRST, FORMAT, SECOND, repeat};
 use std::alloc::Global;
-use std::io::Write;
+use std::io::{self, Write};
 use std::str;
 use std::test::Fail;
 
@@ -97,7 +97,7 @@ fn checkpoints_are_answered(rt: HostRuntime) -> Result<(), Fail> {
 }
 
 // Checkpoints and their calls, one after another: so many lines of each.
-fn write_checkpoints(input: &mut Vec<u8>, wanted: &mut Vec<u8>, calls: &[u8]) -> Result<(), Fail> {
+fn write_checkpoints(input: &mut Vec<u8>, wanted: &mut Vec<u8>, calls: &[u8]) -> io::Result<()> {
     for count in calls {
         input.write_all(b"checkpoint\n")?;
         wanted.write_all(b"begun\n")?;
@@ -108,11 +108,8 @@ fn write_checkpoints(input: &mut Vec<u8>, wanted: &mut Vec<u8>, calls: &[u8]) ->
 }
 
 // Whether the start, these checkpoints and a crash, and then one more checkpoint of so many calls and a crash leave the device.
-fn keeps_its_device(alloc: Global, before: &[u8], image: &str, after: u8) -> Result<bool, Fail> {
-    let mut input = Vec::new(alloc);
-    for piece in START {
-        input.write_all(piece.as_bytes())?;
-    }
+fn keeps_its_device(alloc: Global, before: &[u8], image: &str, after: u8) -> io::Result<bool> {
+    let mut input = joined(alloc, &START)?;
     let mut wanted = STARTED.as_bytes().to_vec(alloc)?;
     write_checkpoints(&mut input, &mut wanted, before)?;
     write!(input, "crash {image}\n")?;
@@ -124,29 +121,31 @@ fn keeps_its_device(alloc: Global, before: &[u8], image: &str, after: u8) -> Res
     Ok(out.as_slice() == wanted.as_slice())
 }
 
-// A crash after any of the ten calls of two checkpoints, with each image. The next checkpoint takes six calls where the crash
-// left the other area's gate open, and four where not.
+// The calls of each checkpoint that began, and those that the next one takes behind the images old, new and fill: six where
+// the crash left the other area's gate open, and four where not.
+const CUTS: [(&[u8], &[(&str, u8)]); 12] = [
+    (&[0], &[("old", 4), ("new", 4), ("fill", 4)]),
+    (&[1], &[("old", 4), ("new", 4), ("fill", 4)]),
+    (&[2], &[("old", 4), ("new", 4), ("fill", 4)]),
+    (&[3], &[("old", 4), ("new", 6), ("fill", 6)]),
+    (&[4], &[("old", 6), ("new", 6), ("fill", 6)]),
+    (&[4, 0], &[("old", 6), ("new", 6), ("fill", 6)]),
+    (&[4, 1], &[("old", 6), ("new", 4), ("fill", 6)]),
+    (&[4, 2], &[("old", 4), ("new", 4), ("fill", 4)]),
+    (&[4, 3], &[("old", 4), ("new", 4), ("fill", 4)]),
+    (&[4, 4], &[("old", 4), ("new", 4), ("fill", 4)]),
+    (&[4, 5], &[("old", 4), ("new", 6), ("fill", 6)]),
+    (&[4, 6], &[("old", 6), ("new", 6), ("fill", 6)]),
+];
+
+// A crash after any of the ten calls of two checkpoints, with each image.
 #[test]
 fn a_crash_in_a_checkpoint_changes_nothing(rt: HostRuntime) -> Result<(), Fail> {
-    let cases: [(&[u8], [u8; 3]); 12] = [
-        (&[0], [4, 4, 4]),
-        (&[1], [4, 4, 4]),
-        (&[2], [4, 4, 4]),
-        (&[3], [4, 6, 6]),
-        (&[4], [6, 6, 6]),
-        (&[4, 0], [6, 6, 6]),
-        (&[4, 1], [6, 4, 6]),
-        (&[4, 2], [4, 4, 4]),
-        (&[4, 3], [4, 4, 4]),
-        (&[4, 4], [4, 4, 4]),
-        (&[4, 5], [4, 6, 6]),
-        (&[4, 6], [6, 6, 6]),
-    ];
-    for (before, next) in &cases {
-        for (image, after) in ["old", "new", "fill"].into_iter().zip(*next) {
+    for (number, (before, next)) in CUTS.iter().enumerate() {
+        for (image, after) in *next {
             assert!(rt;
-                keeps_its_device(rt.alloc(), before, image, after)?,
-                "{image} {after}"
+                keeps_its_device(rt.alloc(), before, image, *after)?,
+                "cut {number}, {image}"
             );
         }
     }
@@ -154,7 +153,7 @@ fn a_crash_in_a_checkpoint_changes_nothing(rt: HostRuntime) -> Result<(), Fail> 
 }
 
 // A payload of 242 bytes.
-fn write_payload(input: &mut Vec<u8>) -> Result<(), Fail> {
+fn write_payload(input: &mut Vec<u8>) -> io::Result<()> {
     for _ in 0..242 {
         input.write_all(b"A5")?;
     }
@@ -162,7 +161,7 @@ fn write_payload(input: &mut Vec<u8>) -> Result<(), Fail> {
 }
 
 // A device with 16 items of 242 bytes: 17 decisions, whose entries take 34,799 bytes.
-fn write_device(input: &mut Vec<u8>, number: u8) -> Result<(), Fail> {
+fn write_device(input: &mut Vec<u8>, number: u8) -> io::Result<()> {
     write!(
         input,
         "provision 0 3 00000000000000{number:02X} 0102030405060708 "
@@ -177,7 +176,7 @@ fn write_device(input: &mut Vec<u8>, number: u8) -> Result<(), Fail> {
 }
 
 // The turns of the device of this number, behind those of the devices before it.
-fn write_turns(wanted: &mut Vec<u8>, number: u8) -> Result<(), Fail> {
+fn write_turns(wanted: &mut Vec<u8>, number: u8) -> io::Result<()> {
     let before = u64::from(number) * 17;
     for n in before..before + 17 {
         let next = n + 1;
@@ -187,7 +186,7 @@ fn write_turns(wanted: &mut Vec<u8>, number: u8) -> Result<(), Fail> {
 }
 
 // A batch of them is committed and released.
-fn write_commit(input: &mut Vec<u8>, wanted: &mut Vec<u8>) -> Result<(), Fail> {
+fn write_commit(input: &mut Vec<u8>, wanted: &mut Vec<u8>) -> io::Result<()> {
     input.write_all(COMMIT.as_bytes())?;
     input.write_all(b"release\n")?;
     wanted.write_all(b"taken 17\ncalled\ncalled\ncalled\ncalled\nreleased 17\n")?;

@@ -1,21 +1,21 @@
 // Scripts that are played and compared with what they have to be answered.
 use scripts::script;
 use std::alloc::Global;
-use std::io::Write;
+use std::io::{self, Write};
 use std::process::Abort;
 use std::str;
 use std::test::Fail;
 
 /// The answers to a script.
-pub(super) fn played(alloc: Global, input: &[u8]) -> Result<Vec<u8>, Fail> {
+pub(super) fn played(alloc: Global, input: &[u8]) -> io::Result<Vec<u8>> {
     let mut input = input;
     let mut out = Vec::new(alloc);
     script(alloc, &mut input, &mut out)?;
     Ok(out)
 }
 
-// The pieces of a text, one after another.
-fn joined(alloc: Global, pieces: &[&str]) -> Result<Vec<u8>, Fail> {
+/// The pieces of a text, one after another.
+pub(super) fn joined(alloc: Global, pieces: &[&str]) -> io::Result<Vec<u8>> {
     let mut text = Vec::new(alloc);
     for piece in pieces {
         text.write_all(piece.as_bytes())?;

@@ -1,7 +1,7 @@
 // Scripts and their whole answers.
-use super::plays::{compare, played};
-use std::io::Write;
-use std::str;
+use super::plays::{compare, joined, played};
+use std::alloc::Global;
+use std::io::{self, Write};
 use std::test::Fail;
 
 pub(super) const FORMAT: &str = "format 00002A 8\n";
@@ -574,50 +574,58 @@ fn faults_are_answered(rt: HostRuntime) -> Result<(), Fail> {
     Ok(())
 }
 
+// First lines, each with what is behind it, and all that is answered.
+const FIRST_LINES: [(&[u8], &str); 19] = [
+    (b"", ""),
+    (b"format 00002A 8", "formatted 2166124\n"),
+    (b"format 000000 1\n", "formatted 2105854\n"),
+    (b"format 00002A 0\nlist\n", "refused 44\n"),
+    (b"format 00002A 4097\nlist\n", "refused 44\n"),
+    (b"format 00002A 4294967295\nlist\n", "refused 44\n"),
+    (b"format 00002A 4294967296\nlist\n", "bad line\n"),
+    (b"\nformat 00002A 8\n", "bad line\n"),
+    (b"format 00002A 8\r\nlist\n", "bad line\n"),
+    (b"format 00002A \xFF\nlist\n", "bad line\n"),
+    (b"list\nlist\n", "bad line\n"),
+    (b"format", "bad line\n"),
+    (b"format 00002A", "bad line\n"),
+    (b"format 00002A 08", "bad line\n"),
+    (b"format 00002A 8 ", "bad line\n"),
+    (b"format 00002A  8", "bad line\n"),
+    (b"format 00002a 8", "bad line\n"),
+    (b"format 2A 8", "bad line\n"),
+    (b"format 000040 8", "bad line\n"),
+];
+
+fn is_answered(alloc: Global, input: &[u8], wanted: &[u8]) -> io::Result<bool> {
+    Ok(played(alloc, input)?.as_slice() == wanted)
+}
+
 #[test]
 fn a_first_line_formats_or_ends_the_run(rt: HostRuntime) -> Result<(), Fail> {
-    let ends: [(&[u8], &str); 11] = [
-        (b"", ""),
-        (b"format 00002A 8", "formatted 2166124\n"),
-        (b"format 000000 1\n", "formatted 2105854\n"),
-        (b"format 00002A 0\nlist\n", "refused 44\n"),
-        (b"format 00002A 4097\nlist\n", "refused 44\n"),
-        (b"format 00002A 4294967295\nlist\n", "refused 44\n"),
-        (b"format 00002A 4294967296\nlist\n", "bad line\n"),
-        (b"\nformat 00002A 8\n", "bad line\n"),
-        (b"format 00002A 8\r\nlist\n", "bad line\n"),
-        (b"format 00002A \xFF\nlist\n", "bad line\n"),
-        (b"list\nlist\n", "bad line\n"),
-    ];
-    for (input, wanted) in ends {
-        let out = played(rt.alloc(), input)?;
-        assert_eq!(rt; str::from_utf8(out.as_slice()).ok(), Some(wanted));
-    }
-    for line in [
-        "format",
-        "format 00002A",
-        "format 00002A 08",
-        "format 00002A 8 ",
-        "format 00002A  8",
-        "format 00002a 8",
-        "format 2A 8",
-        "format 000040 8",
-    ] {
-        let out = played(rt.alloc(), line.as_bytes())?;
-        assert_eq!(rt; out.as_slice(), b"bad line\n".as_slice(), "{line}");
+    for (number, (input, wanted)) in FIRST_LINES.iter().enumerate() {
+        assert!(rt;
+            is_answered(rt.alloc(), input, wanted.as_bytes())?,
+            "line {number}"
+        );
     }
     Ok(())
+}
+
+// A format and the lines that are no steps.
+fn no_steps(alloc: Global) -> io::Result<Vec<u8>> {
+    let mut input = FORMAT.as_bytes().to_vec(alloc)?;
+    input.write_all(NO_STEPS)?;
+    Ok(input)
 }
 
 #[test]
 fn other_lines_are_no_steps(rt: HostRuntime) -> Result<(), Fail> {
     let alloc = rt.alloc();
-    let mut input = FORMAT.as_bytes().to_vec(alloc)?;
-    input.write_all(NO_STEPS)?;
     let mut wanted = b"formatted 2166124\n".as_slice().to_vec(alloc)?;
     repeat(&mut wanted, "bad line\n", 66)?;
-    let out = played(alloc, input.as_slice())?;
-    assert_eq!(rt; out.as_slice(), wanted.as_slice());
+    let input = no_steps(alloc)?;
+    assert!(rt; is_answered(alloc, input.as_slice(), wanted.as_slice())?);
     Ok(())
 }
 
@@ -692,21 +700,24 @@ call\xFF
 ";
 
 /// The same line so often.
-pub(super) fn repeat(out: &mut Vec<u8>, line: &str, times: u8) -> Result<(), Fail> {
+pub(super) fn repeat(out: &mut Vec<u8>, line: &str, times: u8) -> io::Result<()> {
     for _ in 0..times {
         out.write_all(line.as_bytes())?;
     }
     Ok(())
 }
 
+// Lines, and the answers to them.
+type Lines = (&'static [&'static str], &'static str);
+
 // A batch of five, on its way.
-const FIVE_TAKEN: (&[&str], &str) = (
+const FIVE_TAKEN: Lines = (
     &[FORMAT, FIRST, SECOND, THIRD, FOURTH_AND_FIFTH, "take 64\n"],
     "formatted 2166124\nturn 0 1\nturn 1 2\nturn 2 3\nturn 3 4\nturn 4 5\ntaken 5\n",
 );
 
 // A batch of one, on its way behind a durable one.
-const SECOND_TAKEN: (&[&str], &str) = (
+const SECOND_TAKEN: Lines = (
     &[FORMAT, FIRST, COMMIT, "release\n", SECOND, "take 64\n"],
     "\
 formatted 2166124
@@ -726,31 +737,82 @@ const SUCCEEDS: (&str, &str) = ("call\n", "called\n");
 
 const FAILS: (&str, &str) = ("fail\ncall\n", "armed\nrefused 40\n");
 
-// A batch is there whole or not at all: after so many calls, and a last one, with each image of a crash.
+// A batch that is on its way, so many calls, a last one, and the devices that each image of a crash leaves then.
+type Cut = (
+    &'static Lines,
+    u8,
+    &'static (&'static str, &'static str),
+    &'static [(&'static str, u8)],
+);
+
+const CUTS: [Cut; 6] = [
+    (
+        &FIVE_TAKEN,
+        0,
+        &SUCCEEDS,
+        &[("old", 0), ("new", 0), ("fill", 0)],
+    ),
+    (
+        &FIVE_TAKEN,
+        1,
+        &SUCCEEDS,
+        &[("old", 0), ("new", 0), ("fill", 0)],
+    ),
+    (
+        &FIVE_TAKEN,
+        2,
+        &SUCCEEDS,
+        &[("old", 0), ("new", 5), ("fill", 5)],
+    ),
+    (
+        &FIVE_TAKEN,
+        3,
+        &SUCCEEDS,
+        &[("old", 5), ("new", 5), ("fill", 5)],
+    ),
+    (
+        &SECOND_TAKEN,
+        1,
+        &FAILS,
+        &[("old", 1), ("new", 1), ("fill", 1)],
+    ),
+    (
+        &SECOND_TAKEN,
+        3,
+        &FAILS,
+        &[("old", 1), ("new", 2), ("fill", 2)],
+    ),
+];
+
+fn lines_of(alloc: Global, cut: &Cut, image: &str) -> io::Result<Vec<u8>> {
+    let mut lines = joined(alloc, cut.0.0)?;
+    repeat(&mut lines, "call\n", cut.1)?;
+    write!(lines, "{}crash {image}\n", cut.2.0)?;
+    Ok(lines)
+}
+
+fn answers_to(alloc: Global, cut: &Cut, devices: u8) -> io::Result<Vec<u8>> {
+    let mut answers = cut.0.1.as_bytes().to_vec(alloc)?;
+    repeat(&mut answers, "called\n", cut.1)?;
+    write!(answers, "{}opened {devices} {devices}\n", cut.2.1)?;
+    Ok(answers)
+}
+
+fn leaves(alloc: Global, cut: &Cut, image: &str, devices: u8) -> io::Result<bool> {
+    let lines = lines_of(alloc, cut, image)?;
+    let answers = answers_to(alloc, cut, devices)?;
+    is_answered(alloc, lines.as_slice(), answers.as_slice())
+}
+
+// A batch is there whole or not at all.
 #[test]
 fn a_crash_leaves_whole_batches(rt: HostRuntime) -> Result<(), Fail> {
-    let alloc = rt.alloc();
-    let cases = [
-        (&FIVE_TAKEN, 0, &SUCCEEDS, [0, 0, 0]),
-        (&FIVE_TAKEN, 1, &SUCCEEDS, [0, 0, 0]),
-        (&FIVE_TAKEN, 2, &SUCCEEDS, [0, 5, 5]),
-        (&FIVE_TAKEN, 3, &SUCCEEDS, [5, 5, 5]),
-        (&SECOND_TAKEN, 1, &FAILS, [1, 1, 1]),
-        (&SECOND_TAKEN, 3, &FAILS, [1, 2, 2]),
-    ];
-    for (start, called, last, devices) in &cases {
-        for (image, count) in ["old", "new", "fill"].into_iter().zip(*devices) {
-            let mut input = Vec::new(alloc);
-            for piece in start.0 {
-                input.write_all(piece.as_bytes())?;
-            }
-            repeat(&mut input, "call\n", *called)?;
-            write!(input, "{}crash {image}\n", last.0)?;
-            let mut wanted = start.1.as_bytes().to_vec(alloc)?;
-            repeat(&mut wanted, "called\n", *called)?;
-            write!(wanted, "{}opened {count} {count}\n", last.1)?;
-            let out = played(alloc, input.as_slice())?;
-            assert_eq!(rt; out.as_slice(), wanted.as_slice(), "{called} {image}");
+    for (number, cut) in CUTS.iter().enumerate() {
+        for (image, devices) in cut.3 {
+            assert!(rt;
+                leaves(rt.alloc(), cut, image, *devices)?,
+                "cut {number}, {image}"
+            );
         }
     }
     Ok(())
