@@ -256,11 +256,8 @@ impl Flushed {
     // The command is decided, and its batch released.
     fn carry_out(&mut self, alloc: Global, command: Command) -> Result<(), Refusal> {
         let decision = carry_out(alloc, &mut self.now, self.store.seq(), command)?;
-        let mut feed = alone(alloc, decision)?;
         let is_due = !self.store.roomy();
-        let mut accepts: usize = 0;
-        let mut out = |released: Vec<Released>| accepts = accepts_in(&released);
-        let _ = cycle(&mut self.store, &mut feed, alloc, &mut out)?;
+        let accepts = accepts_of(alloc, &mut self.store, decision)?;
         self.accepts = self.accepts.saturating_add(accepts);
         self.checkpoints = self.checkpoints.saturating_add(usize::from(is_due));
         Ok(())
@@ -268,15 +265,33 @@ impl Flushed {
 
     // The device is brought, and sixteen items are queued for it.
     fn queue(&mut self, alloc: Global) -> Result<(), Refusal> {
-        self.carry_out(
-            alloc,
-            Command::Provision(joining().ok_or(Refusal::Damaged)?),
-        )?;
+        self.carry_out(alloc, provision()?)?;
         for tag in 0..16 {
-            self.carry_out(alloc, item(alloc, tag)?)?;
+            let item = item(alloc, tag)?;
+            self.carry_out(alloc, item)?;
         }
         Ok(())
     }
+}
+
+fn provision() -> Result<Command, Refusal> {
+    match joining() {
+        Some(joining) => Ok(Command::Provision(joining)),
+        None => Err(Refusal::Damaged),
+    }
+}
+
+// How many accepts leave in a round with this decision alone.
+fn accepts_of(
+    alloc: Global,
+    store: &mut Store<MemDisk>,
+    decision: Decision,
+) -> Result<usize, Refusal> {
+    let mut feed = alone(alloc, decision)?;
+    let mut accepts = 0;
+    let mut out = |released: Vec<Released>| accepts = accepts_in(&released);
+    let _ = cycle(store, &mut feed, alloc, &mut out)?;
+    Ok(accepts)
 }
 
 // A feed of this decision alone.

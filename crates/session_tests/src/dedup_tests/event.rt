@@ -8,10 +8,10 @@ use devices::Heard;
 use lw_types::{FrameCopy, Refusal};
 use std::alloc::AllocError;
 
-// What a window that closed is told as: the first byte of its frame, times 100, and how many copies it had.
+// What a window that closed is told as: the last byte of its frame, times 100, and how many copies it had.
 fn told(heard: &Heard) -> usize {
-    let first = heard.phy_payload.as_slice().first().copied().unwrap_or(0);
-    usize::from(first) * 100 + heard.hearings.as_slice().len()
+    let last = heard.phy_payload.as_slice().last().copied().unwrap_or(0);
+    usize::from(last) * 100 + heard.hearings.as_slice().len()
 }
 
 // Closes each window that is due.

@@ -1,4 +1,4 @@
-ghost use Rattle.std.specs.Prelude.{◌<◌, IfOk};
+ghost use Rattle.std.specs.Prelude.{◌<◌, ◌≤◌, All, IfOk, OnOk};
 ghost use Rattle.devices.specs.Heard.{IsReceivable};
 
 use crate::dedup_tests::event::{close_due, event};
@@ -6,8 +6,16 @@ use dedup::Windows;
 use lw_types::{Eui, FrameCopy, Reception, Refusal};
 use std::alloc::Global;
 
-// A copy of the frame of these bytes, as a gateway heard it.
-fn copy_of(alloc: Global, gateway: u64, bytes: &[u8]) -> Result<FrameCopy, Refusal>
+// A frame of 255 bytes that ends in this number.
+fn long_frame(number: u16) -> [u8; 255] {
+    let mut bytes = [0; 255];
+    bytes[253] = (number / 256) as u8;
+    bytes[254] = (number % 256) as u8;
+    bytes
+}
+
+// A copy of it, as a gateway heard it.
+fn copy_of(alloc: Global, gateway: u64, number: u16) -> Result<FrameCopy, Refusal>
     ensures { IfOk result (λ copy. IsReceivable copy.reception) }
 {
     let reception = Reception {
@@ -17,11 +25,27 @@ fn copy_of(alloc: Global, gateway: u64, bytes: &[u8]) -> Result<FrameCopy, Refus
         snr: -20,
         rssi: -95,
     };
-    FrameCopy::new(alloc, reception, 50_000, bytes)
+    FrameCopy::new(alloc, reception, 50_000, &long_frame(number))
 }
 
-// A moment, a gateway, and the frame's one byte.
-type Row = (u64, u64, u8);
+// What such a copy is answered.
+fn hear(
+    alloc: Global,
+    windows: &mut Windows,
+    now: u64,
+    gateway: u64,
+    number: u16,
+    closed: &mut Vec<usize>,
+) -> Result<u8, Refusal>
+    requires { All (λ w. w.opened ≤ now) windows.old }
+    ensures { OnOk result (All (λ w. w.opened ≤ now) windows.new) }
+{
+    let copy = copy_of(alloc, gateway, number)?;
+    Ok(event(windows, now, copy, closed)?)
+}
+
+// A moment, a gateway, and the number of a frame.
+type Row = (u64, u64, u16);
 
 // What each of these copies is answered, and the windows that close till the last moment, as `event` tells them.
 fn play(alloc: Global, rows: &[Row], last: u64) -> Result<(Vec<u8>, Vec<usize>), Refusal> {
@@ -29,10 +53,10 @@ fn play(alloc: Global, rows: &[Row], last: u64) -> Result<(Vec<u8>, Vec<usize>),
     let mut clock = 0;
     let mut answers = Vec::new(alloc);
     let mut closed = Vec::new(alloc);
-    for (moment, gateway, byte) in rows {
+    for (moment, gateway, number) in rows {
         clock = clock.max(*moment);
-        let copy = copy_of(alloc, *gateway, &[*byte])?;
-        answers.push(event(&mut windows, clock, copy, &mut closed)?)?;
+        let answer = hear(alloc, &mut windows, clock, *gateway, *number, &mut closed)?;
+        answers.push(answer)?;
     }
     close_due(&mut windows, clock.max(last), &mut closed)?;
     Ok((answers, closed))
@@ -85,59 +109,50 @@ fn windows_close_in_order(rt: HostRuntime) {
     assert!(rt; plays == Ok(true));
 }
 
-// How many of so many copies of one frame are taken, from so many gateways in turn, and what the last is answered.
-fn taken_of(alloc: Global, copies: u64, gateways: u64) -> Result<(u64, u8), Refusal>
+// How many of these copies are taken, and what the last one is answered.
+fn taken(alloc: Global, rows: &[Row]) -> Result<(usize, Option<u8>), Refusal> {
+    let (answers, _) = play(alloc, rows, 0)?;
+    let taken = answers.iter().filter(|answer| **answer == 0).count();
+    Ok((taken, answers.last().copied()))
+}
+
+// So many copies of one frame, from so many gateways in turn.
+fn copies_of_one(alloc: Global, copies: u64, gateways: u64) -> Result<Vec<Row>, Refusal>
     requires { 0 < gateways }
 {
-    let mut windows = Windows::new(alloc);
-    let mut closed = Vec::new(alloc);
-    let mut taken = 0;
-    let mut last = 0;
+    let mut rows = Vec::new(alloc);
     for n in 0..copies {
-        let copy = copy_of(alloc, n % gateways, &[1])?;
-        last = event(&mut windows, 5, copy, &mut closed)?;
-        if last == 0 {
-            taken += 1;
-        }
+        rows.push((5, n % gateways, 1))?;
     }
-    Ok((taken, last))
+    Ok(rows)
+}
+
+fn taken_of(alloc: Global, copies: u64, gateways: u64) -> Result<(usize, Option<u8>), Refusal>
+    requires { 0 < gateways }
+{
+    taken(alloc, &copies_of_one(alloc, copies, gateways)?)
 }
 
 // A gateway that was heard before is refused as such, in a full window too.
 #[test]
 fn a_window_has_32_copies_at_most(rt: HostRuntime) {
-    assert!(rt; taken_of(rt.alloc(), 32, 32) == Ok((32, 0)));
-    assert!(rt; taken_of(rt.alloc(), 33, 33) == Ok((32, 22)));
-    assert!(rt; taken_of(rt.alloc(), 33, 32) == Ok((32, 21)));
-    assert!(rt; taken_of(rt.alloc(), 2, 1) == Ok((1, 21)));
+    assert!(rt; taken_of(rt.alloc(), 32, 32) == Ok((32, Some(0))));
+    assert!(rt; taken_of(rt.alloc(), 33, 33) == Ok((32, Some(22))));
+    assert!(rt; taken_of(rt.alloc(), 33, 32) == Ok((32, Some(21))));
+    assert!(rt; taken_of(rt.alloc(), 2, 1) == Ok((1, Some(21))));
 }
 
-// A frame of 255 bytes that ends in this number.
-fn long_frame(number: u16) -> [u8; 255] {
-    let mut bytes = [0; 255];
-    bytes[253] = (number / 256) as u8;
-    bytes[254] = (number % 256) as u8;
-    bytes
-}
-
-// How many of so many frames, each of 255 bytes, open a window, and what the last is answered.
-fn opened_of(alloc: Global, frames: u16) -> Result<(u64, u8), Refusal> {
-    let mut windows = Windows::new(alloc);
-    let mut closed = Vec::new(alloc);
-    let mut taken = 0;
-    let mut last = 0;
-    for frame in 0..frames {
-        let copy = copy_of(alloc, 1, &long_frame(frame))?;
-        last = event(&mut windows, 5, copy, &mut closed)?;
-        if last == 0 {
-            taken += 1;
-        }
+// One copy of each of so many frames.
+fn opened_of(alloc: Global, frames: u16) -> Result<(usize, Option<u8>), Refusal> {
+    let mut rows = Vec::new(alloc);
+    for number in 0..frames {
+        rows.push((5, 1, number))?;
     }
-    Ok((taken, last))
+    taken(alloc, &rows)
 }
 
 #[test]
 fn at_most_1024_windows_are_open(rt: HostRuntime) {
-    assert!(rt; opened_of(rt.alloc(), 1024) == Ok((1024, 0)));
-    assert!(rt; opened_of(rt.alloc(), 1025) == Ok((1024, 20)));
+    assert!(rt; opened_of(rt.alloc(), 1024) == Ok((1024, Some(0))));
+    assert!(rt; opened_of(rt.alloc(), 1025) == Ok((1024, Some(20))));
 }
