@@ -12,7 +12,7 @@ pub enum Windows {
 }
 
 /// A frame that a gateway is to send once.
-#[derive(Clone, Debug, PartialEq, Eq, Drop)]
+#[derive(Debug, PartialEq, Eq, Drop)]
 pub struct Downlink {
     pub gateway: Eui,
     /// The gateway's moment of the uplink, in microseconds.
@@ -28,7 +28,7 @@ pub struct Downlink {
 }
 
 /// What an application is told of its device.
-#[derive(Clone, Debug, PartialEq, Eq, Drop)]
+#[derive(Debug, PartialEq, Eq, Drop)]
 pub enum Report {
     /// The device was brought, and has this slot.
     Provisioned {
@@ -62,8 +62,8 @@ pub enum Report {
 }
 
 /// What leaves the network, once its decision is durable. What may leave but once names its mark: the session, and
-/// the counter that is used up.
-#[derive(Clone, Debug, PartialEq, Eq, Drop)]
+/// the counter that is used up. It isn't `Clone`, since each effect leaves once.
+#[derive(Debug, PartialEq, Eq, Drop)]
 pub enum Effect {
     /// A device's payload, for its application.
     Forward {

@@ -104,8 +104,7 @@ impl Disk for MemDisk {
 
     fn read_at(&mut self, at: u64, buffer: &mut [u8]) -> Result<(), DeviceFailed> {
         self.fuse.burn()?;
-        let from = at as usize;
-        buffer.copy_from_slice(&self.content[from..from + buffer.len()]);
+        span::read(&self.content, at as usize, buffer);
         Ok(())
     }
 

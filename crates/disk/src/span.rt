@@ -1,10 +1,18 @@
 // Writes to a part of a slice.
-ghost use Rattle.std.specs.Prelude.{◌≡◌, ◌⊎◌, ◌<◌, ◌≤◌, ◌+◌, ℕ, length, slice_index, slice_index_or, false};
+ghost use Rattle.std.specs.Prelude.{◌≡◌, ◌⊎◌, ◌<◌, ◌≤◌, ◌+◌, ℕ, length, take, drop, slice_index, slice_index_or, false};
 ghost use Rattle.disk.specs.State.{written};
 ghost use Rattle.disk.specs.Crash.{crashed_byte};
 ghost use Rattle.disk.specs.Tracking.{state_from};
 
 use crate::Image;
+
+/// Fills the buffer with the bytes from a position on.
+pub fn read(source: &[u8], at: usize, buffer: &mut [u8])
+    requires { at + length buffer.old ≤ length source.now }
+    ensures { buffer.new ≡ take (length buffer.old) (drop at source.now) }
+{
+    buffer.copy_from_slice(&source[at..at + buffer.len()]);
+}
 
 /// Writes the bytes from a position on.
 pub fn put(target: &mut [u8], at: usize, bytes: &[u8])

@@ -1,15 +1,17 @@
 -- Calls of a store's disk, one after another.
-use Rattle.std.proofs.Common.{◌≡◌, ◌⊎◌, ◌∙◌, ◌+◌, ℕ, List, ap, subst, sym, refl, inl, inr, arith}
+use Rattle.std.proofs.Common.{◌≡◌, ◌⊎◌, ◌∙◌, ◌+◌, ℕ, List, Bool, true, false, MatchBool, ap, subst, sym, refl, inl, inr, arith}
 use Rattle.lw_types.specs.declared.refusal.Refusal.{Refusal}
-use Rattle.lw_types.specs.declared.refusal.Refusal.TheVariants.{DeviceFailed}
+use Rattle.lw_types.specs.declared.refusal.Refusal.TheVariants.{DeviceFailed, Failed, OutOfMemory, OutOfStep}
 use Rattle.disk.specs.Outlook.{Outlook}
 use Rattle.disk.specs.State.{EveryImage, IsPermitted, State}
+use Rattle.sessions.specs.Decision.{IsLegalContinuation}
+use Rattle.sessions.specs.Table.{TableState}
 use Rattle.sessions.specs.declared.decision.Decision.{Decision}
 use Rattle.store.specs.Image.{HoldsTable}
 use Rattle.store.specs.declared.store.Store.{Store}
 use Rattle.store.specs.State.{IsSettled, StoreState, disk_of, seen}
 use Rattle.flusher.proofs.Holding.{held_along, with_or_without_along}
-use Rattle.flusher.specs.Cycle.{HoldsWithOrWithout}
+use Rattle.flusher.specs.Cycle.{HoldsWithOrWithout, IsUncommitted}
 use Rattle.flusher.specs.Calls.{IsUntouched, LastFailed, NoneFailed}
 
 none_untouched : {D : Type 0} {g : _} (state : D → State) (failures : D → ℕ) (outlook : D → Outlook) (old new : Store D g)
@@ -57,3 +59,35 @@ refused_images state failures outlook mid new e s batch law table seq settled (i
     inl (λ image p. held_along s (seen state mid) image table seq (law (seen state mid) settled image (subst (λ d. IsPermitted (state d) image) same.1 p)))
 refused_images state failures outlook mid new e s batch law table seq settled (inr (is, last)) images =
     inr (is, λ image p. with_or_without_along s (seen state mid) batch image table seq (images image p))
+
+-- ---- why a batch wasn't committed
+
+-- by whether the store has failed, its table and its number
+abbrev WhyNot : Bool → TableState → ℕ → List Decision → Type 0 → Refusal → Type 0
+WhyNot failed table seq ds failure e =
+    MatchBool failed
+    (e ≡ Failed)
+    (((e ≡ OutOfStep) × (¬ (IsLegalContinuation table seq ds)))
+    ⊎ (IsLegalContinuation table seq ds × ((e ≡ OutOfMemory) ⊎ ((e ≡ DeviceFailed) × failure))))
+
+why_not : (failed : Bool) (table : TableState) (seq : ℕ) (ds : List Decision) (X Y : Type 0) (e : Refusal) → (X → Y)
+    → WhyNot failed table seq ds X e → WhyNot failed table seq ds Y e
+why_not true table seq ds X Y e step is = is
+why_not false table seq ds X Y e step (inl is) = inl is
+why_not false table seq ds X Y e step (inr (legal, inl is)) = inr (legal, inl is)
+why_not false table seq ds X Y e step (inr (legal, inr (is, x))) = inr (legal, inr (is, step x))
+
+-- the same holds of the store before calls that succeeded and left its table and number
+pub uncommitted_along : {D : Type 0} {g : _} (state : D → State) (failures : D → ℕ) (outlook : D → Outlook) (old mid new : Store D g) (ds : List Decision)
+    (e : Refusal) → NoneFailed failures outlook old mid
+    → (seen state mid).table ≡ (seen state old).table → (seen state mid).seq ≡ (seen state old).seq
+    → IsUncommitted (seen state mid) ds (LastFailed failures outlook mid new) e
+    → IsUncommitted (seen state old) ds (LastFailed failures outlook old new) e
+uncommitted_along state failures outlook old mid new ds e first table seq is =
+    let X = LastFailed failures outlook mid new in
+    let a : WhyNot old.failed (seen state mid).table (seen state mid).seq ds X e = subst (λ f. WhyNot f (seen state mid).table (seen state mid).seq ds X e) first.failed is in
+    let b : WhyNot old.failed (seen state old).table (seen state mid).seq ds X e = subst (λ (t : TableState). WhyNot old.failed t (seen state mid).seq ds X e) table a in
+    let d : WhyNot old.failed (seen state old).table (seen state old).seq ds X e = subst (λ n. WhyNot old.failed (seen state old).table n ds X e) seq b in
+    why_not old.failed (seen state old).table (seen state old).seq ds X (LastFailed failures outlook old new) e
+    (λ last. record { count = last.count ∙ ap (λ n. n + 1) first.count; armed = λ all. last.armed (first.unarmed all); failed = last.failed })
+    d

@@ -1,3 +1,4 @@
+pub mod Syncing
 pub mod Holding
 pub mod Restoring
 pub mod EmptyStore

@@ -1,7 +1,8 @@
-use Rattle.std.proofs.Common.{◌∙◌, inl, inr, ap, subst, sym, Ok}
+use Rattle.std.proofs.Common.{◌≡◌, ◌∙◌, [], List, length, inl, inr, ap, subst, sym, Ok, arith}
 use Rattle.sessions.specs.Decision.{effects_in}
+use Rattle.sessions.specs.declared.decision.Decision.{Decision}
 use Rattle.store.specs.State.{seen}
-use Rattle.flusher.proofs.Calling.{none_yet, refused_images, settled_still, then_refused}
+use Rattle.flusher.proofs.Calling.{none_yet, refused_images, settled_still, then_refused, uncommitted_along}
 use Rattle.flusher.proofs.Holding.{commits_along, held_along, on_refused, on_some}
 use Rattle.flusher.proofs.rounds.cycle.Goals as goal
 
@@ -79,3 +80,25 @@ pub returns-clause-images : goal.returns-clause-images
 returns-clause-images g c honest settled =
     c.a_settled_store_is_on_its_disk.ensures (seen g.D.Disk.state c.commit.new.store)
     (c.in_ok-durable.ensures.images honest (c.in_ok-make_room.ensures.images honest settled))
+
+pub returns-in_err-durable-clause-refused : goal.returns-in_err-durable-clause-refused
+returns-in_err-durable-clause-refused g c =
+    let r = c.from_residual-in_err-durable in
+    let ready = c.in_ok-make_room.ensures in
+    let batch = c.in_ok-batch.batch in
+    let given = subst (λ m. g.F.Feed.gives c.args.feed.now m (Ok batch) c.next.new.self) c.largest.ensures c.in_ok-batch.ensures in
+    on_refused r.result c.in_err-durable.field-0.0 _ _ r.ensures.1
+    (inr (
+      ready.ready,
+      inr (
+        batch,
+        (
+          given,
+          (
+            λ (is : batch ≡ []). absurd (omega (arith, c.if-count-eq0.false, c.len-count.ensures.len, ap (length {A = Decision}) is)),
+            uncommitted_along g.D.Disk.state g.D.Disk.failures g.D.Disk.outlook c.args.store.now c.make_room.new.store c.commit.new.store batch c.in_err-durable.field-0.0
+                ready.calls ready.table ready.seq c.in_err-durable.ensures.calls,
+          ),
+        ),
+      ),
+    ))

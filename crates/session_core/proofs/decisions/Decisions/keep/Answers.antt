@@ -1,4 +1,5 @@
 use Rattle.std.proofs.Common.{◌≡◌, ◌+◌, ◌∙◌, List, ◌∷◌, ◌++◌, [], Ok, Bool, true, sym, ap, subst}
+use Rattle.std.specs.Result.{IsErrAnd}
 use Rattle.sessions.specs.Table.{TableState}
 use Rattle.sessions.specs.Decision.{AnswersTo, Decides, Fits, applied, taken_back_all}
 use Rattle.sessions.specs.declared.decision.Decision.{Decision}
@@ -85,3 +86,8 @@ pub returns-in_err-reserve-clause-made : goal.returns-in_err-reserve-clause-made
 returns-in_err-reserve-clause-made c =
     not-kept c.args.self.now c.self.inside.table c.args.command (c.self.invariant.table ∙ ap now_of c.self.view_is) (sym c.has_room.ensures.room ∙ c.if-not-has_room.false)
     (c.seq.result + 1) _ c.in_ok-decision.decision c.from_residual-in_err-reserve.result c.from_residual-in_err-reserve.ensures.1 c.in_ok-decision.ensures.decides
+
+pub returns-in_err-apply-clause-made : goal.returns-in_err-apply-clause-made
+returns-in_err-apply-clause-made c =
+    not-kept c.args.self.now c.self.inside.table c.args.command (c.self.invariant.table ∙ ap now_of c.self.view_is) (sym c.has_room.ensures.room ∙ c.if-not-has_room.false)
+    (c.seq.result + 1) _ c.in_ok-decision.decision c.from_residual-in_err-apply.result (subst (λ e. IsErrAnd c.from_residual-in_err-apply.result (λ x. x ≡ e)) c.in_err-apply.ensures.0 c.from_residual-in_err-apply.ensures.1) c.in_ok-decision.ensures.decides
