@@ -6,14 +6,14 @@ use sessions::Table;
 use std::alloc::Global;
 use std::io;
 use std::io::Write;
-use world::Answer;
+use world::{Answer, EventTurn};
 
 /// Writes the line of an answer, or the lines of a list. A list for which there is no memory is
 /// refused.
 pub fn write_answer<W: Write>(alloc: Global, out: &mut W, answer: &Answer) -> io::Result<()> {
     match answer {
         Answer::Turn { turn, .. } => write_turn(out, turn),
-        Answer::Turns { turns, .. } => turns.iter().try_for_each(|t| write_turn(out, &t.turn)),
+        Answer::Turns { turns, .. } => write_turns(out, turns),
         Answer::Taken(count) => writeln!(out, "taken {count}"),
         Answer::GivenUp(_) => write_refusal(out, Refusal::OutOfMemory),
         Answer::Full => writeln!(out, "full"),
@@ -44,6 +44,13 @@ fn write_turn<W: Write>(out: &mut W, turn: &Turn) -> io::Result<()> {
             writeln!(out, "turn {from} {to} refused {number}")
         }
     }
+}
+
+fn write_turns<W: Write>(out: &mut W, turns: &[EventTurn]) -> io::Result<()> {
+    for it in turns {
+        write_turn(out, &it.turn)?;
+    }
+    Ok(())
 }
 
 fn write_emission<W: Write>(out: &mut W, emission: &Emission) -> io::Result<()> {

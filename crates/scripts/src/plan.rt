@@ -15,7 +15,7 @@ pub enum Row {
 }
 
 /// What a script asks for.
-#[derive(Debug, PartialEq, Eq, Drop)]
+#[derive(Drop)]
 pub enum Plan {
     /// Nothing: it has no line.
     Nothing,

@@ -10,7 +10,7 @@ use world::{Event, Step};
 const FILL: u8 = 0xA5;
 
 /// What the first line of a script asks for: a store for a network, with so many slots.
-#[derive(Clone, Copy, Debug, PartialEq, Eq)]
+#[derive(Clone, Copy)]
 pub struct Format {
     pub net_id: NetId,
     /// Any number; a store has 1 to 4,096.
