@@ -33,44 +33,14 @@ fn ranges_have_their_ends(rt: HostRuntime) {
     assert!(rt; NextDown::new((1 << 32) + 1).is_none());
 }
 
-// Whether a device may have these bytes for a MAC queue.
-fn may_wait(alloc: Global, hex: &str) -> Result<bool, Refusal> {
-    Ok(MacQueue::new(read_hex(alloc, hex)?).is_ok())
+// Whether a device may have these bytes for a MAC queue, which is made of a vector as of a slice.
+fn may_wait(alloc: Global, bytes: &[u8]) -> Result<bool, Refusal> {
+    let Ok(queue) = MacQueue::new(Vec::from_slice(alloc, bytes)?) else {
+        return Ok(false);
+    };
+    Ok(queue.as_slice() == bytes && is_made(alloc, bytes)?)
 }
 
-const QUEUES: &[(&str, bool)] = &[
-    ("", true),
-    ("0350070001", true),
-    ("06040F06", true),
-    ("03500700", false),
-    ("04", false),
-    ("02", false),
-    ("060D", false),
-    ("0500000000", false),
-];
-
-#[test]
-fn a_mac_queue_is_whole_commands_that_may_be_queued(rt: HostRuntime) {
-    for (hex, may) in QUEUES {
-        assert!(rt; may_wait(rt.alloc(), hex) == Ok(*may), "{hex}");
-    }
-}
-
-// The length of a MAC queue of so many commands of one byte; `None` where they are too many.
-fn queue_len(alloc: Global, count: usize) -> Result<Option<usize>, Refusal> {
-    match MacQueue::new(vec![in alloc; 0x06; count]?) {
-        Ok(queue) => Ok(Some(queue.as_slice().len())),
-        Err(_) => Ok(None),
-    }
-}
-
-#[test]
-fn a_mac_queue_has_64_bytes(rt: HostRuntime) {
-    assert!(rt; queue_len(rt.alloc(), 64) == Ok(Some(64)));
-    assert!(rt; queue_len(rt.alloc(), 65) == Ok(None));
-}
-
-// Whether these bytes are a queue, and a queue is made of them.
 fn is_made(alloc: Global, bytes: &[u8]) -> Result<bool, Refusal> {
     if !are_queueable(bytes) || bytes.len() > 64 {
         return Ok(false);
@@ -78,14 +48,32 @@ fn is_made(alloc: Global, bytes: &[u8]) -> Result<bool, Refusal> {
     Ok(MacQueue::from_slice(alloc, bytes)?.as_slice() == bytes)
 }
 
+const QUEUES: &[(&[u8], bool)] = &[
+    (&[], true),
+    (&[0x03, 0x50, 0x07, 0x00, 0x01], true),
+    (&[0x06, 0x04, 0x0F, 0x06], true),
+    (&[0x06, 0x04, 0x0F], true),
+    (&[0x06; 64], true),
+    (&[0x06; 65], false),
+    (&[0x03, 0x50, 0x07, 0x00], false),
+    (&[0x04], false),
+    (&[0x02], false),
+    (&[0x06, 0x0D], false),
+    (&[0x05, 0x00, 0x00, 0x00, 0x00], false),
+];
+
 #[test]
-fn a_mac_queue_is_made_of_a_slice(rt: HostRuntime) {
-    assert!(rt; is_made(rt.alloc(), &[0x06, 0x04, 0x0F]) == Ok(true));
+fn a_mac_queue_is_whole_commands_that_may_be_queued(rt: HostRuntime) {
+    for (bytes, may) in QUEUES {
+        assert!(rt; may_wait(rt.alloc(), bytes) == Ok(*may), "{bytes:?}");
+    }
 }
 
 // Whether so many bytes of a queue fit the room, and these are left where they leave it.
 fn leaves(alloc: Global, hex: &str, room: u8, fits: usize, rest: &str) -> Result<bool, Refusal> {
-    let mut queue = MacQueue::new(read_hex(alloc, hex)?).map_err(|_| Refusal::BadMac)?;
+    let mut queue = MacQueue::new(read_hex(alloc, hex)?)
+        .ok()
+        .ok_or(Refusal::BadMac)?;
     let is_fitting = queue.fitting(room) == fits;
     queue.leave(room);
     Ok(is_fitting && queue.as_slice() == read_hex(alloc, rest)?.as_slice())
@@ -107,17 +95,21 @@ fn whole_commands_leave_the_queue(rt: HostRuntime) {
     }
 }
 
-fn is_tagged(item: Option<&Item>, tag: u32) -> bool {
-    item.is_some_and(|item| item.tag == Tag(tag))
+// The tag of the item that leaves first, which is the one that was seen there.
+fn leaving(queue: &mut ItemQueue) -> Option<u32> {
+    let seen = queue.first()?.tag;
+    let left = queue.pop_first()?.tag;
+    (left == seen).then_some(left.0)
 }
 
 // Whether three items leave in the order of their tags.
 fn leave_in_order(alloc: Global) -> Result<bool, Refusal> {
-    let mut queue = ItemQueue::new(items(alloc, 3, 1)?).map_err(|_| Refusal::QueueFull)?;
+    let mut queue = ItemQueue::new(items(alloc, 3, 1)?)
+        .ok()
+        .ok_or(Refusal::QueueFull)?;
     let mut are_right = true;
     for tag in 0..3 {
-        are_right = are_right && is_tagged(queue.first(), tag);
-        are_right = are_right && is_tagged(queue.pop_first().as_ref(), tag);
+        are_right = leaving(&mut queue) == Some(tag) && are_right;
     }
     Ok(are_right && queue.is_empty() && queue.pop_first().is_none())
 }
@@ -155,8 +147,11 @@ fn pushed(alloc: Global) -> Result<ItemQueue, Refusal> {
 
 fn wait_in_order(alloc: Global) -> Result<bool, Refusal> {
     let queue = pushed(alloc)?;
-    let mut tagged = queue.as_slice().iter().zip(0..16);
-    Ok(tagged.all(|(item, tag)| item.tag == Tag(tag)))
+    let mut are_right = queue.as_slice().len() == 16;
+    for (item, tag) in queue.as_slice().iter().zip(0..16) {
+        are_right = are_right && item.tag == Tag(tag);
+    }
+    Ok(are_right)
 }
 
 #[test]
@@ -248,18 +243,6 @@ fn begun(up: u32) -> Result<Activation, Refusal> {
     Ok(activation)
 }
 
-fn begins() -> Result<bool, Refusal> {
-    let activation = begun(7)?;
-    let is_granted = activation.granted() == JoinNonce::new(2);
-    let is_in_use = counters(&activation) == Some((7, 0));
-    Ok(is_granted && is_in_use && activation.pending().is_none())
-}
-
-#[test]
-fn a_session_begins_with_its_first_uplink(rt: HostRuntime) {
-    assert!(rt; begins() == Ok(true));
-}
-
 // The activation after an uplink of this counter and an answer to it.
 fn answered(mut activation: Activation, up: u32) -> Result<Activation, Refusal> {
     let current = activation.current().ok_or(Refusal::Damaged)?;
@@ -271,14 +254,18 @@ fn answered(mut activation: Activation, up: u32) -> Result<Activation, Refusal> 
     Ok(activation)
 }
 
-fn grown() -> Result<Option<(u32, u64)>, Refusal> {
-    let activation = answered(answered(begun(7)?, 8)?, 4_000_000_000)?;
-    Ok(counters(&activation))
+// Whether a session begins with its first uplink, and its counters grow.
+fn begins_and_grows() -> Result<bool, Refusal> {
+    let activation = begun(7)?;
+    let is_granted = activation.granted() == JoinNonce::new(2);
+    let is_in_use = counters(&activation) == Some((7, 0)) && activation.pending().is_none();
+    let grown = answered(answered(activation, 8)?, 4_000_000_000)?;
+    Ok(is_granted && is_in_use && counters(&grown) == Some((4_000_000_000, 2)))
 }
 
 #[test]
-fn counters_of_a_session_grow(rt: HostRuntime) {
-    assert!(rt; grown() == Ok(Some((4_000_000_000, 2))));
+fn a_session_begins_with_its_first_uplink_and_grows(rt: HostRuntime) {
+    assert!(rt; begins_and_grows() == Ok(true));
 }
 
 const ADDRESSES: &[(u8, u16, u32, u32)] = &[
@@ -310,36 +297,20 @@ fn addresses_have_network_slot_and_join(rt: HostRuntime) {
     assert!(rt; slot_at(DevAddr(0x49BE_7DF1)) == 3571);
 }
 
-fn has_empty_queues(alloc: Global) -> Result<bool, Refusal> {
+// Whether a new device has its name and empty queues, is as its copy, and is as one with another tag.
+fn compared(alloc: Global) -> Result<(bool, bool, bool), Refusal> {
     let device = brought(alloc, DEVICE)?;
-    let is_named = device.dev_eui == DEVICE;
-    Ok(is_named && device.items.as_slice().is_empty() && device.mac_queue.as_slice().is_empty())
-}
-
-#[test]
-fn a_new_device_has_empty_queues(rt: HostRuntime) {
-    assert!(rt; has_empty_queues(rt.alloc()) == Ok(true));
-}
-
-fn is_as_its_copy(alloc: Global) -> Result<bool, Refusal> {
-    let device = brought(alloc, DEVICE)?;
-    Ok(device.copy()?.same_as(&device))
+    let mut tagged = device.copy()?;
+    let is_copied = tagged.same_as(&device);
+    tagged.awaited = Some(Tag(1));
+    let are_empty = device.items.as_slice().is_empty() && device.mac_queue.as_slice().is_empty();
+    let is_new = are_empty && device.dev_eui == DEVICE;
+    Ok((is_new, is_copied, tagged.same_as(&device)))
 }
 
 #[test]
 fn a_device_is_copied_whole(rt: HostRuntime) {
-    assert!(rt; is_as_its_copy(rt.alloc()) == Ok(true));
-}
-
-fn is_as_with_a_tag(alloc: Global) -> Result<bool, Refusal> {
-    let mut device = brought(alloc, DEVICE)?;
-    device.awaited = Some(Tag(1));
-    Ok(device.same_as(&brought(alloc, DEVICE)?))
-}
-
-#[test]
-fn a_device_with_another_tag_is_another(rt: HostRuntime) {
-    assert!(rt; is_as_with_a_tag(rt.alloc()) == Ok(false));
+    assert!(rt; compared(rt.alloc()) == Ok((true, true, false)));
 }
 
 // The report that a device was brought to a slot.
@@ -385,11 +356,6 @@ fn sent_is_marked(alloc: Global) -> Result<bool, Refusal> {
     Ok(down.mark() == Some(Mark::Sent { session, counter }))
 }
 
-#[test]
-fn a_downlink_has_its_mark(rt: HostRuntime) {
-    assert!(rt; sent_is_marked(rt.alloc()) == Ok(true));
-}
-
 fn granted_is_marked(alloc: Global) -> Result<bool, Refusal> {
     let session = name(7)?;
     let accept = Effect::Accept {
@@ -399,14 +365,15 @@ fn granted_is_marked(alloc: Global) -> Result<bool, Refusal> {
     Ok(accept.mark() == Some(Mark::Granted { session }))
 }
 
-#[test]
-fn an_accept_has_its_mark(rt: HostRuntime) {
-    assert!(rt; granted_is_marked(rt.alloc()) == Ok(true));
+fn mark_of_report() -> Result<Option<Mark>, Refusal> {
+    Ok(provisioned(0)?.mark())
 }
 
 #[test]
-fn a_report_has_no_mark(rt: HostRuntime) {
-    assert!(rt; provisioned(0).is_ok_and(|report| report.mark().is_none()));
+fn effects_have_their_marks(rt: HostRuntime) {
+    assert!(rt; sent_is_marked(rt.alloc()) == Ok(true));
+    assert!(rt; granted_is_marked(rt.alloc()) == Ok(true));
+    assert!(rt; mark_of_report() == Ok(None));
 }
 
 // How a gateway heard a frame.
@@ -433,33 +400,25 @@ fn hearings(alloc: Global, count: u64) -> Result<Vec<Hearing>, Refusal> {
     Ok(hearings)
 }
 
-// A frame that so many gateways heard.
-fn heard(alloc: Global, count: u64) -> Result<Option<Hearings>, Refusal> {
-    Ok(Hearings::new(hearings(alloc, count)?))
+// Whether so many copies of a frame stay in their order; `None` where so many may not be.
+fn keep_their_order(alloc: Global, count: u64) -> Result<Option<bool>, Refusal> {
+    match Hearings::new(hearings(alloc, count)?) {
+        Some(heard) => {
+            let wanted = hearings(alloc, count)?;
+            Ok(Some(heard.as_slice() == wanted.as_slice()))
+        }
+        None => Ok(None),
+    }
 }
 
-const COUNTS: &[(u64, bool)] = &[(0, false), (1, true), (32, true), (33, false)];
+const COUNTS: &[(u64, Option<bool>)] = &[(0, None), (1, Some(true)), (32, Some(true)), (33, None)];
 
 #[test]
 fn from_1_to_32_gateways_hear_a_frame(rt: HostRuntime) {
-    for (count, may) in COUNTS {
-        let heard = heard(rt.alloc(), *count);
-        assert!(rt; heard.is_ok_and(|heard| heard.is_some() == *may), "{count}");
+    for (count, wanted) in COUNTS {
+        let order = keep_their_order(rt.alloc(), *count);
+        assert!(rt; order == Ok(*wanted), "{count}");
     }
-}
-
-// Whether so many copies stay in their order.
-fn keep_their_order(alloc: Global, count: u64) -> Result<bool, Refusal> {
-    match heard(alloc, count)? {
-        Some(heard) => Ok(heard.as_slice() == hearings(alloc, count)?.as_slice()),
-        None => Ok(false),
-    }
-}
-
-#[test]
-fn copies_keep_their_order(rt: HostRuntime) {
-    assert!(rt; keep_their_order(rt.alloc(), 1) == Ok(true));
-    assert!(rt; keep_their_order(rt.alloc(), 32) == Ok(true));
 }
 
 // Whether a frame that gateways 0 and 1 heard may also be heard so.
@@ -498,7 +457,10 @@ fn best(alloc: Global, copies: &[(u64, i16, i16)]) -> Result<Option<u64>, Refusa
         hearing.reception.rssi = *rssi;
         hearings.push(hearing)?;
     }
-    Ok(Hearings::new(hearings).map(|hearings| hearings.best().reception.gateway.0))
+    match Hearings::new(hearings) {
+        Some(hearings) => Ok(Some(hearings.best().reception.gateway.0)),
+        None => Ok(None),
+    }
 }
 
 const COPIES: &[(&[(u64, i16, i16)], u64)] = &[

@@ -47,43 +47,26 @@ fn whole(alloc: Global, feeder: &mut Feeder, stream: &[u8]) -> Result<Fed, Refus
     Ok(Fed { messages, fault })
 }
 
-fn is_fed(fed: &Fed, count: usize, fault: Option<Refusal>) -> bool {
-    fed.messages.len() == count && fed.fault == fault
-}
-
-// Whether a stream says so many messages and this fault, and ends so, however it comes.
+// Whether a text with so many of 41 behind it says so many messages and this fault, and ends so, however it comes.
 fn says(
     alloc: Global,
-    stream: &[u8],
-    count: usize,
+    (hex, filled, count): (&str, usize, usize),
     fault: Option<Refusal>,
     end: Option<Refusal>,
 ) -> Result<bool, Refusal> {
+    let bytes = stream(alloc, hex, filled)?;
     let (mut one, mut other) = (Feeder::new(alloc), Feeder::new(alloc));
-    let fed = whole(alloc, &mut one, stream)?;
-    let same = fed == cut(alloc, &mut other, stream)?;
-    let ended = one.end().err() == end && other.end().err() == end;
-    Ok(same && ended && is_fed(&fed, count, fault))
-}
-
-// Whether each text with so many of 41 behind it says so many messages, and what it ends in.
-fn each_says(
-    alloc: Global,
-    rows: &[(&str, usize, usize)],
-    fault: Option<Refusal>,
-    end: Option<Refusal>,
-) -> Result<bool, Refusal> {
-    for (hex, filled, count) in rows {
-        let bytes = stream(alloc, hex, *filled)?;
-        if !says(alloc, &bytes, *count, fault, end)? {
-            return Ok(false);
-        }
-    }
-    Ok(true)
+    let fed = whole(alloc, &mut one, &bytes)?;
+    let is_same = fed == cut(alloc, &mut other, &bytes)?;
+    let is_ended = one.end().err() == end && other.end().err() == end;
+    Ok(is_same && is_ended && fed.messages.len() == count && fed.fault == fault)
 }
 
 // Texts, how many of 41 stand behind them, and how many messages they say.
-const FRAMES: &[(&str, usize, usize)] = &[
+type Stream = (&'static str, usize, usize);
+
+// Whole frames are messages.
+const FRAMES: &[Stream] = &[
     ("", 0, 0),
     (GREETING, 0, 1),
     // no PHYPayload, and the longest
@@ -104,12 +87,8 @@ const FRAMES: &[(&str, usize, usize)] = &[
     ("0002020F02BC03", 699, 2),
 ];
 
-#[test]
-fn whole_frames_are_messages(rt: HostRuntime) {
-    assert!(rt; each_says(rt.alloc(), FRAMES, None, None) == Ok(true));
-}
-
-const CUT: &[(&str, usize, usize)] = &[
+// A part of a frame is cut short.
+const CUT: &[Stream] = &[
     ("00", 0, 0),
     ("02BC", 0, 0),
     ("00090000000000000000", 0, 0),
@@ -122,12 +101,8 @@ const CUT: &[(&str, usize, usize)] = &[
     ("0002020302BC03", 698, 1),
 ];
 
-#[test]
-fn a_part_of_a_frame_is_cut_short(rt: HostRuntime) {
-    assert!(rt; each_says(rt.alloc(), CUT, None, Some(Refusal::CutShort)) == Ok(true));
-}
-
-const TOO_LONG: &[(&str, usize, usize)] = &[
+// A length above 700 is too long.
+const TOO_LONG: &[Stream] = &[
     ("02BD", 0, 0),
     ("FFFF", 9, 0),
     ("00090000000000000000B102BD", 701, 1),
@@ -135,13 +110,8 @@ const TOO_LONG: &[(&str, usize, usize)] = &[
     ("02BD00020203", 0, 0),
 ];
 
-#[test]
-fn a_length_above_700_is_too_long(rt: HostRuntime) {
-    let fault = Some(Refusal::FrameTooLong);
-    assert!(rt; each_says(rt.alloc(), TOO_LONG, fault, fault) == Ok(true));
-}
-
-const NO_MESSAGES: &[(&str, usize, usize)] = &[
+// Other content is no message.
+const NO_MESSAGES: &[Stream] = &[
     // no content, no kind of these, and nothing behind a fault
     ("0000", 0, 0),
     ("000104", 0, 0),
@@ -169,13 +139,8 @@ const NO_MESSAGES: &[(&str, usize, usize)] = &[
     ("00020203000403410A41", 0, 1),
 ];
 
-#[test]
-fn other_content_is_no_message(rt: HostRuntime) {
-    let fault = Some(Refusal::BadMessage);
-    assert!(rt; each_says(rt.alloc(), NO_MESSAGES, fault, fault) == Ok(true));
-}
-
-const LINKS: &[(&str, usize, usize)] = &[
+// Each message has its link.
+const LINKS: &[Stream] = &[
     // before a greeting
     (COPY, 0, 0),
     ("00020341", 0, 0),
@@ -197,10 +162,31 @@ const LINKS: &[(&str, usize, usize)] = &[
     ),
 ];
 
+// Streams, the fault that each of them has, and what its end is refused.
+const STREAMS: &[(&[Stream], Option<Refusal>, Option<Refusal>)] = &[
+    (FRAMES, None, None),
+    (CUT, None, Some(Refusal::CutShort)),
+    (
+        TOO_LONG,
+        Some(Refusal::FrameTooLong),
+        Some(Refusal::FrameTooLong),
+    ),
+    (
+        NO_MESSAGES,
+        Some(Refusal::BadMessage),
+        Some(Refusal::BadMessage),
+    ),
+    (LINKS, Some(Refusal::BadMessage), Some(Refusal::BadMessage)),
+];
+
 #[test]
-fn each_message_has_its_link(rt: HostRuntime) {
-    let fault = Some(Refusal::BadMessage);
-    assert!(rt; each_says(rt.alloc(), LINKS, fault, fault) == Ok(true));
+fn streams_say_their_messages(rt: HostRuntime) {
+    for (streams, fault, end) in STREAMS {
+        for stream in *streams {
+            let says = says(rt.alloc(), *stream, *fault, *end);
+            assert!(rt; says == Ok(true), "{}", stream.0);
+        }
+    }
 }
 
 fn copy(alloc: Global) -> Result<FrameCopy, Refusal> {

@@ -11,12 +11,14 @@ use gateway_wire::{
     Emission, Request, app_line, gateway_bytes, list_text, next_ranged, next_value, read_line,
     read_request,
 };
-use lw_types::{Eui, NetId, PhyPayload, Reception, Refusal, Words, read_hex, write_hex};
+use lw_types::{Eui, NetId, PhyPayload, Reception, Refusal, Words, read_hex};
 use sessions::{Slots, Table};
-use std::alloc::Global;
+use std::alloc::{AllocError, Global};
 
-fn payload(alloc: Global, hex: &str) -> Result<Payload, Refusal> {
-    Payload::new(read_hex(alloc, hex)?).map_err(|_| Refusal::TooLong)
+fn payload(alloc: Global, bytes: &[u8]) -> Result<Payload, Refusal> {
+    Payload::new(Vec::from_slice(alloc, bytes)?)
+        .ok()
+        .ok_or(Refusal::TooLong)
 }
 
 // The bytes of a text, and so many of A5 behind them.
@@ -27,7 +29,9 @@ fn followed(alloc: Global, hex: &str, count: usize) -> Result<Vec<u8>, Refusal> 
 }
 
 fn frame(alloc: Global, hex: &str, count: usize) -> Result<PhyPayload, Refusal> {
-    PhyPayload::new(followed(alloc, hex, count)?).map_err(|_| Refusal::FrameTooLong)
+    PhyPayload::new(followed(alloc, hex, count)?)
+        .ok()
+        .ok_or(Refusal::FrameTooLong)
 }
 
 // A frame in a downlink, one second later.
@@ -44,14 +48,6 @@ fn downlink(data_rate: u8, windows: Windows, frame: PhyPayload) -> Result<Effect
             windows,
             frame,
         },
-    })
-}
-
-fn report(report: Report) -> Result<Effect, Refusal> {
-    Ok(Effect::Report {
-        application: application()?,
-        dev_eui: DEVICE,
-        report,
     })
 }
 
@@ -185,20 +181,122 @@ fn forward(payload: Payload) -> Result<Effect, Refusal> {
     })
 }
 
-// Whether a payload is told in this line.
-fn payload_is_told(alloc: Global, payload: Payload, text: &str) -> Result<bool, Refusal> {
-    is_told(alloc, &forward(payload)?, text)
+// What an application is told: of a payload, and of the reports.
+enum Told {
+    Up(&'static [u8]),
+    Spent,
+    Provisioned(u16),
+    Queued(u32),
+    Acked(u32),
+    Lost(u32),
+    MacQueued(&'static [u8]),
+    Mac(&'static [u8]),
 }
 
-fn short_is_told(alloc: Global, text: &str) -> Result<bool, Refusal> {
-    payload_is_told(alloc, payload(alloc, "00FF")?, text)
+fn effect(alloc: Global, told: &Told) -> Result<Effect, Refusal> {
+    match told {
+        Told::Up(bytes) => forward(payload(alloc, bytes)?),
+        _ => Ok(Effect::Report {
+            application: application()?,
+            dev_eui: DEVICE,
+            report: report(alloc, told)?,
+        }),
+    }
+}
+
+fn report(alloc: Global, told: &Told) -> Result<Report, Refusal> {
+    let join_nonce = nonce(1)?;
+    match told {
+        Told::Up(_) | Told::Spent => Ok(Report::Spent { join_nonce }),
+        Told::Provisioned(slot) => Ok(Report::Provisioned { slot: *slot }),
+        Told::Queued(tag) => Ok(Report::Queued { tag: Tag(*tag) }),
+        Told::Acked(tag) => Ok(Report::Acked { tag: Tag(*tag) }),
+        Told::Lost(tag) => Ok(Report::Lost { tag: Tag(*tag) }),
+        Told::MacQueued(bytes) => Ok(Report::MacQueued {
+            commands: payload(alloc, bytes)?,
+        }),
+        Told::Mac(bytes) => Ok(Report::Mac {
+            join_nonce,
+            commands: payload(alloc, bytes)?,
+        }),
+    }
+}
+
+// The longest payload.
+const LONG: &[u8] = &[0xA5; 242];
+
+// What is told, and its line: a text, so many of A5 in hex, and a text.
+const LINES: &[(Told, &str, usize, &str)] = &[
+    (
+        Told::Up(&[0x00, 0xFF]),
+        "up 1112131415161718 16777215 4294967295 223 00FF 32 00000000000000B1 868100000 5 -20 -95",
+        0,
+        "",
+    ),
+    (
+        Told::Up(LONG),
+        "up 1112131415161718 16777215 4294967295 223 ",
+        242,
+        " 32 00000000000000B1 868100000 5 -20 -95",
+    ),
+    (Told::Spent, "spent 1112131415161718 1", 0, ""),
+    (
+        Told::Provisioned(0),
+        "provisioned 1112131415161718 0",
+        0,
+        "",
+    ),
+    (Told::Queued(9), "queued 1112131415161718 9", 0, ""),
+    (
+        Told::Acked(4_294_967_295),
+        "acked 1112131415161718 4294967295",
+        0,
+        "",
+    ),
+    (Told::Lost(0), "lost 1112131415161718 0", 0, ""),
+    (
+        Told::MacQueued(&[0x06]),
+        "macqueued 1112131415161718 06",
+        0,
+        "",
+    ),
+    (
+        Told::MacQueued(LONG),
+        "macqueued 1112131415161718 ",
+        242,
+        "",
+    ),
+    (
+        Told::Mac(&[0x03, 0x07]),
+        "mac 1112131415161718 1 0307",
+        0,
+        "",
+    ),
+    (Told::Mac(&[]), "mac 1112131415161718 1 -", 0, ""),
+    (Told::Mac(LONG), "mac 1112131415161718 1 ", 242, ""),
+];
+
+// A text, so many of A5 in hex, and a text.
+fn long_text(alloc: Global, front: &str, count: usize, back: &str) -> Result<String, AllocError> {
+    let hex = "A5".repeat(alloc, count)?;
+    format!(in alloc; "{front}{hex}{back}")
+}
+
+fn has_line(
+    alloc: Global,
+    told: &Told,
+    (front, count, back): (&str, usize, &str),
+) -> Result<bool, Refusal> {
+    let line = long_text(alloc, front, count, back)?;
+    is_told(alloc, &effect(alloc, told)?, line.as_str())
 }
 
 #[test]
-fn a_payload_is_told_with_its_reception(rt: HostRuntime) {
-    let text =
-        "up 1112131415161718 16777215 4294967295 223 00FF 32 00000000000000B1 868100000 5 -20 -95";
-    assert!(rt; short_is_told(rt.alloc(), text) == Ok(true));
+fn each_effect_for_an_application_has_its_line(rt: HostRuntime) {
+    for (told, front, count, back) in LINES {
+        let has_line = has_line(rt.alloc(), told, (front, *count, back));
+        assert!(rt; has_line == Ok(true), "{front}");
+    }
 }
 
 fn forward_is_marked(alloc: Global) -> Result<bool, Refusal> {
@@ -206,7 +304,7 @@ fn forward_is_marked(alloc: Global) -> Result<bool, Refusal> {
         session: name(16_777_215)?,
         counter: 4_294_967_295,
     };
-    Ok(forward(payload(alloc, "")?)?.mark() == Some(mark))
+    Ok(forward(payload(alloc, &[])?)?.mark() == Some(mark))
 }
 
 #[test]
@@ -214,92 +312,16 @@ fn a_forward_has_its_mark(rt: HostRuntime) {
     assert!(rt; forward_is_marked(rt.alloc()) == Ok(true));
 }
 
-// Whether a report is told in this line.
-fn is_reported(alloc: Global, told: Report, text: &str) -> Result<bool, Refusal> {
-    is_told(alloc, &report(told)?, text)
-}
-
-fn spent_is_told(alloc: Global, text: &str) -> Result<bool, Refusal> {
-    let join_nonce = nonce(1)?;
-    is_reported(alloc, Report::Spent { join_nonce }, text)
-}
-
-#[test]
-fn reports_are_told_in_lines(rt: HostRuntime) {
-    assert!(rt; spent_is_told(rt.alloc(), "spent 1112131415161718 1") == Ok(true));
-    let brought = Report::Provisioned { slot: 0 };
-    let text = "provisioned 1112131415161718 0";
-    assert!(rt; is_reported(rt.alloc(), brought, text) == Ok(true));
-}
-
-#[test]
-fn items_are_told_by_their_tags(rt: HostRuntime) {
-    let alloc = rt.alloc();
-    let queued = Report::Queued { tag: Tag(9) };
-    assert!(rt; is_reported(alloc, queued, "queued 1112131415161718 9") == Ok(true));
-    let tag = Tag(4_294_967_295);
-    let text = "acked 1112131415161718 4294967295";
-    assert!(rt; is_reported(alloc, Report::Acked { tag }, text) == Ok(true));
-    let lost = Report::Lost { tag: Tag(0) };
-    assert!(rt; is_reported(alloc, lost, "lost 1112131415161718 0") == Ok(true));
-}
-
-fn queued_is_told(alloc: Global, commands: Payload, text: &str) -> Result<bool, Refusal> {
-    is_reported(alloc, Report::MacQueued { commands }, text)
-}
-
-fn short_queue_is_told(alloc: Global, text: &str) -> Result<bool, Refusal> {
-    queued_is_told(alloc, payload(alloc, "06")?, text)
-}
-
-#[test]
-fn queued_commands_are_told_as_byte_texts(rt: HostRuntime) {
-    let text = "macqueued 1112131415161718 06";
-    assert!(rt; short_queue_is_told(rt.alloc(), text) == Ok(true));
-}
-
-// Whether the report that these commands were sent is told in this line.
-fn sent_is_told(alloc: Global, commands: Payload, text: &str) -> Result<bool, Refusal> {
-    let join_nonce = nonce(1)?;
-    let sent = Report::Mac {
-        join_nonce,
-        commands,
-    };
-    is_reported(alloc, sent, text)
-}
-
-fn hex_is_told(alloc: Global, hex: &str, text: &str) -> Result<bool, Refusal> {
-    sent_is_told(alloc, payload(alloc, hex)?, text)
-}
-
-#[test]
-fn commands_are_told_as_byte_texts(rt: HostRuntime) {
-    let text = "mac 1112131415161718 1 0307";
-    assert!(rt; hex_is_told(rt.alloc(), "0307", text) == Ok(true));
-    assert!(rt; hex_is_told(rt.alloc(), "", "mac 1112131415161718 1 -") == Ok(true));
-}
-
-fn provisioned(alloc: Global, slot: u16) -> Result<Emission, Refusal> {
-    Emission::of(alloc, &report(Report::Provisioned { slot })?)
-}
-
-fn is_as_its_copy(alloc: Global) -> Result<bool, Refusal> {
-    let emission = provisioned(alloc, 7)?;
-    Ok(emission.clone()? == emission)
-}
-
-#[test]
-fn an_emission_is_copied_whole(rt: HostRuntime) {
-    assert!(rt; is_as_its_copy(rt.alloc()) == Ok(true));
-}
-
-fn are_equal(alloc: Global, slot: u16, other: u16) -> Result<bool, Refusal> {
-    Ok(provisioned(alloc, slot)? == provisioned(alloc, other)?)
+// Whether an emission is as its copy, and not as that of another slot.
+fn are_told_apart(alloc: Global) -> Result<bool, Refusal> {
+    let emission = Emission::of(alloc, &effect(alloc, &Told::Provisioned(7))?)?;
+    let other = Emission::of(alloc, &effect(alloc, &Told::Provisioned(8))?)?;
+    Ok(emission.clone()? == emission && emission != other)
 }
 
 #[test]
 fn emissions_are_told_apart(rt: HostRuntime) {
-    assert!(rt; are_equal(rt.alloc(), 7, 8) == Ok(false));
+    assert!(rt; are_told_apart(rt.alloc()) == Ok(true));
 }
 
 fn provision() -> Result<Request, Refusal> {
@@ -314,105 +336,110 @@ fn provision() -> Result<Request, Refusal> {
 
 const FIELDS: &str = "1112131415161718 0102030405060708 2B7E151628AED2A6ABF7158809CF4F3C 5 15";
 
-fn is_read_of_line(alloc: Global) -> Result<bool, Refusal> {
-    let line = format!(in alloc; "provision {FIELDS}")?;
-    Ok(read_line(alloc, line.as_str())? == provision()?)
+const PROVISION: &str =
+    "provision 1112131415161718 0102030405060708 2B7E151628AED2A6ABF7158809CF4F3C 5 15";
+
+// Whether a provisioning is read of its line, and of its words, and is copied.
+fn provision_is_read(alloc: Global) -> Result<bool, Refusal> {
+    let of_line = read_line(alloc, PROVISION)?;
+    let of_words = read_request(alloc, "provision", Words::of(FIELDS))?;
+    Ok(of_line == provision()? && of_words.clone()? == of_line)
 }
 
 #[test]
-fn a_provisioning_is_read_of_its_line(rt: HostRuntime) {
-    assert!(rt; is_read_of_line(rt.alloc()) == Ok(true));
+fn a_provisioning_is_read_of_its_line_and_of_its_words(rt: HostRuntime) {
+    assert!(rt; provision_is_read(rt.alloc()) == Ok(true));
 }
 
-fn is_read_of_words(alloc: Global) -> Result<bool, Refusal> {
-    let request = read_request(alloc, "provision", Words::of(FIELDS))?;
-    Ok(request.clone()? == provision()?)
+// Whether the line, with so many of A5 in hex behind it, asks for this command.
+fn asks_for(
+    alloc: Global,
+    front: &str,
+    count: usize,
+    command: Result<Command, Refusal>,
+) -> Result<bool, Refusal> {
+    let line = long_text(alloc, front, count, "")?;
+    let request = read_line(alloc, line.as_str())?;
+    Ok(request.into_command(application()?) == command?)
 }
 
-#[test]
-fn a_provisioning_is_read_of_its_words(rt: HostRuntime) {
-    assert!(rt; is_read_of_words(rt.alloc()) == Ok(true));
+fn asked(alloc: Global, bytes: &[u8]) -> Result<AskedBytes, Refusal> {
+    AskedBytes::new(Vec::from_slice(alloc, bytes)?)
+        .ok()
+        .ok_or(Refusal::TooLong)
 }
 
-// Whether the line asks for this command.
-fn asks(alloc: Global, line: &str, command: &Command) -> Result<bool, Refusal> {
-    Ok(read_line(alloc, line)?.into_command(application()?) == *command)
-}
-
-fn queueing(tag: u32, port: u8, confirmed: bool, payload: Vec<u8>) -> Result<Command, Refusal> {
+fn queueing(
+    alloc: Global,
+    tag: u32,
+    port: u8,
+    confirmed: bool,
+    payload: &[u8],
+) -> Result<Command, Refusal> {
     Ok(Command::Queue(Queueing {
         application: application()?,
         dev_eui: DEVICE,
         tag: Tag(tag),
         port,
         confirmed,
-        payload: asked(payload)?,
+        payload: asked(alloc, payload)?,
     }))
 }
 
-fn asked(bytes: Vec<u8>) -> Result<AskedBytes, Refusal> {
-    AskedBytes::new(bytes).map_err(|_| Refusal::TooLong)
-}
-
-// Lines, and the tag, the port, the kind and the payload of the item that each asks for.
-const ITEMS: &[(&str, u32, u8, bool, &str)] = &[
-    ("queue 1112131415161718 9 7 u AA", 9, 7, false, "AA"),
-    ("queue 1112131415161718 0 0 c -", 0, 0, true, ""),
+// Lines, each with so many of A5 in hex behind it, and the tag, the port, the kind and the payload of the item that it asks
+// for; the last one is too long for any data rate.
+const ITEMS: &[(&str, usize, u32, u8, bool, &[u8])] = &[
+    ("queue 1112131415161718 9 7 u AA", 0, 9, 7, false, &[0xAA]),
+    ("queue 1112131415161718 0 0 c -", 0, 0, 0, true, &[]),
     (
         "queue 1112131415161718 4294967295 255 c 00FF",
+        0,
         4_294_967_295,
         255,
         true,
-        "00FF",
+        &[0x00, 0xFF],
+    ),
+    (
+        "queue 1112131415161718 9 7 u ",
+        243,
+        9,
+        7,
+        false,
+        &[0xA5; 243],
     ),
 ];
 
-fn asks_item(
-    alloc: Global,
-    line: &str,
-    tag: u32,
-    port: u8,
-    confirmed: bool,
-    hex: &str,
-) -> Result<bool, Refusal> {
-    let command = queueing(tag, port, confirmed, read_hex(alloc, hex)?)?;
-    asks(alloc, line, &command)
-}
-
 #[test]
 fn items_are_read_of_their_lines(rt: HostRuntime) {
-    for (line, tag, port, confirmed, hex) in ITEMS {
-        let asks = asks_item(rt.alloc(), line, *tag, *port, *confirmed, hex);
-        assert!(rt; asks == Ok(true), "{line}");
+    let alloc = rt.alloc();
+    for (front, count, tag, port, confirmed, payload) in ITEMS {
+        let command = queueing(alloc, *tag, *port, *confirmed, payload);
+        let asks = asks_for(alloc, front, *count, command);
+        assert!(rt; asks == Ok(true), "{front}");
     }
 }
 
-fn asks_long(alloc: Global) -> Result<bool, Refusal> {
-    let hex = write_hex(alloc, &[0xA5; 243])?;
-    let line = format!(in alloc; "queue 1112131415161718 9 7 u {hex}")?;
-    let command = queueing(9, 7, false, vec![in alloc; 0xA5; 243]?)?;
-    asks(alloc, line.as_str(), &command)
-}
-
-#[test]
-fn an_item_of_any_length_is_read(rt: HostRuntime) {
-    assert!(rt; asks_long(rt.alloc()) == Ok(true));
-}
-
-// Whether the line asks for these MAC commands.
-fn asks_mac(alloc: Global, line: &str, hex: &str) -> Result<bool, Refusal> {
-    let command = Command::QueueMac(MacQueueing {
+fn mac_queueing(alloc: Global, commands: &[u8]) -> Result<Command, Refusal> {
+    Ok(Command::QueueMac(MacQueueing {
         application: application()?,
         dev_eui: DEVICE,
-        commands: asked(read_hex(alloc, hex)?)?,
-    });
-    asks(alloc, line, &command)
+        commands: asked(alloc, commands)?,
+    }))
 }
+
+// Lines, and the MAC commands that they ask for.
+const MAC_LINES: &[(&str, &[u8])] = &[
+    ("mac 1112131415161718 06", &[0x06]),
+    ("mac 1112131415161718 -", &[]),
+];
 
 #[test]
 fn commands_are_read_of_their_lines(rt: HostRuntime) {
-    assert!(rt; asks_mac(rt.alloc(), "mac 1112131415161718 06", "06") == Ok(true));
-    assert!(rt; asks_mac(rt.alloc(), "mac 1112131415161718 -", "") == Ok(true));
+    let alloc = rt.alloc();
+    for (line, commands) in MAC_LINES {
+        let asks = asks_for(alloc, line, 0, mac_queueing(alloc, commands));
+        assert!(rt; asks == Ok(true), "{line}");
+    }
 }
 
 // Whether a request to provision becomes its command.
@@ -501,7 +528,9 @@ fn in_use() -> Result<Activation, Refusal> {
 
 // A device with a session in use and one item.
 fn busy(alloc: Global) -> Result<Device, Refusal> {
-    let items = ItemQueue::new(items(alloc, 1, 1)?).map_err(|_| Refusal::QueueFull)?;
+    let items = ItemQueue::new(items(alloc, 1, 1)?)
+        .ok()
+        .ok_or(Refusal::QueueFull)?;
     Ok(Device {
         activation: in_use()?,
         items,
@@ -539,39 +568,4 @@ fn are_listed(alloc: Global) -> Result<bool, Refusal> {
 #[test]
 fn devices_are_listed_by_slot(rt: HostRuntime) {
     assert!(rt; are_listed(rt.alloc()) == Ok(true));
-}
-
-// 242 bytes of A5.
-fn long_payload(alloc: Global) -> Result<Payload, Refusal> {
-    Ok(Payload::from_slice(alloc, &[0xA5; 242])?)
-}
-
-// Their text between these words.
-fn long_text(alloc: Global, front: &str, back: &str) -> Result<String, Refusal> {
-    let hex = write_hex(alloc, &[0xA5; 242])?;
-    Ok(format!(in alloc; "{front} {hex}{back}")?)
-}
-
-fn long_commands_are_told(alloc: Global) -> Result<bool, Refusal> {
-    let text = long_text(alloc, "mac 1112131415161718 1", "")?;
-    sent_is_told(alloc, long_payload(alloc)?, text.as_str())
-}
-
-fn long_queue_is_told(alloc: Global) -> Result<bool, Refusal> {
-    let text = long_text(alloc, "macqueued 1112131415161718", "")?;
-    queued_is_told(alloc, long_payload(alloc)?, text.as_str())
-}
-
-fn long_payload_is_told(alloc: Global) -> Result<bool, Refusal> {
-    let front = "up 1112131415161718 16777215 4294967295 223";
-    let back = " 32 00000000000000B1 868100000 5 -20 -95";
-    let text = long_text(alloc, front, back)?;
-    payload_is_told(alloc, long_payload(alloc)?, text.as_str())
-}
-
-#[test]
-fn the_longest_lines_are_told(rt: HostRuntime) {
-    assert!(rt; long_commands_are_told(rt.alloc()) == Ok(true));
-    assert!(rt; long_queue_is_told(rt.alloc()) == Ok(true));
-    assert!(rt; long_payload_is_told(rt.alloc()) == Ok(true));
 }

@@ -36,55 +36,61 @@ fn refusals_have_numbers_and_messages(rt: HostRuntime) {
     }
 }
 
-// Whether the bytes have this text as hex, and are read of it.
-fn has_hex(alloc: Global, bytes: &[u8], text: &str) -> Result<bool, Refusal> {
-    let is_read = read_hex(alloc, text)?.as_slice() == bytes;
-    Ok(is_read && is_text(write_hex(alloc, bytes), text))
-}
-
-#[test]
-fn bytes_are_upper_case_hex(rt: HostRuntime) {
-    assert!(rt; has_hex(rt.alloc(), &[0, 0x5A, 0xFF], "005AFF") == Ok(true));
-    assert!(rt; has_hex(rt.alloc(), &[], "") == Ok(true));
-}
-
-const NO_HEX: &[&str] = &["5a", "5", "5G", "-", " 5A", "5A\n"];
-
-#[test]
-fn other_texts_are_no_hex(rt: HostRuntime) {
-    for bad in NO_HEX {
-        assert!(rt;
-            read_hex(rt.alloc(), bad).err() == Some(Refusal::BadMessage),
-            "{bad}"
-        );
+// Whether bytes that were read are these.
+fn are_bytes(read: Result<Vec<u8>, Refusal>, wanted: &[u8]) -> bool {
+    match read {
+        Ok(bytes) => bytes.as_slice() == wanted,
+        Err(_) => false,
     }
 }
 
-// Whether the bytes have this text in a line, and are read of it.
-fn has_field(alloc: Global, bytes: &[u8], text: &str) -> Result<bool, Refusal> {
-    let is_read = read_field(alloc, text)?.as_slice() == bytes;
-    Ok(is_read && is_text(ByteField(bytes).to_string(alloc), text))
+// Whether the bytes have this text as hex and that one in a line, and are read of both.
+fn are_spelled(alloc: Global, bytes: &[u8], hex: &str, field: &str) -> bool {
+    is_text(write_hex(alloc, bytes), hex)
+        && are_bytes(read_hex(alloc, hex), bytes)
+        && is_text(ByteField(bytes).to_string(alloc), field)
+        && are_bytes(read_field(alloc, field), bytes)
 }
 
+// Bytes, their hex, and their word in a line.
+const SPELLED: &[(&[u8], &str, &str)] = &[
+    (&[], "", "-"),
+    (&[0x40], "40", "40"),
+    (&[0, 0x5A, 0xFF], "005AFF", "005AFF"),
+];
+
 #[test]
-fn no_bytes_are_a_dash_in_a_line(rt: HostRuntime) {
-    assert!(rt; has_field(rt.alloc(), &[], "-") == Ok(true));
-    assert!(rt; has_field(rt.alloc(), &[0x40], "40") == Ok(true));
-    assert!(rt; read_field(rt.alloc(), "").err() == Some(Refusal::BadMessage));
+fn bytes_are_upper_case_hex(rt: HostRuntime) {
+    for (bytes, hex, field) in SPELLED {
+        assert!(rt; are_spelled(rt.alloc(), bytes, hex, field), "{field}");
+    }
 }
 
 // Whether the longest payload has a text of twice its length, in hex as in a line.
-fn has_long_text(alloc: Global) -> Result<bool, Refusal> {
-    let bytes = vec![in alloc; 0xA5; LONGEST_PAYLOAD]?;
-    let text = write_hex(alloc, &bytes)?;
-    let is_hex = has_hex(alloc, &bytes, text.as_str())?;
-    let is_field = has_field(alloc, &bytes, text.as_str())?;
-    Ok(is_hex && is_field && text.len() == 2 * LONGEST_PAYLOAD)
+fn has_long_text(alloc: Global) -> Result<bool, AllocError> {
+    let text = "A5".repeat(alloc, LONGEST_PAYLOAD)?;
+    let (bytes, text) = ([0xA5; LONGEST_PAYLOAD], text.as_str());
+    Ok(are_spelled(alloc, &bytes, text, text))
 }
 
 #[test]
 fn long_texts_are_read_again(rt: HostRuntime) {
     assert!(rt; has_long_text(rt.alloc()) == Ok(true));
+}
+
+const NO_HEX: &[&str] = &["5a", "5", "5G", " 5A", "5A\n"];
+
+#[test]
+fn other_texts_are_no_hex(rt: HostRuntime) {
+    let alloc = rt.alloc();
+    for bad in NO_HEX {
+        assert!(rt;
+            read_hex(alloc, bad).err() == Some(Refusal::BadMessage),
+            "{bad}"
+        );
+    }
+    assert!(rt; read_hex(alloc, "-").err() == Some(Refusal::BadMessage));
+    assert!(rt; read_field(alloc, "").err() == Some(Refusal::BadMessage));
 }
 
 fn reads<T: FromText + PartialEq + Drop>(text: &str, value: T) -> bool {
@@ -107,7 +113,6 @@ fn refuses<T: FromText + Drop>(texts: &[&str]) -> bool {
 fn names_have_one_text(rt: HostRuntime) {
     assert!(rt; reads("1112131415161718", Eui(0x1112_1314_1516_1718)));
     assert!(rt; reads("54000001", DevAddr(0x5400_0001)));
-    assert!(rt; NetId::new(42).is_some_and(|network| reads("00002A", network)));
     let key = Key([0, 1, 2, 3, 4, 5, 6, 7, 8, 9, 10, 11, 12, 13, 14, 15]);
     assert!(rt; reads("000102030405060708090A0B0C0D0E0F", key));
     let no_euis = &["111213141516171", "11121314151617180", "111213141516171a"];
@@ -126,9 +131,10 @@ fn numbers_have_one_text(rt: HostRuntime) {
     assert!(rt; refuses::<i16>(&["32768", "-0", "+1", "-01", "-"]));
 }
 
-fn network_is_shown(alloc: Global) -> bool {
+// Whether network 42 has this text, and is read of it.
+fn network_has(alloc: Global, text: &str) -> bool {
     match NetId::new(42) {
-        Some(network) => is_text(network.to_string(alloc), "00002A"),
+        Some(network) => is_text(network.to_string(alloc), text) && reads(text, network),
         None => false,
     }
 }
@@ -139,96 +145,95 @@ fn names_are_shown_by_their_text(rt: HostRuntime) {
     let eui = Eui(0x0102_0304_0506_0708).to_string(alloc);
     assert!(rt; is_text(eui, "0102030405060708"));
     assert!(rt; is_text(DevAddr(0x5400_7FFF).to_string(alloc), "54007FFF"));
-    assert!(rt; network_is_shown(alloc));
+    assert!(rt; network_has(alloc, "00002A"));
     let key = Key([0x2B; 16]).reveal(alloc);
     assert!(rt; is_text(key, "2B2B2B2B2B2B2B2B2B2B2B2B2B2B2B2B"));
 }
 
-// What Debug shows of a key, and of bytes.
-fn shown(alloc: Global) -> Result<(String, String), AllocError> {
-    let key = format!(in alloc; "{:?}", Key([0x2B; 16]))?;
-    let bytes = Payload::from_slice(alloc, &[64, 1])?;
-    Ok((key, format!(in alloc; "{bytes:?}")?))
-}
-
-fn hides_the_key(alloc: Global) -> bool {
-    match shown(alloc) {
-        Ok((key, bytes)) => key.as_str() == "Key(..)" && bytes.as_str() == "[64, 1]",
-        Err(_) => false,
+// What Debug shows of bytes.
+fn shown(alloc: Global, bytes: &[u8]) -> Result<String, AllocError> {
+    if bytes.len() > LONGEST_PAYLOAD {
+        return Err(AllocError);
     }
+    let bytes = Payload::from_slice(alloc, bytes)?;
+    format!(in alloc; "{bytes:?}")
 }
 
 #[test]
-fn no_key_is_shown_by_debug(rt: HostRuntime) {
-    assert!(rt; hides_the_key(rt.alloc()));
+fn debug_shows_bytes_and_no_key(rt: HostRuntime) {
+    let alloc = rt.alloc();
+    assert!(rt; is_text(shown(alloc, &[64, 1]), "[64, 1]"));
+    let key = format!(in alloc; "{:?}", Key([0x2B; 16]));
+    assert!(rt; is_text(key, "Key(..)"));
 }
 
-// Whether so many bytes are kept as they are.
-fn are_kept(alloc: Global, len: usize) -> Result<bool, Refusal> {
-    let content = vec![in alloc; 0xA5; len]?;
-    if len > LONGEST_PAYLOAD {
+// Whether these bytes are kept as they are, where they are a payload.
+fn are_kept(alloc: Global, bytes: &[u8]) -> Result<bool, AllocError> {
+    let Ok(kept) = Payload::new(Vec::from_slice(alloc, bytes)?) else {
         return Ok(false);
-    }
-    let bytes = Payload::from_slice(alloc, &content)?;
-    let is_whole = bytes.len() == len && bytes.is_empty() == (len == 0);
-    Ok(is_whole && bytes.into_vec() == content)
+    };
+    let is_long = kept.len() == bytes.len() && kept.is_empty() == bytes.is_empty();
+    Ok(is_long && kept.into_vec().as_slice() == bytes)
 }
 
-#[test]
-fn bytes_are_kept(rt: HostRuntime) {
-    for len in &[0, 1, LONGEST_PAYLOAD] {
-        assert!(rt; are_kept(rt.alloc(), *len) == Ok(true), "{len}");
-    }
-}
-
-// Whether so many bytes are a payload.
-fn may_be(alloc: Global, len: usize) -> Result<bool, Refusal> {
-    Ok(Payload::new(vec![in alloc; 0xA5; len]?).is_ok())
-}
-
-#[test]
-fn bytes_are_bounded(rt: HostRuntime) {
-    assert!(rt; may_be(rt.alloc(), LONGEST_PAYLOAD) == Ok(true));
-    assert!(rt; may_be(rt.alloc(), LONGEST_PAYLOAD + 1) == Ok(false));
-}
-
-#[test]
-fn ranges_have_their_ends(rt: HostRuntime) {
-    for (value, is_in) in &[(2, false), (3, true), (5, true), (6, false)] {
-        assert!(rt; Ranged::<3, 5>::new(*value).is_some() == *is_in, "{value}");
-    }
-    assert!(rt; Ranged::<3, 5>::new(4).is_some_and(|number| number.get() == 4));
-}
-
-const JOIN_NONCES: &[(u32, bool)] = &[
-    (0, false),
-    (1, true),
-    (16_777_215, true),
-    (16_777_216, false),
+const PAYLOADS: &[(&[u8], bool)] = &[
+    (&[], true),
+    (&[0xA5], true),
+    (&[0xA5; LONGEST_PAYLOAD], true),
+    (&[0xA5; LONGEST_PAYLOAD + 1], false),
 ];
 
 #[test]
-fn join_nonces_have_24_bits(rt: HostRuntime) {
-    for (value, is_in) in JOIN_NONCES {
-        assert!(rt; JoinNonce::new(*value).is_some() == *is_in, "{value}");
+fn bytes_are_kept(rt: HostRuntime) {
+    for (bytes, may) in PAYLOADS {
+        assert!(rt; are_kept(rt.alloc(), bytes) == Ok(*may));
     }
 }
 
-// Whether a text consists of these words.
-fn has_words(text: &str, wanted: &[&str]) -> bool {
-    let mut words = Words::of(text);
-    for word in wanted {
-        if words.next() != Some(*word) {
-            return false;
-        }
+// The number that is made of a number, in a range and in 24 bits.
+fn ranged(value: u64) -> Option<u64> {
+    Some(Ranged::<3, 5>::new(value)?.get())
+}
+
+fn nonce(value: u32) -> Option<u32> {
+    Some(JoinNonce::new(value)?.get())
+}
+
+const RANGED: &[(u64, Option<u64>)] = &[
+    (2, None),
+    (3, Some(3)),
+    (4, Some(4)),
+    (5, Some(5)),
+    (6, None),
+];
+
+const JOIN_NONCES: &[(u32, Option<u32>)] = &[
+    (0, None),
+    (1, Some(1)),
+    (16_777_215, Some(16_777_215)),
+    (16_777_216, None),
+];
+
+#[test]
+fn ranges_have_their_ends(rt: HostRuntime) {
+    for (value, wanted) in RANGED {
+        assert!(rt; ranged(*value) == *wanted, "{value}");
     }
-    words.next().is_none()
+    for (value, wanted) in JOIN_NONCES {
+        assert!(rt; nonce(*value) == *wanted, "{value}");
+    }
+}
+
+// The first words of a text.
+fn words(text: &str) -> [Option<&str>; 3] {
+    let mut words = Words::of(text);
+    [words.next(), words.next(), words.next()]
 }
 
 #[test]
 fn words_are_parted_by_one_space(rt: HostRuntime) {
-    assert!(rt; has_words("take 64", &["take", "64"]));
-    assert!(rt; has_words(" a", &["", "a"]));
+    assert!(rt; words("take 64") == [Some("take"), Some("64"), None]);
+    assert!(rt; words(" a") == [Some(""), Some("a"), None]);
 }
 
 const RECEPTION: Reception = Reception {
@@ -239,28 +244,23 @@ const RECEPTION: Reception = Reception {
     rssi: -95,
 };
 
-// A copy of a frame of so many bytes, copied once more.
-fn copied(alloc: Global, len: usize) -> Result<FrameCopy, Refusal> {
-    let bytes = vec![in alloc; 0x40; len]?;
-    Ok(FrameCopy::new(alloc, RECEPTION, 50_000, bytes.as_slice())?.copy()?)
+// Whether a frame of these bytes is copied whole.
+fn is_copied(alloc: Global, bytes: &[u8]) -> Result<bool, Refusal> {
+    let copy = FrameCopy::new(alloc, RECEPTION, 50_000, bytes)?.copy()?;
+    let is_heard = copy.reception == RECEPTION && copy.stamp == 50_000;
+    Ok(is_heard && copy.phy_payload.as_slice() == bytes)
 }
 
-// Whether a frame of so many bytes is copied whole.
-fn is_copied(alloc: Global, len: usize) -> Result<bool, Refusal> {
-    let copy = copied(alloc, len)?;
-    let is_heard = copy.reception == RECEPTION && copy.stamp == 50_000;
-    Ok(is_heard && copy.phy_payload.into_vec() == vec![in alloc; 0x40; len]?)
-}
+const FRAMES: &[(&[u8], Result<bool, Refusal>)] = &[
+    (&[], Ok(true)),
+    (&[0x40; 17], Ok(true)),
+    (&[0x40; LONGEST_FRAME], Ok(true)),
+    (&[0x40; LONGEST_FRAME + 1], Err(Refusal::FrameTooLong)),
+];
 
 #[test]
 fn copies_are_whole(rt: HostRuntime) {
-    for len in &[0, 17, LONGEST_FRAME] {
-        assert!(rt; is_copied(rt.alloc(), *len) == Ok(true), "{len}");
+    for (bytes, wanted) in FRAMES {
+        assert!(rt; is_copied(rt.alloc(), bytes) == *wanted);
     }
-}
-
-#[test]
-fn copies_have_at_most_255_bytes(rt: HostRuntime) {
-    let long = is_copied(rt.alloc(), LONGEST_FRAME + 1);
-    assert!(rt; long == Err(Refusal::FrameTooLong));
 }

@@ -1,43 +1,51 @@
-use lw_types::{Direction, Payload, Refusal, read_hex};
+use lw_types::{Direction, LONGEST_PAYLOAD, Refusal};
 use mac_commands::{
-    Cid, CommandPayload, Decoded, MacCommand, are_queueable, asks_link_check, decode_down,
-    decode_up, encode_down, fit15, read_told,
+    Cid, Decoded, MacCommand, are_queueable, asks_link_check, decode_down, decode_up, encode_down,
+    fit15, read_told,
 };
-use std::alloc::Global;
+use std::alloc::{AllocError, Global};
 
-// Each command of TS001-1.0.4 §5, with the length of its payload in an uplink and in a downlink.
-const TABLE: &[(u8, Cid, u8, u8)] = &[
-    (0x02, Cid::LinkCheck, 0, 2),
-    (0x03, Cid::LinkAdr, 1, 4),
-    (0x04, Cid::DutyCycle, 0, 1),
-    (0x05, Cid::RxParamSetup, 1, 4),
-    (0x06, Cid::DevStatus, 2, 0),
-    (0x07, Cid::NewChannel, 1, 5),
-    (0x08, Cid::RxTimingSetup, 0, 1),
-    (0x09, Cid::TxParamSetup, 0, 1),
-    (0x0A, Cid::DlChannel, 1, 4),
-    (0x0D, Cid::DeviceTime, 0, 5),
+// A command of TS001-1.0.4 §5: its number, and its bytes in an uplink and in a downlink. The payloads are of bytes that are
+// identifiers too.
+type Row = (u8, Cid, &'static [u8], &'static [u8]);
+
+const TABLE: &[Row] = &[
+    (0x02, Cid::LinkCheck, &[0x02], &[0x02, 0x02, 0x0B]),
+    (
+        0x03,
+        Cid::LinkAdr,
+        &[0x03, 0x02],
+        &[0x03, 0x02, 0x0B, 0x06, 0x04],
+    ),
+    (0x04, Cid::DutyCycle, &[0x04], &[0x04, 0x02]),
+    (
+        0x05,
+        Cid::RxParamSetup,
+        &[0x05, 0x02],
+        &[0x05, 0x02, 0x0B, 0x06, 0x04],
+    ),
+    (0x06, Cid::DevStatus, &[0x06, 0x02, 0x0B], &[0x06]),
+    (
+        0x07,
+        Cid::NewChannel,
+        &[0x07, 0x02],
+        &[0x07, 0x02, 0x0B, 0x06, 0x04, 0x0D],
+    ),
+    (0x08, Cid::RxTimingSetup, &[0x08], &[0x08, 0x02]),
+    (0x09, Cid::TxParamSetup, &[0x09], &[0x09, 0x02]),
+    (
+        0x0A,
+        Cid::DlChannel,
+        &[0x0A, 0x02],
+        &[0x0A, 0x02, 0x0B, 0x06, 0x04],
+    ),
+    (
+        0x0D,
+        Cid::DeviceTime,
+        &[0x0D],
+        &[0x0D, 0x02, 0x0B, 0x06, 0x04, 0x0D],
+    ),
 ];
-
-// A payload of this length, of bytes that are identifiers too.
-fn payload(len: u8) -> Result<&'static [u8], Refusal> {
-    let bytes: &'static [u8] = &[0x02, 0x0B, 0x06, 0x04, 0x0D];
-    bytes.get(..usize::from(len)).ok_or(Refusal::TooLong)
-}
-
-// The bytes of the command with that payload.
-fn spelled(alloc: Global, number: u8, len: u8) -> Result<Vec<u8>, Refusal> {
-    let mut bytes = Vec::from_slice(alloc, &[number])?;
-    bytes.extend_from_slice(payload(len)?)?;
-    Ok(bytes)
-}
-
-fn command(alloc: Global, cid: Cid, payload: &[u8]) -> Result<MacCommand, Refusal> {
-    match CommandPayload::new(Vec::from_slice(alloc, payload)?) {
-        Ok(payload) => Ok(MacCommand { cid, payload }),
-        Err(_) => Err(Refusal::TooLong),
-    }
-}
 
 fn read(alloc: Global, direction: Direction, bytes: &[u8]) -> Result<Decoded, Refusal> {
     match direction {
@@ -46,121 +54,121 @@ fn read(alloc: Global, direction: Direction, bytes: &[u8]) -> Result<Decoded, Re
     }
 }
 
-// Whether an uplink's commands are read as these without a payload or of one byte, as far as there.
+// Whether these are the commands, with their payloads.
+fn are_commands(found: &[MacCommand], wanted: &[(Cid, &[u8])]) -> bool {
+    let mut are_same = found.len() == wanted.len();
+    for (command, (cid, payload)) in found.iter().zip(wanted) {
+        are_same = are_same && command.cid == *cid && command.payload.as_slice() == *payload;
+    }
+    are_same
+}
+
+// Whether the bytes are read as these commands, as far as there.
 fn is_read(
     alloc: Global,
+    direction: Direction,
     bytes: &[u8],
     wanted: &[(Cid, &[u8])],
     stop: usize,
 ) -> Result<bool, Refusal> {
-    let mut commands = Vec::new(alloc);
-    for (cid, payload) in wanted {
-        commands.push(command(alloc, *cid, payload)?)?;
-    }
-    Ok(decode_up(alloc, bytes)? == Decoded { commands, stop })
+    let found = read(alloc, direction, bytes)?;
+    Ok(found.stop == stop && are_commands(&found.commands, wanted))
 }
 
-#[test]
-fn reading_stops_at_the_end(rt: HostRuntime) {
-    let commands: &[(Cid, &[u8])] = &[
-        (Cid::LinkCheck, &[]),
-        (Cid::LinkAdr, &[0x07]),
-        (Cid::DeviceTime, &[]),
-    ];
-    let is_read = is_read(rt.alloc(), &[0x02, 0x03, 0x07, 0x0D], commands, 4);
-    assert!(rt; is_read == Ok(true));
-}
+// Uplinks' commands, what is read of them, and where reading stops: at the end, and where no known command begins.
+const READ: &[(&[u8], &[(Cid, &[u8])], usize)] = &[
+    (
+        &[0x02, 0x03, 0x07, 0x0D],
+        &[
+            (Cid::LinkCheck, &[]),
+            (Cid::LinkAdr, &[0x07]),
+            (Cid::DeviceTime, &[]),
+        ],
+        4,
+    ),
+    (&[0x02, 0x0B, 0x02], &[(Cid::LinkCheck, &[])], 1),
+];
 
 #[test]
 fn reading_stops_where_no_known_command_begins(rt: HostRuntime) {
-    let commands: &[(Cid, &[u8])] = &[(Cid::LinkCheck, &[])];
-    assert!(rt; is_read(rt.alloc(), &[0x02, 0x0B, 0x02], commands, 1) == Ok(true));
-}
-
-// Whether the bytes are read as this one command.
-fn is_read_whole(
-    alloc: Global,
-    direction: Direction,
-    bytes: &[u8],
-    command: MacCommand,
-) -> Result<bool, Refusal> {
-    let commands = vec![in alloc; command]?;
-    let stop = bytes.len();
-    Ok(read(alloc, direction, bytes)? == Decoded { commands, stop })
-}
-
-// Whether none is read without the last of them.
-fn is_cut_off(alloc: Global, direction: Direction, bytes: &[u8]) -> Result<bool, Refusal> {
-    match bytes.split_last() {
-        Some((_, cut)) => Ok(read(alloc, direction, cut)?.stop == 0),
-        None => Ok(false),
+    for (bytes, wanted, stop) in READ {
+        let is_read = is_read(rt.alloc(), Direction::Up, bytes, wanted, *stop);
+        assert!(rt; is_read == Ok(true), "{stop}");
     }
 }
 
-// Whether a command with so long a payload is read whole, and not without its last byte.
-fn has_length(
+// Whether the command is read whole of its bytes, and none without the last of them.
+fn is_whole(alloc: Global, direction: Direction, cid: Cid, bytes: &[u8]) -> Result<bool, Refusal> {
+    match (bytes.split_first(), bytes.split_last()) {
+        (Some((_, payload)), Some((_, cut))) => {
+            let is_read = is_read(alloc, direction, bytes, &[(cid, payload)], bytes.len())?;
+            Ok(is_read && is_read_of(alloc, direction, cut, 0)?)
+        }
+        _ => Ok(false),
+    }
+}
+
+// Whether reading stops there.
+fn is_read_of(
     alloc: Global,
     direction: Direction,
-    (number, cid): (u8, Cid),
-    len: u8,
+    bytes: &[u8],
+    stop: usize,
 ) -> Result<bool, Refusal> {
-    let command = command(alloc, cid, payload(len)?)?;
-    let bytes = spelled(alloc, number, len)?;
-    let is_cut_off = is_cut_off(alloc, direction, &bytes)?;
-    Ok(is_cut_off && is_read_whole(alloc, direction, &bytes, command)?)
+    Ok(read(alloc, direction, bytes)?.stop == stop)
 }
 
 #[test]
 fn each_command_is_read_whole_both_ways(rt: HostRuntime) {
     let alloc = rt.alloc();
     for (number, cid, up, down) in TABLE {
-        let named = (*number, *cid);
         assert!(rt;
-            has_length(alloc, Direction::Up, named, *up) == Ok(true),
+            is_whole(alloc, Direction::Up, *cid, up) == Ok(true),
             "{number}"
         );
-        let is_down = has_length(alloc, Direction::Down, named, *down);
+        let is_down = is_whole(alloc, Direction::Down, *cid, down);
         assert!(rt; is_down == Ok(true), "{number}");
     }
 }
 
-// Whether the command with so long a payload is written behind AA.
-fn is_written(alloc: Global, number: u8, cid: Cid, len: u8) -> Result<bool, Refusal> {
-    let commands = vec![in alloc; command(alloc, cid, payload(len)?)?]?;
+// Whether a downlink's command is read, and written behind AA as it was.
+fn is_written(alloc: Global, bytes: &[u8]) -> Result<bool, Refusal> {
     let mut out = Vec::from_slice(alloc, &[0xAA])?;
-    encode_down(alloc, &commands, &mut out)?;
-    let bytes = spelled(alloc, number, len)?;
-    Ok(out.as_slice().strip_prefix(&[0xAA]) == Some(bytes.as_slice()))
+    encode_down(alloc, &decode_down(alloc, bytes)?.commands, &mut out)?;
+    Ok(out.as_slice().strip_prefix(&[0xAA]) == Some(bytes))
 }
 
 #[test]
 fn downlinks_are_written_behind_what_is_there(rt: HostRuntime) {
-    for (number, cid, _, down) in TABLE {
-        let is_written = is_written(rt.alloc(), *number, *cid, *down);
-        assert!(rt; is_written == Ok(true), "{number}");
+    for (number, _, _, down) in TABLE {
+        assert!(rt; is_written(rt.alloc(), down) == Ok(true), "{number}");
     }
 }
 
 #[test]
 fn ten_numbers_are_known(rt: HostRuntime) {
     for number in 0..=u8::MAX {
-        let known = TABLE.iter().any(|row| row.0 == number);
+        let known = matches!(number, 0x02..=0x0A | 0x0D);
         assert!(rt; Cid::from_number(number).is_some() == known, "{number}");
     }
 }
 
-// Whether a command has this number, and payloads of so many bytes.
-fn has_row(number: u8, cid: Cid, up: u8, down: u8) -> bool {
+// Whether a command has its number, payloads as long as those, and is one of three kinds where it may be queued.
+fn has_row(row: &Row) -> bool {
+    let (number, cid, up, down) = *row;
+    let may = matches!(cid, Cid::LinkAdr | Cid::DutyCycle | Cid::DevStatus);
     let is_named = Cid::from_number(number) == Some(cid) && cid.number() == number;
     is_named
-        && cid.payload_len(Direction::Up) == usize::from(up)
-        && cid.payload_len(Direction::Down) == usize::from(down)
+        && cid.payload_len(Direction::Up) + 1 == up.len()
+        && cid.payload_len(Direction::Down) + 1 == down.len()
+        && cid.may_be_queued() == may
+        && are_queueable(down) == may
 }
 
 #[test]
 fn each_command_has_its_row(rt: HostRuntime) {
-    for (number, cid, up, down) in TABLE {
-        assert!(rt; has_row(*number, *cid, *up, *down), "{number}");
+    for row in TABLE {
+        assert!(rt; has_row(row), "{}", row.0);
     }
 }
 
@@ -192,137 +200,92 @@ fn whole_commands_fit_the_room(rt: HostRuntime) {
     }
 }
 
-// So many bytes of LinkADRReq, of which the last one is cut where the length isn't a multiple of 5.
-fn requests(alloc: Global, len: usize) -> Result<Vec<u8>, Refusal> {
-    let mut bytes = vec![in alloc; 0xA5; len]?;
-    for first in bytes.iter_mut().step_by(5) {
-        *first = 0x03;
-    }
+// LinkADRReq so many times, and these bytes.
+fn requests(alloc: Global, count: usize, rest: &[u8]) -> Result<Vec<u8>, AllocError> {
+    let mut bytes = [0x03, 0xA5, 0xA5, 0xA5, 0xA5].repeat(alloc, count)?;
+    bytes.extend_from_slice(rest)?;
     Ok(bytes)
 }
 
-// How many commands are read, and where reading stops.
-fn counted(alloc: Global, direction: Direction, bytes: &[u8]) -> Result<(usize, usize), Refusal> {
-    let found = read(alloc, direction, bytes)?;
-    Ok((found.commands.len(), found.stop))
-}
-
-fn requests_counted(alloc: Global) -> Result<(usize, usize), Refusal> {
-    counted(alloc, Direction::Down, &requests(alloc, 242)?)
-}
-
-#[test]
-fn many_commands_are_read(rt: HostRuntime) {
-    assert!(rt; requests_counted(rt.alloc()) == Ok((48, 240)));
-    let checks = counted(rt.alloc(), Direction::Up, &[0x02; 242]);
-    assert!(rt; checks == Ok((242, 242)));
-}
-
-// Whether many commands that were read are written again.
-fn are_written(alloc: Global) -> Result<bool, Refusal> {
-    let bytes = requests(alloc, 240)?;
+// How many commands are read of 48 and these bytes, where reading stops, and whether what was read is written again.
+fn read_again(alloc: Global, rest: &[u8]) -> Result<(usize, usize, bool), Refusal> {
+    let bytes = requests(alloc, 48, rest)?;
     let found = decode_down(alloc, &bytes)?;
     let mut out = Vec::new(alloc);
     encode_down(alloc, &found.commands, &mut out)?;
-    Ok(out == bytes)
+    let is_written = bytes.get(..found.stop) == Some(out.as_slice());
+    Ok((found.commands.len(), found.stop, is_written))
 }
 
+fn checks(alloc: Global) -> Result<(usize, usize), Refusal> {
+    let found = decode_up(alloc, &[0x02; LONGEST_PAYLOAD])?;
+    Ok((found.commands.len(), found.stop))
+}
+
+// All of 240 bytes; all but the last one, which is cut; and those of one byte each in an uplink.
 #[test]
-fn many_commands_are_written(rt: HostRuntime) {
-    assert!(rt; are_written(rt.alloc()) == Ok(true));
+fn many_commands_are_read_and_written(rt: HostRuntime) {
+    let alloc = rt.alloc();
+    assert!(rt; read_again(alloc, &[]) == Ok((48, 240, true)));
+    assert!(rt; read_again(alloc, &[0x03, 0xA5]) == Ok((48, 240, true)));
+    assert!(rt; checks(alloc) == Ok((242, 242)));
 }
 
-fn fitting(alloc: Global, room: u8) -> Result<usize, Refusal> {
-    Ok(fit15(&requests(alloc, 240)?, room))
+// How much of so many requests and these bytes fits a wide room, and whether all of them may be queued.
+fn queued(alloc: Global, count: usize, rest: &[u8]) -> Result<(usize, bool), AllocError> {
+    let bytes = requests(alloc, count, rest)?;
+    Ok((fit15(&bytes, 242), are_queueable(&bytes)))
 }
 
-#[test]
-fn many_commands_fit_a_wide_room(rt: HostRuntime) {
-    assert!(rt; fitting(rt.alloc(), 242) == Ok(240));
-}
-
-// Whether a command with so long a payload may be queued, by its kind and by its bytes.
-fn may_wait(alloc: Global, number: u8, cid: Cid, len: u8) -> Result<(bool, bool), Refusal> {
-    let bytes = spelled(alloc, number, len)?;
-    Ok((cid.may_be_queued(), are_queueable(&bytes)))
-}
-
-#[test]
-fn queues_are_whole_commands_of_three_kinds(rt: HostRuntime) {
-    for (number, cid, _, down) in TABLE {
-        let may = matches!(cid, Cid::LinkAdr | Cid::DutyCycle | Cid::DevStatus);
-        let answers = may_wait(rt.alloc(), *number, *cid, *down);
-        assert!(rt; answers == Ok((may, may)), "{number}");
-    }
-}
-
-// Whether so many bytes of LinkADRReq may be queued.
-fn requests_may_wait(alloc: Global, len: usize) -> Result<bool, Refusal> {
-    Ok(are_queueable(&requests(alloc, len)?))
-}
+const QUEUES: &[(usize, &[u8], (usize, bool))] = &[
+    (0, &[], (0, true)),
+    (12, &[], (60, true)),
+    (12, &[0x03], (60, false)),
+    (48, &[], (240, true)),
+];
 
 #[test]
 fn queues_end_with_a_command(rt: HostRuntime) {
-    assert!(rt; requests_may_wait(rt.alloc(), 0) == Ok(true));
-    assert!(rt; requests_may_wait(rt.alloc(), 60) == Ok(true));
-    assert!(rt; requests_may_wait(rt.alloc(), 61) == Ok(false));
+    for (count, rest, wanted) in QUEUES {
+        assert!(rt; queued(rt.alloc(), *count, rest) == Ok(*wanted), "{count}");
+    }
 }
 
-// The commands in an uplink, those that its application is told, and whether a LinkCheckReq is among them: none; one command;
-// LinkCheckReq twice; DeviceTimeReq; a payload that is an identifier; an identifier that isn't known; a cut DevStatusAns.
-const UPLINKS: &[(&str, &str, bool)] = &[
-    ("", "", false),
-    ("0307", "0307", false),
-    ("0202", "", true),
-    ("0D", "", false),
-    ("020307", "0307", true),
-    ("03070D06FF140A03", "030706FF140A03", false),
-    ("0702", "0702", false),
-    ("03070E02", "0307", false),
-    ("03070602", "0307", false),
-    ("0408020E0702", "0408", true),
+// The commands in an uplink, those that its application is told, and whether a LinkCheckReq is among them.
+const UPLINKS: &[(&[u8], &[u8], bool)] = &[
+    // None; one command; LinkCheckReq twice; DeviceTimeReq.
+    (&[], &[], false),
+    (&[0x03, 0x07], &[0x03, 0x07], false),
+    (&[0x02, 0x02], &[], true),
+    (&[0x0D], &[], false),
+    (&[0x02, 0x03, 0x07], &[0x03, 0x07], true),
+    (
+        &[0x03, 0x07, 0x0D, 0x06, 0xFF, 0x14, 0x0A, 0x03],
+        &[0x03, 0x07, 0x06, 0xFF, 0x14, 0x0A, 0x03],
+        false,
+    ),
+    // A payload that is an identifier; an identifier that isn't known; a DevStatusAns that is cut.
+    (&[0x07, 0x02], &[0x07, 0x02], false),
+    (&[0x03, 0x07, 0x0E, 0x02], &[0x03, 0x07], false),
+    (&[0x03, 0x07, 0x06, 0x02], &[0x03, 0x07], false),
+    (&[0x04, 0x08, 0x02, 0x0E, 0x07, 0x02], &[0x04, 0x08], true),
+    // As many as there may be.
+    (&[0x04; LONGEST_PAYLOAD], &[0x04; LONGEST_PAYLOAD], false),
 ];
 
-// The bytes of an uplink's commands.
-fn uplink(alloc: Global, hex: &str) -> Result<Payload, Refusal> {
-    Payload::new(read_hex(alloc, hex)?).map_err(|_| Refusal::TooLong)
-}
-
 // Whether this is what the application is told of these commands.
-fn is_told(alloc: Global, commands: &str, wanted: &str) -> Result<bool, Refusal> {
-    let told = read_told(alloc, uplink(alloc, commands)?.as_slice())?;
-    Ok(told == uplink(alloc, wanted)?)
-}
-
-// Whether a LinkCheckReq is among these commands.
-fn asks(alloc: Global, commands: &str) -> Result<bool, Refusal> {
-    Ok(asks_link_check(&read_hex(alloc, commands)?))
+fn is_told(alloc: Global, commands: &[u8], wanted: &[u8]) -> Result<bool, AllocError> {
+    if commands.len() > LONGEST_PAYLOAD {
+        return Ok(false);
+    }
+    Ok(read_told(alloc, commands)?.as_slice() == wanted)
 }
 
 #[test]
 fn applications_are_told_what_devices_answer(rt: HostRuntime) {
-    for (commands, told, _) in UPLINKS {
-        assert!(rt;
-            is_told(rt.alloc(), commands, told) == Ok(true),
-            "{commands}"
-        );
+    for (commands, told, asks) in UPLINKS {
+        let is_told = is_told(rt.alloc(), commands, told);
+        assert!(rt; is_told == Ok(true), "{commands:?}");
+        assert!(rt; asks_link_check(commands) == *asks, "{commands:?}");
     }
-}
-
-#[test]
-fn a_link_check_is_asked_among_others(rt: HostRuntime) {
-    for (commands, _, wanted) in UPLINKS {
-        assert!(rt; asks(rt.alloc(), commands) == Ok(*wanted), "{commands}");
-    }
-}
-
-// Whether the largest number of commands is told.
-fn are_told(alloc: Global) -> Result<bool, Refusal> {
-    let told = read_told(alloc, &[0x04; 242])?;
-    Ok(told.as_slice() == [0x04; 242].as_slice())
-}
-
-#[test]
-fn many_commands_are_told(rt: HostRuntime) {
-    assert!(rt; are_told(rt.alloc()) == Ok(true));
 }

@@ -6,10 +6,17 @@ use phy_payload::{
 };
 use std::alloc::Global;
 
+// An uplink and a downlink with no bit set.
 const UPLINK: Control = Control::Uplink {
     adr: false,
     adr_ack_req: false,
     ack: false,
+};
+
+const DOWNLINK: Control = Control::Downlink {
+    adr: false,
+    ack: false,
+    f_pending: false,
 };
 
 // FOpts and, where there is a port, its payload.
@@ -19,30 +26,296 @@ fn contents(
     port: Option<u8>,
     payload: &[u8],
 ) -> Result<Contents, Refusal> {
-    short_contents(alloc, f_opts, port, payload).ok_or(Refusal::TooLong)
+    let f_opts = FOpts::new(Vec::from_slice(alloc, f_opts)?).ok();
+    let frm_payload = FrmPayload::new(Vec::from_slice(alloc, payload)?).ok();
+    joined(f_opts, port, frm_payload).ok_or(Refusal::TooLong)
 }
 
-// The same, where there are at most 242 bytes, and memory.
-fn short_contents(
-    alloc: Global,
-    f_opts: &[u8],
+// The contents of these parts, which are at most 242 bytes.
+fn joined(
+    f_opts: Option<FOpts>,
     port: Option<u8>,
-    payload: &[u8],
+    frm_payload: Option<FrmPayload>,
 ) -> Option<Contents> {
-    if f_opts.len() + payload.len() > 242 {
+    let (f_opts, frm_payload) = (f_opts?, frm_payload?);
+    let Some(f_port) = port else {
+        return Some(Contents::new(f_opts, None));
+    };
+    if f_opts.len() + frm_payload.len() > 242 {
         return None;
     }
-    let f_opts = FOpts::new(Vec::from_slice(alloc, f_opts).ok()?).ok()?;
-    let frm_payload = FrmPayload::new(Vec::from_slice(alloc, payload).ok()?).ok()?;
-    match port {
-        None => Some(Contents::new(f_opts, None)),
-        Some(f_port) => Some(Contents::new(
-            f_opts,
-            Some(Message {
-                f_port,
-                frm_payload,
-            }),
-        )),
+    let message = Message {
+        f_port,
+        frm_payload,
+    };
+    Some(Contents::new(f_opts, Some(message)))
+}
+
+// What is written of a frame.
+fn written(alloc: Global, frame: &Phy) -> Result<Vec<u8>, Refusal> {
+    let mut out = Vec::new(alloc);
+    encode(alloc, frame, &mut out)?;
+    Ok(out)
+}
+
+// Whether these bytes are this frame: each is made of the other.
+fn are_same(alloc: Global, bytes: &[u8], frame: &Phy) -> Result<bool, Refusal> {
+    Ok(decode(alloc, bytes)? == *frame && written(alloc, frame)?.as_slice() == bytes)
+}
+
+fn spells(alloc: Global, text: &str, frame: &Phy) -> Result<bool, Refusal> {
+    are_same(alloc, &read_hex(alloc, text)?, frame)
+}
+
+#[test]
+fn joins(rt: HostRuntime) {
+    let alloc = rt.alloc();
+    let request = Phy::JoinRequest(JoinRequest {
+        join_eui: Eui(0x0102_0304_0506_0708),
+        dev_eui: Eui(0x1112_1314_1516_1718),
+        dev_nonce: 1,
+        mic: Mic([0xAA, 0xBB, 0xCC, 0xDD]),
+    });
+    let text = "00080706050403020118171615141312110100AABBCCDD";
+    assert!(rt; spells(alloc, text, &request) == Ok(true));
+    let short = Phy::JoinAccept(JoinAccept::Short { sealed: [0x11; 16] });
+    let text = "2011111111111111111111111111111111";
+    assert!(rt; spells(alloc, text, &short) == Ok(true));
+    let long = Phy::JoinAccept(JoinAccept::WithCfList { sealed: [0x22; 32] });
+    let text = "202222222222222222222222222222222222222222222222222222222222222222";
+    assert!(rt; spells(alloc, text, &long) == Ok(true));
+}
+
+// A data frame: its text, whether it is confirmed, DevAddr, FCtrl, FCnt, FOpts, FPort, FRMPayload and MIC.
+type Data = (
+    &'static str,
+    bool,
+    u32,
+    Control,
+    u16,
+    &'static [u8],
+    Option<u8>,
+    &'static [u8],
+    [u8; 4],
+);
+
+const MIC: [u8; 4] = [0xAA, 0xBB, 0xCC, 0xDD];
+
+const LONGEST_F_OPTS: &[u8] = &[1, 2, 3, 4, 5, 6, 7, 8, 9, 10, 11, 12, 13, 14, 15];
+
+const DATA_FRAMES: &[Data] = &[
+    // The first frame of the readme of npm's `lora-packet`.
+    (
+        "40F17DBE4900020001954378762B11FF0D",
+        false,
+        0x49BE_7DF1,
+        UPLINK,
+        2,
+        &[],
+        Some(1),
+        &[0x95, 0x43, 0x78, 0x76],
+        [0x2B, 0x11, 0xFF, 0x0D],
+    ),
+    // Empty frames with each bit of FCtrl.
+    (
+        "4000000054000000AABBCCDD",
+        false,
+        0x5400_0000,
+        UPLINK,
+        0,
+        &[],
+        None,
+        &[],
+        MIC,
+    ),
+    (
+        "4000000054800000AABBCCDD",
+        false,
+        0x5400_0000,
+        Control::Uplink {
+            adr: true,
+            adr_ack_req: false,
+            ack: false,
+        },
+        0,
+        &[],
+        None,
+        &[],
+        MIC,
+    ),
+    (
+        "8000000054400000AABBCCDD",
+        true,
+        0x5400_0000,
+        Control::Uplink {
+            adr: false,
+            adr_ack_req: true,
+            ack: false,
+        },
+        0,
+        &[],
+        None,
+        &[],
+        MIC,
+    ),
+    (
+        "8000000054200000AABBCCDD",
+        true,
+        0x5400_0000,
+        Control::Uplink {
+            adr: false,
+            adr_ack_req: false,
+            ack: true,
+        },
+        0,
+        &[],
+        None,
+        &[],
+        MIC,
+    ),
+    (
+        "6000000054800000AABBCCDD",
+        false,
+        0x5400_0000,
+        Control::Downlink {
+            adr: true,
+            ack: false,
+            f_pending: false,
+        },
+        0,
+        &[],
+        None,
+        &[],
+        MIC,
+    ),
+    (
+        "A000000054200000AABBCCDD",
+        true,
+        0x5400_0000,
+        Control::Downlink {
+            adr: false,
+            ack: true,
+            f_pending: false,
+        },
+        0,
+        &[],
+        None,
+        &[],
+        MIC,
+    ),
+    (
+        "6000000054100000AABBCCDD",
+        false,
+        0x5400_0000,
+        Control::Downlink {
+            adr: false,
+            ack: false,
+            f_pending: true,
+        },
+        0,
+        &[],
+        None,
+        &[],
+        MIC,
+    ),
+    // The longest FOpts, without a port and with one.
+    (
+        "60010000540F34120102030405060708090A0B0C0D0E0FAABBCCDD",
+        false,
+        0x5400_0001,
+        DOWNLINK,
+        0x1234,
+        LONGEST_F_OPTS,
+        None,
+        &[],
+        MIC,
+    ),
+    (
+        "60010000540F34120102030405060708090A0B0C0D0E0F00AABBCCDD",
+        false,
+        0x5400_0001,
+        DOWNLINK,
+        0x1234,
+        LONGEST_F_OPTS,
+        Some(0),
+        &[],
+        MIC,
+    ),
+];
+
+fn spells_data(alloc: Global, data: &Data) -> Result<bool, Refusal> {
+    let (text, confirmed, dev_addr, control, f_cnt, f_opts, port, payload, mic) = *data;
+    let frame = Phy::DataFrame(DataFrame {
+        confirmed,
+        dev_addr: DevAddr(dev_addr),
+        control,
+        f_cnt,
+        contents: contents(alloc, f_opts, port, payload)?,
+        mic: Mic(mic),
+    });
+    spells(alloc, text, &frame)
+}
+
+#[test]
+fn data_frames(rt: HostRuntime) {
+    for data in DATA_FRAMES {
+        assert!(rt; spells_data(rt.alloc(), data) == Ok(true), "{}", data.0);
+    }
+}
+
+const NO_FRAMES: &[(&[u8], Refusal, &str)] = &[
+    (&[], Refusal::Malformed, "no bytes"),
+    (&[0xE0], Refusal::NotServed, "Proprietary"),
+    (&[0xC0], Refusal::NotServed, "RFU"),
+    (
+        &[0xE1],
+        Refusal::Malformed,
+        "the MHDR comes before the FType",
+    ),
+    (
+        &[0x40, 0xF1, 0x7D, 0xBE, 0x49, 0, 2, 0, 1, 0x95],
+        Refusal::Malformed,
+        "10 bytes",
+    ),
+    (
+        &[0x40, 0xF1, 0x7D, 0xBE, 0x49, 0, 2, 0, 1, 0x95, 0x43],
+        Refusal::Malformed,
+        "11 bytes",
+    ),
+    (
+        &[
+            0x40, 0, 0, 0, 0x54, 0x0F, 0, 0, 1, 2, 3, 4, 5, 6, 7, 8, 9, 0x0A, 0x0B, 0x0C, 0x0D,
+            0x0E, 0xAA, 0xBB, 0xCC, 0xDD,
+        ],
+        Refusal::Malformed,
+        "14 of 15 bytes of FOpts",
+    ),
+    (
+        &[0x40, 0, 0, 0, 0x54, 0x10, 0, 0, 0xAA, 0xBB, 0xCC, 0xDD],
+        Refusal::Malformed,
+        "bit 4 up",
+    ),
+    (
+        &[0x80, 0, 0, 0, 0x54, 0x10, 0, 0, 0xAA, 0xBB, 0xCC, 0xDD],
+        Refusal::Malformed,
+        "bit 4 up",
+    ),
+    (
+        &[0x60, 0, 0, 0, 0x54, 0x40, 0, 0, 0xAA, 0xBB, 0xCC, 0xDD],
+        Refusal::Malformed,
+        "bit 6 down",
+    ),
+    (
+        &[0xA0, 0, 0, 0, 0x54, 0x40, 0, 0, 0xAA, 0xBB, 0xCC, 0xDD],
+        Refusal::Malformed,
+        "bit 6 down",
+    ),
+];
+
+#[test]
+fn what_is_no_frame_is_refused(rt: HostRuntime) {
+    for (bytes, refusal, case) in NO_FRAMES {
+        assert!(rt; decode(rt.alloc(), bytes).err() == Some(*refusal), "{case}");
     }
 }
 
@@ -55,232 +328,16 @@ fn zeros(alloc: Global, mhdr: u8, len: usize) -> Result<Vec<u8>, Refusal> {
     Ok(bytes)
 }
 
-// What the reading of bytes is refused.
-fn refused(alloc: Global, bytes: &[u8]) -> Option<Refusal> {
-    decode(alloc, bytes).err()
+// What so many zeros behind the MHDR are refused.
+fn refused(alloc: Global, mhdr: u8, len: usize) -> Result<Option<Refusal>, Refusal> {
+    Ok(decode(alloc, &zeros(alloc, mhdr, len)?).err())
 }
 
-// What is written of a frame.
-fn written(alloc: Global, frame: &Phy) -> Result<Vec<u8>, Refusal> {
-    let mut out = Vec::new(alloc);
-    encode(alloc, frame, &mut out)?;
-    Ok(out)
-}
-
-// Whether the bytes are read as this frame.
-fn is_of(alloc: Global, bytes: &[u8], frame: &Phy) -> Result<bool, Refusal> {
-    Ok(decode(alloc, bytes)? == *frame)
-}
-
-// Whether these bytes are this frame: each is made of the other.
-fn spells(alloc: Global, text: &str, frame: &Phy) -> Result<bool, Refusal> {
-    let bytes = read_hex(alloc, text)?;
-    Ok(is_of(alloc, &bytes, frame)? && written(alloc, frame)? == bytes)
-}
-
-// An unconfirmed uplink with a payload on port 1.
-fn spells_payload(alloc: Global, text: &str, payload: &[u8]) -> Result<bool, Refusal> {
-    let frame = Phy::DataFrame(DataFrame {
-        confirmed: false,
-        dev_addr: DevAddr(0x49BE_7DF1),
-        control: UPLINK,
-        f_cnt: 2,
-        contents: contents(alloc, &[], Some(1), payload)?,
-        mic: Mic([0x2B, 0x11, 0xFF, 0x0D]),
-    });
-    spells(alloc, text, &frame)
-}
-
-// The first frame of the readme of npm's `lora-packet`.
-#[test]
-fn a_frame_of_another_implementation(rt: HostRuntime) {
-    let text = "40F17DBE4900020001954378762B11FF0D";
-    let spelled = spells_payload(rt.alloc(), text, &[0x95, 0x43, 0x78, 0x76]);
-    assert!(rt; spelled == Ok(true));
-}
-
-#[test]
-fn a_join_request(rt: HostRuntime) {
-    let frame = Phy::JoinRequest(JoinRequest {
-        join_eui: Eui(0x0102_0304_0506_0708),
-        dev_eui: Eui(0x1112_1314_1516_1718),
-        dev_nonce: 1,
-        mic: Mic([0xAA, 0xBB, 0xCC, 0xDD]),
-    });
-    let text = "00080706050403020118171615141312110100AABBCCDD";
-    assert!(rt; spells(rt.alloc(), text, &frame) == Ok(true));
-}
-
-#[test]
-fn join_accepts(rt: HostRuntime) {
-    let short = Phy::JoinAccept(JoinAccept::Short { sealed: [0x11; 16] });
-    let text = "2011111111111111111111111111111111";
-    assert!(rt; spells(rt.alloc(), text, &short) == Ok(true));
-    let long = Phy::JoinAccept(JoinAccept::WithCfList { sealed: [0x22; 32] });
-    let text = "202222222222222222222222222222222222222222222222222222222222222222";
-    assert!(rt; spells(rt.alloc(), text, &long) == Ok(true));
-}
-
-// Whether an empty frame with these bits has this text.
-fn spells_control(
-    alloc: Global,
-    text: &str,
-    confirmed: bool,
-    control: Control,
-) -> Result<bool, Refusal> {
-    let frame = Phy::DataFrame(DataFrame {
-        confirmed,
-        dev_addr: DevAddr(0x5400_0000),
-        control,
-        f_cnt: 0,
-        contents: contents(alloc, &[], None, &[])?,
-        mic: Mic([0xAA, 0xBB, 0xCC, 0xDD]),
-    });
-    spells(alloc, text, &frame)
-}
-
-const CONTROLS: &[(&str, bool, Control)] = &[
-    ("4000000054000000AABBCCDD", false, UPLINK),
-    (
-        "4000000054800000AABBCCDD",
-        false,
-        Control::Uplink {
-            adr: true,
-            adr_ack_req: false,
-            ack: false,
-        },
-    ),
-    (
-        "8000000054400000AABBCCDD",
-        true,
-        Control::Uplink {
-            adr: false,
-            adr_ack_req: true,
-            ack: false,
-        },
-    ),
-    (
-        "8000000054200000AABBCCDD",
-        true,
-        Control::Uplink {
-            adr: false,
-            adr_ack_req: false,
-            ack: true,
-        },
-    ),
-    (
-        "6000000054800000AABBCCDD",
-        false,
-        Control::Downlink {
-            adr: true,
-            ack: false,
-            f_pending: false,
-        },
-    ),
-    (
-        "A000000054200000AABBCCDD",
-        true,
-        Control::Downlink {
-            adr: false,
-            ack: true,
-            f_pending: false,
-        },
-    ),
-    (
-        "6000000054100000AABBCCDD",
-        false,
-        Control::Downlink {
-            adr: false,
-            ack: false,
-            f_pending: true,
-        },
-    ),
-];
-
-#[test]
-fn the_bits_of_f_ctrl(rt: HostRuntime) {
-    for (text, confirmed, control) in CONTROLS {
-        let spelled = spells_control(rt.alloc(), text, *confirmed, *control);
-        assert!(rt; spelled == Ok(true), "{text}");
-    }
-}
-
-// Whether a downlink with 15 bytes of FOpts has this text.
-fn spells_f_opts(alloc: Global, text: &str, port: Option<u8>) -> Result<bool, Refusal> {
-    let f_opts = [1, 2, 3, 4, 5, 6, 7, 8, 9, 10, 11, 12, 13, 14, 15];
-    let frame = Phy::DataFrame(DataFrame {
-        confirmed: false,
-        dev_addr: DevAddr(0x5400_0001),
-        control: Control::Downlink {
-            adr: false,
-            ack: false,
-            f_pending: false,
-        },
-        f_cnt: 0x1234,
-        contents: contents(alloc, &f_opts, port, &[])?,
-        mic: Mic([0xAA, 0xBB, 0xCC, 0xDD]),
-    });
-    spells(alloc, text, &frame)
-}
-
-#[test]
-fn f_opts_of_15_bytes(rt: HostRuntime) {
-    let without = "60010000540F34120102030405060708090A0B0C0D0E0FAABBCCDD";
-    assert!(rt; spells_f_opts(rt.alloc(), without, None) == Ok(true));
-    let with_port = "60010000540F34120102030405060708090A0B0C0D0E0F00AABBCCDD";
-    assert!(rt; spells_f_opts(rt.alloc(), with_port, Some(0)) == Ok(true));
-}
-
-const NO_FRAMES: &[(&str, Refusal, &str)] = &[
-    ("", Refusal::Malformed, "no bytes"),
-    ("E0", Refusal::NotServed, "Proprietary"),
-    ("C0", Refusal::NotServed, "RFU"),
-    ("E1", Refusal::Malformed, "the MHDR comes before the FType"),
-    ("40F17DBE490002000195", Refusal::Malformed, "10 bytes"),
-    ("40F17DBE49000200019543", Refusal::Malformed, "11 bytes"),
-    (
-        "40000000540F00000102030405060708090A0B0C0D0EAABBCCDD",
-        Refusal::Malformed,
-        "14 of 15 bytes of FOpts",
-    ),
-    ("4000000054100000AABBCCDD", Refusal::Malformed, "bit 4 up"),
-    ("8000000054100000AABBCCDD", Refusal::Malformed, "bit 4 up"),
-    ("6000000054400000AABBCCDD", Refusal::Malformed, "bit 6 down"),
-    ("A000000054400000AABBCCDD", Refusal::Malformed, "bit 6 down"),
-];
-
-fn refused_text(alloc: Global, text: &str) -> Result<Option<Refusal>, Refusal> {
-    Ok(refused(alloc, &read_hex(alloc, text)?))
-}
-
-#[test]
-fn what_is_no_frame_is_refused(rt: HostRuntime) {
-    for (text, refusal, case) in NO_FRAMES {
-        let refused = refused_text(rt.alloc(), text);
-        assert!(rt; refused == Ok(Some(*refusal)), "{case}");
-    }
-}
-
-// Whether so many zeros behind the MHDR are a frame, and written again.
+// Whether they are a frame, and written again.
 fn is_frame(alloc: Global, mhdr: u8, len: usize) -> Result<bool, Refusal> {
     let whole = zeros(alloc, mhdr, len)?;
     let frame = decode(alloc, &whole)?;
     Ok(written(alloc, &frame)? == whole)
-}
-
-// What so many of them are refused.
-fn refused_zeros(alloc: Global, mhdr: u8, len: usize) -> Result<Option<Refusal>, Refusal> {
-    Ok(refused(alloc, &zeros(alloc, mhdr, len)?))
-}
-
-// Whether they are a frame, and none with one of bits 4 to 0 set.
-fn low_bits_are_0(alloc: Global, mhdr: u8, len: usize) -> Result<bool, Refusal> {
-    let mut are_0 = is_frame(alloc, mhdr, len)?;
-    for bit in &[1u8, 2, 4, 8, 16] {
-        let refused = refused_zeros(alloc, mhdr | *bit, len)?;
-        are_0 = are_0 && refused == Some(Refusal::Malformed);
-    }
-    Ok(are_0)
 }
 
 const SHORTEST: &[(u8, usize)] = &[
@@ -295,33 +352,41 @@ const SHORTEST: &[(u8, usize)] = &[
 #[test]
 fn the_low_bits_of_an_mhdr_are_0(rt: HostRuntime) {
     for (mhdr, len) in SHORTEST {
-        assert!(rt;
-            low_bits_are_0(rt.alloc(), *mhdr, *len) == Ok(true),
-            "{mhdr}"
-        );
+        assert!(rt; is_frame(rt.alloc(), *mhdr, *len) == Ok(true), "{mhdr}");
+        for bit in &[1u8, 2, 4, 8, 16] {
+            let refused = refused(rt.alloc(), *mhdr | *bit, *len);
+            assert!(rt; refused == Ok(Some(Refusal::Malformed)), "{mhdr}, {bit}");
+        }
     }
 }
 
+// MHDRs, lengths from one to another, and those of them that a frame has.
+const JOIN_LENGTHS: &[(u8, usize, usize, &[usize])] = &[
+    (0x00, 22, 25, &[23]),
+    (0x20, 16, 35, &[17, 33]),
+];
+
 #[test]
 fn joins_have_their_lengths(rt: HostRuntime) {
-    for len in 22usize..25 {
-        let refused = refused_zeros(rt.alloc(), 0x00, len);
-        assert!(rt; refused.is_ok_and(|refused| refused.is_none() == (len == 23)));
-    }
-    for len in 16usize..35 {
-        let refused = refused_zeros(rt.alloc(), 0x20, len);
-        let is_one = len == 17 || len == 33;
-        assert!(rt; refused.is_ok_and(|refused| refused.is_none() == is_one));
+    for (mhdr, from, to, frames) in JOIN_LENGTHS {
+        for len in *from..*to {
+            let refusal = if frames.contains(&len) {
+                None
+            } else {
+                Some(Refusal::Malformed)
+            };
+            assert!(rt; refused(rt.alloc(), *mhdr, len) == Ok(refusal), "{len}");
+        }
     }
 }
 
 // The length of the payload in a data frame of so many bytes without FOpts.
 fn payload_len(alloc: Global, len: usize) -> Result<Option<usize>, Refusal> {
     match decode(alloc, &zeros(alloc, 0x40, len)?)? {
-        Phy::DataFrame(data) => {
-            let message = data.contents.message();
-            Ok(message.map(|message| message.frm_payload.len()))
-        }
+        Phy::DataFrame(data) => match data.contents.message() {
+            Some(message) => Ok(Some(message.frm_payload.len())),
+            None => Ok(None),
+        },
         _ => Err(Refusal::Malformed),
     }
 }
@@ -333,62 +398,50 @@ fn data_frames_have_12_to_255_bytes(rt: HostRuntime) {
     assert!(rt; payload_len(rt.alloc(), 255) == Ok(Some(242)));
 }
 
+// No frame has 256 bytes, and one of another type may have 255.
+const LONG: &[(u8, usize, Refusal)] = &[
+    (0x00, 256, Refusal::Malformed),
+    (0x20, 256, Refusal::Malformed),
+    (0x40, 256, Refusal::Malformed),
+    (0x60, 256, Refusal::Malformed),
+    (0x80, 256, Refusal::Malformed),
+    (0xA0, 256, Refusal::Malformed),
+    (0xC0, 256, Refusal::Malformed),
+    (0xE0, 256, Refusal::Malformed),
+    (0xC0, 255, Refusal::NotServed),
+    (0xE0, 255, Refusal::NotServed),
+];
+
 #[test]
-fn no_frame_has_256_bytes(rt: HostRuntime) {
-    for mhdr in &[0x00, 0x20, 0x40, 0x60, 0x80, 0xA0, 0xC0, 0xE0] {
-        let refused = refused_zeros(rt.alloc(), *mhdr, 256);
-        assert!(rt; refused == Ok(Some(Refusal::Malformed)), "{mhdr}");
+fn a_frame_has_at_most_255_bytes(rt: HostRuntime) {
+    for (mhdr, len, refusal) in LONG {
+        assert!(rt;
+            refused(rt.alloc(), *mhdr, *len) == Ok(Some(*refusal)),
+            "{mhdr}"
+        );
+    }
+}
+
+// Whether a copy of one byte of FOpts and two of payload on port 9 is the same, and comes apart.
+fn has_parts(alloc: Global) -> Result<bool, Refusal> {
+    let whole = contents(alloc, &[2], Some(9), &[5, 6])?;
+    let is_seen = whole.f_opts() == [2].as_slice() && whole.clone()? == whole;
+    Ok(is_seen && are_parts(whole))
+}
+
+fn are_parts(contents: Contents) -> bool {
+    match contents.into_parts() {
+        (f_opts, Some(message)) => {
+            let is_payload = message.frm_payload.as_slice() == [5, 6].as_slice();
+            f_opts.as_slice() == [2].as_slice() && message.f_port == 9 && is_payload
+        }
+        _ => false,
     }
 }
 
 #[test]
-fn a_frame_of_another_type_may_have_255_bytes(rt: HostRuntime) {
-    for mhdr in &[0xC0, 0xE0] {
-        let refused = refused_zeros(rt.alloc(), *mhdr, 255);
-        assert!(rt; refused == Ok(Some(Refusal::NotServed)), "{mhdr}");
-    }
-}
-
-// Two bytes of payload on port 9, behind one byte of FOpts.
-fn a_payload(alloc: Global) -> Result<Contents, Refusal> {
-    contents(alloc, &[2], Some(9), &[5, 6])
-}
-
-fn has_f_opts(alloc: Global) -> Result<bool, Refusal> {
-    let whole = a_payload(alloc)?;
-    let is_seen = whole.f_opts() == [2].as_slice();
-    let (f_opts, _) = whole.into_parts();
-    Ok(is_seen && f_opts.as_slice() == [2].as_slice())
-}
-
-#[test]
-fn contents_have_their_f_opts(rt: HostRuntime) {
-    assert!(rt; has_f_opts(rt.alloc()) == Ok(true));
-}
-
-fn has_message(alloc: Global) -> Result<bool, Refusal> {
-    let (_, message) = a_payload(alloc)?.into_parts();
-    match message {
-        Some(message) => Ok(
-            message.f_port == 9 && message.frm_payload.as_slice() == [5, 6].as_slice(),
-        ),
-        None => Ok(false),
-    }
-}
-
-#[test]
-fn contents_have_their_message(rt: HostRuntime) {
-    assert!(rt; has_message(rt.alloc()) == Ok(true));
-}
-
-fn has_copy(alloc: Global) -> Result<bool, Refusal> {
-    let whole = a_payload(alloc)?;
-    Ok(whole.clone()? == whole)
-}
-
-#[test]
-fn contents_have_copies(rt: HostRuntime) {
-    assert!(rt; has_copy(rt.alloc()) == Ok(true));
+fn contents_have_their_parts(rt: HostRuntime) {
+    assert!(rt; has_parts(rt.alloc()) == Ok(true));
 }
 
 // Whether so many bytes are a payload, and FOpts.
@@ -433,7 +486,7 @@ fn len_again(
 ) -> Result<usize, Refusal> {
     let frame = Phy::DataFrame(data_frame(alloc, f_opts, port, payload)?);
     let bytes = written(alloc, &frame)?;
-    if is_of(alloc, &bytes, &frame)? {
+    if decode(alloc, &bytes)? == frame {
         Ok(bytes.len())
     } else {
         Err(Refusal::Malformed)

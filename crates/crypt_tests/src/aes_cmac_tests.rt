@@ -22,8 +22,11 @@ const EXAMPLES: [(usize, u128); 4] = [
     (64, 0x51f0bebf7e3b9d92fc49741779363cfe),
 ];
 
-// Whether this is the MAC of these bytes, wherever they are cut in two.
-fn is_mac(message: &[u8], mac: [u8; 16]) -> bool {
+// Whether this is the MAC of so much of the message, wherever it is cut in two.
+fn is_mac(len: usize, mac: [u8; 16]) -> bool {
+    let Some(message) = MESSAGE.get(..len) else {
+        return false;
+    };
     for (cut, _) in message.iter().enumerate() {
         if cmac(&KEY, &[&message[..cut], &message[cut..]]) != mac {
             return false;
@@ -35,10 +38,7 @@ fn is_mac(message: &[u8], mac: [u8; 16]) -> bool {
 #[test]
 fn the_examples_of_the_rfc_in_any_two_pieces(rt: HostRuntime) {
     for (len, mac) in &EXAMPLES {
-        let is_right = MESSAGE
-            .get(..*len)
-            .is_some_and(|message| is_mac(message, mac.to_be_bytes()));
-        assert!(rt; is_right, "{len} bytes");
+        assert!(rt; is_mac(*len, mac.to_be_bytes()), "{len} bytes");
     }
 }
 

@@ -5,7 +5,6 @@ use aes_cmac::cmac;
 use aes128::encrypt;
 use frame_crypt::{crypt_payload, data_mic, derive_keys, join_mic, seal_accept};
 use lw_types::{DevAddr, Direction, JoinNonce, Key, NetId};
-use std::test::Fail;
 
 fn key_of(bytes: u128) -> Key {
     Key(bytes.to_be_bytes())
@@ -25,17 +24,20 @@ fn a_frame_of_another_implementation(rt: HostRuntime) {
     assert!(rt; payload == *b"test");
 }
 
-#[test]
-fn the_mic_of_b_0_and_the_message(rt: HostRuntime) {
+// Whether the MIC is the front of the MAC of this block and the message.
+fn has_mic(direction: Direction, block: &[u8]) -> bool {
     let key = key_of(0x44024241ed4ce9a68c6a8bc055233fd3);
     let message = [7u8; 13];
-    let up = *b"\x49\0\0\0\0\x00\xf1\x7d\xbe\x49\x02\0\0\0\0\x0d";
-    let down = *b"\x49\0\0\0\0\x01\xf1\x7d\xbe\x49\x02\0\0\0\0\x0d";
-    for (dir, block) in [(Direction::Up, up), (Direction::Down, down)] {
-        let mac = cmac(&key, &[&block, &message]);
-        let mic = data_mic(&key, dir, DevAddr(0x49be7df1), 2, &message);
-        assert!(rt; mic == [mac[0], mac[1], mac[2], mac[3]]);
-    }
+    let mac = cmac(&key, &[block, &message]);
+    mac.starts_with(&data_mic(&key, direction, DevAddr(0x49be7df1), 2, &message))
+}
+
+#[test]
+fn the_mic_of_b_0_and_the_message(rt: HostRuntime) {
+    let up = b"\x49\0\0\0\0\x00\xf1\x7d\xbe\x49\x02\0\0\0\0\x0d";
+    assert!(rt; has_mic(Direction::Up, up));
+    let down = b"\x49\0\0\0\0\x01\xf1\x7d\xbe\x49\x02\0\0\0\0\x0d";
+    assert!(rt; has_mic(Direction::Down, down));
 }
 
 #[test]
@@ -51,19 +53,19 @@ fn the_keystream_of_a_1_and_a_2(rt: HostRuntime) {
     assert!(rt; &payload[16..] == &second[..4]);
 }
 
+// The session keys of JoinNonce 1, NetID 2A and DevNonce 1.
+fn session_keys(key: &Key) -> Option<(Key, Key)> {
+    Some(derive_keys(key, JoinNonce::new(1)?, NetId::new(0x2a)?, 1))
+}
+
 #[test]
-fn the_session_keys_of_a_join(rt: HostRuntime) -> Result<(), Fail> {
+fn the_session_keys_of_a_join(rt: HostRuntime) {
     let key = key_of(0x2b7e151628aed2a6abf7158809cf4f3c);
-    let join_nonce = JoinNonce::new(1).ok_or("1 is a JoinNonce")?;
-    let net_id = NetId::new(0x2a).ok_or("2A is a NetID")?;
-    let (nwk_skey, app_skey) = derive_keys(&key, join_nonce, net_id, 1);
     let mut nwk_block = *b"\x01\x01\0\0\x2a\0\0\x01\0\0\0\0\0\0\0\0";
     let mut app_block = *b"\x02\x01\0\0\x2a\0\0\x01\0\0\0\0\0\0\0\0";
     encrypt(&key, &mut nwk_block);
     encrypt(&key, &mut app_block);
-    assert!(rt; nwk_skey == Key(nwk_block));
-    assert!(rt; app_skey == Key(app_block));
-    Ok(())
+    assert!(rt; session_keys(&key) == Some((Key(nwk_block), Key(app_block))));
 }
 
 // A block of a sealed accept as the device opens it.
