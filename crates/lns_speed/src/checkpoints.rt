@@ -1,28 +1,22 @@
 // How long a checkpoint of the largest store takes, and opening it.
+use crate::MOST;
 use crate::server::Server;
-use crate::unmeasured::Unmeasured;
-use crate::{MOST, whole_nanos};
+use crate::timing::{Unmeasured, clock_nanos, nanos_of_one};
+use disk::MemDisk;
+use lw_types::Refusal;
 use std::alloc::Global;
 use std::io;
 use std::rt::Clock;
-use std::time::Instant;
 
 /// The bytes of its records: 4,096 entries of a device with 16 items of 242 bytes.
 const BYTES: u64 = 4096 * 4039;
 
-/// The nanoseconds that each took.
-#[derive(Drop)]
-struct Spent {
-    checkpoint: u32,
-    opening: u32,
-}
-
 /// Tells how long a checkpoint of 4,096 devices takes with 16 items of 242 bytes each, and how long it takes to open it.
 pub fn tell(rt: &(impl Clock + Eprint), alloc: Global) -> io::Result<()> {
     match measure(rt, alloc) {
-        Ok(spent) => {
-            tell_one(rt, "a checkpoint", spent.checkpoint)?;
-            tell_one(rt, "opening it", spent.opening)
+        Ok((checkpoint, opening)) => {
+            tell_one(rt, "a checkpoint", checkpoint)?;
+            tell_one(rt, "opening it", opening)
         }
         Err(why) => {
             eprintln!(rt; "a checkpoint, {MOST} devices: not measured, {why}")?;
@@ -38,18 +32,35 @@ fn tell_one(rt: &impl Eprint, what: &str, nanos: u32) -> io::Result<()> {
     Ok(())
 }
 
-fn measure(rt: &impl Clock, alloc: Global) -> Result<Spent, Unmeasured> {
+// The nanoseconds that a checkpoint takes, and those that it takes to open it.
+fn measure(rt: &impl Clock, alloc: Global) -> Result<(u32, u32), Unmeasured> {
     let mut server = Server::loaded(alloc, MOST)?;
-    let start = Instant::now(rt)?;
+    let checkpoint = measure_checkpoint(rt, &mut server);
+    let opening = measure_opening(rt, alloc, server.close());
+    Ok((checkpoint?, opening?))
+}
+
+fn measure_checkpoint(rt: &impl Clock, server: &mut Server) -> Result<u32, Unmeasured> {
+    let start = clock_nanos(rt)?;
     server.checkpoint()?;
-    let checkpoint = whole_nanos(start.elapsed(rt)?.as_nanos())?;
-    let disk = server.close();
-    let start = Instant::now(rt)?;
-    let store = store::open(alloc, disk)?;
-    let opening = whole_nanos(start.elapsed(rt)?.as_nanos())?;
-    let _ = store.close();
-    Ok(Spent {
-        checkpoint,
-        opening,
-    })
+    nanos_of_one(clock_nanos(rt)?.saturating_sub(start), 1)
+}
+
+fn measure_opening(rt: &impl Clock, alloc: Global, disk: MemDisk) -> Result<u32, Unmeasured> {
+    let start = clock_nanos(rt);
+    let opened = open(alloc, disk);
+    let end = clock_nanos(rt)?;
+    opened?;
+    nanos_of_one(end.saturating_sub(start?), 1)
+}
+
+// Opens the store on a disk, and closes it again.
+fn open(alloc: Global, disk: MemDisk) -> Result<(), Refusal> {
+    match store::open(alloc, disk) {
+        Ok(store) => {
+            let _ = store.close();
+            Ok(())
+        }
+        Err(refusal) => Err(refusal),
+    }
 }

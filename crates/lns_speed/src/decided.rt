@@ -1,23 +1,100 @@
-// What is decided.
-use std::fmt;
+// How long it takes to decide what one device sends.
+use crate::network::{full_table, heard, record};
+use crate::timing::{Unmeasured, clock_nanos, nanos_of_one};
+use devices::{Command, Device, Heard};
+use lw_types::Refusal;
+use sessions::Table;
+use std::alloc::Global;
+use std::rt::Clock;
+
+/// For how long one kind of event is decided in a table, in nanoseconds.
+const MEASURED_NANOS: u128 = 1_000_000_000;
+
+/// How many events are decided before the device's record is put back and the clock is read again.
+const TIMES: u16 = 16;
+
+/// More rounds than fit into that time on any machine of today.
+const MOST_ROUNDS: u32 = 1_000_000;
 
 /// What a device sends.
-#[derive(Clone, Copy, Debug, PartialEq, Eq)]
+#[derive(Clone, Copy)]
 pub enum Event {
     /// It asks to join.
     Join,
-    /// An unconfirmed uplink of 24 bytes.
-    Uplink,
-    /// A confirmed uplink of 24 bytes, which is answered with an item of 24 bytes.
-    Answered,
+    /// An uplink of 24 bytes with this MHDR, while so many items of 24 bytes wait.
+    Uplink { mhdr: u8, items: u32 },
 }
 
-impl fmt::Display for Event {
-    fn fmt<W: fmt::Write>(&self, f: &mut fmt::Formatter<W>) -> fmt::Result {
-        match self {
-            Event::Join => write!(f, "a join"),
-            Event::Uplink => write!(f, "an uplink"),
-            Event::Answered => write!(f, "an uplink that is answered"),
+/// An unconfirmed uplink.
+pub const UPLINK: Event = Event::Uplink {
+    mhdr: 0x40,
+    items: 0,
+};
+
+/// A confirmed uplink, which is answered with an item; as many wait as may.
+pub const ANSWERED: Event = Event::Uplink {
+    mhdr: 0x80,
+    items: 16,
+};
+
+/// A full table, and the frames that come one after another to the device at its last slot, which has this record first.
+#[derive(Drop)]
+struct Course {
+    table: Table,
+    slot: u16,
+    record: Device,
+    frames: Vec<Heard>,
+}
+
+impl Course {
+    fn new(alloc: Global, event: Event, slots: u16) -> Result<Self, Refusal> {
+        let slot = slots.saturating_sub(1);
+        let mut frames = Vec::new(alloc);
+        for number in 0..TIMES {
+            frames.push(heard(alloc, event, slot, number)?)?;
+        }
+        Ok(Course {
+            table: full_table(alloc, slots)?,
+            slot,
+            record: record(alloc, event, slot)?,
+            frames,
+        })
+    }
+
+    /// Decides the frames and puts the records that they leave into the table, where the device has its first record.
+    fn decide(&mut self, alloc: Global) -> Result<(), Refusal> {
+        self.table.put(self.slot, self.record.copy()?)?;
+        for (seq, frame) in self.frames.iter().enumerate() {
+            decide_one(alloc, &mut self.table, seq as u64, frame.clone()?)?;
+        }
+        Ok(())
+    }
+}
+
+fn decide_one(alloc: Global, table: &mut Table, seq: u64, frame: Heard) -> Result<(), Refusal> {
+    let decision = table.decide(alloc, seq, Command::Heard(frame))?;
+    table.apply(&decision)
+}
+
+/// How many nanoseconds an event of the last device takes in a full table, decided for a second or a little more.
+pub fn measure(
+    rt: &impl Clock,
+    alloc: Global,
+    event: Event,
+    slots: u16,
+) -> Result<u32, Unmeasured> {
+    let mut course = Course::new(alloc, event, slots)?;
+    measure_course(rt, alloc, &mut course)
+}
+
+fn measure_course(rt: &impl Clock, alloc: Global, course: &mut Course) -> Result<u32, Unmeasured> {
+    let start = clock_nanos(rt)?;
+    for round in 1..=MOST_ROUNDS {
+        course.decide(alloc)?;
+        let spent = clock_nanos(rt)?.saturating_sub(start);
+        if spent >= MEASURED_NANOS {
+            return nanos_of_one(spent, u128::from(round) * u128::from(TIMES));
         }
     }
+    Err(Unmeasured::OddClock)
 }

@@ -1,5 +1,5 @@
-// A network whose table is full, and the frames of one of its devices.
-ghost use Rattle.std.specs.Prelude.{◌≤◌, ◌<◌, length};
+// A network whose table is full, and the frames of its devices.
+ghost use Rattle.std.specs.Prelude.{◌≤◌, length};
 
 use crate::decided::Event;
 use devices::{
@@ -49,118 +49,94 @@ pub fn provisioning(slot: u16) -> Provisioning {
     }
 }
 
-fn device(alloc: Global, slot: u16) -> Device {
-    Device::provisioned(alloc, &provisioning(slot))
-}
-
 /// A table of so many slots with a device in each.
-pub fn full_table(alloc: Global, slots: u16) -> Result<Table, Refusal>
-    requires some { 1 ≤ slots }
-    requires few { slots ≤ 4096 }
-{
-    let size = Slots::new(u64::from(slots)).unwrap();
+pub fn full_table(alloc: Global, slots: u16) -> Result<Table, Refusal> {
+    let size = Slots::new(u64::from(slots)).ok_or(Refusal::Damaged)?;
     let mut table = Table::new(alloc, NetId::zero(), size)?;
     for slot in 0..slots {
-        table.put(slot, device(alloc, slot))?;
+        table.put(slot, Device::provisioned(alloc, &provisioning(slot)))?;
     }
     Ok(table)
 }
 
 /// The record of the device at a slot before events of this kind.
 pub fn record(alloc: Global, event: Event, slot: u16) -> Result<Device, Refusal> {
-    let mut device = device(alloc, slot);
-    match event {
-        Event::Join => {}
-        Event::Uplink => device.activation = in_use()?,
-        Event::Answered => {
-            device.activation = in_use()?;
-            device.items = items(alloc)?;
-        }
+    let mut device = Device::provisioned(alloc, &provisioning(slot));
+    if let Event::Uplink { items, .. } = event {
+        device.activation = in_use().ok_or(Refusal::Damaged)?;
+        device.items = waiting(alloc, items)?;
     }
     Ok(device)
 }
 
 // A device whose session had its uplink 0.
-fn in_use() -> Result<Activation, Refusal> {
+fn in_use() -> Option<Activation> {
     let session = Session {
-        join_nonce: JoinNonce::new(1).ok_or(Refusal::Damaged)?,
+        join_nonce: JoinNonce::new(1)?,
         nwk_skey: NWK_SKEY,
         app_skey: APP_KEY,
     };
     let current = CurrentSession {
         session,
         last_up: 0,
-        next_down: NextDown::new(0).ok_or(Refusal::Damaged)?,
+        next_down: NextDown::new(0)?,
     };
-    Activation::new(Some(session.join_nonce), Some(current), None).ok_or(Refusal::Damaged)
+    Activation::new(Some(session.join_nonce), Some(current), None)
 }
 
-// As many items as may wait.
-fn items(alloc: Global) -> Result<ItemQueue, Refusal> {
+// So many unconfirmed items of 24 bytes.
+fn waiting(alloc: Global, count: u32) -> Result<ItemQueue, Refusal> {
     let mut items = Vec::new(alloc);
-    for tag in 0..16 {
-        items.push(item(alloc, tag)?)?;
+    for tag in 0..count {
+        items.push(Item {
+            tag: Tag(tag),
+            port: Port::new(1).unwrap(),
+            confirmed: false,
+            payload: Payload::from_slice(alloc, &[0; 24])?,
+        })?;
     }
     ItemQueue::new(items).ok().ok_or(Refusal::QueueFull)
 }
 
-// An unconfirmed item of 24 bytes.
-fn item(alloc: Global, tag: u32) -> Result<Item, Refusal> {
-    Ok(Item {
-        tag: Tag(tag),
-        port: Port::new(1).ok_or(Refusal::BadPort)?,
-        confirmed: false,
-        payload: Payload::from_slice(alloc, &[0; 24])?,
-    })
-}
-
-// The longest payload of an item.
-fn longest_payload(alloc: Global) -> Result<AskedBytes, Refusal> {
-    let bytes = vec![in alloc; 0; 242]?;
-    AskedBytes::new(bytes).ok().ok_or(Refusal::Damaged)
-}
-
-/// An item of 242 bytes is queued for the device at a slot.
+/// An item of 242 bytes, the longest payload, is queued for the device at a slot.
 pub fn longest_item(alloc: Global, slot: u16, tag: u32) -> Result<Queueing, Refusal> {
+    let application = Application::new(0).ok_or(Refusal::Damaged)?;
+    let payload = AskedBytes::new(vec![in alloc; 0; 242]?);
     Ok(Queueing {
-        application: Application::new(0).unwrap(),
+        application,
         dev_eui: dev_eui(slot),
         tag: Tag(tag),
         port: 1,
         confirmed: false,
-        payload: longest_payload(alloc)?,
+        payload: payload.ok().ok_or(Refusal::Damaged)?,
     })
 }
 
-/// The frame of this number of the device at a slot, as the gateway heard it.
+/// The frame of this number of the device at a slot, as the gateway heard it. An uplink has the counter behind the number.
 pub fn heard(alloc: Global, event: Event, slot: u16, number: u16) -> Result<Heard, Refusal> {
-    let frame = match event {
+    let phy_payload = match event {
         Event::Join => PhyPayload::from_slice(alloc, &join_request(slot, number))?,
-        Event::Uplink => PhyPayload::from_slice(alloc, &uplink(0x40, slot, number))?,
-        Event::Answered => PhyPayload::from_slice(alloc, &uplink(0x80, slot, number))?,
+        Event::Uplink { mhdr, .. } => {
+            let counter = u32::from(number) + 1;
+            PhyPayload::from_slice(alloc, &uplink(mhdr, slot, counter, &NWK_SKEY))?
+        }
     };
-    let mut copies = Vec::new(alloc);
-    copies.push(HEARING)?;
+    let hearings = Hearings::new(Vec::from_slice(alloc, &[HEARING])?);
     Ok(Heard {
-        phy_payload: frame,
-        hearings: Hearings::new(copies).ok_or(Refusal::UnknownChannel)?,
+        phy_payload,
+        hearings: hearings.ok_or(Refusal::UnknownChannel)?,
     })
 }
 
-// A Join-Request with this DevNonce (TS001-1.0.4 §6.2.5).
-pub fn join_request(slot: u16, number: u16) -> [u8; 23] {
+/// A Join-Request with this DevNonce (TS001-1.0.4 §6.2.5).
+pub fn join_request(slot: u16, dev_nonce: u16) -> [u8; 23] {
     let mut frame = [0; 23];
     frame[1..9].copy_from_slice(&JOIN_EUI.0.to_le_bytes());
     frame[9..17].copy_from_slice(&dev_eui(slot).0.to_le_bytes());
-    frame[17..19].copy_from_slice(&number.to_le_bytes());
+    frame[17..19].copy_from_slice(&dev_nonce.to_le_bytes());
     let mic = join_mic(&APP_KEY, &frame[..19]);
     frame[19..].copy_from_slice(&mic);
     frame
-}
-
-// An uplink of this MHDR with the counter behind the number.
-fn uplink(mhdr: u8, slot: u16, number: u16) -> [u8; 37] {
-    signed(mhdr, slot, u32::from(number) + 1, &NWK_SKEY)
 }
 
 /// The NwkSKey of a device that joined with the first JoinNonce and DevNonce 0.
@@ -169,28 +145,8 @@ pub fn joined_key() -> Result<Key, Refusal> {
     Ok(derive_keys(&APP_KEY, first, NetId::zero(), 0).0)
 }
 
-/// An unconfirmed uplink of the device at a slot with this counter, under this NwkSKey.
-pub fn numbered(slot: u16, counter: u32, key: &Key) -> [u8; 37] {
-    signed(0x40, slot, counter, key)
-}
-
-/// A copy of a frame by the gateway of this number.
-pub fn copy_of(alloc: Global, frame: &[u8], gateway: u64) -> Result<FrameCopy, Refusal>
-    requires { length frame.now ≤ 255 }
-{
-    let reception = Reception {
-        gateway: Eui(gateway),
-        ..HEARING.reception
-    };
-    Ok(FrameCopy {
-        reception,
-        stamp: 0,
-        phy_payload: PhyPayload::from_slice(alloc, frame)?,
-    })
-}
-
-// A data frame of this MHDR on port 1 with 24 bytes (TS001-1.0.4 §4.3).
-fn signed(mhdr: u8, slot: u16, counter: u32, key: &Key) -> [u8; 37] {
+/// A data frame of this MHDR on port 1 with 24 bytes (TS001-1.0.4 §4.3).
+pub fn uplink(mhdr: u8, slot: u16, counter: u32, key: &Key) -> [u8; 37] {
     let addr = dev_addr(NetId::zero(), slot, 1);
     let mut frame = [0; 37];
     frame[0] = mhdr;
@@ -200,4 +156,17 @@ fn signed(mhdr: u8, slot: u16, counter: u32, key: &Key) -> [u8; 37] {
     let mic = data_mic(key, Direction::Up, addr, counter, &frame[..33]);
     frame[33..].copy_from_slice(&mic);
     frame
+}
+
+/// A copy of a frame by the gateway of this number.
+pub fn copy_of(alloc: Global, frame: &[u8], gateway: u64) -> Result<FrameCopy, Refusal>
+    requires { length frame.now ≤ 255 }
+{
+    let mut reception = HEARING.reception;
+    reception.gateway = Eui(gateway);
+    Ok(FrameCopy {
+        reception,
+        stamp: 0,
+        phy_payload: PhyPayload::from_slice(alloc, frame)?,
+    })
 }

@@ -1,6 +1,4 @@
 // A server with a network of its own: what comes is decided, committed and released.
-ghost use Rattle.std.specs.Prelude.{◌≤◌};
-
 use crate::network::{copy_of, join_request, longest_item, provisioning};
 use disk::MemDisk;
 use flusher::{Durable, Room};
@@ -28,66 +26,87 @@ pub struct Server {
     alloc: Global,
     store: Store<MemDisk>,
     core: Core,
-    milliseconds: u64,
+    now: Moment,
 }
 
 impl Server {
     /// A server without devices, with so many slots.
-    fn new(alloc: Global, slots: u16) -> Result<Self, Refusal>
-        requires some { 1 ≤ slots }
-        requires few { slots ≤ 4096 }
-    {
-        let size = Slots::new(u64::from(slots)).unwrap();
-        let content = vec![in alloc; 0; disk_len(size) as usize]?;
-        let disk = MemDisk::new(alloc, content)?;
-        let store = store::format(alloc, disk, NetId::zero(), u64::from(slots))?;
+    fn new(alloc: Global, slots: u16) -> Result<Self, Refusal> {
+        let now = Moment::new(0).ok_or(Refusal::Damaged)?;
+        let store = new_store(alloc, u64::from(slots))?;
         let core = Core::new(alloc, store.table(), store.seq())?;
         Ok(Server {
             alloc,
             store,
             core,
-            milliseconds: 0,
+            now,
         })
     }
 
     /// A server of so many devices, each of which has joined.
-    pub fn joined(alloc: Global, slots: u16) -> Result<Self, Refusal>
-        requires some { 1 ≤ slots }
-        requires few { slots ≤ 4096 }
-    {
+    pub fn joined(alloc: Global, slots: u16) -> Result<Self, Refusal> {
         let mut server = Server::new(alloc, slots)?;
+        match server.join_all(slots) {
+            Ok(()) => Ok(server),
+            Err(refusal) => Err(refusal),
+        }
+    }
+
+    fn join_all(&mut self, slots: u16) -> Result<(), Refusal> {
         for slot in 0..slots {
-            server.join(slot)?;
+            self.bring(slot)?;
+            self.hear(copy_of(self.alloc, &join_request(slot, 0), GATEWAY)?)?;
             if slot % 16 == 15 {
-                server.settle()?;
+                self.settle()?;
             }
         }
-        server.settle()?;
-        Ok(server)
+        self.settle()
     }
 
-    fn join(&mut self, slot: u16) -> Result<(), Refusal> {
-        let moment = self.moment()?;
-        is_done(self.core.provision(moment, provisioning(slot)))?;
-        let request = join_request(slot, 0);
-        self.hear(copy_of(self.alloc, &request, GATEWAY)?)
+    /// A server of so many devices, each of which has as many items waiting as may, the longest there are.
+    pub fn loaded(alloc: Global, slots: u16) -> Result<Self, Refusal> {
+        let mut server = Server::new(alloc, slots)?;
+        match server.load_all(slots) {
+            Ok(()) => Ok(server),
+            Err(refusal) => Err(refusal),
+        }
     }
 
-    fn moment(&self) -> Result<Moment, Refusal> {
-        Moment::new(self.milliseconds).ok_or(Refusal::Damaged)
+    fn load_all(&mut self, slots: u16) -> Result<(), Refusal> {
+        for slot in 0..slots {
+            self.bring(slot)?;
+            self.load(slot)?;
+            if !self.is_roomy() {
+                self.checkpoint()?;
+            }
+            self.commit()?;
+        }
+        Ok(())
+    }
+
+    fn bring(&mut self, slot: u16) -> Result<(), Refusal> {
+        is_done(self.core.provision(self.now, provisioning(slot)))
+    }
+
+    fn load(&mut self, slot: u16) -> Result<(), Refusal> {
+        for tag in 0..ITEMS {
+            is_done(
+                self.core
+                    .queue(self.now, longest_item(self.alloc, slot, tag)?),
+            )?;
+        }
+        Ok(())
     }
 
     /// A copy of a frame comes.
     pub fn hear(&mut self, copy: FrameCopy) -> Result<(), Refusal> {
-        let moment = self.moment()?;
-        is_done(self.core.hear(moment, copy))
+        is_done(self.core.hear(self.now, copy))
     }
 
     /// All windows are closed, and what was decided is committed and released.
     pub fn settle(&mut self) -> Result<(), Refusal> {
-        self.milliseconds = self.milliseconds.saturating_add(WAIT);
-        let moment = self.moment()?;
-        is_done(self.core.tick(moment))?;
+        self.now = Moment::new(self.now.get().saturating_add(WAIT)).ok_or(Refusal::Damaged)?;
+        is_done(self.core.tick(self.now))?;
         for _ in 0..self.core.untaken().div_ceil(usize::from(BATCH)) {
             self.commit()?;
         }
@@ -97,26 +116,6 @@ impl Server {
     /// Whether there is room for one batch more.
     pub fn is_roomy(&self) -> bool {
         self.store.roomy()
-    }
-
-    /// A server of so many devices, each of which has as many items waiting as may, the longest there are.
-    pub fn loaded(alloc: Global, slots: u16) -> Result<Self, Refusal>
-        requires some { 1 ≤ slots }
-        requires few { slots ≤ 4096 }
-    {
-        let mut server = Server::new(alloc, slots)?;
-        for slot in 0..slots {
-            let moment = server.moment()?;
-            is_done(server.core.provision(moment, provisioning(slot)))?;
-            for tag in 0..ITEMS {
-                is_done(server.core.queue(moment, longest_item(alloc, slot, tag)?))?;
-            }
-            if !server.is_roomy() {
-                server.checkpoint()?;
-            }
-            server.commit()?;
-        }
-        Ok(server)
     }
 
     /// A checkpoint of what is durable.
@@ -141,9 +140,8 @@ impl Server {
     // The oldest decisions are committed, and their effects are released.
     fn commit(&mut self) -> Result<(), Refusal> {
         let room = Room::new(self.alloc)?;
-        let batch = self
-            .core
-            .take(Most::new(u64::from(BATCH)).ok_or(Refusal::Damaged)?)?;
+        let most = Most::new(u64::from(BATCH)).ok_or(Refusal::Damaged)?;
+        let batch = self.core.take(most)?;
         let durable = self.write(batch)?;
         let _ = Durable::new(durable, room).release();
         Ok(())
@@ -157,6 +155,13 @@ impl Server {
         let written = store.begin(self.alloc, batch)?.write(store)?;
         written.sync(store)?.open_gate(store)?.sync(store)
     }
+}
+
+// A store with so many slots on an empty disk.
+fn new_store(alloc: Global, slots: u64) -> Result<Store<MemDisk>, Refusal> {
+    let len = disk_len(Slots::new(slots).ok_or(Refusal::Damaged)?);
+    let disk = MemDisk::new(alloc, vec![in alloc; 0; len as usize]?)?;
+    store::format(alloc, disk, NetId::zero(), slots)
 }
 
 fn is_done(turn: Turn) -> Result<(), Refusal> {

@@ -1,14 +1,10 @@
 // How long whole uplinks take, from their copies to their effects' release.
-ghost use Rattle.std.specs.Prelude.{◌<◌, ◌≤◌, IfOk};
-
-use crate::network::{copy_of, joined_key, numbered};
+use crate::network::{copy_of, joined_key, uplink};
 use crate::server::{BATCH, Server};
-use crate::unmeasured::Unmeasured;
-use crate::whole_nanos;
+use crate::timing::{Unmeasured, clock_nanos, nanos_of_one};
 use lw_types::{FrameCopy, Key, Refusal};
 use std::alloc::Global;
 use std::rt::Clock;
-use std::time::Instant;
 
 /// For how long uplinks are handled, in nanoseconds.
 const MEASURED_NANOS: u128 = 500_000_000;
@@ -19,9 +15,10 @@ const MOST_BATCHES: u32 = 100_000;
 /// How often a server is made anew, since its journal fills.
 const MOST_LIVES: u32 = 10_000;
 
-/// The devices of a server, which take turns in sending.
+/// A server, whose devices take turns in sending.
 #[derive(Drop)]
-struct Senders {
+struct Life {
+    server: Server,
     slots: u16,
     gateways: u64,
     key: Key,
@@ -30,12 +27,24 @@ struct Senders {
     counter: u32,
 }
 
-impl Senders {
+impl Life {
+    fn new(alloc: Global, gateways: u64, slots: u16) -> Result<Self, Refusal> {
+        let key = joined_key()?;
+        Ok(Life {
+            server: Server::joined(alloc, slots)?,
+            slots,
+            gateways,
+            key,
+            next: 0,
+            counter: 0,
+        })
+    }
+
     /// The copies of the uplinks of a batch: each frame is heard by so many gateways.
     fn copies(&mut self, alloc: Global) -> Result<Vec<FrameCopy>, Refusal> {
         let mut copies = Vec::new(alloc);
         for _ in 0..BATCH {
-            let frame = numbered(self.next, self.counter, &self.key);
+            let frame = uplink(0x40, self.next, self.counter, &self.key);
             for gateway in 0..self.gateways {
                 copies.push(copy_of(alloc, &frame, gateway)?)?;
             }
@@ -51,14 +60,23 @@ impl Senders {
             self.counter = self.counter.saturating_add(1);
         }
     }
+
+    /// Handles the uplinks of a batch.
+    fn handle(&mut self, copies: Vec<FrameCopy>) -> Result<(), Refusal> {
+        for copy in copies {
+            self.server.hear(copy)?;
+        }
+        self.server.settle()
+    }
 }
 
 /// How many nanoseconds an uplink takes that so many gateways hear, of one of so many devices, in batches of 64.
-pub fn measure(rt: &impl Clock, alloc: Global, gateways: u64, slots: u16) -> Result<u32, Unmeasured>
-    requires some { 1 ≤ slots }
-    requires few { slots ≤ 4096 }
-    ensures { IfOk result (λ nanos. 0 < nanos) }
-{
+pub fn measure(
+    rt: &impl Clock,
+    alloc: Global,
+    gateways: u64,
+    slots: u16,
+) -> Result<u32, Unmeasured> {
     let mut spent: u128 = 0;
     let mut uplinks: u128 = 0;
     for _ in 0..MOST_LIVES {
@@ -66,42 +84,37 @@ pub fn measure(rt: &impl Clock, alloc: Global, gateways: u64, slots: u16) -> Res
         spent = spent.saturating_add(nanos);
         uplinks = uplinks.saturating_add(u128::from(batches) * u128::from(BATCH));
         if spent >= MEASURED_NANOS && uplinks > 0 {
-            return whole_nanos(spent / uplinks);
+            return nanos_of_one(spent, uplinks);
         }
     }
     Err(Unmeasured::OddClock)
 }
 
-// Handles batches until the journal is full, or long enough: the nanoseconds, and how many there were.
 fn one_life(
     rt: &impl Clock,
     alloc: Global,
     gateways: u64,
     slots: u16,
-) -> Result<(u128, u32), Unmeasured>
-    requires some { 1 ≤ slots }
-    requires few { slots ≤ 4096 }
-{
-    let mut server = Server::joined(alloc, slots)?;
-    let mut senders = Senders {
-        slots,
-        gateways,
-        key: joined_key()?,
-        next: 0,
-        counter: 0,
-    };
+) -> Result<(u128, u32), Unmeasured> {
+    let mut life = Life::new(alloc, gateways, slots)?;
+    measure_life(rt, alloc, &mut life)
+}
+
+// Handles batches until the journal is full, or long enough: the nanoseconds, and how many there were.
+fn measure_life(
+    rt: &impl Clock,
+    alloc: Global,
+    life: &mut Life,
+) -> Result<(u128, u32), Unmeasured> {
     let mut spent: u128 = 0;
     for batches in 0..MOST_BATCHES {
-        if !server.is_roomy() || spent >= MEASURED_NANOS {
+        if !life.server.is_roomy() || spent >= MEASURED_NANOS {
             return Ok((spent, batches));
         }
-        let copies = senders.copies(alloc)?;
-        let start = Instant::now(rt)?;
-        for copy in copies {
-            server.hear(copy)?;
-        }
-        server.settle()?;
-        spent = spent.saturating_add(start.elapsed(rt)?.as_nanos());
+        let copies = life.copies(alloc)?;
+        let start = clock_nanos(rt)?;
+        life.handle(copies)?;
+        spent = spent.saturating_add(clock_nanos(rt)?.saturating_sub(start));
     }
     Ok((spent, MOST_BATCHES))
 }

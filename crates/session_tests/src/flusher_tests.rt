@@ -1,7 +1,8 @@
 // What a flusher releases. The MICs of Join-Requests were made by OpenSSL.
-use crate::fixture::{JOINER, heard, joining};
-use crate::tables::{bring, carry_out};
-use devices::{Application, AskedBytes, Command, Effect, Queueing, Report, Tag};
+use crate::fixture::{JOINER, heard};
+use crate::network::{Asked, Comes};
+use crate::tables::{batch, carry_out};
+use devices::{Command, Effect, Report};
 use disk::MemDisk;
 use flusher::{Durable, Feed, Most, Released, Room, StoredBatches, cycle};
 use lw_types::{Eui, NetId, Refusal};
@@ -9,35 +10,12 @@ use sessions::{Batch, Decision, Slots, Table};
 use std::alloc::Global;
 use store::{Store, disk_len, format};
 
-// Provisionings of so many devices, the DevEUIs counted down to 1000, on a table whose last decision has
-// number 0.
-fn batch(alloc: Global, table: &Table, count: u16) -> Result<Batch, Refusal> {
-    let mut now = table.copy()?;
-    let mut batch = Batch::new(alloc)?;
-    for seq in 0..count {
-        let decision = bring(alloc, &mut now, u64::from(seq), dev_eui(count, seq))?;
-        if batch.len() >= Batch::MOST {
-            return Err(Refusal::Backlog);
-        }
-        batch.push(decision);
-    }
-    Ok(batch)
-}
-
-// The DevEUI of the device at a slot, of so many.
-fn dev_eui(count: u16, slot: u16) -> u64 {
-    1000 + u64::from(count.saturating_sub(slot))
-}
-
-// A disk that isn't empty, of the length of a store with 64 slots.
-fn disk(alloc: Global) -> Result<MemDisk, Refusal> {
-    let slots = Slots::new(64).ok_or(Refusal::Damaged)?;
-    Ok(MemDisk::new(alloc, vec![in alloc; 0xA5; disk_len(slots) as usize]?)?)
-}
-
-fn new_store(alloc: Global) -> Result<Store<MemDisk>, Refusal> {
+// A store with so many slots, on a disk that wasn't empty.
+fn new_store(alloc: Global, slots: u64) -> Result<Store<MemDisk>, Refusal> {
+    let len = disk_len(Slots::new(slots).ok_or(Refusal::Damaged)?);
+    let disk = MemDisk::new(alloc, vec![in alloc; 0xA5; len as usize]?)?;
     let net_id = NetId::new(0x2A).ok_or(Refusal::Damaged)?;
-    format(alloc, disk(alloc)?, net_id, 64)
+    format(alloc, disk, net_id, slots)
 }
 
 // The last phase of the commit of a batch.
@@ -53,69 +31,90 @@ fn committed(
     written.sync(store)?.open_gate(store)?.sync(store)
 }
 
-// A durable batch of so many decisions.
-fn durable(alloc: Global, count: u16) -> Result<Durable, Refusal> {
-    let mut store = new_store(alloc)?;
-    let batch = batch(alloc, store.table(), count)?;
+// A durable batch of so many provisionings.
+fn durable(alloc: Global, count: u64) -> Result<Durable, Refusal> {
     let room = Room::new(alloc)?;
-    Ok(Durable::new(committed(alloc, &mut store, batch)?, room))
+    let mut store = new_store(alloc, 64)?;
+    let batch = batch(alloc, &mut store.table().copy()?, count)?;
+    let durable = committed(alloc, &mut store, batch)?;
+    Ok(Durable::new(durable, room))
 }
 
-// What the application is told of the device at a slot.
-fn told(count: u16, slot: u16) -> Option<Effect> {
-    Some(Effect::Report {
-        application: Application::new(3)?,
-        dev_eui: Eui(dev_eui(count, slot)),
-        report: Report::Provisioned { slot },
-    })
+// Whether the application 3 is told that the device of this DevEUI has this slot.
+fn is_brought(effect: &Effect, slot: u16, dev_eui: u64) -> bool {
+    match effect {
+        Effect::Report {
+            application,
+            dev_eui: named,
+            report,
+        } => {
+            let is_told = *report == Report::Provisioned { slot };
+            is_told && application.get() == 3 && *named == Eui(dev_eui)
+        }
+        _ => false,
+    }
 }
 
-// Whether these are the effects of so many decisions, in order.
-fn are_all(released: &[Released], count: u16) -> bool {
-    for (slot, one) in (0..count).zip(released) {
-        if !told(count, slot).is_some_and(|told| *one.effect() == told) {
-            return false;
+// How many provisionings are told, where these effects are those of a batch of them, in order.
+fn brought(released: &[Released]) -> Option<usize> {
+    for (slot, one) in (0..64).zip(released) {
+        if !is_brought(one.effect(), slot, 2000_u64.saturating_sub(u64::from(slot))) {
+            return None;
         }
     }
-    released.len() == usize::from(count)
+    Some(released.len())
 }
 
-// Whether the effects of so many decisions leave in order.
-fn leave(alloc: Global, count: u16) -> Result<bool, Refusal> {
+// How many of the provisionings of a batch leave in order. Those of another batch are lost, as at a crash.
+fn leave(alloc: Global, count: u64) -> Result<Option<usize>, Refusal> {
+    durable(alloc, count)?.lose();
     let released = durable(alloc, count)?.release();
-    Ok(are_all(&released, count))
+    Ok(brought(&released))
 }
 
 #[test]
 fn effects_leave_in_order(rt: HostRuntime) {
-    assert!(rt; leave(rt.alloc(), 3) == Ok(true));
-    assert!(rt; leave(rt.alloc(), 64) == Ok(true));
+    assert!(rt; leave(rt.alloc(), 3) == Ok(Some(3)));
+    assert!(rt; leave(rt.alloc(), 64) == Ok(Some(64)));
 }
 
-fn are_lost(alloc: Global) -> Result<bool, Refusal> {
-    durable(alloc, 3)?.lose();
-    Ok(true)
+// What leaves in a round.
+#[derive(Clone, Copy, Debug, PartialEq, Eq)]
+enum Leaves {
+    Nothing,
+    /// Once the effects of so many provisionings, in order.
+    Brought(usize),
+    /// Once so many accepts and nothing else.
+    Accepts(usize),
+    /// Anything else.
+    Other,
 }
 
-#[test]
-fn effects_are_lost_at_a_crash(rt: HostRuntime) {
-    assert!(rt; are_lost(rt.alloc()) == Ok(true));
+fn what_leaves(released: &[Released]) -> Leaves {
+    let accepts = released
+        .iter()
+        .filter(|one| matches!(one.effect(), Effect::Accept { .. }))
+        .count();
+    match brought(released) {
+        Some(count) => Leaves::Brought(count),
+        None if accepts == released.len() => Leaves::Accepts(accepts),
+        None => Leaves::Other,
+    }
 }
 
-// What came of a round: its answer, how often effects left, and how many of them were those of provisionings,
-// in order.
-type Round = (Result<usize, Refusal>, usize, bool);
+// A round's answer, and what leaves in it.
+type Round = (Result<usize, Refusal>, Leaves);
 
-// A round, in which the effects of so many provisionings are due.
-fn round(alloc: Global, store: &mut Store<MemDisk>, feed: &mut impl Feed, count: u16) -> Round {
-    let mut calls: usize = 0;
-    let mut are_due = true;
+fn round(alloc: Global, store: &mut Store<MemDisk>, feed: &mut impl Feed) -> Round {
+    let mut leaves = Leaves::Nothing;
     let mut out = |released: Vec<Released>| {
-        calls = calls.saturating_add(1);
-        are_due = are_all(&released, count);
+        leaves = match leaves {
+            Leaves::Nothing => what_leaves(&released),
+            _ => Leaves::Other,
+        };
     };
     let answer = cycle(store, feed, alloc, &mut out);
-    (answer, calls, are_due)
+    (answer, leaves)
 }
 
 // A feed that refuses.
@@ -132,60 +131,71 @@ impl Feed for Refusing {
     }
 }
 
-// A feed of the batches that bring so many devices each, all made of one table.
-fn stored(alloc: Global, table: &Table, counts: &[u16]) -> Result<StoredBatches, Refusal> {
-    let mut batches = Vec::new(alloc);
-    for count in counts {
-        batches.push(batch(alloc, table, *count)?)?;
-    }
-    Ok(StoredBatches::new(alloc, batches))
-}
-
-// A feed that is refused, and one of an empty batch.
-fn nothing_leaves(alloc: Global) -> Result<bool, Refusal> {
-    let mut store = new_store(alloc)?;
-    let refused = round(alloc, &mut store, &mut Refusing(Refusal::Backlog), 0);
-    let mut feed = stored(alloc, store.table(), &[0])?;
-    let empty = round(alloc, &mut store, &mut feed, 0);
-    let none = round(alloc, &mut store, &mut feed, 0);
-    Ok(
-        refused == (Err(Refusal::Backlog), 0, true)
-            && (empty, none) == ((Ok(0), 0, true), (Ok(0), 0, true)),
-    )
+fn refused_round(alloc: Global) -> Result<Round, Refusal> {
+    let mut store = new_store(alloc, 64)?;
+    Ok(round(alloc, &mut store, &mut Refusing(Refusal::Backlog)))
 }
 
 #[test]
 fn without_a_batch_nothing_leaves(rt: HostRuntime) {
-    assert!(rt; nothing_leaves(rt.alloc()) == Ok(true));
+    let refused = (Err(Refusal::Backlog), Leaves::Nothing);
+    assert!(rt; refused_round(rt.alloc()) == Ok(refused));
 }
 
-// A batch, and another that was made of the table before it.
-fn leaves_once(alloc: Global, count: u16) -> Result<bool, Refusal> {
-    let mut store = new_store(alloc)?;
-    let mut feed = stored(alloc, store.table(), &[count, 1])?;
-    let left = round(alloc, &mut store, &mut feed, count);
-    let stale = round(alloc, &mut store, &mut feed, count);
-    let kept = (store.seq(), store.table().devices().len())
-        == (u64::from(count), usize::from(count));
-    Ok(
-        kept && left == (Ok(usize::from(count)), 1, true)
-            && stale == (Err(Refusal::OutOfStep), 0, true),
-    )
+const NOTHING: Round = (Ok(0), Leaves::Nothing);
+
+const STALE: Round = (Err(Refusal::OutOfStep), Leaves::Nothing);
+
+const FAILED: Round = (Err(Refusal::DeviceFailed), Leaves::Nothing);
+
+const CLOSED: Round = (Err(Refusal::Failed), Leaves::Nothing);
+
+const THREE: Round = (Ok(3), Leaves::Brought(3));
+
+const ALL: Round = (Ok(64), Leaves::Brought(64));
+
+// Two rounds on a disk whose call of this number fails, or none where it is 0; the second batch is made of the empty table
+// too. How many devices each batch brings, what comes of the rounds, and how many decisions are durable after them.
+const ROUNDS: &[(u64, (u64, u64), (Round, Round), u64)] = &[
+    // an empty batch
+    (0, (0, 0), (NOTHING, NOTHING), 0),
+    // a batch leaves once
+    (0, (3, 1), (THREE, STALE), 3),
+    (0, (64, 1), (ALL, STALE), 64),
+    // nothing leaves where the disk fails
+    (1, (3, 3), (FAILED, CLOSED), 0),
+    (2, (3, 3), (FAILED, CLOSED), 0),
+    (3, (3, 3), (FAILED, CLOSED), 0),
+    (4, (3, 3), (FAILED, CLOSED), 0),
+    (5, (3, 3), (THREE, STALE), 3),
+];
+
+// Batches that bring so many devices each, all made of one table.
+fn batches(alloc: Global, table: &Table, counts: (u64, u64)) -> Result<StoredBatches, Refusal> {
+    let first = batch(alloc, &mut table.copy()?, counts.0)?;
+    let second = batch(alloc, &mut table.copy()?, counts.1)?;
+    let mut batches = Vec::with_capacity(alloc, 2)?;
+    batches.push(first)?;
+    batches.push(second)?;
+    Ok(StoredBatches::new(alloc, batches))
 }
 
-#[test]
-fn a_batch_leaves_once(rt: HostRuntime) {
-    assert!(rt; leaves_once(rt.alloc(), 3) == Ok(true));
-    assert!(rt; leaves_once(rt.alloc(), 64) == Ok(true));
-}
-
-// Two rounds of a disk whose call of this number fails; the second batch is made of the table before the first.
-fn failing(alloc: Global, call: u64) -> Result<(Round, Round), Refusal> {
-    let mut store = new_store(alloc)?;
-    let mut feed = stored(alloc, store.table(), &[3, 3])?;
-    arm(&mut store, call);
-    let failed = round(alloc, &mut store, &mut feed, 3);
-    Ok((failed, round(alloc, &mut store, &mut feed, 3)))
+// What comes of two rounds, and how many decisions are durable after them; each brought a device.
+fn rounds(
+    alloc: Global,
+    failing: u64,
+    counts: (u64, u64),
+) -> Result<((Round, Round), u64), Refusal> {
+    let mut store = new_store(alloc, 64)?;
+    let mut feed = batches(alloc, store.table(), counts)?;
+    arm(&mut store, failing);
+    let first = round(alloc, &mut store, &mut feed);
+    let second = round(alloc, &mut store, &mut feed);
+    if store.table().devices().len() as u64 == store.seq() {
+        Ok(((first, second), store.seq()))
+    } else {
+        Err(Refusal::Damaged)
+    }
 }
 
 fn arm(store: &mut Store<MemDisk>, call: u64) {
@@ -195,37 +205,11 @@ fn arm(store: &mut Store<MemDisk>, call: u64) {
 }
 
 #[test]
-fn nothing_leaves_where_the_disk_fails(rt: HostRuntime) {
-    let failed = (Err(Refusal::DeviceFailed), 0, true);
-    let closed = (Err(Refusal::Failed), 0, true);
-    for call in 1..=4 {
-        assert!(rt; failing(rt.alloc(), call) == Ok((failed, closed)), "{call}");
+fn a_durable_batch_leaves_once(rt: HostRuntime) {
+    for (failing, counts, wanted, durable) in ROUNDS {
+        let rounds = rounds(rt.alloc(), *failing, *counts);
+        assert!(rt; rounds == Ok((*wanted, *durable)), "{failing}");
     }
-    let stale = (Err(Refusal::OutOfStep), 0, true);
-    assert!(rt; failing(rt.alloc(), 5) == Ok(((Ok(3), 1, true), stale)));
-}
-
-// An item of 242 bytes for the device that joins.
-fn item(alloc: Global, tag: u32) -> Result<Command, Refusal> {
-    Ok(Command::Queue(Queueing {
-        application: Application::new(3).ok_or(Refusal::Damaged)?,
-        dev_eui: Eui(JOINER),
-        tag: Tag(tag),
-        port: 1,
-        confirmed: false,
-        payload: AskedBytes::new(vec![in alloc; 6; 242]?)
-            .ok()
-            .ok_or(Refusal::Damaged)?,
-    }))
-}
-
-// Its Join-Request with this DevNonce.
-fn request(alloc: Global, dev_nonce: u16, mic: u32) -> Result<Command, Refusal> {
-    let [low, high] = dev_nonce.to_le_bytes();
-    let digits = format!(in alloc;
-        "0008070605040302011817161514131211{low:02X}{high:02X}{mic:08X}"
-    )?;
-    heard(alloc, &digits)
 }
 
 // A flusher, and the table after all that was decided.
@@ -238,61 +222,54 @@ struct Flushed {
 }
 
 impl Flushed {
-    // A network of 8 slots.
+    // A network of 8 slots. The device that joins was brought, and sixteen items were queued for it.
     fn new(alloc: Global) -> Result<Self, Refusal> {
-        let slots = Slots::new(8).ok_or(Refusal::Damaged)?;
-        let disk = MemDisk::new(alloc, vec![in alloc; 0; disk_len(slots) as usize]?)?;
-        let net_id = NetId::new(0x2A).ok_or(Refusal::Damaged)?;
-        let store = format(alloc, disk, net_id, 8)?;
+        let store = new_store(alloc, 8)?;
         let now = store.table().copy()?;
-        Ok(Flushed {
+        let mut flushed = Flushed {
             store,
             now,
             accepts: 0,
             checkpoints: 0,
-        })
+        };
+        match flushed.queue(alloc) {
+            Ok(()) => Ok(flushed),
+            Err(refusal) => Err(refusal),
+        }
+    }
+
+    fn queue(&mut self, alloc: Global) -> Result<(), Refusal> {
+        self.carry_out(alloc, Comes::Device(JOINER).command(alloc)?)?;
+        for tag in 0..16 {
+            let item = Comes::Item(Asked { tag, ..ITEM });
+            self.carry_out(alloc, item.command(alloc)?)?;
+        }
+        Ok(())
     }
 
     // The command is decided, and its batch released.
     fn carry_out(&mut self, alloc: Global, command: Command) -> Result<(), Refusal> {
         let decision = carry_out(alloc, &mut self.now, self.store.seq(), command)?;
         let is_due = !self.store.roomy();
-        let accepts = accepts_of(alloc, &mut self.store, decision)?;
-        self.accepts = self.accepts.saturating_add(accepts);
+        let (answer, leaves) = round(alloc, &mut self.store, &mut alone(alloc, decision)?);
+        let _ = answer?;
+        if leaves == Leaves::Accepts(1) {
+            self.accepts = self.accepts.saturating_add(1);
+        }
         self.checkpoints = self.checkpoints.saturating_add(usize::from(is_due));
         Ok(())
     }
-
-    // The device is brought, and sixteen items are queued for it.
-    fn queue(&mut self, alloc: Global) -> Result<(), Refusal> {
-        self.carry_out(alloc, provision()?)?;
-        for tag in 0..16 {
-            let item = item(alloc, tag)?;
-            self.carry_out(alloc, item)?;
-        }
-        Ok(())
-    }
 }
 
-fn provision() -> Result<Command, Refusal> {
-    match joining() {
-        Some(joining) => Ok(Command::Provision(joining)),
-        None => Err(Refusal::Damaged),
-    }
-}
-
-// How many accepts leave in a round with this decision alone.
-fn accepts_of(
-    alloc: Global,
-    store: &mut Store<MemDisk>,
-    decision: Decision,
-) -> Result<usize, Refusal> {
-    let mut feed = alone(alloc, decision)?;
-    let mut accepts = 0;
-    let mut out = |released: Vec<Released>| accepts = accepts_in(&released);
-    let _ = cycle(store, &mut feed, alloc, &mut out)?;
-    Ok(accepts)
-}
+// An item of 242 bytes for the device that joins.
+const ITEM: Asked = Asked {
+    application: 3,
+    dev_eui: JOINER,
+    tag: 0,
+    port: 1,
+    confirmed: false,
+    len: 242,
+};
 
 // A feed of this decision alone.
 fn alone(alloc: Global, decision: Decision) -> Result<StoredBatches, Refusal> {
@@ -303,22 +280,23 @@ fn alone(alloc: Global, decision: Decision) -> Result<StoredBatches, Refusal> {
     Ok(StoredBatches::new(alloc, batches))
 }
 
-fn accepts_in(released: &[Released]) -> usize {
-    let accepts = released
-        .iter()
-        .filter(|one| matches!(one.effect(), Effect::Accept { .. }));
-    accepts.count()
+// The Join-Request with this DevNonce.
+fn request(alloc: Global, dev_nonce: u16, mic: u32) -> Result<Command, Refusal> {
+    let [low, high] = dev_nonce.to_le_bytes();
+    let digits = format!(in alloc;
+        "0008070605040302011817161514131211{low:02X}{high:02X}{mic:08X}"
+    )?;
+    heard(alloc, &digits)
 }
 
 // How many accepts leave and how many checkpoints are written, and the last number, where the device joins with each
 // of these MICs, the DevNonces from 1 on.
 fn joins(alloc: Global, mics: &[u32]) -> Result<(usize, usize, u64), Refusal> {
     let mut flushed = Flushed::new(alloc)?;
-    flushed.queue(alloc)?;
-    for (dev_nonce, mic) in (1..=u16::MAX).zip(mics) {
-        flushed.carry_out(alloc, request(alloc, dev_nonce, *mic)?)?;
+    match flushed.join(alloc, mics) {
+        Ok(()) => Ok((flushed.accepts, flushed.checkpoints, flushed.store.seq())),
+        Err(refusal) => Err(refusal),
     }
-    Ok((flushed.accepts, flushed.checkpoints, flushed.store.seq()))
 }
 
 // A record with sixteen such items has some 4,200 bytes, of which 807,510 fit into an area's journal.
@@ -327,24 +305,42 @@ fn a_store_never_fills(rt: HostRuntime) {
     assert!(rt; joins(rt.alloc(), mics()) == Ok((400, 2, 417)));
 }
 
-// A round that has to write a checkpoint, where this call of the disk fails: its refusal, how many accepts left by it,
-// and whether the store kept its number.
-fn failing_checkpoint(alloc: Global, call: u64) -> Result<(Option<Refusal>, usize, bool), Refusal> {
+// What comes of a round that has to write a checkpoint, where a call of the disk fails: its refusal, how many accepts left
+// by it, and whether the store kept its number.
+type Checkpointing = (Option<Refusal>, usize, bool);
+
+fn failing_checkpoint(alloc: Global, call: u64) -> Result<Checkpointing, Refusal> {
     let mut flushed = Flushed::new(alloc)?;
-    flushed.queue(alloc)?;
-    for (dev_nonce, mic) in (1..=u16::MAX).zip(mics()) {
-        let next = request(alloc, dev_nonce, *mic)?;
-        if !flushed.store.roomy() {
-            return Ok(flushed.armed(alloc, call, next));
-        }
-        flushed.carry_out(alloc, next)?;
-    }
-    Err(Refusal::Backlog)
+    flushed.join_until_full(alloc, call, mics())
 }
 
 impl Flushed {
-    // The same of a command on this store.
-    fn armed(&mut self, alloc: Global, call: u64, next: Command) -> (Option<Refusal>, usize, bool) {
+    // The device joins with each of these MICs, the DevNonces from 1 on.
+    fn join(&mut self, alloc: Global, mics: &[u32]) -> Result<(), Refusal> {
+        for (dev_nonce, mic) in (1..=u16::MAX).zip(mics) {
+            self.carry_out(alloc, request(alloc, dev_nonce, *mic)?)?;
+        }
+        Ok(())
+    }
+
+    // The same until a checkpoint is due. Then this call of the disk fails.
+    fn join_until_full(
+        &mut self,
+        alloc: Global,
+        call: u64,
+        mics: &[u32],
+    ) -> Result<Checkpointing, Refusal> {
+        for (dev_nonce, mic) in (1..=u16::MAX).zip(mics) {
+            let next = request(alloc, dev_nonce, *mic)?;
+            if !self.store.roomy() {
+                return Ok(self.armed(alloc, call, next));
+            }
+            self.carry_out(alloc, next)?;
+        }
+        Err(Refusal::Backlog)
+    }
+
+    fn armed(&mut self, alloc: Global, call: u64, next: Command) -> Checkpointing {
         let (before, seq) = (self.accepts, self.store.seq());
         arm(&mut self.store, call);
         let refused = self.carry_out(alloc, next).err();

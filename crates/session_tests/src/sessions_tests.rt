@@ -1,89 +1,75 @@
-use crate::tables::{bring, decided, full_table, new_table};
-use devices::{Device, Effect, Report};
+// Tables of devices, and batches of decisions on them.
+use crate::network::{Comes, FRESH, State, told};
+use crate::tables::{batch, filled, new_table};
 use lw_types::{Eui, Refusal};
-use sessions::{Batch, Decision, Records, Table};
+use sessions::{Batch, Records, Table};
 use std::alloc::Global;
 
-// Whether a decision is the first one on the device of this DevEUI, at this slot.
-fn is_first(decision: &Decision, slot: u16, dev_eui: Eui) -> bool {
-    let is_told = matches!(
-        decision.effects.as_slice(),
-        [Effect::Report {
-            report: Report::Provisioned { .. },
-            ..
-        }]
-    );
-    let is_there = decision.slot == slot && decision.after.dev_eui == dev_eui;
-    is_told && is_there && decision.before.is_none()
+// What comes to a table of 2 slots without devices, and what leaves then or as what it is refused.
+const BROUGHT: &[(Comes, Result<&str, Refusal>)] = &[
+    (Comes::Device(50), Ok("provisioned 0000000000000032 0")),
+    (Comes::Device(40), Ok("provisioned 0000000000000028 1")),
+    (Comes::Device(40), Err(Refusal::DevEuiTaken)),
+    (Comes::Device(60), Err(Refusal::TableFull)),
+];
+
+// Whether this comes of it.
+fn comes_so(
+    alloc: Global,
+    table: &mut Table,
+    comes: &Comes,
+    wanted: &Result<&str, Refusal>,
+) -> bool {
+    match (told(alloc, table, comes), wanted) {
+        (Ok(told), Ok(wanted)) => told.as_str() == *wanted,
+        (Err(refusal), Err(wanted)) => refusal == *wanted,
+        _ => false,
+    }
 }
 
-// Whether the device that is brought gets this slot.
-fn gets(alloc: Global, table: &mut Table, slot: u16, dev_eui: u64) -> Result<bool, Refusal> {
-    let decision = bring(alloc, table, u64::from(slot), dev_eui)?;
-    let is_found = table.slot_of(Eui(dev_eui)) == Some(slot);
-    Ok(is_found && is_first(&decision, slot, Eui(dev_eui)))
-}
-
-fn get_slots(alloc: Global) -> Result<bool, Refusal> {
+// Whether the devices 50 and 40 take the slots, and the device 60 none.
+fn take_slots(alloc: Global) -> Result<bool, Refusal> {
     let mut table = new_table(alloc, 2)?;
-    let first = gets(alloc, &mut table, 0, 50)?;
-    let second = gets(alloc, &mut table, 1, 40)?;
-    Ok(first && second)
+    for (comes, wanted) in BROUGHT {
+        if !comes_so(alloc, &mut table, comes, wanted) {
+            return Ok(false);
+        }
+    }
+    Ok(table.slot_of(Eui(60)).is_none())
 }
 
 #[test]
-fn a_provisioning_takes_the_next_slot(rt: HostRuntime) {
-    assert!(rt; get_slots(rt.alloc()) == Ok(true));
-}
-
-// What a provisioning is refused.
-fn refused(alloc: Global, table: &Table, dev_eui: u64) -> Option<Refusal> {
-    decided(alloc, table, 3, dev_eui).err()
-}
-
-fn is_full(alloc: Global) -> Result<bool, Refusal> {
-    let table = full_table(alloc, 2)?;
-    let taken = refused(alloc, &table, 1) == Some(Refusal::DevEuiTaken);
-    let full = refused(alloc, &table, 60) == Some(Refusal::TableFull);
-    Ok(taken && full && table.slot_of(Eui(60)).is_none())
-}
-
-#[test]
-fn a_full_table_takes_no_device(rt: HostRuntime) {
-    assert!(rt; is_full(rt.alloc()) == Ok(true));
+fn a_provisioning_takes_the_next_slot_while_there_is_one(rt: HostRuntime) {
+    assert!(rt; take_slots(rt.alloc()) == Ok(true));
 }
 
 // Whether a table admits a decision under its own number alone, and no more once the slot is taken.
 fn admits_once(alloc: Global, table: &mut Table) -> Result<bool, Refusal> {
-    let first = decided(alloc, table, 1, 50)?;
+    let first = table.decide(alloc, 1, Comes::Device(50).command(alloc)?)?;
     let admitted = table.admits(0, &first) && !table.admits(1, &first);
-    let _ = bring(alloc, table, 0, 50)?;
-    Ok(admitted && !table.admits(0, &first))
+    let is_applied = table.apply(&first).is_ok();
+    Ok(admitted && is_applied && !table.admits(0, &first))
+}
+
+// Whether it admits a decision that was made of its copy.
+fn admits_of_copy(alloc: Global, table: &Table) -> Result<bool, Refusal> {
+    let command = Comes::Device(40).command(alloc)?;
+    let copy = table.copy()?;
+    match copy.decide(alloc, 2, command) {
+        Ok(second) => Ok(table.admits(1, &second)),
+        Err(refusal) => Err(refusal),
+    }
 }
 
 fn admits_its_own(alloc: Global) -> Result<bool, Refusal> {
     let mut table = new_table(alloc, 2)?;
     let once = admits_once(alloc, &mut table)?;
-    let second = decided(alloc, &table.copy()?, 2, 40)?;
-    Ok(once && table.admits(1, &second))
+    Ok(once && admits_of_copy(alloc, &table)?)
 }
 
 #[test]
 fn a_table_admits_what_was_made_of_it(rt: HostRuntime) {
     assert!(rt; admits_its_own(rt.alloc()) == Ok(true));
-}
-
-// A batch of so many decisions on a table that has their records then.
-fn batch(alloc: Global, table: &mut Table, count: u64) -> Result<Batch, Refusal> {
-    let mut batch = Batch::new(alloc)?;
-    for dev_eui in 0..count {
-        let decision = bring(alloc, table, dev_eui, dev_eui)?;
-        if batch.len() >= Batch::MOST {
-            return Err(Refusal::Backlog);
-        }
-        batch.push(decision);
-    }
-    Ok(batch)
 }
 
 // The records of a batch are taken one by one.
@@ -118,18 +104,15 @@ fn gives_records(alloc: Global, count: u64) -> Result<bool, Refusal> {
 
 #[test]
 fn a_batch_gives_its_records(rt: HostRuntime) {
-    assert!(rt; gives_records(rt.alloc(), 5) == Ok(true));
-    assert!(rt; gives_records(rt.alloc(), 64) == Ok(true));
-}
-
-#[test]
-fn a_new_batch_is_empty(rt: HostRuntime) {
     assert!(rt; Batch::new(rt.alloc()).is_ok_and(|batch| batch.is_empty()));
+    for count in &[5, 64] {
+        assert!(rt; gives_records(rt.alloc(), *count) == Ok(true), "{count}");
+    }
 }
 
 // Whether so many devices have a place in a table.
 fn holds(alloc: Global, count: u64) -> Result<bool, Refusal> {
-    let table = full_table(alloc, count)?;
+    let table = filled(alloc, count, count)?;
     let copy = table.copy()?;
     let last = copy.slot_of(Eui(count.saturating_sub(1)));
     let is_whole = table.devices().len() as u64 == count && copy.devices() == table.devices();
@@ -143,10 +126,8 @@ fn a_table_holds_4096_devices(rt: HostRuntime) {
 
 // The record of a device of this DevEUI is put at a slot.
 fn put(alloc: Global, table: &mut Table, slot: u16, dev_eui: u64) -> Result<(), Refusal> {
-    table.put(
-        slot,
-        decided(alloc, &new_table(alloc, 1)?, 1, dev_eui)?.after,
-    )
+    let device = State { dev_eui, ..FRESH }.device(alloc)?;
+    table.put(slot, device)
 }
 
 // Whether a slot takes its own device's record again, and then one of a new name.
@@ -158,7 +139,7 @@ fn is_renamed(alloc: Global, table: &mut Table, slot: u16) -> Result<bool, Refus
 }
 
 fn are_renamed(alloc: Global) -> Result<bool, Refusal> {
-    let mut table = full_table(alloc, 100)?;
+    let mut table = filled(alloc, 100, 100)?;
     for slot in 0..100 {
         if !is_renamed(alloc, &mut table, slot)? {
             return Ok(false);

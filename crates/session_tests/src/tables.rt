@@ -1,8 +1,8 @@
 // Tables that the tests here begin with.
-use crate::fixture::{provision, provisioning};
-use devices::{Command, Device};
+use crate::fixture::provision;
+use devices::Command;
 use lw_types::{NetId, Refusal};
-use sessions::{Decision, Slots, Table};
+use sessions::{Batch, Decision, Slots, Table};
 use std::alloc::Global;
 
 /// A table with so many slots and no device.
@@ -10,19 +10,6 @@ pub(crate) fn new_table(alloc: Global, slots: u64) -> Result<Table, Refusal> {
     match (NetId::new(0x2A), Slots::new(slots)) {
         (Some(net_id), Some(slots)) => Table::new(alloc, net_id, slots),
         _ => Err(Refusal::Damaged),
-    }
-}
-
-/// What the table decides of the command that brings a device.
-pub(crate) fn decided(
-    alloc: Global,
-    table: &Table,
-    seq: u64,
-    dev_eui: u64,
-) -> Result<Decision, Refusal> {
-    match provision(dev_eui) {
-        Some(command) => table.decide(alloc, seq, command),
-        None => Err(Refusal::Damaged),
     }
 }
 
@@ -35,8 +22,9 @@ pub(crate) fn carry_out(
 ) -> Result<Decision, Refusal> {
     let decision = table.decide(alloc, seq.saturating_add(1), command)?;
     let is_admitted = table.admits(seq, &decision);
-    table.apply(&decision)?;
-    if is_admitted {
+    let is_applied = table.apply(&decision).is_ok();
+    let is_found = table.slot_of(decision.after.dev_eui) == Some(decision.slot);
+    if is_admitted && is_applied && is_found {
         Ok(decision)
     } else {
         Err(Refusal::OutOfStep)
@@ -56,28 +44,25 @@ pub(crate) fn bring(
     }
 }
 
-/// A table with as many devices as slots, of the DevEUIs from 0 on.
-pub(crate) fn full_table(alloc: Global, slots: u64) -> Result<Table, Refusal> {
+/// A table with devices at its first slots, of the DevEUIs from 0 on.
+pub(crate) fn filled(alloc: Global, slots: u64, devices: u64) -> Result<Table, Refusal> {
     let mut table = new_table(alloc, slots)?;
-    for dev_eui in 0..slots {
+    for dev_eui in 0..devices {
         let _ = bring(alloc, &mut table, dev_eui, dev_eui)?;
     }
     Ok(table)
 }
 
-fn idle_device(alloc: Global, dev_eui: u64) -> Result<Device, Refusal> {
-    match provisioning(dev_eui) {
-        Some(provisioning) => Ok(Device::provisioned(alloc, &provisioning)),
-        None => Err(Refusal::Damaged),
+/// Provisionings of so many devices on a table whose last decision has the number 0, and which has their records then. The
+/// DevEUIs are counted down from 2000.
+pub(crate) fn batch(alloc: Global, table: &mut Table, count: u64) -> Result<Batch, Refusal> {
+    let mut batch = Batch::new(alloc)?;
+    for seq in 0..count {
+        let decision = bring(alloc, table, seq, 2000_u64.saturating_sub(seq))?;
+        if batch.len() >= Batch::MOST {
+            return Err(Refusal::Backlog);
+        }
+        batch.push(decision);
     }
-}
-
-/// A table of 8 slots in which this record is at this slot, behind those of other devices.
-pub(crate) fn table_with(alloc: Global, slot: u16, device: Device) -> Result<Table, Refusal> {
-    let mut table = new_table(alloc, 8)?;
-    for other in 0..slot {
-        table.put(other, idle_device(alloc, u64::from(other))?)?;
-    }
-    table.put(slot, device)?;
-    Ok(table)
+    Ok(batch)
 }

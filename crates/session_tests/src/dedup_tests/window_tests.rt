@@ -62,97 +62,85 @@ fn play(alloc: Global, rows: &[Row], last: u64) -> Result<(Vec<u8>, Vec<usize>),
     Ok((answers, closed))
 }
 
-// Whether these copies are answered so, and the windows that close till the last moment are these.
-fn plays(
-    alloc: Global,
-    rows: &[Row],
+// Copies one after another, the answer to each, and the windows that close till a last moment.
+struct Script {
+    copies: &'static [Row],
     last: u64,
-    wanted: &[u8],
-    windows: &[usize],
-) -> Result<bool, Refusal> {
-    let (answers, closed) = play(alloc, rows, last)?;
-    Ok(answers.as_slice() == wanted && closed.as_slice() == windows)
+    answers: &'static [u8],
+    closed: &'static [usize],
 }
 
-const JOINING: &[Row] = &[
-    (0, 0xB1, 7),
-    (199, 0xB2, 7),
-    (199, 0xB1, 7),
-    (100, 0xB3, 7),
-    (200, 0xB1, 7),
+const SCRIPTS: &[Script] = &[
+    // Copies join for 200 ms from the window's opening; then the window is due, and the frame opens another.
+    Script {
+        copies: &[
+            (0, 0xB1, 7),
+            (199, 0xB2, 7),
+            (199, 0xB1, 7),
+            (100, 0xB3, 7),
+            (200, 0xB1, 7),
+        ],
+        last: 400,
+        answers: &[0, 0, 21, 0, 0],
+        closed: &[703, 701],
+    },
+    // Windows of several frames are open side by side, and close in the order in which they opened.
+    Script {
+        copies: &[
+            (10, 1, 3),
+            (10, 1, 2),
+            (20, 1, 1),
+            (50, 2, 2),
+            (209, 2, 3),
+            (210, 3, 2),
+            (u64::MAX / 2, 1, 1),
+        ],
+        last: u64::MAX,
+        answers: &[0; 7],
+        closed: &[302, 202, 101, 201, 101],
+    },
 ];
 
-const JOINED: &[usize] = &[703, 701];
-
-// Copies join for 200 ms from the window's opening; then the window is due, and the frame opens another.
 #[test]
-fn a_window_takes_copies_for_200_ms(rt: HostRuntime) {
-    assert!(rt; plays(rt.alloc(), JOINING, 400, &[0, 0, 21, 0, 0], JOINED) == Ok(true));
+fn windows_take_copies_for_200_ms_and_close_in_order(rt: HostRuntime) {
+    for script in SCRIPTS {
+        let played = play(rt.alloc(), script.copies, script.last);
+        assert!(rt;
+            played.is_ok_and(|(answers, closed)| {
+                answers.as_slice() == script.answers && closed.as_slice() == script.closed
+            })
+        );
+    }
 }
 
-const SEVERAL: &[Row] = &[
-    (10, 1, 3),
-    (10, 1, 2),
-    (20, 1, 1),
-    (50, 2, 2),
-    (209, 2, 3),
-    (210, 3, 2),
-    (u64::MAX / 2, 1, 1),
-];
-
-const SEVERAL_CLOSED: &[usize] = &[302, 202, 101, 201, 101];
-
-// Windows of several frames are open side by side, and close in the order in which they opened.
-#[test]
-fn windows_close_in_order(rt: HostRuntime) {
-    let plays = plays(rt.alloc(), SEVERAL, u64::MAX, &[0; 7], SEVERAL_CLOSED);
-    assert!(rt; plays == Ok(true));
-}
-
-// How many of these copies are taken, and what the last one is answered.
-fn taken(alloc: Global, rows: &[Row]) -> Result<(usize, Option<u8>), Refusal> {
-    let (answers, _) = play(alloc, rows, 0)?;
-    let taken = answers.iter().filter(|answer| **answer == 0).count();
-    Ok((taken, answers.last().copied()))
-}
-
-// So many copies of one frame, from so many gateways in turn.
-fn copies_of_one(alloc: Global, copies: u64, gateways: u64) -> Result<Vec<Row>, Refusal>
-    requires { 0 < gateways }
-{
+// Of so many copies at one moment, from gateways and of frames that take turns: how many are taken, and what the last one is
+// answered.
+fn taken(alloc: Global, copies: u16, gateways: u16, frames: u16) -> Result<(usize, u8), Refusal> {
     let mut rows = Vec::new(alloc);
     for n in 0..copies {
-        rows.push((5, n % gateways, 1))?;
+        let gateway = n.checked_rem(gateways).unwrap_or(0);
+        rows.push((5, u64::from(gateway), n.checked_rem(frames).unwrap_or(0)))?;
     }
-    Ok(rows)
+    let (answers, _) = play(alloc, &rows, 0)?;
+    let taken = answers.iter().filter(|answer| **answer == 0).count();
+    Ok((taken, answers.last().copied().unwrap_or(0)))
 }
 
-fn taken_of(alloc: Global, copies: u64, gateways: u64) -> Result<(usize, Option<u8>), Refusal>
-    requires { 0 < gateways }
-{
-    taken(alloc, &copies_of_one(alloc, copies, gateways)?)
-}
-
-// A gateway that was heard before is refused as such, in a full window too.
-#[test]
-fn a_window_has_32_copies_at_most(rt: HostRuntime) {
-    assert!(rt; taken_of(rt.alloc(), 32, 32) == Ok((32, Some(0))));
-    assert!(rt; taken_of(rt.alloc(), 33, 33) == Ok((32, Some(22))));
-    assert!(rt; taken_of(rt.alloc(), 33, 32) == Ok((32, Some(21))));
-    assert!(rt; taken_of(rt.alloc(), 2, 1) == Ok((1, Some(21))));
-}
-
-// One copy of each of so many frames.
-fn opened_of(alloc: Global, frames: u16) -> Result<(usize, Option<u8>), Refusal> {
-    let mut rows = Vec::new(alloc);
-    for number in 0..frames {
-        rows.push((5, 1, number))?;
-    }
-    taken(alloc, &rows)
-}
+// A window has 32 copies at most, and a gateway that was heard before is refused as such, in a full window too; at most
+// 1,024 windows are open.
+const CROWDS: &[((u16, u16, u16), (usize, u8))] = &[
+    ((32, 32, 1), (32, 0)),
+    ((33, 33, 1), (32, 22)),
+    ((33, 32, 1), (32, 21)),
+    ((2, 1, 1), (1, 21)),
+    ((1024, 1, 1024), (1024, 0)),
+    ((1025, 1, 1025), (1024, 20)),
+];
 
 #[test]
-fn at_most_1024_windows_are_open(rt: HostRuntime) {
-    assert!(rt; opened_of(rt.alloc(), 1024) == Ok((1024, Some(0))));
-    assert!(rt; opened_of(rt.alloc(), 1025) == Ok((1024, Some(20))));
+fn windows_and_their_copies_are_few(rt: HostRuntime) {
+    for ((copies, gateways, frames), wanted) in CROWDS {
+        let taken = taken(rt.alloc(), *copies, *gateways, *frames);
+        assert!(rt; taken == Ok(*wanted), "{copies}");
+    }
 }

@@ -1,6 +1,7 @@
-// Why nothing was measured.
+// What a measurement gives, or why nothing was measured.
 use lw_types::Refusal;
-use std::{fmt, io};
+use std::fmt;
+use std::rt::Clock;
 
 /// Why nothing was measured.
 #[derive(Drop)]
@@ -21,14 +22,6 @@ impl From<Refusal> for Unmeasured {
     }
 }
 
-impl From<io::Error> for Unmeasured {
-    ghost from_gives = { λ _ _. Unit {0} };
-
-    fn from(_error: io::Error) -> Self {
-        Unmeasured::NoClock
-    }
-}
-
 impl fmt::Display for Unmeasured {
     fn fmt<W: fmt::Write>(&self, f: &mut fmt::Formatter<W>) -> fmt::Result {
         match self {
@@ -36,5 +29,21 @@ impl fmt::Display for Unmeasured {
             Unmeasured::NoClock => write!(f, "as the clock can't be read"),
             Unmeasured::OddClock => write!(f, "as the clock stands still or leaps"),
         }
+    }
+}
+
+/// The nanoseconds on the clock.
+pub fn clock_nanos(rt: &impl Clock) -> Result<u128, Unmeasured> {
+    match rt.monotonic() {
+        Ok(since_start) => Ok(since_start.as_nanos()),
+        Err(_) => Err(Unmeasured::NoClock),
+    }
+}
+
+/// The nanoseconds of one of so many events that took so long together. On no machine of today are they none, or seconds.
+pub fn nanos_of_one(spent: u128, events: u128) -> Result<u32, Unmeasured> {
+    match u32::try_from(spent.checked_div(events).unwrap_or(0)) {
+        Ok(nanos) if nanos > 0 => Ok(nanos),
+        _ => Err(Unmeasured::OddClock),
     }
 }

@@ -1,0 +1,54 @@
+// Records of the device that joins, before and after uplinks, and how its gateway hears it. Keys were made by Python's `cryptography`.
+use crate::network::{FRESH, Grant, HeardBy, State};
+
+/// The session of the join under JoinNonce 1 and DevNonce 1.
+pub(super) const FIRST_SESSION: Grant = (
+    1,
+    (
+        0x38F19F1F_7C923B7B_392DFDBE_CE201B6B,
+        0x65A2E3FC_3F681266_CA0F9088_A6AD5FE4,
+    ),
+);
+
+// That of the join under JoinNonce 8193 and DevNonce 2. It has the same address.
+const SAME_ADDRESS: Grant = (
+    8193,
+    (
+        0xBB364910_9CD135B4_93E74069_35FFEE62,
+        0xDABBBAC8_56FA7E09_7BCC406C_1BB2E6A6,
+    ),
+);
+
+/// The first session is in use and has had its uplink 0, and nothing waits.
+pub(super) const IN_USE: State = State {
+    join_nonce: 1,
+    in_use: Some(FIRST_SESSION),
+    ..FRESH
+};
+
+/// The same after the uplink 1.
+pub(super) const HEARD: State = State {
+    last_up: 1,
+    ..IN_USE
+};
+
+/// The same after a downlink too.
+pub(super) const ANSWERED: State = State {
+    last_up: 1,
+    next_down: 1,
+    ..IN_USE
+};
+
+/// The first session is in use, and the one with the same address waits for its first uplink.
+pub(super) const WAITING: State = State {
+    join_nonce: 8193,
+    waiting: Some(SAME_ADDRESS),
+    ..IN_USE
+};
+
+/// The session that waited is in use after its uplink 0.
+pub(super) const SWITCHED: State = State {
+    join_nonce: 8193,
+    in_use: Some(SAME_ADDRESS),
+    ..FRESH
+};

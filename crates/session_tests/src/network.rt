@@ -1,0 +1,366 @@
+//! A network with one device under test: its record before, what comes, and what has to come of it.
+use crate::fixture::{JOINER, heard, heard_by, joining, provisioning, session};
+use crate::tables::{carry_out, filled};
+use devices::{
+    Activation, Application, AskedBytes, Command, CurrentSession, Device, Effect, Hearing, Item,
+    ItemQueue, MacQueue, MacQueueing, NextDown, Payload, Port, Provisioning, Queueing, Rx1Offset,
+    Tag,
+};
+use gateway_wire::Emission;
+use lw_types::{Eui, JoinNonce, Reception, Refusal, read_hex, write_hex};
+use sessions::Table;
+use std::alloc::Global;
+
+/// What a join grants: the JoinNonce and the keys of the session, NwkSKey first.
+pub(crate) type Grant = (u32, (u128, u128));
+
+/// An item that waits: its tag, its port, whether it is confirmed, and how many bytes 6.
+pub(crate) type Waiting = (u32, u64, bool, usize);
+
+/// The items that wait for a device.
+#[derive(Clone, Copy)]
+pub(crate) enum Items {
+    /// So many confirmed ones of one byte under tag 9, on the ports from 1 on.
+    Ports(u64),
+    One(Waiting),
+    Two(Waiting, Waiting),
+}
+
+/// The record of the device under test.
+#[derive(Clone, Copy)]
+pub(crate) struct State {
+    pub dev_eui: u64,
+    /// Its slot in the network 00002A. Other devices are at those below.
+    pub slot: u16,
+    pub rx1_offset: u64,
+    pub last_dev_nonce: Option<u16>,
+    /// The last JoinNonce granted; 0 where none was.
+    pub join_nonce: u32,
+    /// The session in use, and its counters.
+    pub in_use: Option<Grant>,
+    pub last_up: u32,
+    pub next_down: u64,
+    /// The session that waits for its first uplink.
+    pub waiting: Option<Grant>,
+    pub awaited: Option<u32>,
+    pub mac_queue: Option<&'static str>,
+    pub items: Items,
+}
+
+/// The device that joins was brought, to slot 0.
+pub(crate) const FRESH: State = State {
+    dev_eui: JOINER,
+    slot: 0,
+    rx1_offset: 0,
+    last_dev_nonce: None,
+    join_nonce: 0,
+    in_use: None,
+    last_up: 0,
+    next_down: 0,
+    waiting: None,
+    awaited: None,
+    mac_queue: None,
+    items: Items::Ports(0),
+};
+
+/// How a gateway heard a frame: its number above B0, the data rate, SNR and RSSI. No two of B0 to B2 have one channel, and
+/// no two gateways one stamp.
+pub(crate) type HeardBy = (u8, u8, i16, i16);
+
+/// An item that an application asks for, of so many bytes 6.
+#[derive(Clone, Copy)]
+pub(crate) struct Asked {
+    pub application: u64,
+    pub dev_eui: u64,
+    pub tag: u32,
+    pub port: u8,
+    pub confirmed: bool,
+    pub len: usize,
+}
+
+/// What comes to a network.
+#[derive(Clone, Copy)]
+pub(crate) enum Comes {
+    /// A device of this DevEUI is brought.
+    Device(u64),
+    /// A frame, which the gateway B1 hears at data rate 5.
+    Frame(&'static str),
+    /// The same at this data rate.
+    At(u8, &'static str),
+    /// A frame that so many gateways from B1 on hear at this data rate and with this SNR.
+    Alike(u8, u8, i16, &'static str),
+    /// A frame that three gateways hear so.
+    Three(HeardBy, HeardBy, HeardBy, &'static str),
+    /// An item for a device.
+    Item(Asked),
+    /// MAC commands of an application for a device.
+    Mac(u64, u64, &'static str),
+}
+
+/// A record, what comes, what leaves then, and the record after it. What leaves is lines for the application 3 and frames
+/// for gateways in hexadecimal digits, one below the other.
+#[derive(Clone, Copy)]
+pub(crate) struct Row {
+    pub before: State,
+    pub comes: Comes,
+    pub wanted: &'static str,
+    pub after: State,
+}
+
+/// A record, what comes, and as what it is refused.
+pub(crate) type Refused = (State, Comes, Refusal);
+
+impl Row {
+    /// Whether all comes so.
+    pub fn holds(&self, alloc: Global) -> Result<bool, Refusal> {
+        let mut table = self.before.table(alloc)?;
+        let told = told(alloc, &mut table, &self.comes)?;
+        Ok(told.as_str() == self.wanted && self.after.is_in(alloc, &table)?)
+    }
+}
+
+/// What leaves by a command, whose record is in the table then.
+pub(crate) fn told(alloc: Global, table: &mut Table, comes: &Comes) -> Result<String, Refusal> {
+    let decision = carry_out(alloc, table, 8, comes.command(alloc)?)?;
+    emitted(alloc, decision.effects.as_slice(), &decision.after)
+}
+
+// What leaves by these effects on a device with this record.
+fn emitted(alloc: Global, effects: &[Effect], device: &Device) -> Result<String, Refusal> {
+    let mut text = String::new(alloc);
+    for effect in effects {
+        if !is_named(effect, device) {
+            return Err(Refusal::Damaged);
+        }
+        if !text.is_empty() {
+            text.push('\n')?;
+        }
+        emit(alloc, effect, &mut text)?;
+    }
+    Ok(text)
+}
+
+// Adds what leaves by an effect.
+fn emit(alloc: Global, effect: &Effect, text: &mut String) -> Result<(), Refusal> {
+    match Emission::of(alloc, effect)? {
+        Emission::Application { application, line } if application.get() == 3 => {
+            Ok(text.push_str(line.as_str())?)
+        }
+        Emission::Application { .. } => Err(Refusal::Damaged),
+        Emission::Gateway { frame, .. } => {
+            let digits = write_hex(alloc, frame.as_slice())?;
+            Ok(text.push_str(digits.as_str())?)
+        }
+    }
+}
+
+// Whether an accept names the session that its device was granted last.
+fn is_named(effect: &Effect, device: &Device) -> bool {
+    match effect {
+        Effect::Accept { session, .. } => {
+            session.dev_eui == device.dev_eui
+                && Some(session.join_nonce) == device.activation.granted()
+        }
+        _ => true,
+    }
+}
+
+impl State {
+    /// Whether what comes is refused so.
+    pub fn refuses(&self, alloc: Global, comes: &Comes, refusal: Refusal) -> Result<bool, Refusal> {
+        let mut table = self.table(alloc)?;
+        Ok(told(alloc, &mut table, comes).err() == Some(refusal))
+    }
+
+    // A table of 8 slots with this record.
+    fn table(&self, alloc: Global) -> Result<Table, Refusal> {
+        let device = self.device(alloc)?;
+        let mut table = filled(alloc, 8, u64::from(self.slot))?;
+        table.put(self.slot, device)?;
+        Ok(table)
+    }
+
+    fn is_in(&self, alloc: Global, table: &Table) -> Result<bool, Refusal> {
+        let wanted = self.device(alloc)?;
+        let found = table.devices().get(usize::from(self.slot));
+        Ok(found.is_some_and(|device| device.same_as(&wanted)))
+    }
+
+    /// The record itself.
+    pub fn device(&self, alloc: Global) -> Result<Device, Refusal> {
+        let brought = brought(self.dev_eui).ok_or(Refusal::Damaged)?;
+        let rx1_offset = Rx1Offset::new(self.rx1_offset).ok_or(Refusal::Damaged)?;
+        let activation = self.activation().ok_or(Refusal::Damaged)?;
+        let mac_queue = mac_queue(alloc, self.mac_queue.unwrap_or(""))?;
+        let items = self.items.queue(alloc)?;
+        let mut device = Device::provisioned(alloc, &brought);
+        device.rx1_offset = rx1_offset;
+        device.last_dev_nonce = self.last_dev_nonce;
+        device.activation = activation;
+        device.awaited = awaited(self.awaited);
+        device.mac_queue = mac_queue;
+        device.items = items;
+        Ok(device)
+    }
+
+    fn activation(&self) -> Option<Activation> {
+        let current = match self.in_use {
+            Some((join_nonce, keys)) => Some(CurrentSession {
+                session: session(join_nonce, keys)?,
+                last_up: self.last_up,
+                next_down: NextDown::new(self.next_down)?,
+            }),
+            None => None,
+        };
+        let pending = match self.waiting {
+            Some((join_nonce, keys)) => Some(session(join_nonce, keys)?),
+            None => None,
+        };
+        Activation::new(JoinNonce::new(self.join_nonce), current, pending)
+    }
+}
+
+fn awaited(tag: Option<u32>) -> Option<Tag> {
+    match tag {
+        Some(tag) => Some(Tag(tag)),
+        None => None,
+    }
+}
+
+fn mac_queue(alloc: Global, digits: &str) -> Result<MacQueue, Refusal> {
+    let queue = MacQueue::new(read_hex(alloc, digits)?);
+    queue.ok().ok_or(Refusal::BadMac)
+}
+
+impl Items {
+    fn queue(&self, alloc: Global) -> Result<ItemQueue, Refusal> {
+        match self {
+            Items::Ports(count) => on_ports(alloc, *count),
+            Items::One(item) => queue(alloc, &[*item]),
+            Items::Two(first, second) => queue(alloc, &[*first, *second]),
+        }
+    }
+}
+
+fn on_ports(alloc: Global, count: u64) -> Result<ItemQueue, Refusal> {
+    let mut waiting = Vec::new(alloc);
+    for port in 0..count {
+        waiting.push((9, port.saturating_add(1), true, 1))?;
+    }
+    queue(alloc, &waiting)
+}
+
+fn queue(alloc: Global, waiting: &[Waiting]) -> Result<ItemQueue, Refusal> {
+    let mut items = Vec::new(alloc);
+    for waiting in waiting {
+        items.push(item(alloc, waiting)?)?;
+    }
+    ItemQueue::new(items).ok().ok_or(Refusal::QueueFull)
+}
+
+fn item(alloc: Global, waiting: &Waiting) -> Result<Item, Refusal> {
+    let (tag, port, confirmed, len) = *waiting;
+    let port = Port::new(port).ok_or(Refusal::BadPort)?;
+    let payload = Payload::new(vec![in alloc; 6; len]?);
+    Ok(Item {
+        tag: Tag(tag),
+        port,
+        confirmed,
+        payload: payload.ok().ok_or(Refusal::TooLong)?,
+    })
+}
+
+// What brings a device.
+fn brought(dev_eui: u64) -> Option<Provisioning> {
+    if dev_eui == JOINER {
+        joining()
+    } else {
+        provisioning(dev_eui)
+    }
+}
+
+impl Comes {
+    /// The command of it.
+    pub fn command(&self, alloc: Global) -> Result<Command, Refusal> {
+        match self {
+            Comes::Device(dev_eui) => provision(*dev_eui),
+            Comes::Frame(digits) => heard(alloc, digits),
+            Comes::At(data_rate, digits) => alike(alloc, 1, *data_rate, -20, digits),
+            Comes::Alike(copies, data_rate, snr, digits) => {
+                alike(alloc, *copies, *data_rate, *snr, digits)
+            }
+            Comes::Three(first, second, third, digits) => {
+                heard_by(
+                    alloc,
+                    digits,
+                    &[heard_so(first), heard_so(second), heard_so(third)],
+                )
+            }
+            Comes::Item(asked) => asked.command(alloc),
+            Comes::Mac(application, dev_eui, digits) => mac(alloc, *application, *dev_eui, digits),
+        }
+    }
+}
+
+fn provision(dev_eui: u64) -> Result<Command, Refusal> {
+    match brought(dev_eui) {
+        Some(brought) => Ok(Command::Provision(brought)),
+        None => Err(Refusal::Damaged),
+    }
+}
+
+// A frame of which so many gateways from B1 on have copies.
+fn alike(
+    alloc: Global,
+    copies: u8,
+    data_rate: u8,
+    snr: i16,
+    digits: &str,
+) -> Result<Command, Refusal> {
+    let mut hearings = Vec::new(alloc);
+    for number in 0..copies {
+        hearings.push(heard_so(&(number.saturating_add(1), data_rate, snr, -95)))?;
+    }
+    heard_by(alloc, digits, &hearings)
+}
+
+fn heard_so(copy: &HeardBy) -> Hearing {
+    let (number, data_rate, snr, rssi) = *copy;
+    Hearing {
+        reception: Reception {
+            gateway: Eui(0xB0 + u64::from(number)),
+            frequency: 868_100_000 + (u32::from(number) + 2) % 3 * 200_000,
+            data_rate,
+            snr,
+            rssi,
+        },
+        stamp: u32::from(number) * 50_000,
+    }
+}
+
+impl Asked {
+    fn command(&self, alloc: Global) -> Result<Command, Refusal> {
+        let application = Application::new(self.application).ok_or(Refusal::Damaged)?;
+        Ok(Command::Queue(Queueing {
+            application,
+            dev_eui: Eui(self.dev_eui),
+            tag: Tag(self.tag),
+            port: self.port,
+            confirmed: self.confirmed,
+            payload: bytes(vec![in alloc; 6; self.len]?)?,
+        }))
+    }
+}
+
+fn mac(alloc: Global, application: u64, dev_eui: u64, digits: &str) -> Result<Command, Refusal> {
+    let application = Application::new(application).ok_or(Refusal::Damaged)?;
+    Ok(Command::QueueMac(MacQueueing {
+        application,
+        dev_eui: Eui(dev_eui),
+        commands: bytes(read_hex(alloc, digits)?)?,
+    }))
+}
+
+fn bytes(bytes: Vec<u8>) -> Result<AskedBytes, Refusal> {
+    AskedBytes::new(bytes).ok().ok_or(Refusal::Damaged)
+}

@@ -1,0 +1,272 @@
+//! A core, what comes to it, and what has to be seen of it.
+use crate::fixture::{REQUEST_0, frame, hearing};
+use crate::network::Comes;
+use crate::tables::new_table;
+use devices::{Command, Effect};
+use lw_types::{FrameCopy, Refusal};
+use session_core::{Core, Moment, Most, Outcome, Turn};
+use sessions::Decision;
+use std::alloc::Global;
+
+// A data frame of a device that no table here has.
+const FRAME: &str = "40F17DBE4900020001954378762B11FF0D";
+
+/// A frequency that is a channel, in Hz.
+const CHANNEL: u32 = 868_100_000;
+
+/// What comes to a core.
+#[derive(Clone, Copy)]
+pub(super) enum Event {
+    /// A command.
+    Ask(Comes),
+    /// A command for which there is no memory to hand it in.
+    Starve(Comes),
+    /// Anything for which there is no memory.
+    Miss,
+    /// A copy of a frame of no device: by which gateway, at which frequency and data rate.
+    Copy(u64, u32, u8),
+    /// A gateway's copy of the joining device's first Join-Request.
+    Request(u64),
+    /// Nothing but the moment.
+    Time,
+}
+
+/// The numbers of decisions made in this life before and after an event, and its refusal.
+pub(super) type Answer = (u64, u64, Option<Refusal>);
+
+/// What happens to a core, and what has to be seen then.
+pub(super) enum Step {
+    /// A core begins, over a table with so many slots and no device, whose last decision had this number.
+    Core(u64, u64),
+    /// At a moment this comes: its answer, and how many windows it closed.
+    At(u64, Event, Answer, usize),
+    /// At 0 this comes so many times.
+    Again(u64, Event, Answer),
+    /// At 0 copies come of so many frames, by so many gateways each: the refusal of the last one.
+    Crowd(u16, u64, Option<Refusal>),
+    /// So many devices are brought, the DevEUIs from 0 on, to a core without decisions.
+    Fill(u64),
+    /// At most so many decisions are taken: those of the numbers from one to before another.
+    Take(u64, u64, u64),
+    /// So many times 64 decisions are taken, the numbers from 1 on.
+    Empty(u64),
+    /// Three decisions are taken, of which the second is a join that the gateways B1 and B2 heard.
+    TakeJoin,
+    /// How many decisions were made, the number of the last one, how many wait, and how many devices there are.
+    Counts(u64, u64, usize, usize),
+    /// The outcome with so many before it.
+    Outcome(usize, Outcome),
+    /// How many outcomes are kept.
+    Outcomes(usize),
+    /// The last DevNonce of the device at slot 1.
+    DevNonce(Option<u16>),
+}
+
+/// Whether all is seen so, step by step.
+pub(super) fn is_seen(alloc: Global, steps: &[Step]) -> Result<bool, Refusal> {
+    let mut core = new_core(alloc, 1, 0)?;
+    for step in steps {
+        if !goes_on(alloc, &mut core, step)? {
+            return Ok(false);
+        }
+    }
+    Ok(true)
+}
+
+fn new_core(alloc: Global, slots: u64, seq: u64) -> Result<Core, Refusal> {
+    let table = new_table(alloc, slots)?;
+    Core::new(alloc, &table, seq)
+}
+
+fn goes_on(alloc: Global, core: &mut Core, step: &Step) -> Result<bool, Refusal> {
+    match step {
+        Step::Core(slots, seq) => begin(alloc, core, *slots, *seq),
+        Step::At(moment, event, wanted, closings) => {
+            let is_so = answers(alloc, core, *moment, event, *wanted)?;
+            Ok(is_so && core.closings() == *closings)
+        }
+        Step::Again(times, event, wanted) => come_again(alloc, core, *times, event, *wanted),
+        Step::Crowd(frames, gateways, refused) => {
+            Ok(crowd(alloc, core, *frames, *gateways)? == *refused)
+        }
+        Step::Fill(devices) => fills(alloc, core, *devices),
+        Step::Take(most, from, to) => takes(core, *most, *from, *to),
+        Step::Empty(batches) => empties(core, *batches),
+        Step::TakeJoin => takes_join(core),
+        Step::Counts(made, seq, untaken, devices) => {
+            Ok(counts(core) == (*made, *seq, *untaken, *devices))
+        }
+        Step::Outcome(before, wanted) => Ok(core.outcomes().get(*before).copied() == Some(*wanted)),
+        Step::Outcomes(count) => Ok(core.outcomes().len() == *count),
+        Step::DevNonce(wanted) => Ok(dev_nonce(core) == *wanted),
+    }
+}
+
+fn begin(alloc: Global, core: &mut Core, slots: u64, seq: u64) -> Result<bool, Refusal> {
+    *core = new_core(alloc, slots, seq)?;
+    Ok(true)
+}
+
+// Whether this is answered so.
+fn answers(
+    alloc: Global,
+    core: &mut Core,
+    moment: u64,
+    event: &Event,
+    wanted: Answer,
+) -> Result<bool, Refusal> {
+    let moment = Moment::new(moment).ok_or(Refusal::Damaged)?;
+    let Turn { from, to, refused } = answer(alloc, core, moment, event)?;
+    Ok((from, to, refused) == wanted)
+}
+
+fn answer(alloc: Global, core: &mut Core, moment: Moment, event: &Event) -> Result<Turn, Refusal> {
+    match event {
+        Event::Ask(comes) => Ok(ask(core, moment, comes.command(alloc)?)),
+        Event::Starve(comes) => Ok(core.starve(moment, &comes.command(alloc)?)),
+        Event::Miss => Ok(core.miss(moment)),
+        Event::Copy(gateway, frequency, data_rate) => {
+            hear(
+                alloc,
+                core,
+                moment,
+                (*gateway, *frequency, *data_rate),
+                FRAME,
+            )
+        }
+        Event::Request(gateway) => { hear(alloc, core, moment, (*gateway, CHANNEL, 5), REQUEST_0) }
+        Event::Time => Ok(core.tick(moment)),
+    }
+}
+
+// A command comes by the call of its kind.
+fn ask(core: &mut Core, moment: Moment, command: Command) -> Turn {
+    match command {
+        Command::Provision(provisioning) => core.provision(moment, provisioning),
+        Command::Queue(queueing) => core.queue(moment, queueing),
+        Command::QueueMac(queueing) => core.queue_mac(moment, queueing),
+        Command::Heard(heard) => core.decide(moment, Command::Heard(heard)),
+    }
+}
+
+// A gateway hears a frame at a frequency and a data rate.
+fn hear(
+    alloc: Global,
+    core: &mut Core,
+    moment: Moment,
+    heard: (u64, u32, u8),
+    digits: &str,
+) -> Result<Turn, Refusal> {
+    let (gateway, frequency, data_rate) = heard;
+    let mut hearing = hearing(gateway);
+    hearing.reception.frequency = frequency;
+    hearing.reception.data_rate = data_rate;
+    let copy = FrameCopy {
+        reception: hearing.reception,
+        stamp: hearing.stamp,
+        phy_payload: frame(alloc, digits)?,
+    };
+    Ok(core.hear(moment, copy))
+}
+
+fn come_again(
+    alloc: Global,
+    core: &mut Core,
+    times: u64,
+    event: &Event,
+    wanted: Answer,
+) -> Result<bool, Refusal> {
+    for _ in 0..times {
+        if !answers(alloc, core, 0, event, wanted)? {
+            return Ok(false);
+        }
+    }
+    Ok(true)
+}
+
+// The frames differ in their counters.
+fn crowd(
+    alloc: Global,
+    core: &mut Core,
+    frames: u16,
+    gateways: u64,
+) -> Result<Option<Refusal>, Refusal> {
+    let start = Moment::new(0).ok_or(Refusal::Damaged)?;
+    let mut refused = None;
+    for frame in 0..frames {
+        let [low, high] = frame.to_le_bytes();
+        let digits = format!(in alloc; "40F17DBE4900{low:02X}{high:02X}01954378762B11FF0D")?;
+        for gateway in 0..gateways {
+            refused = hear(alloc, core, start, (gateway, CHANNEL, 5), &digits)?.refused;
+        }
+    }
+    Ok(refused)
+}
+
+fn fills(alloc: Global, core: &mut Core, devices: u64) -> Result<bool, Refusal> {
+    for made in 0..devices {
+        let event = Event::Ask(Comes::Device(made));
+        if !answers(alloc, core, 0, &event, (made, made + 1, None))? {
+            return Ok(false);
+        }
+    }
+    Ok(true)
+}
+
+fn takes(core: &mut Core, most: u64, from: u64, to: u64) -> Result<bool, Refusal> {
+    let batch = core.take(Most::new(most).ok_or(Refusal::Damaged)?)?;
+    Ok(are_numbered(batch.as_slice(), from, to))
+}
+
+// Whether decisions have the numbers from one to before another.
+fn are_numbered(decisions: &[Decision], from: u64, to: u64) -> bool {
+    for (number, decision) in (from..to).zip(decisions) {
+        if decision.seq != number {
+            return false;
+        }
+    }
+    decisions.len() as u64 == to.saturating_sub(from)
+}
+
+fn empties(core: &mut Core, batches: u64) -> Result<bool, Refusal> {
+    let mut first: u64 = 1;
+    for _ in 0..batches {
+        let next = first.saturating_add(64);
+        if !takes(core, 64, first, next)? {
+            return Ok(false);
+        }
+        first = next;
+    }
+    Ok(true)
+}
+
+fn takes_join(core: &mut Core) -> Result<bool, Refusal> {
+    let batch = core.take(Most::new(64).ok_or(Refusal::Damaged)?)?;
+    match batch.as_slice() {
+        [_, second, _] => Ok(is_join(second)),
+        _ => Ok(false),
+    }
+}
+
+// Whether the decision is of a frame that the gateways B1 and B2 heard, and its one effect is an accept.
+fn is_join(decision: &Decision) -> bool {
+    let copies = [hearing(0xB1), hearing(0xB2)];
+    let accepted = matches!(decision.effects.as_slice(), [Effect::Accept { .. }]);
+    match &decision.command {
+        Command::Heard(heard) => accepted && heard.hearings.as_slice() == copies.as_slice(),
+        _ => false,
+    }
+}
+
+fn counts(core: &Core) -> (u64, u64, usize, usize) {
+    (
+        core.made(),
+        core.seq(),
+        core.untaken(),
+        core.now().devices().len(),
+    )
+}
+
+fn dev_nonce(core: &Core) -> Option<u16> {
+    core.now().devices().get(1)?.last_dev_nonce
+}

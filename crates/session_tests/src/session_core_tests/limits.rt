@@ -1,0 +1,162 @@
+// The limits of a core: how many outcomes are kept, windows are open, copies are gathered, and decisions wait.
+use crate::fixture::REQUEST_1;
+use crate::network::Comes;
+use crate::session_core_tests::core_script::{Event, Step};
+use lw_types::Refusal;
+use session_core::Outcome;
+
+// The gateway B1 hears a frame of no device.
+const B1_HEARS: Event = Event::Copy(0xB1, 868_100_000, 5);
+
+// The last 64 outcomes are kept.
+pub(super) const OUTCOMES: &[Step] = &[
+    Step::Core(8, 0),
+    Step::At(0, Event::Ask(Comes::Device(50)), (0, 1, None), 0),
+    Step::Outcome(0, Outcome::Decided(1)),
+    Step::Outcomes(1),
+    Step::Again(
+        63,
+        Event::Ask(Comes::Device(50)),
+        (1, 1, Some(Refusal::DevEuiTaken)),
+    ),
+    Step::Outcome(0, Outcome::Decided(1)),
+    Step::Outcomes(64),
+    Step::At(
+        0,
+        Event::Ask(Comes::Device(50)),
+        (1, 1, Some(Refusal::DevEuiTaken)),
+        0,
+    ),
+    Step::Outcome(0, Outcome::Refused(Refusal::DevEuiTaken)),
+    Step::Outcomes(64),
+    Step::At(
+        0,
+        Event::Ask(Comes::Device(50)),
+        (1, 1, Some(Refusal::DevEuiTaken)),
+        0,
+    ),
+    Step::Outcome(0, Outcome::Refused(Refusal::DevEuiTaken)),
+    Step::Outcomes(64),
+];
+
+// The 1,025th window does not open.
+pub(super) const WINDOWS: &[Step] = &[
+    Step::Core(8, 0),
+    Step::Crowd(1023, 1, None),
+    Step::At(200, Event::Time, (0, 0, None), 1023),
+    Step::Core(8, 0),
+    Step::Crowd(1024, 1, None),
+    Step::At(200, Event::Time, (0, 0, None), 1024),
+    Step::Core(8, 0),
+    Step::Crowd(1025, 1, Some(Refusal::WindowsFull)),
+    Step::At(200, Event::Time, (0, 0, None), 1024),
+    // the 33rd copy of a frame is refused
+    Step::Core(8, 0),
+    Step::Crowd(1, 32, None),
+    Step::Core(8, 0),
+    Step::Crowd(1, 33, Some(Refusal::CopiesFull)),
+];
+
+// As many decisions wait as there is room for, and no more: be it a provisioning, a join, a command without memory or the
+// frame of a window that is due.
+pub(super) const WAITING: &[Step] = &[
+    Step::Core(4096, 0),
+    Step::Fill(4096),
+    Step::Counts(4096, 4096, 4096, 4096),
+    Step::At(
+        0,
+        Event::Ask(Comes::Device(5000)),
+        (4096, 4096, Some(Refusal::Backlog)),
+        0,
+    ),
+    Step::At(
+        0,
+        Event::Ask(Comes::Frame(REQUEST_1)),
+        (4096, 4096, Some(Refusal::Backlog)),
+        0,
+    ),
+    Step::DevNonce(None),
+    Step::At(
+        0,
+        Event::Starve(Comes::Device(5000)),
+        (4096, 4096, Some(Refusal::Backlog)),
+        0,
+    ),
+    Step::Empty(64),
+    Step::Counts(4096, 4096, 0, 4096),
+    Step::At(
+        0,
+        Event::Ask(Comes::Device(5000)),
+        (4096, 4096, Some(Refusal::TableFull)),
+        0,
+    ),
+    Step::Core(4096, 0),
+    Step::Fill(4096),
+    Step::At(0, B1_HEARS, (4096, 4096, None), 0),
+    Step::Counts(4096, 4096, 4096, 4096),
+    Step::At(
+        200,
+        Event::Ask(Comes::Mac(3, 0, "06")),
+        (4096, 4096, Some(Refusal::Backlog)),
+        1,
+    ),
+    Step::Outcome(61, Outcome::Decided(4096)),
+    Step::Outcome(62, Outcome::Refused(Refusal::Backlog)),
+    Step::Outcome(63, Outcome::Refused(Refusal::Backlog)),
+    Step::Outcomes(64),
+    Step::Take(64, 1, 65),
+    Step::At(
+        200,
+        Event::Ask(Comes::Mac(3, 0, "06")),
+        (4096, 4097, None),
+        0,
+    ),
+    Step::Counts(4097, 4097, 4033, 4096),
+];
+
+// A refusal is known without memory.
+pub(super) const NUMBERS: &[Step] = &[
+    Step::Core(1, 0),
+    Step::At(0, Event::Ask(Comes::Device(50)), (0, 1, None), 0),
+    Step::At(
+        0,
+        Event::Starve(Comes::Device(50)),
+        (1, 1, Some(Refusal::DevEuiTaken)),
+        0,
+    ),
+    Step::At(
+        0,
+        Event::Starve(Comes::Device(40)),
+        (1, 1, Some(Refusal::TableFull)),
+        0,
+    ),
+    // one number is left
+    Step::Core(8, (1 << 63) - 2),
+    Step::At(
+        0,
+        Event::Starve(Comes::Device(50)),
+        (0, 0, Some(Refusal::OutOfMemory)),
+        0,
+    ),
+    Step::At(0, Event::Ask(Comes::Device(50)), (0, 1, None), 0),
+    Step::At(
+        0,
+        Event::Ask(Comes::Device(40)),
+        (1, 1, Some(Refusal::Backlog)),
+        0,
+    ),
+    Step::At(
+        0,
+        Event::Starve(Comes::Device(40)),
+        (1, 1, Some(Refusal::Backlog)),
+        0,
+    ),
+    // none is
+    Step::Core(8, u64::MAX),
+    Step::At(
+        0,
+        Event::Ask(Comes::Device(50)),
+        (0, 0, Some(Refusal::Backlog)),
+        0,
+    ),
+];
