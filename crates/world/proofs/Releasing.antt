@@ -13,6 +13,7 @@ use Rattle.world.specs.declared.answer.Answer.TheVariants as answers
 use Rattle.world.specs.declared.commit.Commit.{Commit}
 use Rattle.world.specs.declared.commit.Commit.TheVariants as commits
 use Rattle.world.specs.declared.event.Event.{Event}
+use Rattle.lw_types.specs.declared.refusal.Refusal.TheVariants.{OutOfStep}
 use Rattle.world.specs.declared.step.Step.TheVariants as steps
 use Rattle.world.specs.Folding.{RunLaws}
 use Rattle.world.specs.Course.{Checkpoint, Course, Flight, Origin, after, pieced, released, table_from, told_more}
@@ -88,3 +89,11 @@ checkpoint_left origin c answer = refl
 pub piece_left : (origin : Origin) (c : Course) (link moment : ℕ) (bytes : List ℕ) (answer : Answer) → (pieced origin c link moment bytes answer).left ≡ c.left
 piece_left origin c link moment bytes (answers.Turns turns fault) = ap (λ (k : Course). k.left) (turned_all-shape origin (told_more c link bytes) moment turns.items)
 piece_left origin c link moment bytes answer = refl
+
+-- nor does a take
+pub take_left : (origin : Origin) (c : Course) (most : ℕ) (answer : Answer) → (after origin c (steps.Take most) answer).left ≡ c.left
+take_left origin c most (answers.Taken n) = refl
+take_left origin c most (answers.GivenUp n) = refl
+take_left origin c most (answers.Refused OutOfStep) = refl
+take_left origin c most (answers.Refused e) = refl
+take_left origin c most answer = refl

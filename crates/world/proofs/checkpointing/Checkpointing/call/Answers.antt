@@ -50,3 +50,9 @@ returns-in_ok-sync-in-Opened-clause-on g c on = c.in_ok-sync-in-Opened.ensures.s
 
 pub returns-in_ok-sync-in-Opened-clause-images : goal.returns-in_ok-sync-in-Opened-clause-images
 returns-in_ok-sync-in-Opened-clause-images g c on = c.in_ok-sync-in-Opened.ensures.images g.met.D.Sim.is_honest (subst (IsPublishingOn (seen g.D.Disk.state c.args.store.now)) c.in-Opened.is on)
+
+pub returns-in_ok-retire-in-Begun-clause-on : goal.returns-in_ok-retire-in-Begun-clause-on
+returns-in_ok-retire-in-Begun-clause-on g c on = c.in_ok-retire-in-Begun.ensures.next g.met.D.Sim.is_honest (subst (IsPublishingOn (seen g.D.Disk.state c.args.store.now)) c.in-Begun.is on)
+
+pub returns-in_ok-sync-in-Retiring-clause-on : goal.returns-in_ok-sync-in-Retiring-clause-on
+returns-in_ok-sync-in-Retiring-clause-on g c on = c.in_ok-sync-in-Retiring.ensures.next g.met.D.Sim.is_honest (subst (IsPublishingOn (seen g.D.Disk.state c.args.store.now)) c.in-Retiring.is on)

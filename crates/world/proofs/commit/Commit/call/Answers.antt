@@ -109,3 +109,13 @@ returns-in-None-clause-goes g c on =
     let e = c.call.ensures in
     subst (λ k. GoesTo (moved_on succeeded (flights_in k)) s s') (sym c.in-Checkpoint.is)
     (stays s s' [] refl refl e.table e.seq (e.images (subst (IsOn s) c.in-Checkpoint.is on)))
+
+pub returns-in_err-next-in-Checkpoint-clause-goes : goal.returns-in_err-next-in-Checkpoint-clause-goes
+returns-in_err-next-in-Checkpoint-clause-goes g c on =
+    let s = seen g.D.Disk.state c.args.store.now in
+    let s' = seen g.D.Disk.state c.call.new.store in
+    let e = c.call.ensures in
+    let refused = err_from_is_err_and c.from_residual-in_err-next-in-Checkpoint.result c.from_residual-in_err-next-in-Checkpoint.ensures.1 in
+    on_refusal _ _ _ _ refused.1
+    (subst (λ k. GoesTo (moved_on failed (flights_in k)) s s') (sym c.in-Checkpoint.is)
+    (stays s s' [] refl refl e.table e.seq (e.images (subst (IsOn s) c.in-Checkpoint.is on))))

@@ -1,8 +1,9 @@
-use Rattle.std.proofs.Common.{◌≡◌, ◌∙◌, ◌++◌, subst, sym}
+use Rattle.std.proofs.Common.{◌≡◌, ◌∙◌, ◌++◌, List, ap, subst, sym}
+use Rattle.flusher.specs.declared.released.Released.{Released}
 use Rattle.flusher.specs.Released.{effects_of_all}
 use Rattle.world.specs.declared.answer.Answer.TheVariants as answers
 use Rattle.world.specs.Course.{after}
-use Rattle.world.proofs.Releasing.{checkpoint_left, event_left, piece_left}
+use Rattle.world.proofs.Releasing.{checkpoint_left, event_left, piece_left, take_left}
 use Rattle.world.proofs.life.Life.step.Goals as goal
 
 pub returns-in-Event-clause-left : goal.returns-in-Event-clause-left
@@ -20,3 +21,8 @@ pub returns-in-Checkpoint-clause-left : goal.returns-in-Checkpoint-clause-left
 returns-in-Checkpoint-clause-left g c origin course f is =
     subst (λ step. (after origin course step c.checkpoint.result).left ≡ origin.left ++ effects_of_all c.args.released.now.items) (sym c.in-Checkpoint.is)
     (checkpoint_left origin course c.checkpoint.result ∙ is)
+
+pub returns-in-Take-clause-left : goal.returns-in-Take-clause-left
+returns-in-Take-clause-left g c origin course f is =
+    subst (λ step. (after origin course step c.take.result).left ≡ origin.left ++ effects_of_all c.take.new.released.items) (sym c.in-Take.is)
+    (take_left origin course _ c.take.result ∙ (is ∙ ap (λ (l : List Released). origin.left ++ effects_of_all l) (sym c.take.ensures.released)))
