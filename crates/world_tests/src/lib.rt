@@ -3,21 +3,29 @@
 #![tactic(auto)]
 
 #[cfg(test)]
-mod events;
+mod answers;
 mod flight;
 #[cfg(test)]
 mod gathering;
 #[cfg(test)]
-mod headline_tests;
+mod letters;
+#[cfg(test)]
+mod links;
+#[cfg(test)]
+mod many_tests;
 #[cfg(test)]
 mod model;
 #[cfg(test)]
-mod piece_tests;
+mod row_tests;
 #[cfg(test)]
 mod scripts_tests;
 #[cfg(test)]
+mod steps;
+#[cfg(test)]
 mod streams;
 #[cfg(test)]
-mod window_tests;
+mod windows;
 #[cfg(test)]
 mod world_tests;
+#[cfg(test)]
+mod worlds;

@@ -1,83 +1,115 @@
+// Lines and answers by themselves, and reads and writes that fail.
 use devices::{Application, Command, Provisioning, Rx1Offset, RxDelay};
 use disk::Image;
 use gateway_wire::{Emission, WireFrame};
 use lw_types::{Eui, Key, Refusal};
 use scripts::{Outcome, read_step, script, write_answer, write_outcome};
 use session_core::{Moment, Most};
-use std::io;
-use std::io::{ErrorKind, Read, Write};
-use std::test::Fail;
+use std::alloc::Global;
+use std::io::{self, ErrorKind, Read, Write};
 use world::{Answer, Event, Step};
 
 const KEY: Key = Key([
     0x2B, 0x7E, 0x15, 0x16, 0x28, 0xAE, 0xD2, 0xA6, 0xAB, 0xF7, 0x15, 0x88, 0x09, 0xCF, 0x4F, 0x3C,
 ]);
 
-fn provision(moment: u64, application: u64, offset: u64, delay: u64) -> Result<Step, Fail> {
-    Ok(Step::Event {
-        moment: Moment::new(moment).ok_or("moment")?,
+// What a line is read as.
+#[derive(Clone, Copy)]
+enum Wanted {
+    // A device is brought at a moment, by an application, with its RX1DROffset and its RXDelay.
+    Provision(u64, u64, u64, u64),
+    Take(u64),
+    CrashFilled(u8),
+}
+
+const LINES: &[(&str, Wanted)] = &[
+    (
+        "provision 0 3 1112131415161718 0102030405060708 2B7E151628AED2A6ABF7158809CF4F3C 0 1",
+        Wanted::Provision(0, 3, 0, 1),
+    ),
+    (
+        "provision 9223372036854775807 15 1112131415161718 0102030405060708 2B7E151628AED2A6ABF7158809CF4F3C 5 15",
+        Wanted::Provision(9_223_372_036_854_775_807, 15, 5, 15),
+    ),
+    ("take 64", Wanted::Take(64)),
+    ("crash fill", Wanted::CrashFilled(0xA5)),
+];
+
+fn provision(moment: u64, application: u64, offset: u64, delay: u64) -> Option<Step> {
+    Some(Step::Event {
+        moment: Moment::new(moment)?,
         event: Event::Ask(Command::Provision(Provisioning {
-            application: Application::new(application).ok_or("application")?,
+            application: Application::new(application)?,
             dev_eui: Eui(0x1112131415161718),
             join_eui: Eui(0x0102030405060708),
             app_key: KEY,
-            rx1_offset: Rx1Offset::new(offset).ok_or("offset")?,
-            rx_delay: RxDelay::new(delay).ok_or("delay")?,
+            rx1_offset: Rx1Offset::new(offset)?,
+            rx_delay: RxDelay::new(delay)?,
         })),
     })
 }
 
-#[test]
-fn lines_are_steps(rt: HostRuntime) -> Result<(), Fail> {
-    let cases = [
-        (
-            "provision 0 3 1112131415161718 0102030405060708 2B7E151628AED2A6ABF7158809CF4F3C 0 1",
-            provision(0, 3, 0, 1)?,
-        ),
-        (
-            "provision 9223372036854775807 15 1112131415161718 0102030405060708 2B7E151628AED2A6ABF7158809CF4F3C 5 15",
-            provision(9_223_372_036_854_775_807, 15, 5, 15)?,
-        ),
-        ("take 64", Step::Take(Most::new(64).ok_or("most")?)),
-        ("crash fill", Step::Crash(Image::Fill(0xA5))),
-    ];
-    for (line, step) in &cases {
-        let read = read_step(rt.alloc(), line.as_bytes())?;
-        assert!(rt; read == *step, "{line}");
+fn step_of(wanted: Wanted) -> Option<Step> {
+    match wanted {
+        Wanted::Provision(moment, application, offset, delay) => {
+            provision(moment, application, offset, delay)
+        }
+        Wanted::Take(most) => Some(Step::Take(Most::new(most)?)),
+        Wanted::CrashFilled(byte) => Some(Step::Crash(Image::Fill(byte))),
     }
-    Ok(())
 }
 
-// Answers that no script here comes to.
 #[test]
-fn rare_answers_have_lines(rt: HostRuntime) -> Result<(), Fail> {
-    let alloc = rt.alloc();
-    let frame = WireFrame::new([0, 0x5A].to_vec(alloc)?)
-        .ok()
-        .ok_or("frame")?;
-    let gateway = Eui(0xB1);
-    let last = Answer::Opened {
-        devices: 4096,
-        seq: u64::MAX,
-    };
-    let cases = [
-        (Answer::GivenUp(5), "refused 30\n"),
-        (Answer::Full, "full\n"),
-        (
-            Answer::Emitted(Emission::Gateway { gateway, frame }),
-            "gw 00000000000000B1 005A\n",
-        ),
-        (last, "opened 4096 18446744073709551615\n"),
-    ];
-    for (answer, text) in &cases {
-        let mut out = Vec::new(alloc);
-        write_answer(alloc, &mut out, answer)?;
-        assert_eq!(rt; out.as_slice(), text.as_bytes());
+fn lines_are_steps(rt: HostRuntime) {
+    for (line, wanted) in LINES {
+        assert!(rt;
+            read_step(rt.alloc(), line.as_bytes()) == step_of(*wanted).ok_or(Refusal::Damaged),
+            "{line}"
+        );
     }
+}
+
+// Answers that no script here comes to, and some that few do.
+fn rare_answers(alloc: Global) -> Option<[Answer; 4]> {
+    let frame = WireFrame::new([0, 0x5A].to_vec(alloc).ok()?).ok()?;
+    let gateway = Eui(0xB1);
+    Some([
+        Answer::GivenUp(5),
+        Answer::Full,
+        Answer::Emitted(Emission::Gateway { gateway, frame }),
+        Answer::Opened {
+            devices: 4096,
+            seq: u64::MAX,
+        },
+    ])
+}
+
+// Their lines, and the one of a script that was refused for want of memory.
+const RARE: &str = "\
+refused 30
+full
+gw 00000000000000B1 005A
+opened 4096 18446744073709551615
+refused 30
+";
+
+fn text_of(alloc: Global, answers: &[Answer]) -> io::Result<Vec<u8>> {
     let mut out = Vec::new(alloc);
+    for answer in answers {
+        write_answer(alloc, &mut out, answer)?;
+    }
     write_outcome(alloc, &mut out, &Outcome::Refused(Refusal::OutOfMemory))?;
-    assert_eq!(rt; out.as_slice(), b"refused 30\n".as_slice());
-    Ok(())
+    Ok(out)
+}
+
+fn rare_text(alloc: Global) -> Option<Vec<u8>> {
+    text_of(alloc, &rare_answers(alloc)?).ok()
+}
+
+#[test]
+fn rare_answers_have_lines(rt: HostRuntime) {
+    let text = rare_text(rt.alloc());
+    assert!(rt; text.is_some_and(|text| text.as_slice() == RARE.as_bytes()));
 }
 
 // Gives a first line, and fails then.
@@ -112,14 +144,12 @@ impl Write for Closed {
 }
 
 #[test]
-fn a_failed_read_or_write_is_told(rt: HostRuntime) -> Result<(), Fail> {
+fn a_failed_read_or_write_is_told(rt: HostRuntime) {
     let alloc = rt.alloc();
     let mut out = Vec::new(alloc);
     let read = script(alloc, &mut Breaks { left: 1 }, &mut out);
-    assert!(rt; read.is_err());
-    assert!(rt; out.is_empty());
+    assert!(rt; read.is_err() && out.is_empty());
     let mut input = b"format 00002A 8\nlist\n".as_slice();
     let written = script(alloc, &mut input, &mut Closed);
     assert!(rt; written.is_err());
-    Ok(())
 }
