@@ -1,5 +1,5 @@
 // A device record as a whole.
-ghost use Rattle.std.specs.Prelude.{◌≡◌, ◌≤◌, ◌<◌, ◌^◌, ◌++◌, ◌⊎◌, Err, IfErr, IfOk, IfSome, IsSome, MatchOption, MatchResult, OnErr, OnOk, Some, length};
+ghost use Rattle.std.specs.Prelude.{◌≡◌, ◌≤◌, ◌<◌, ◌^◌, ◌++◌, ◌∷◌, ◌⊎◌, [], Err, IfErr, IfOk, IfSome, IsSome, MatchOption, MatchResult, OnErr, OnOk, Some, length};
 ghost use Rattle.std.specs.Int.{w16};
 ghost use Rattle.lw_types.specs.declared.refusal.Refusal.TheVariants.{OutOfMemory, Damaged};
 ghost use Rattle.byte_fields.specs.Reading.{Gives, GivesSeen};
@@ -11,7 +11,7 @@ ghost use Rattle.record_codec.specs.Reading.{awaited_at, device_at, flagged_at, 
 
 use crate::activation_fields::{put_activation, read_activation};
 use crate::queues::{ItemParts, put_item_queue, read_items, read_mac_queue};
-use crate::written_fields::{put_counted, put_flag, put_key};
+use crate::written_fields::{put_counted, put_eui, put_flag, put_key};
 use byte_fields::FieldReader;
 use devices::{Activation, Application, Device, ItemQueue, MacQueue, Rx1Offset, RxDelay, Tag};
 use lw_types::{Eui, Key, Refusal};
@@ -145,18 +145,28 @@ pub fn read_device(alloc: Global, bytes: &[u8]) -> Result<Device, Refusal>
     }
 }
 
+// The application, and when and how fast the device is answered.
+fn put_terms(out: &mut Vec<u8>, device: &Device) -> Result<(), AllocError>
+    ensures written { OnOk result (out.new.items
+        ≡ out.old.items ++ device.now.application ∷ device.now.rx1_offset ∷ device.now.rx_delay ∷ []) }
+    ensures application { device.now.application ≤ 15 }
+    ensures rx1_offset { device.now.rx1_offset ≤ 5 }
+    ensures rx_delay { (1 ≤ device.now.rx_delay) × (device.now.rx_delay ≤ 15) }
+{
+    let application = device.application.get() as u8;
+    let offset = device.rx1_offset.get() as u8;
+    let delay = device.rx_delay.get() as u8;
+    out.extend_from_slice(&[application, offset, delay])
+}
+
 fn put_head(out: &mut Vec<u8>, device: &Device) -> Result<(), AllocError>
     ensures written { OnOk result (out.new.items ≡ out.old.items ++ head device.now) }
     ensures in_range { OnOk result (HeadIsInRange device.now) }
 {
-    out.extend_from_slice(&device.dev_eui.0.to_be_bytes())?;
-    out.extend_from_slice(&device.join_eui.0.to_be_bytes())?;
+    put_eui(out, device.dev_eui)?;
+    put_eui(out, device.join_eui)?;
     put_key(out, device.app_key)?;
-    let application = device.application.get() as u8;
-    let offset = device.rx1_offset.get() as u8;
-    let delay = device.rx_delay.get() as u8;
-    out.extend_from_slice(&[application, offset, delay])?;
-    Ok(())
+    put_terms(out, device)
 }
 
 fn put_dev_nonce(out: &mut Vec<u8>, nonce: Option<u16>) -> Result<(), AllocError>

@@ -1,11 +1,20 @@
 // The fields that records are made of, appended to the bytes so far.
-ghost use Rattle.std.specs.Prelude.{◌≡◌, ◌++◌, ◌≤◌, OnOk, length};
+ghost use Rattle.std.specs.Prelude.{◌≡◌, ◌++◌, ◌≤◌, ◌<◌, ◌^◌, OnOk, length};
+ghost use Rattle.std.specs.Int.{to_be_bytes, w64};
 ghost use Rattle.lw_types.specs.Hex.{IsBytes};
 ghost use Rattle.byte_fields.specs.Spelling.{counted, flag};
 ghost use Rattle.record_codec.specs.DeviceRecord.{IsKey};
 
-use lw_types::Key;
+use lw_types::{Eui, Key};
 use std::alloc::AllocError;
+
+/// Appends the bytes of an EUI, the highest first.
+pub(crate) fn put_eui(out: &mut Vec<u8>, eui: Eui) -> Result<(), AllocError>
+    ensures written { OnOk result (out.new.items ≡ out.old.items ++ to_be_bytes w64 eui.0) }
+    ensures in_range { eui.0 < 2 ^ 64 }
+{
+    out.extend_from_slice(&eui.0.to_be_bytes())
+}
 
 /// Appends the bytes of a key.
 pub(crate) fn put_key(out: &mut Vec<u8>, key: Key) -> Result<(), AllocError>

@@ -6,6 +6,10 @@ use Rattle.join_server.specs.declared.state.JoinState.{JoinState}
 use Rattle.sessions.proofs.JoinTexts.{granted_is, refused_is, same_grant}
 use Rattle.sessions.proofs.join.ask_join_server.Goals as goal
 
+pub unwrap-after-requires : goal.unwrap-after-requires
+unwrap-after-requires c =
+    ap is_some (granted_is c.args.state.now c.args.ask.now c.in_ok-ans.ans c.in_ok-ans.after c.requires c.in_ok-ans.ensures c.in-Ok.accepted c.in-Ok.is).3
+
 pub unwrap-requires : goal.unwrap-requires
 unwrap-requires c =
     let g = granted_is c.args.state.now c.args.ask.now c.in_ok-ans.ans c.in_ok-ans.after c.requires c.in_ok-ans.ensures c.in-Ok.accepted c.in-Ok.is in
