@@ -1,6 +1,6 @@
 // The question of a network: whether a device may join.
-ghost use Rattle.std.specs.Prelude.{◌≡◌, ◌≢◌, ◌⊎◌, ◌↔◌, ◌<◌, ◌≤◌, ◌^◌, ℕ, codes, string_bytes, [], ◌∷◌, IfOk, IfErr, IfSome, Some, IsTrue, OnOk, MatchOption, MatchResult};
-ghost use Rattle.serde_json.specs.Data.{Members, string, number, unsigned, put as with_member};
+ghost use Rattle.std.specs.Prelude.{◌≡◌, ◌≢◌, ◌⊎◌, ◌↔◌, ◌<◌, ◌≤◌, ◌^◌, ℕ, codes, string_bytes, [], ◌∷◌, IfOk, IfErr, IfSome, Some, IsTrue, MatchOption, MatchResult};
+ghost use Rattle.serde_json.specs.Data.{Members, string, number, unsigned};
 ghost use Rattle.serde_json.specs.View.{members_view, view};
 ghost use Rattle.serde_json.specs.Written.{compact_text};
 ghost use Rattle.lw_types.specs.Hex.{dev_addr_text, eui_text, hex_text, net_id_text};
@@ -11,11 +11,11 @@ ghost use Rattle.join_server.specs.declared.ask.JoinAsk.{JoinAsk};
 ghost use Rattle.join_server.specs.Request.{dev_eui_of, join_eui_of};
 ghost use Rattle.backend_json.specs.Messages.{IsAsk, IsJoinReq, device, eui, join_req, network};
 
-use crate::json::{put_number, put_text, put_word, read_value};
+use crate::json::{Object, read_value};
 use crate::members::Rest;
 use join_server::{JoinAsk, JoinRequest, RxDelay};
 use lw_types::{DevAddr, Eui, HexArray, NetId, Refusal};
-use serde_json::{Map, Value};
+use serde_json::Value;
 use std::alloc::{AllocError, Global};
 
 /// The text of a question: compact JSON, its members in the byte order of their names.
@@ -24,10 +24,7 @@ pub fn join_req_text(alloc: Global, ask: &JoinAsk) -> Result<String, Refusal>
         (λ text. (string_bytes text ≡ compact_text (join_req ask.now)) × IsJoinReq (string_bytes text) ask.now)
         (λ e. e ≡ OutOfMemory) }
 {
-    let mut members = Map::new(alloc);
-    put_device(&mut members, alloc, ask)?;
-    put_network(&mut members, alloc, ask)?;
-    Ok(Value::Object(members).to_string(alloc)?)
+    Ok(value_of(alloc, ask)?.to_string(alloc)?)
 }
 
 /// The question that a text is. Any other text is refused as `BadMessage`: white space and the order of the members are
@@ -41,66 +38,23 @@ pub fn read_join_req(alloc: Global, text: &str) -> Result<JoinAsk, Refusal>
     ask_of(&read_value(alloc, text)?).ok_or(Refusal::BadMessage)
 }
 
-// The members from DLSettings to MessageType.
-fn put_device(
-    members: &mut Map<String, Value>,
-    alloc: Global,
-    ask: &JoinAsk,
-) -> Result<(), AllocError>
-    ensures { OnOk result (members_view members.new.entries
-        ≡ with_member (codes "MessageType") (string (codes "JoinReq"))
-        (with_member (codes "MACVersion") (string (codes "1.0.4"))
-        (with_member (codes "DevEUI") (string (eui_text (eui (dev_eui_of ask.now.request))))
-        (with_member (codes "DevAddr") (string (dev_addr_text ask.now.dev_addr))
-        (with_member (codes "DLSettings") (string (hex_text (ask.now.dl_settings ∷ []))) (members_view members.old.entries)))))) }
+// The value of a question.
+fn value_of(alloc: Global, ask: &JoinAsk) -> Result<Value, AllocError>
+    ensures { IfOk result (λ value. view value ≡ join_req ask.now) }
 {
-    put_text(
-        members,
-        alloc,
-        "DLSettings",
-        HexArray([ask.dl_settings]).to_string(alloc)?,
-    )?;
-    put_text(members, alloc, "DevAddr", ask.dev_addr.to_string(alloc)?)?;
-    put_text(
-        members,
-        alloc,
-        "DevEUI",
-        ask.request.dev_eui().to_string(alloc)?,
-    )?;
-    put_word(members, alloc, "MACVersion", "1.0.4")?;
-    put_word(members, alloc, "MessageType", "JoinReq")
-}
-
-// The members from PHYPayload to TransactionID.
-fn put_network(
-    members: &mut Map<String, Value>,
-    alloc: Global,
-    ask: &JoinAsk,
-) -> Result<(), AllocError>
-    ensures { OnOk result (members_view members.new.entries
-        ≡ with_member (codes "TransactionID") (number (unsigned ask.now.transaction))
-        (with_member (codes "SenderID") (string (net_id_text ask.now.net_id))
-        (with_member (codes "RxDelay") (number (unsigned ask.now.rx_delay))
-        (with_member (codes "ReceiverID") (string (eui_text (eui (join_eui_of ask.now.request))))
-        (with_member (codes "ProtocolVersion") (string (codes "1.0"))
-        (with_member (codes "PHYPayload") (string (hex_text ask.now.request)) (members_view members.old.entries))))))) }
-{
-    put_text(
-        members,
-        alloc,
-        "PHYPayload",
-        HexArray(ask.request.bytes()).to_string(alloc)?,
-    )?;
-    put_word(members, alloc, "ProtocolVersion", "1.0")?;
-    put_text(
-        members,
-        alloc,
-        "ReceiverID",
-        ask.request.join_eui().to_string(alloc)?,
-    )?;
-    put_number(members, alloc, "RxDelay", ask.rx_delay.get())?;
-    put_text(members, alloc, "SenderID", ask.net_id.to_string(alloc)?)?;
-    put_number(members, alloc, "TransactionID", u64::from(ask.transaction))
+    Object::new(alloc)
+        .text("DLSettings", HexArray([ask.dl_settings]))
+        .text("DevAddr", ask.dev_addr)
+        .text("DevEUI", ask.request.dev_eui())
+        .text("MACVersion", "1.0.4")
+        .text("MessageType", "JoinReq")
+        .text("PHYPayload", HexArray(ask.request.bytes()))
+        .text("ProtocolVersion", "1.0")
+        .text("ReceiverID", ask.request.join_eui())
+        .number("RxDelay", ask.rx_delay.get())
+        .text("SenderID", ask.net_id)
+        .number("TransactionID", u64::from(ask.transaction))
+        .whole()
 }
 
 // The question that the value is.
@@ -150,9 +104,7 @@ fn network_of(rest: &mut Rest<'_>) -> Option<(RxDelay, NetId, u32)>
         → members_view rest.old.members ≡ network rx_delay net_id transaction → result ≡ Some (rx_delay, net_id, transaction) }
 {
     let rx_delay = RxDelay::new(rest.number("RxDelay")?)?;
-    let net_id = rest.value("SenderID")?;
-    let transaction = u32::try_from(rest.number("TransactionID")?).ok()?;
-    rest.end()?;
+    let (net_id, transaction) = rest.sender()?;
     Some((rx_delay, net_id, transaction))
 }
 

@@ -1,6 +1,6 @@
-// Texts and the values that they are read as.
-ghost use Rattle.std.specs.Prelude.{◌≡◌, ◌⊎◌, MatchResult, OnOk, Some, None, string_bytes};
-ghost use Rattle.serde_json.specs.Data.{string, number, unsigned, put as with_member};
+// Texts and the values that they are read as, and objects that are written.
+ghost use Rattle.std.specs.Prelude.{◌≡◌, ◌⊎◌, ℕ, List, IfOk, MatchResult, Some, None};
+ghost use Rattle.serde_json.specs.Data.{Data, Members, string, number, unsigned, put as with_member};
 ghost use Rattle.serde_json.specs.Read.{read};
 ghost use Rattle.serde_json.specs.View.{members_view, view};
 ghost use Rattle.lw_types.specs.declared.refusal.Refusal.TheVariants.{OutOfMemory, BadMessage};
@@ -8,6 +8,7 @@ ghost use Rattle.lw_types.specs.declared.refusal.Refusal.TheVariants.{OutOfMemor
 use lw_types::Refusal;
 use serde_json::{Map, Value, put};
 use std::alloc::{AllocError, Global};
+use std::fmt;
 
 /// The value that the text is. Refused as `BadMessage` where it is none.
 pub(crate) fn read_value(alloc: Global, text: &str) -> Result<Value, Refusal>
@@ -21,46 +22,89 @@ pub(crate) fn read_value(alloc: Global, text: &str) -> Result<Value, Refusal>
     }
 }
 
-/// Puts a text under a name.
-pub(crate) fn put_text(
-    members: &mut Map<String, Value>,
+/// An object that is written member by member. Where there is no memory for one of them, none is left: that is told once,
+/// when the object is whole.
+#[derive(Drop)]
+pub(crate) struct Object {
     alloc: Global,
-    name: &str,
-    text: String,
-) -> Result<(), AllocError>
-    ensures { OnOk result (members_view members.new.entries
-        ≡ with_member name.now (string (string_bytes text)) (members_view members.old.entries)) }
-{
-    put(members, alloc, name, Value::String(text))
+    members: Result<Map<String, Value>, AllocError>,
 }
 
-/// Puts a fixed text under a name.
-pub(crate) fn put_word(
-    members: &mut Map<String, Value>,
-    alloc: Global,
-    name: &str,
-    word: &str,
-) -> Result<(), AllocError>
-    ensures { OnOk result (members_view members.new.entries
-        ≡ with_member name.now (string word.now) (members_view members.old.entries)) }
-{
-    put(
-        members,
-        alloc,
-        name,
-        Value::String(String::from_str(alloc, word)?),
-    )
+impl Object {
+    ghost use Rattle.std.specs.Prelude.{IfOk, List, ℕ};
+    ghost use Rattle.serde_json.specs.Data.{Data, Members, no_members, object};
+    ghost use Rattle.backend_json.specs.Writing.{Holds};
+
+    pub(crate) fn new(alloc: Global) -> Self
+        ensures { Holds result no_members }
+    {
+        Object {
+            alloc,
+            members: Ok(Map::new(alloc)),
+        }
+    }
+
+    /// Puts a value under a name.
+    fn value(self, name: &str, value: Result<Value, AllocError>) -> Self
+        ensures { (members : Members) (d : Data) → Holds self members → IfOk value (λ v. view v ≡ d)
+            → Holds result (with_member name.now d members) }
+    {
+        let alloc = self.alloc;
+        Object {
+            alloc,
+            members: put_value(alloc, self.members, name, value),
+        }
+    }
+
+    /// Puts the text of a value under a name.
+    pub(crate) fn text<T: fmt::Display + Copy>(self, name: &str, value: T) -> Self
+        ensures { (members : Members) (text : List ℕ) → Holds self members → T.output value ≡ Some text
+            → Holds result (with_member name.now (string text) members) }
+    {
+        let text = text_value(self.alloc, value);
+        self.value(name, text)
+    }
+
+    /// Puts a number under a name.
+    pub(crate) fn number(self, name: &str, value: u64) -> Self
+        ensures { (members : Members) (n : ℕ) → Holds self members → value ≡ n
+            → Holds result (with_member name.now (number (unsigned n)) members) }
+    {
+        self.value(name, Ok(Value::from(value)))
+    }
+
+    /// Puts an object under a name.
+    pub(crate) fn object(self, name: &str, inner: Object) -> Self
+        ensures { (members inside : Members) → Holds self members → Holds inner inside
+            → Holds result (with_member name.now (object inside) members) }
+    {
+        self.value(name, inner.whole())
+    }
+
+    /// The whole object.
+    pub(crate) fn whole(self) -> Result<Value, AllocError>
+        ensures { (members : Members) → Holds self members → IfOk result (λ value. view value ≡ object members) }
+    {
+        Ok(Value::Object(self.members?))
+    }
 }
 
-/// Puts a number under a name.
-pub(crate) fn put_number(
-    members: &mut Map<String, Value>,
+fn put_value(
     alloc: Global,
+    members: Result<Map<String, Value>, AllocError>,
     name: &str,
-    value: u64,
-) -> Result<(), AllocError>
-    ensures { OnOk result (members_view members.new.entries
-        ≡ with_member name.now (number (unsigned value)) (members_view members.old.entries)) }
+    value: Result<Value, AllocError>,
+) -> Result<Map<String, Value>, AllocError>
+    ensures { (before : Members) (d : Data) → IfOk members (λ map. members_view map.entries ≡ before)
+        → IfOk value (λ v. view v ≡ d) → IfOk result (λ map. members_view map.entries ≡ with_member name.now d before) }
 {
-    put(members, alloc, name, Value::from(value))
+    let mut members = members?;
+    put(&mut members, alloc, name, value?)?;
+    Ok(members)
+}
+
+fn text_value<T: fmt::Display + Copy>(alloc: Global, value: T) -> Result<Value, AllocError>
+    ensures { (text : List ℕ) → T.output value ≡ Some text → IfOk result (λ v. view v ≡ string text) }
+{
+    Ok(Value::String(value.to_string(alloc)?))
 }

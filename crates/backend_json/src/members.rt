@@ -1,5 +1,5 @@
 // The members of an object, taken one after another in the byte order of their names.
-ghost use Rattle.std.specs.Prelude.{◌≡◌, ◌≢◌, ℕ, List, IfSome, MatchOption, Some};
+ghost use Rattle.std.specs.Prelude.{◌≡◌, ◌≢◌, ◌<◌, ◌^◌, ℕ, List, IfSome, MatchOption, Some, codes};
 ghost use Rattle.serde_json.specs.Data.{Data, Members, member, no_members, number, string, object, unsigned};
 ghost use Rattle.serde_json.specs.View.{members_view, view};
 
@@ -47,7 +47,7 @@ impl<'a> Rest<'a> {
         ensures only { (value : T) (others : Members) → T.is_value value
             → members_view self.old.members ≡ member name.now (string (T.text_of value)) others → result ≡ Some value }
     {
-        T::from_text(self.next(name)?.as_str()?)
+        T::from_text(self.any_text(name)?)
     }
 
     /// The text of the next member, where it has this name and is a text.
@@ -88,6 +88,22 @@ impl<'a> Rest<'a> {
             (λ inner. members_view self.old.members ≡ member name.now (object (members_view inner.members)) (members_view self.new.members)) }
     {
         Rest::of(self.next(name)?)
+    }
+
+    /// The sender and the number of the message, which are the last two members.
+    pub(crate) fn sender<T: FromText + Copy>(&mut self) -> Option<(T, u32)>
+        ensures value { IfSome result (λ p. T.is_value p.0) }
+        ensures found { IfSome result (λ p. members_view self.old.members
+            ≡ member (codes "SenderID") (string (T.text_of p.0))
+            (member (codes "TransactionID") (number (unsigned p.1)) no_members)) }
+        ensures only { (sender : T) (transaction : ℕ) → T.is_value sender → transaction < 2 ^ 32 → members_view self.old.members
+            ≡ member (codes "SenderID") (string (T.text_of sender))
+            (member (codes "TransactionID") (number (unsigned transaction)) no_members) → result ≡ Some (sender, transaction) }
+    {
+        let sender = self.value("SenderID")?;
+        let transaction = u32::try_from(self.number("TransactionID")?).ok()?;
+        self.end()?;
+        Some((sender, transaction))
     }
 
     /// That no member is left.

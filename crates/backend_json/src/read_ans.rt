@@ -51,7 +51,7 @@ fn granted_of(value: &Value) -> Option<JoinAns>
     let accept = accept_of(&mut rest)?;
     let receiver = receiver_of(&mut rest)?;
     success_of(&mut rest)?;
-    let (sender, transaction) = sender_of(&mut rest)?;
+    let (sender, transaction) = rest.sender()?;
     let accepted = Accepted {
         app_skey,
         nwk_skey,
@@ -75,7 +75,7 @@ fn refused_of(value: &Value) -> Option<JoinAns>
     rest.text("MessageType", "JoinAns")?;
     let receiver = receiver_of(&mut rest)?;
     let cause = cause_of(&mut rest)?;
-    let (sender, transaction) = sender_of(&mut rest)?;
+    let (sender, transaction) = rest.sender()?;
     Some(JoinAns {
         receiver,
         sender,
@@ -119,21 +119,6 @@ fn receiver_of(rest: &mut Rest<'_>) -> Option<NetId>
 {
     rest.text("ProtocolVersion", "1.0")?;
     rest.value("ReceiverID")
-}
-
-// SenderID and TransactionID, and that no member follows.
-fn sender_of(rest: &mut Rest<'_>) -> Option<(Eui, u32)>
-    ensures found { IfSome result (λ p. members_view rest.old.members
-        ≡ member (codes "SenderID") (string (eui_text p.0))
-        (member (codes "TransactionID") (number (unsigned p.1)) no_members)) }
-    ensures only { (sender : Eui) (transaction : ℕ) → sender.0 < 2 ^ 64 → transaction < 2 ^ 32 → members_view rest.old.members
-        ≡ member (codes "SenderID") (string (eui_text sender))
-        (member (codes "TransactionID") (number (unsigned transaction)) no_members) → result ≡ Some (sender, transaction) }
-{
-    let sender = rest.value("SenderID")?;
-    let transaction = u32::try_from(rest.number("TransactionID")?).ok()?;
-    rest.end()?;
-    Some((sender, transaction))
 }
 
 // That the Result is Success.

@@ -1,16 +1,17 @@
 // Writing of answers.
-ghost use Rattle.std.specs.Prelude.{◌≡◌, codes, string_bytes, [], Result, Ok, OnOk, IfOk, MatchResult};
-ghost use Rattle.serde_json.specs.Data.{string, number, object, member, unsigned, put as with_member};
-ghost use Rattle.serde_json.specs.View.{members_view, view};
+ghost use Rattle.std.specs.Prelude.{◌≡◌, codes, string_bytes, IfOk, Ok, MatchResult};
+ghost use Rattle.serde_json.specs.Data.{Members, string, number, object as object_value, member, no_members, unsigned, put as with_member};
 ghost use Rattle.serde_json.specs.Written.{compact_text};
-ghost use Rattle.lw_types.specs.Hex.{eui_text, hex_text, net_id_text};
+ghost use Rattle.serde_json.specs.View.{view};
+ghost use Rattle.lw_types.specs.Hex.{eui_text, key_text, net_id_text};
 ghost use Rattle.lw_types.specs.declared.refusal.Refusal.TheVariants.{OutOfMemory};
-ghost use Rattle.backend_json.specs.Answers.{IsJoinAns, aes_key, closing, join_ans, opening, outcome_of};
+ghost use Rattle.backend_json.specs.Answers.{IsJoinAns, join_ans, opening};
+ghost use Rattle.backend_json.specs.Writing.{Holds};
 
-use crate::json::{put_number, put_text, put_word};
-use crate::{Accepted, Cause, JoinAns};
+use crate::json::Object;
+use crate::{Accepted, JoinAns};
 use lw_types::{HexArray, Key, Refusal};
-use serde_json::{Map, Value, put};
+use serde_json::Value;
 use std::alloc::{AllocError, Global};
 
 /// The text of an answer: compact JSON, its members in the byte order of their names.
@@ -27,109 +28,59 @@ fn value_of(alloc: Global, ans: &JoinAns) -> Result<Value, AllocError>
     ensures { IfOk result (λ value. view value ≡ join_ans ans.now) }
 {
     match &ans.result {
-        Ok(accepted) => granted_value(alloc, ans, accepted),
-        Err(_) => refused_value(alloc, ans),
+        Ok(accepted) => {
+            let opening = opening_of(alloc, accepted);
+            let outcome = outcome(alloc, "Success", "");
+            closed(opening, ans, outcome).whole()
+        }
+        Err(cause) => {
+            let opening = Object::new(alloc).text("MessageType", "JoinAns");
+            let outcome = outcome(alloc, cause.code(), cause.description());
+            closed(opening, ans, outcome).whole()
+        }
     }
 }
 
-// Of one that grants a session.
-fn granted_value(alloc: Global, ans: &JoinAns, accepted: &Accepted) -> Result<Value, AllocError>
-    ensures { IfOk result (λ value. view value
-        ≡ object (opening (Ok accepted.now) (closing ans.now.receiver (outcome_of ans.now.result) ans.now.sender ans.now.transaction))) }
+// The members before ProtocolVersion of an answer that grants a session.
+fn opening_of(alloc: Global, accepted: &Accepted) -> Object
+    ensures { Holds result (opening (Ok accepted.now) no_members) }
 {
-    let mut members = Map::new(alloc);
-    put_accepted(&mut members, alloc, accepted)?;
-    put_word(&mut members, alloc, "MessageType", "JoinAns")?;
-    put_closing(&mut members, alloc, ans)?;
-    Ok(Value::Object(members))
+    Object::new(alloc)
+        .object("AppSKey", key_object(alloc, accepted.app_skey))
+        .text("MessageType", "JoinAns")
+        .object("NwkSKey", key_object(alloc, accepted.nwk_skey))
+        .text("PHYPayload", HexArray(accepted.accept))
 }
 
-// Of one that refuses a join.
-fn refused_value(alloc: Global, ans: &JoinAns) -> Result<Value, AllocError>
-    ensures { IfOk result (λ value. view value ≡ object (member (codes "MessageType") (string (codes "JoinAns"))
-        (closing ans.now.receiver (outcome_of ans.now.result) ans.now.sender ans.now.transaction))) }
+fn key_object(alloc: Global, key: Key) -> Object
+    ensures { Holds result (member (codes "AESKey") (string (key_text key)) no_members) }
 {
-    let mut members = Map::new(alloc);
-    put_word(&mut members, alloc, "MessageType", "JoinAns")?;
-    put_closing(&mut members, alloc, ans)?;
-    Ok(Value::Object(members))
-}
-
-// The members from ProtocolVersion on.
-fn put_closing(
-    members: &mut Map<String, Value>,
-    alloc: Global,
-    ans: &JoinAns,
-) -> Result<(), AllocError>
-    ensures { OnOk result (members_view members.new.entries
-        ≡ with_member (codes "TransactionID") (number (unsigned ans.now.transaction))
-        (with_member (codes "SenderID") (string (eui_text ans.now.sender))
-        (with_member (codes "Result") (outcome_of ans.now.result)
-        (with_member (codes "ReceiverID") (string (net_id_text ans.now.receiver))
-        (with_member (codes "ProtocolVersion") (string (codes "1.0")) (members_view members.old.entries)))))) }
-{
-    put_word(members, alloc, "ProtocolVersion", "1.0")?;
-    put_text(members, alloc, "ReceiverID", ans.receiver.to_string(alloc)?)?;
-    put(members, alloc, "Result", outcome_value(alloc, &ans.result)?)?;
-    put_text(members, alloc, "SenderID", ans.sender.to_string(alloc)?)?;
-    put_number(members, alloc, "TransactionID", u64::from(ans.transaction))
-}
-
-// The keys and the accept.
-fn put_accepted(
-    members: &mut Map<String, Value>,
-    alloc: Global,
-    accepted: &Accepted,
-) -> Result<(), AllocError>
-    ensures { OnOk result (members_view members.new.entries
-        ≡ with_member (codes "PHYPayload") (string (hex_text accepted.now.accept))
-        (with_member (codes "NwkSKey") (aes_key accepted.now.nwk_skey)
-        (with_member (codes "AppSKey") (aes_key accepted.now.app_skey) (members_view members.old.entries)))) }
-{
-    put(
-        members,
-        alloc,
-        "AppSKey",
-        key_value(alloc, &accepted.app_skey)?,
-    )?;
-    put(
-        members,
-        alloc,
-        "NwkSKey",
-        key_value(alloc, &accepted.nwk_skey)?,
-    )?;
-    put_text(
-        members,
-        alloc,
-        "PHYPayload",
-        HexArray(accepted.accept).to_string(alloc)?,
-    )
-}
-
-#[tactic(auto, unfolding(lw_types::specs::Hex::key_text))]
-fn key_value(alloc: Global, key: &Key) -> Result<Value, AllocError>
-    ensures { IfOk result (λ value. view value ≡ aes_key key.now) }
-{
-    let mut members = Map::new(alloc);
-    put_text(
-        &mut members,
-        alloc,
-        "AESKey",
-        HexArray(key.0).to_string(alloc)?,
-    )?;
-    Ok(Value::Object(members))
+    Object::new(alloc).text("AESKey", HexArray(key.0))
 }
 
 // The Result.
-fn outcome_value(alloc: Global, answer: &Result<Accepted, Cause>) -> Result<Value, AllocError>
-    ensures { IfOk result (λ value. view value ≡ outcome_of answer.now) }
+fn outcome(alloc: Global, code: &str, description: &str) -> Object
+    ensures { Holds result (member (codes "Description") (string description.now)
+        (member (codes "ResultCode") (string code.now) no_members)) }
 {
-    let (code, description) = match answer {
-        Ok(_) => ("Success", ""),
-        Err(cause) => (cause.code(), cause.description()),
-    };
-    let mut members = Map::new(alloc);
-    put_word(&mut members, alloc, "Description", description)?;
-    put_word(&mut members, alloc, "ResultCode", code)?;
-    Ok(Value::Object(members))
+    Object::new(alloc)
+        .text("Description", description)
+        .text("ResultCode", code)
+}
+
+// Puts the members from ProtocolVersion on, the Result as it is given.
+fn closed(object: Object, ans: &JoinAns, outcome: Object) -> Object
+    ensures { (members result_members : Members) → Holds object members → Holds outcome result_members → Holds result
+        (with_member (codes "TransactionID") (number (unsigned ans.now.transaction))
+        (with_member (codes "SenderID") (string (eui_text ans.now.sender))
+        (with_member (codes "Result") (object_value result_members)
+        (with_member (codes "ReceiverID") (string (net_id_text ans.now.receiver))
+        (with_member (codes "ProtocolVersion") (string (codes "1.0")) members))))) }
+{
+    object
+        .text("ProtocolVersion", "1.0")
+        .text("ReceiverID", ans.receiver)
+        .object("Result", outcome)
+        .text("SenderID", ans.sender)
+        .number("TransactionID", u64::from(ans.transaction))
 }

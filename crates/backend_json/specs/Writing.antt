@@ -1,0 +1,9 @@
+-- An object that is written member by member.
+use Rattle.std.specs.Prelude.{◌≡◌, IfOk}
+use Rattle.serde_json.specs.Data.{Members}
+use Rattle.serde_json.specs.View.{members_view}
+use Rattle.backend_json.specs.declared.json.Object.{Object}
+
+-- what its members are, where there was memory for all of them
+abbrev pub Holds : Object → Members → Type 0
+Holds written members = IfOk written.members (λ map. members_view map.entries ≡ members)
