@@ -1,11 +1,10 @@
 // Downlinks as frames of the wire.
-ghost use Rattle.std.specs.Prelude.{◌≡◌, ◌≤◌, MatchResult};
-ghost use Rattle.lw_types.specs.declared.refusal.Refusal.TheVariants.{OutOfMemory};
+ghost use Rattle.std.specs.Prelude.{◌≡◌, ◌≤◌, IfOk};
 ghost use Rattle.gateway_wire.specs.Downlink.{downlink_frame, rx2_delay};
 
 use devices::{Downlink, Windows};
-use lw_types::{Bytes, LONGEST_FRAME, Refusal};
-use std::alloc::Global;
+use lw_types::{Bytes, LONGEST_FRAME};
+use std::alloc::{AllocError, Global};
 
 /// The kind of content that a downlink is.
 const DOWNLINK: u8 = 0x11;
@@ -20,21 +19,20 @@ pub const LONGEST_WIRE_FRAME: usize = 2 + HEAD + LONGEST_FRAME;
 pub type WireFrame = Bytes<LONGEST_WIRE_FRAME>;
 
 /// The whole frame that asks a gateway to send a downlink.
-pub(crate) fn downlink_frame(alloc: Global, downlink: &Downlink) -> Result<WireFrame, Refusal>
-    ensures { MatchResult result (λ frame. frame ≡ downlink_frame downlink.now) (λ e. e ≡ OutOfMemory) }
+pub(crate) fn downlink_frame(alloc: Global, downlink: &Downlink) -> Result<WireFrame, AllocError>
+    ensures { IfOk result (λ frame. frame ≡ downlink_frame downlink.now) }
 {
     let phy_payload = downlink.frame.as_slice();
     let len = HEAD + phy_payload.len();
     let delay = downlink.delay.get() as u8;
+    let rx2_delay = rx2_delay(downlink.windows, delay);
     let mut bytes = Vec::with_capacity(alloc, 2 + len)?;
     bytes.extend_from_slice(&(len as u16).to_be_bytes())?;
     bytes.push(DOWNLINK)?;
     bytes.extend_from_slice(&downlink.gateway.0.to_be_bytes())?;
     bytes.extend_from_slice(&downlink.stamp.to_be_bytes())?;
     bytes.extend_from_slice(&downlink.frequency.to_be_bytes())?;
-    bytes.push(downlink.data_rate)?;
-    bytes.push(delay)?;
-    bytes.push(rx2_delay(downlink.windows, delay))?;
+    bytes.extend_from_slice(&[downlink.data_rate, delay, rx2_delay])?;
     bytes.extend_from_slice(phy_payload)?;
     let frame: Result<_, _> = WireFrame::new(bytes);
     Ok(frame.unwrap())

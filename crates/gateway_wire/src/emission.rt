@@ -4,10 +4,10 @@ ghost use Rattle.lw_types.specs.declared.refusal.Refusal.TheVariants.{OutOfMemor
 ghost use Rattle.gateway_wire.specs.Emission.{app_line, gateway_bytes};
 
 use crate::downlink::downlink_frame;
-use crate::report::{Heard, report_line};
+use crate::report::{report_line, up_line};
 use crate::{Line, WireFrame};
 use devices::{Application, Effect};
-use lw_types::{ByteField, Eui, Refusal};
+use lw_types::{Eui, Refusal};
 use std::alloc::Global;
 
 /// What leaves the network by an effect, and on whose link.
@@ -30,7 +30,6 @@ impl Emission {
 
     /// What leaves by this effect: payloads and reports go to the device's application, frames for the
     /// device to the gateway that heard it best.
-    #[tactic(auto, unfolding(lw_types::specs::Words::line_of))]
     pub fn of(alloc: Global, effect: &Effect) -> Result<Emission, Refusal>
         ensures { MatchResult result (λ e. e ≡ emission effect.now) (λ e. e ≡ OutOfMemory) }
     {
@@ -43,22 +42,10 @@ impl Emission {
                 payload,
                 copies,
                 best,
-            } => {
-                let (dev_eui, nonce) = (session.dev_eui, session.join_nonce.get());
-                let port = port.get();
-                let hex = ByteField(payload.as_slice());
-                let heard = Heard {
-                    copies: *copies,
-                    best,
-                };
-                let text = format!(in alloc;
-                    "up {dev_eui} {nonce} {counter} {port} {hex} {heard}"
-                )?;
-                Ok(Emission::Application {
-                    application: *application,
-                    line: Line::new(text),
-                })
-            }
+            } => Ok(Emission::Application {
+                application: *application,
+                line: up_line(alloc, session, *counter, *port, payload, *copies, best)?,
+            }),
             Effect::Report {
                 application,
                 dev_eui,
@@ -67,14 +54,12 @@ impl Emission {
                 application: *application,
                 line: report_line(alloc, *dev_eui, report)?,
             }),
-            Effect::Accept { downlink, .. } => Ok(Emission::Gateway {
-                gateway: downlink.gateway,
-                frame: downlink_frame(alloc, downlink)?,
-            }),
-            Effect::Down { downlink, .. } => Ok(Emission::Gateway {
-                gateway: downlink.gateway,
-                frame: downlink_frame(alloc, downlink)?,
-            }),
+            Effect::Accept { downlink, .. } | Effect::Down { downlink, .. } => {
+                Ok(Emission::Gateway {
+                    gateway: downlink.gateway,
+                    frame: downlink_frame(alloc, downlink)?,
+                })
+            }
         }
     }
 }

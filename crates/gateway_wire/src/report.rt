@@ -1,58 +1,80 @@
 // What applications are told of their devices.
-ghost use Rattle.std.specs.Prelude.{◌≡◌, MatchResult};
-ghost use Rattle.lw_types.specs.declared.refusal.Refusal.TheVariants.{OutOfMemory};
-ghost use Rattle.gateway_wire.specs.AppLine.{report_line};
+ghost use Rattle.std.specs.Prelude.{◌≡◌, ◌∷◌, [], IfOk};
+ghost use Rattle.std.specs.Fmt.{decimal};
+ghost use Rattle.lw_types.specs.Hex.{eui_text};
+ghost use Rattle.lw_types.specs.Words.{line_of};
+ghost use Rattle.devices.specs.declared.effect.Report.TheVariants.{Mac, MacQueued};
+ghost use Rattle.gateway_wire.specs.AppLine.{report_line, up_line};
 
 use crate::Line;
-use devices::{Copies, Report};
-use lw_types::{ByteField, Eui, Reception, Refusal};
-use std::alloc::Global;
+use devices::{Copies, Payload, Port, Report, SessionName};
+use lw_types::{ByteField, Eui, JoinNonce, Reception};
+use std::alloc::{AllocError, Global};
 use std::fmt;
 
 /// The line of a report on a device.
-#[tactic(auto, unfolding(lw_types::specs::Words::line_of))]
-pub(crate) fn report_line(alloc: Global, dev_eui: Eui, report: &Report) -> Result<Line, Refusal>
-    ensures { MatchResult result (λ line. line ≡ report_line dev_eui report.now) (λ e. e ≡ OutOfMemory) }
+pub(crate) fn report_line(alloc: Global, dev_eui: Eui, report: &Report) -> Result<Line, AllocError>
+    ensures { IfOk result (λ line. line ≡ report_line dev_eui report.now) }
 {
-    let text = match report {
-        Report::Provisioned { slot } => format!(in alloc; "provisioned {dev_eui} {slot}")?,
-        Report::Queued { tag } => {
-            let tag = tag.0;
-            format!(in alloc; "queued {dev_eui} {tag}")?
-        }
-        Report::MacQueued { commands } => {
-            let hex = ByteField(commands.as_slice());
-            format!(in alloc; "macqueued {dev_eui} {hex}")?
-        }
-        Report::Acked { tag } => {
-            let tag = tag.0;
-            format!(in alloc; "acked {dev_eui} {tag}")?
-        }
-        Report::Lost { tag } => {
-            let tag = tag.0;
-            format!(in alloc; "lost {dev_eui} {tag}")?
-        }
+    match report {
+        Report::Provisioned { slot } => number_line(
+            alloc,
+            "provisioned",
+            dev_eui,
+            u32::from(*slot),
+        ),
+        Report::Queued { tag } => number_line(alloc, "queued", dev_eui, tag.0),
+        Report::MacQueued { commands } => waiting_line(alloc, dev_eui, commands),
+        Report::Acked { tag } => number_line(alloc, "acked", dev_eui, tag.0),
+        Report::Lost { tag } => number_line(alloc, "lost", dev_eui, tag.0),
         Report::Mac {
             join_nonce,
             commands,
-        } => {
-            let nonce = join_nonce.get();
-            let hex = ByteField(commands.as_slice());
-            format!(in alloc; "mac {dev_eui} {nonce} {hex}")?
-        }
-        Report::Spent { join_nonce } => {
-            let nonce = join_nonce.get();
-            format!(in alloc; "spent {dev_eui} {nonce}")?
-        }
-    };
+        } => sent_line(alloc, dev_eui, *join_nonce, commands),
+        Report::Spent { join_nonce } => number_line(alloc, "spent", dev_eui, join_nonce.get()),
+    }
+}
+
+// The line of a report that tells a number.
+#[tactic(auto, unfolding(lw_types::specs::Words::line_of))]
+fn number_line(alloc: Global, name: &str, dev_eui: Eui, number: u32) -> Result<Line, AllocError>
+    ensures { IfOk result (λ line. line ≡ line_of (name.now ∷ eui_text dev_eui ∷ decimal number ∷ [])) }
+{
+    let text = format!(in alloc; "{name} {dev_eui} {number}")?;
+    Ok(Line::new(text))
+}
+
+// The line of MAC commands that wait.
+#[tactic(auto, unfolding(lw_types::specs::Words::line_of))]
+fn waiting_line(alloc: Global, dev_eui: Eui, commands: &Payload) -> Result<Line, AllocError>
+    ensures { IfOk result (λ line. line ≡ report_line dev_eui (MacQueued commands.now)) }
+{
+    let hex = ByteField(commands.as_slice());
+    let text = format!(in alloc; "macqueued {dev_eui} {hex}")?;
+    Ok(Line::new(text))
+}
+
+// The line of MAC commands that the device sent.
+#[tactic(auto, unfolding(lw_types::specs::Words::line_of))]
+fn sent_line(
+    alloc: Global,
+    dev_eui: Eui,
+    join_nonce: JoinNonce,
+    commands: &Payload,
+) -> Result<Line, AllocError>
+    ensures { IfOk result (λ line. line ≡ report_line dev_eui (Mac join_nonce commands.now)) }
+{
+    let nonce = join_nonce.get();
+    let hex = ByteField(commands.as_slice());
+    let text = format!(in alloc; "mac {dev_eui} {nonce} {hex}")?;
     Ok(Line::new(text))
 }
 
 /// How many gateways heard an uplink, and how the best of them did.
 #[derive(Clone, Copy)]
-pub(crate) struct Heard<'a> {
-    pub copies: Copies,
-    pub best: &'a Reception,
+struct Heard<'a> {
+    copies: Copies,
+    best: &'a Reception,
 }
 
 impl fmt::Display for Heard<'_> {
@@ -69,4 +91,25 @@ impl fmt::Display for Heard<'_> {
         let (data_rate, snr, rssi) = (self.best.data_rate, self.best.snr, self.best.rssi);
         write!(f, "{copies} {gateway} {frequency} {data_rate} {snr} {rssi}")
     }
+}
+
+/// The line of a payload, under its session and counter, and of who heard it.
+#[tactic(auto, unfolding(lw_types::specs::Words::line_of))]
+pub(crate) fn up_line(
+    alloc: Global,
+    session: &SessionName,
+    counter: u32,
+    port: Port,
+    payload: &Payload,
+    copies: Copies,
+    best: &Reception,
+) -> Result<Line, AllocError>
+    ensures { IfOk result (λ line. line ≡ up_line session.now counter port payload.now copies best.now) }
+{
+    let (dev_eui, nonce) = (session.dev_eui, session.join_nonce.get());
+    let port = port.get();
+    let hex = ByteField(payload.as_slice());
+    let heard = Heard { copies, best };
+    let text = format!(in alloc; "up {dev_eui} {nonce} {counter} {port} {hex} {heard}")?;
+    Ok(Line::new(text))
 }
