@@ -13,70 +13,57 @@ mod windows;
 
 use crate::decision_tests::queueing::{FIFTY, ITEM};
 use crate::decision_tests::records::{ANSWERED, IN_USE};
-use crate::network::{Asked, Comes, Items, Row, State};
+use crate::network::{Asked, Comes, Items, Refused, Row, State};
 use lw_types::Refusal;
 use std::alloc::Global;
 
-#[test]
-fn mac_commands_are_told(rt: HostRuntime) {
-    for row in payloads::MAC_COMMANDS {
-        assert!(rt; row.holds(rt.alloc()) == Ok(true), "{}", row.wanted);
+// The tables of rows. (A test that names them all has each of their rows in its proof; one that calls this has none.)
+fn rows_of(table: u8) -> &'static [Row] {
+    match table {
+        0 => payloads::MAC_COMMANDS,
+        1 => payloads::PORTS,
+        2 => session_choice::SESSIONS,
+        3 => session_choice::AWAITED,
+        4 => fcnt::COUNTERS,
+        5 => fcnt::REPEATS,
+        6 => loads::LOADS,
+        7 => loads::ITEMS,
+        8 => windows::LINK_CHECKS,
+        9 => stories::STORIES,
+        10 => joins::JOINS,
+        _ => queueing::QUEUED,
     }
 }
 
 #[test]
-fn ports_of_applications_are_forwarded(rt: HostRuntime) {
-    for row in payloads::PORTS {
-        assert!(rt; row.holds(rt.alloc()) == Ok(true), "{}", row.wanted);
+fn a_command_leaves_a_record_and_effects(rt: HostRuntime) {
+    for table in 0..12 {
+        for row in rows_of(table) {
+            assert!(rt;
+                row.holds(rt.alloc()) == Ok(true),
+                "{table}: {}",
+                row.wanted
+            );
+        }
+    }
+}
+
+// The tables of refusals: of uplinks, of joins, and of items and MAC commands.
+fn refusals_of(table: u8) -> &'static [Refused] {
+    match table {
+        0 => refusals::REFUSALS,
+        1 => joins::REFUSALS,
+        _ => queueing::REFUSALS,
     }
 }
 
 #[test]
-fn the_session_that_waits_is_tried_first(rt: HostRuntime) {
-    for row in session_choice::SESSIONS {
-        assert!(rt; row.holds(rt.alloc()) == Ok(true), "{}", row.wanted);
-    }
-}
-
-#[test]
-fn what_is_awaited_is_acknowledged_or_lost(rt: HostRuntime) {
-    for row in session_choice::AWAITED {
-        assert!(rt; row.holds(rt.alloc()) == Ok(true), "{}", row.wanted);
-    }
-}
-
-#[test]
-fn counters_are_whole(rt: HostRuntime) {
-    for row in fcnt::COUNTERS {
-        assert!(rt; row.holds(rt.alloc()) == Ok(true), "{}", row.wanted);
-    }
-}
-
-#[test]
-fn a_repeat_is_acknowledged(rt: HostRuntime) {
-    for row in fcnt::REPEATS {
-        assert!(rt; row.holds(rt.alloc()) == Ok(true), "{}", row.wanted);
-    }
-}
-
-#[test]
-fn what_fits_goes(rt: HostRuntime) {
-    for row in loads::LOADS {
-        assert!(rt; row.holds(rt.alloc()) == Ok(true), "{}", row.wanted);
-    }
-}
-
-#[test]
-fn an_item_goes_where_it_fits(rt: HostRuntime) {
-    for row in loads::ITEMS {
-        assert!(rt; row.holds(rt.alloc()) == Ok(true), "{}", row.wanted);
-    }
-}
-
-#[test]
-fn a_device_is_told_how_it_is_heard(rt: HostRuntime) {
-    for row in windows::LINK_CHECKS {
-        assert!(rt; row.holds(rt.alloc()) == Ok(true), "{}", row.wanted);
+fn a_command_is_refused_for_its_first_cause(rt: HostRuntime) {
+    for table in 0..3 {
+        for (before, comes, refusal) in refusals_of(table) {
+            let refused = before.refuses(rt.alloc(), comes, *refusal);
+            assert!(rt; refused == Ok(true), "{table}: {refusal}");
+        }
     }
 }
 
@@ -107,43 +94,6 @@ fn an_offset_lowers_rx1(rt: HostRuntime) {
     }
 }
 
-#[test]
-fn one_thing_comes_after_another(rt: HostRuntime) {
-    for row in stories::STORIES {
-        assert!(rt; row.holds(rt.alloc()) == Ok(true), "{}", row.wanted);
-    }
-}
-
-#[test]
-fn an_uplink_is_refused_for_its_first_cause(rt: HostRuntime) {
-    for (before, comes, refusal) in refusals::REFUSALS {
-        let refused = before.refuses(rt.alloc(), comes, *refusal);
-        assert!(rt; refused == Ok(true), "{refusal}");
-    }
-}
-
-#[test]
-fn joins_are_granted(rt: HostRuntime) {
-    for row in joins::JOINS {
-        assert!(rt; row.holds(rt.alloc()) == Ok(true), "{}", row.wanted);
-    }
-}
-
-#[test]
-fn a_join_is_refused_for_its_first_cause(rt: HostRuntime) {
-    for (before, comes, refusal) in joins::REFUSALS {
-        let refused = before.refuses(rt.alloc(), comes, *refusal);
-        assert!(rt; refused == Ok(true), "{refusal}");
-    }
-}
-
-#[test]
-fn items_and_mac_commands_wait(rt: HostRuntime) {
-    for row in queueing::QUEUED {
-        assert!(rt; row.holds(rt.alloc()) == Ok(true), "{}", row.wanted);
-    }
-}
-
 // Whether an item on the next port waits behind those on the ports from 1 on, so many.
 fn waits_behind(alloc: Global, waiting: u8) -> Result<bool, Refusal> {
     let port = waiting.saturating_add(1);
@@ -166,13 +116,5 @@ fn waits_behind(alloc: Global, waiting: u8) -> Result<bool, Refusal> {
 fn sixteen_items_wait_in_order(rt: HostRuntime) {
     for waiting in 0..16 {
         assert!(rt; waits_behind(rt.alloc(), waiting) == Ok(true), "{waiting}");
-    }
-}
-
-#[test]
-fn items_and_mac_commands_are_refused_for_their_first_cause(rt: HostRuntime) {
-    for (before, comes, refusal) in queueing::REFUSALS {
-        let refused = before.refuses(rt.alloc(), comes, *refusal);
-        assert!(rt; refused == Ok(true), "{refusal}");
     }
 }

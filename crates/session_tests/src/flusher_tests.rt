@@ -1,12 +1,12 @@
 // What a flusher releases. The MICs of Join-Requests were made by OpenSSL.
 use crate::fixture::{JOINER, heard};
 use crate::network::{Asked, Comes};
-use crate::tables::{batch, carry_out};
+use crate::tables::{alone, batch};
 use devices::{Command, Effect, Report};
 use disk::MemDisk;
 use flusher::{Durable, Feed, Most, Released, Room, StoredBatches, cycle};
 use lw_types::{Eui, NetId, Refusal};
-use sessions::{Batch, Decision, Slots, Table};
+use sessions::{Batch, Slots, Table};
 use std::alloc::Global;
 use store::{Store, disk_len, format};
 
@@ -79,7 +79,7 @@ fn effects_leave_in_order(rt: HostRuntime) {
 }
 
 // What leaves in a round.
-#[derive(Clone, Copy, Debug, PartialEq, Eq)]
+#[derive(Clone, Copy, PartialEq)]
 enum Leaves {
     Nothing,
     /// Once the effects of so many provisionings, in order.
@@ -90,14 +90,20 @@ enum Leaves {
     Other,
 }
 
+// Whether all of these are accepts.
+fn are_accepts(released: &[Released]) -> bool {
+    for one in released {
+        let Effect::Accept { .. } = one.effect() else {
+            return false;
+        };
+    }
+    true
+}
+
 fn what_leaves(released: &[Released]) -> Leaves {
-    let accepts = released
-        .iter()
-        .filter(|one| matches!(one.effect(), Effect::Accept { .. }))
-        .count();
     match brought(released) {
         Some(count) => Leaves::Brought(count),
-        None if accepts == released.len() => Leaves::Accepts(accepts),
+        None if are_accepts(released) => Leaves::Accepts(released.len()),
         None => Leaves::Other,
     }
 }
@@ -170,13 +176,17 @@ const ROUNDS: &[(u64, (u64, u64), (Round, Round), u64)] = &[
     (5, (3, 3), (THREE, STALE), 3),
 ];
 
+// A batch that brings so many devices, made of a table that stays as it is.
+fn batch_of(alloc: Global, table: &Table, count: u64) -> Result<Batch, Refusal> {
+    batch(alloc, &mut table.copy()?, count)
+}
+
 // Batches that bring so many devices each, all made of one table.
 fn batches(alloc: Global, table: &Table, counts: (u64, u64)) -> Result<StoredBatches, Refusal> {
-    let first = batch(alloc, &mut table.copy()?, counts.0)?;
-    let second = batch(alloc, &mut table.copy()?, counts.1)?;
-    let mut batches = Vec::with_capacity(alloc, 2)?;
-    batches.push(first)?;
-    batches.push(second)?;
+    let mut batches = Vec::new(alloc);
+    for count in [counts.0, counts.1] {
+        batches.push(batch_of(alloc, table, count)?)?;
+    }
     Ok(StoredBatches::new(alloc, batches))
 }
 
@@ -222,22 +232,18 @@ struct Flushed {
 }
 
 impl Flushed {
-    // A network of 8 slots. The device that joins was brought, and sixteen items were queued for it.
+    // A network of 8 slots without devices.
     fn new(alloc: Global) -> Result<Self, Refusal> {
         let store = new_store(alloc, 8)?;
-        let now = store.table().copy()?;
-        let mut flushed = Flushed {
+        Ok(Flushed {
+            now: store.table().copy()?,
             store,
-            now,
             accepts: 0,
             checkpoints: 0,
-        };
-        match flushed.queue(alloc) {
-            Ok(()) => Ok(flushed),
-            Err(refusal) => Err(refusal),
-        }
+        })
     }
 
+    // The device that joins is brought, and sixteen items are queued for it.
     fn queue(&mut self, alloc: Global) -> Result<(), Refusal> {
         self.carry_out(alloc, Comes::Device(JOINER).command(alloc)?)?;
         for tag in 0..16 {
@@ -249,9 +255,9 @@ impl Flushed {
 
     // The command is decided, and its batch released.
     fn carry_out(&mut self, alloc: Global, command: Command) -> Result<(), Refusal> {
-        let decision = carry_out(alloc, &mut self.now, self.store.seq(), command)?;
+        let batch = alone(alloc, &mut self.now, self.store.seq(), command)?;
         let is_due = !self.store.roomy();
-        let (answer, leaves) = round(alloc, &mut self.store, &mut alone(alloc, decision)?);
+        let (answer, leaves) = round(alloc, &mut self.store, &mut feed_of(alloc, batch)?);
         let _ = answer?;
         if leaves == Leaves::Accepts(1) {
             self.accepts = self.accepts.saturating_add(1);
@@ -271,10 +277,8 @@ const ITEM: Asked = Asked {
     len: 242,
 };
 
-// A feed of this decision alone.
-fn alone(alloc: Global, decision: Decision) -> Result<StoredBatches, Refusal> {
-    let mut batch = Batch::new(alloc)?;
-    batch.push(decision);
+// A feed of one batch.
+fn feed_of(alloc: Global, batch: Batch) -> Result<StoredBatches, Refusal> {
     let mut batches = Vec::new(alloc);
     batches.push(batch)?;
     Ok(StoredBatches::new(alloc, batches))
@@ -293,10 +297,7 @@ fn request(alloc: Global, dev_nonce: u16, mic: u32) -> Result<Command, Refusal> 
 // of these MICs, the DevNonces from 1 on.
 fn joins(alloc: Global, mics: &[u32]) -> Result<(usize, usize, u64), Refusal> {
     let mut flushed = Flushed::new(alloc)?;
-    match flushed.join(alloc, mics) {
-        Ok(()) => Ok((flushed.accepts, flushed.checkpoints, flushed.store.seq())),
-        Err(refusal) => Err(refusal),
-    }
+    flushed.join_all(alloc, mics)
 }
 
 // A record with sixteen such items has some 4,200 bytes, of which 807,510 fit into an area's journal.
@@ -315,12 +316,18 @@ fn failing_checkpoint(alloc: Global, call: u64) -> Result<Checkpointing, Refusal
 }
 
 impl Flushed {
+    // The device joins with this DevNonce and this MIC.
+    fn join(&mut self, alloc: Global, dev_nonce: u16, mic: u32) -> Result<(), Refusal> {
+        self.carry_out(alloc, request(alloc, dev_nonce, mic)?)
+    }
+
     // The device joins with each of these MICs, the DevNonces from 1 on.
-    fn join(&mut self, alloc: Global, mics: &[u32]) -> Result<(), Refusal> {
+    fn join_all(&mut self, alloc: Global, mics: &[u32]) -> Result<(usize, usize, u64), Refusal> {
+        self.queue(alloc)?;
         for (dev_nonce, mic) in (1..=u16::MAX).zip(mics) {
-            self.carry_out(alloc, request(alloc, dev_nonce, *mic)?)?;
+            self.join(alloc, dev_nonce, *mic)?;
         }
-        Ok(())
+        Ok((self.accepts, self.checkpoints, self.store.seq()))
     }
 
     // The same until a checkpoint is due. Then this call of the disk fails.
@@ -330,20 +337,20 @@ impl Flushed {
         call: u64,
         mics: &[u32],
     ) -> Result<Checkpointing, Refusal> {
+        self.queue(alloc)?;
         for (dev_nonce, mic) in (1..=u16::MAX).zip(mics) {
-            let next = request(alloc, dev_nonce, *mic)?;
             if !self.store.roomy() {
-                return Ok(self.armed(alloc, call, next));
+                return Ok(self.join_armed(alloc, call, dev_nonce, *mic));
             }
-            self.carry_out(alloc, next)?;
+            self.join(alloc, dev_nonce, *mic)?;
         }
         Err(Refusal::Backlog)
     }
 
-    fn armed(&mut self, alloc: Global, call: u64, next: Command) -> Checkpointing {
+    fn join_armed(&mut self, alloc: Global, call: u64, dev_nonce: u16, mic: u32) -> Checkpointing {
         let (before, seq) = (self.accepts, self.store.seq());
         arm(&mut self.store, call);
-        let refused = self.carry_out(alloc, next).err();
+        let refused = self.join(alloc, dev_nonce, mic).err();
         let left = self.accepts.saturating_sub(before);
         (refused, left, self.store.seq() == seq)
     }

@@ -1,6 +1,6 @@
 //! A network with one device under test: its record before, what comes, and what has to come of it.
 use crate::fixture::{JOINER, heard, heard_by, joining, provisioning, session};
-use crate::tables::{carry_out, filled};
+use crate::tables::{alone, filled};
 use devices::{
     Activation, Application, AskedBytes, Command, CurrentSession, Device, Effect, Hearing, Item,
     ItemQueue, MacQueue, MacQueueing, NextDown, Payload, Port, Provisioning, Queueing, Rx1Offset,
@@ -121,8 +121,11 @@ impl Row {
 
 /// What leaves by a command, whose record is in the table then.
 pub(crate) fn told(alloc: Global, table: &mut Table, comes: &Comes) -> Result<String, Refusal> {
-    let decision = carry_out(alloc, table, 8, comes.command(alloc)?)?;
-    emitted(alloc, decision.effects.as_slice(), &decision.after)
+    let batch = alone(alloc, table, 8, comes.command(alloc)?)?;
+    match batch.as_slice() {
+        [decision] => emitted(alloc, decision.effects.as_slice(), &decision.after),
+        _ => Err(Refusal::Damaged),
+    }
 }
 
 // What leaves by these effects on a device with this record.
@@ -182,8 +185,10 @@ impl State {
 
     fn is_in(&self, alloc: Global, table: &Table) -> Result<bool, Refusal> {
         let wanted = self.device(alloc)?;
-        let found = table.devices().get(usize::from(self.slot));
-        Ok(found.is_some_and(|device| device.same_as(&wanted)))
+        match table.devices().get(usize::from(self.slot)) {
+            Some(device) => Ok(device.same_as(&wanted)),
+            None => Ok(false),
+        }
     }
 
     /// The record itself.

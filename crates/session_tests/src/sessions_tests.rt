@@ -1,6 +1,8 @@
 // Tables of devices, and batches of decisions on them.
+ghost use Rattle.std.specs.Prelude.{◌<◌};
+
 use crate::network::{Comes, FRESH, State, told};
-use crate::tables::{batch, filled, new_table};
+use crate::tables::{alone, batch, filled, new_table};
 use lw_types::{Eui, Refusal};
 use sessions::{Batch, Records, Table};
 use std::alloc::Global;
@@ -54,10 +56,10 @@ fn admits_once(alloc: Global, table: &mut Table) -> Result<bool, Refusal> {
 // Whether it admits a decision that was made of its copy.
 fn admits_of_copy(alloc: Global, table: &Table) -> Result<bool, Refusal> {
     let command = Comes::Device(40).command(alloc)?;
-    let copy = table.copy()?;
-    match copy.decide(alloc, 2, command) {
-        Ok(second) => Ok(table.admits(1, &second)),
-        Err(refusal) => Err(refusal),
+    let batch = alone(alloc, &mut table.copy()?, 1, command)?;
+    match batch.as_slice() {
+        [second] => Ok(table.admits(1, second)),
+        _ => Ok(false),
     }
 }
 
@@ -102,21 +104,27 @@ fn gives_records(alloc: Global, count: u64) -> Result<bool, Refusal> {
     Ok(is_same && batch.into_vec().len() as u64 == count)
 }
 
+fn begins_empty(alloc: Global) -> Result<bool, Refusal> {
+    Ok(Batch::new(alloc)?.is_empty())
+}
+
 #[test]
 fn a_batch_gives_its_records(rt: HostRuntime) {
-    assert!(rt; Batch::new(rt.alloc()).is_ok_and(|batch| batch.is_empty()));
+    assert!(rt; begins_empty(rt.alloc()) == Ok(true));
     for count in &[5, 64] {
         assert!(rt; gives_records(rt.alloc(), *count) == Ok(true), "{count}");
     }
 }
 
 // Whether so many devices have a place in a table.
-fn holds(alloc: Global, count: u64) -> Result<bool, Refusal> {
-    let table = filled(alloc, count, count)?;
+fn holds(alloc: Global, count: u16) -> Result<bool, Refusal>
+    requires { 0 < count }
+{
+    let table = filled(alloc, u64::from(count), u64::from(count))?;
     let copy = table.copy()?;
-    let last = copy.slot_of(Eui(count.saturating_sub(1)));
-    let is_whole = table.devices().len() as u64 == count && copy.devices() == table.devices();
-    Ok(is_whole && last.map_or(0, |slot| u64::from(slot) + 1) == count)
+    let last = copy.slot_of(Eui(u64::from(count) - 1));
+    let is_whole = table.devices().len() == usize::from(count) && copy.devices() == table.devices();
+    Ok(is_whole && last == Some(count - 1))
 }
 
 #[test]

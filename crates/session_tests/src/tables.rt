@@ -2,7 +2,7 @@
 use crate::fixture::provision;
 use devices::Command;
 use lw_types::{NetId, Refusal};
-use sessions::{Batch, Decision, Slots, Table};
+use sessions::{Batch, Slots, Table};
 use std::alloc::Global;
 
 /// A table with so many slots and no device.
@@ -13,44 +13,68 @@ pub(crate) fn new_table(alloc: Global, slots: u64) -> Result<Table, Refusal> {
     }
 }
 
-/// Decides a command under the number after `seq`, and puts its record on the table.
-pub(crate) fn carry_out(
+// Decides a command under the number after `seq`, puts its record on the table, and adds the decision to a batch. (Whoever
+// has a decision of its own pays for its drop in its proof.)
+fn carry_out(
     alloc: Global,
     table: &mut Table,
     seq: u64,
     command: Command,
-) -> Result<Decision, Refusal> {
+    batch: &mut Batch,
+) -> Result<(), Refusal> {
+    let is_full = batch.len() >= Batch::MOST;
     let decision = table.decide(alloc, seq.saturating_add(1), command)?;
     let is_admitted = table.admits(seq, &decision);
     let is_applied = table.apply(&decision).is_ok();
     let is_found = table.slot_of(decision.after.dev_eui) == Some(decision.slot);
-    if is_admitted && is_applied && is_found {
-        Ok(decision)
-    } else {
-        Err(Refusal::OutOfStep)
+    if is_full || !is_admitted || !is_applied || !is_found {
+        return Err(Refusal::OutOfStep);
     }
+    batch.push(decision);
+    Ok(())
 }
 
-/// A device is brought.
-pub(crate) fn bring(
+/// A batch of the decision of a command alone, which is carried out so.
+pub(crate) fn alone(
+    alloc: Global,
+    table: &mut Table,
+    seq: u64,
+    command: Command,
+) -> Result<Batch, Refusal> {
+    let mut batch = Batch::new(alloc)?;
+    carry_out(alloc, table, seq, command, &mut batch)?;
+    Ok(batch)
+}
+
+// A device is brought.
+fn bring(
     alloc: Global,
     table: &mut Table,
     seq: u64,
     dev_eui: u64,
-) -> Result<Decision, Refusal> {
+    batch: &mut Batch,
+) -> Result<(), Refusal> {
     match provision(dev_eui) {
-        Some(command) => carry_out(alloc, table, seq, command),
+        Some(command) => carry_out(alloc, table, seq, command, batch),
         None => Err(Refusal::Damaged),
     }
+}
+
+// Devices are brought to a table without devices, of the DevEUIs from 0 on.
+fn fill(alloc: Global, table: &mut Table, devices: u64) -> Result<(), Refusal> {
+    for dev_eui in 0..devices {
+        bring(alloc, table, dev_eui, dev_eui, &mut Batch::new(alloc)?)?;
+    }
+    Ok(())
 }
 
 /// A table with devices at its first slots, of the DevEUIs from 0 on.
 pub(crate) fn filled(alloc: Global, slots: u64, devices: u64) -> Result<Table, Refusal> {
     let mut table = new_table(alloc, slots)?;
-    for dev_eui in 0..devices {
-        let _ = bring(alloc, &mut table, dev_eui, dev_eui)?;
+    match fill(alloc, &mut table, devices) {
+        Ok(()) => Ok(table),
+        Err(refusal) => Err(refusal),
     }
-    Ok(table)
 }
 
 /// Provisionings of so many devices on a table whose last decision has the number 0, and which has their records then. The
@@ -58,11 +82,8 @@ pub(crate) fn filled(alloc: Global, slots: u64, devices: u64) -> Result<Table, R
 pub(crate) fn batch(alloc: Global, table: &mut Table, count: u64) -> Result<Batch, Refusal> {
     let mut batch = Batch::new(alloc)?;
     for seq in 0..count {
-        let decision = bring(alloc, table, seq, 2000_u64.saturating_sub(seq))?;
-        if batch.len() >= Batch::MOST {
-            return Err(Refusal::Backlog);
-        }
-        batch.push(decision);
+        let dev_eui = 2000_u64.saturating_sub(seq);
+        bring(alloc, table, seq, dev_eui, &mut batch)?;
     }
     Ok(batch)
 }

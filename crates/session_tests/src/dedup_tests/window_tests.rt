@@ -1,4 +1,4 @@
-ghost use Rattle.std.specs.Prelude.{◌<◌, ◌≤◌, All, IfOk, OnOk};
+ghost use Rattle.std.specs.Prelude.{◌≡◌, [], IfOk};
 ghost use Rattle.devices.specs.Heard.{IsReceivable};
 
 use crate::dedup_tests::event::{close_due, event};
@@ -28,38 +28,44 @@ fn copy_of(alloc: Global, gateway: u64, number: u16) -> Result<FrameCopy, Refusa
     FrameCopy::new(alloc, reception, 50_000, &long_frame(number))
 }
 
-// What such a copy is answered.
-fn hear(
-    alloc: Global,
-    windows: &mut Windows,
-    now: u64,
-    gateway: u64,
-    number: u16,
-    closed: &mut Vec<usize>,
-) -> Result<u8, Refusal>
-    requires { All (λ w. w.opened ≤ now) windows.old }
-    ensures { OnOk result (All (λ w. w.opened ≤ now) windows.new) }
-{
-    let copy = copy_of(alloc, gateway, number)?;
-    Ok(event(windows, now, copy, closed)?)
-}
-
 // A moment, a gateway, and the number of a frame.
 type Row = (u64, u64, u16);
 
-// What each of these copies is answered, and the windows that close till the last moment, as `event` tells them.
-fn play(alloc: Global, rows: &[Row], last: u64) -> Result<(Vec<u8>, Vec<usize>), Refusal> {
-    let mut windows = Windows::new(alloc);
+// What copies are answered, and what the windows that close are told as.
+#[derive(Drop)]
+struct Played {
+    answers: Vec<u8>,
+    closed: Vec<usize>,
+}
+
+// These copies come to no windows, and the last moment after them.
+fn play_all(
+    alloc: Global,
+    windows: &mut Windows,
+    rows: &[Row],
+    last: u64,
+    played: &mut Played,
+) -> Result<(), Refusal>
+    requires { windows.old ≡ [] }
+{
     let mut clock = 0;
-    let mut answers = Vec::new(alloc);
-    let mut closed = Vec::new(alloc);
     for (moment, gateway, number) in rows {
         clock = clock.max(*moment);
-        let answer = hear(alloc, &mut windows, clock, *gateway, *number, &mut closed)?;
-        answers.push(answer)?;
+        let copy = copy_of(alloc, *gateway, *number)?;
+        let answer = event(windows, clock, copy, &mut played.closed)?;
+        played.answers.push(answer)?;
     }
-    close_due(&mut windows, clock.max(last), &mut closed)?;
-    Ok((answers, closed))
+    Ok(close_due(windows, clock.max(last), &mut played.closed)?)
+}
+
+// What each of these copies is answered, and the windows that close till the last moment.
+fn play(alloc: Global, rows: &[Row], last: u64) -> Result<Played, Refusal> {
+    let mut played = Played {
+        answers: Vec::new(alloc),
+        closed: Vec::new(alloc),
+    };
+    play_all(alloc, &mut Windows::new(alloc), rows, last, &mut played)?;
+    Ok(played)
 }
 
 // Copies one after another, the answer to each, and the windows that close till a last moment.
@@ -101,29 +107,42 @@ const SCRIPTS: &[Script] = &[
     },
 ];
 
+// Whether a script is answered so.
+fn is_answered(alloc: Global, script: &Script) -> Result<bool, Refusal> {
+    let played = play(alloc, script.copies, script.last)?;
+    Ok(played.answers.as_slice() == script.answers && played.closed.as_slice() == script.closed)
+}
+
 #[test]
 fn windows_take_copies_for_200_ms_and_close_in_order(rt: HostRuntime) {
     for script in SCRIPTS {
-        let played = play(rt.alloc(), script.copies, script.last);
-        assert!(rt;
-            played.is_ok_and(|(answers, closed)| {
-                answers.as_slice() == script.answers && closed.as_slice() == script.closed
-            })
-        );
+        assert!(rt; is_answered(rt.alloc(), script) == Ok(true));
     }
 }
 
-// Of so many copies at one moment, from gateways and of frames that take turns: how many are taken, and what the last one is
-// answered.
-fn taken(alloc: Global, copies: u16, gateways: u16, frames: u16) -> Result<(usize, u8), Refusal> {
+// So many copies at one moment, from gateways and of frames that take turns.
+fn crowd(alloc: Global, copies: u16, gateways: u16, frames: u16) -> Result<Vec<Row>, Refusal> {
     let mut rows = Vec::new(alloc);
     for n in 0..copies {
         let gateway = n.checked_rem(gateways).unwrap_or(0);
         rows.push((5, u64::from(gateway), n.checked_rem(frames).unwrap_or(0)))?;
     }
-    let (answers, _) = play(alloc, &rows, 0)?;
-    let taken = answers.iter().filter(|answer| **answer == 0).count();
-    Ok((taken, answers.last().copied().unwrap_or(0)))
+    Ok(rows)
+}
+
+// How many copies are taken by these answers, and what the last one is answered.
+fn told(answers: &[u8]) -> (usize, u8) {
+    let mut taken: usize = 0;
+    for answer in answers {
+        taken = taken.saturating_add(usize::from(*answer == 0));
+    }
+    (taken, answers.last().copied().unwrap_or(0))
+}
+
+// The same of such a crowd.
+fn taken(alloc: Global, copies: u16, gateways: u16, frames: u16) -> Result<(usize, u8), Refusal> {
+    let rows = crowd(alloc, copies, gateways, frames)?;
+    Ok(told(&play(alloc, &rows, 0)?.answers))
 }
 
 // A window has 32 copies at most, and a gateway that was heard before is refused as such, in a full window too; at most
