@@ -1,10 +1,10 @@
 -- The field: products are linear, and stay bytes.
-use Rattle.std.proofs.Common.{◌≡◌, ℕ, zero, suc, ◌+◌, ◌-◌, ◌*◌, ◌/◌, ◌%◌, ◌<◌, ◌≤◌, subst, Bool, true, false, cond, eqb, ltb, refl, sym, ap, ◌∙◌, arith, lit<}
+use Rattle.std.proofs.Common.{◌≡◌, ℕ, zero, suc, ◌+◌, ◌-◌, ◌*◌, ◌/◌, ◌%◌, ◌<◌, ◌≤◌, List, [], ◌∷◌, subst, Bool, ◌&&◌, true, false, cond, eqb, ltb, refl, sym, ap, ◌∙◌, arith, lit<}
 use Rattle.std.proofs.lemmas.Bool.{ltb-true}
 use Rattle.std.proofs.lemmas.Nat.{xor_lt}
 use Rattle.std.specs.Int.Bits.{bit_xor, xor_assoc, xor_comm}
 use Rattle.aes128.specs.Field.{◌⊕◌, ◌•◌, times_x, terms_times}
-use Rattle.aes128.proofs.Below.{all_below, all_below-at, agree_below}
+use Rattle.aes128.proofs.Below.{all_below, all_below-at, agree_below, both_true}
 
 -- the middle two of four summands change places
 pub interchange : (a b c d : ℕ) → (a ⊕ b) ⊕ (c ⊕ d) ≡ (a ⊕ c) ⊕ (b ⊕ d)
@@ -16,21 +16,80 @@ interchange a b c d =
 pub xor_byte : (a b : ℕ) → a < 256 → b < 256 → a ⊕ b < 256
 xor_byte a b = xor_lt 8 a b
 
+-- A byte is the sum of its bits. What holds of the single bits and of sums so holds of every byte.
+abbrev pub weights : List ℕ
+weights = 1 ∷ 2 ∷ 4 ∷ 8 ∷ 16 ∷ 32 ∷ 64 ∷ 128 ∷ []
+
+unfoldable sum_of_bits : List ℕ → ℕ → ℕ
+sum_of_bits [] b = 0
+sum_of_bits (w ∷ ws) b = cond (eqb (b / w % 2) 1) w 0 ⊕ sum_of_bits ws b
+
+bits_of_byte : (b : ℕ) → b < 256 → sum_of_bits weights b ≡ b
+unfolding all_below sum_of_bits
+bits_of_byte b low = agree_below (sum_of_bits weights) (λ b. b) 256 refl b low
+
+-- the test passes at each of these bytes, and at 0
+unfoldable pub at_weights : (ℕ → Bool) → List ℕ → Bool
+at_weights test [] = test 0
+at_weights test (w ∷ ws) = (ltb w 256 && test w) && at_weights test ws
+
+-- a summand that is there or not
+chosen-lt : (p : Bool) (b : ℕ) → b < 256 → cond p b 0 < 256
+chosen-lt true b byte = byte
+chosen-lt false b byte = lit< tt
+
+module _ (P : ℕ → Type 0) (sum : (x y : ℕ) → x < 256 → y < 256 → P x → P y → P (x ⊕ y)) (test : ℕ → Bool) (sound : (w : ℕ) → test w ≡ true → P w) where
+  holds_at_0 : (ws : List ℕ) → at_weights test ws ≡ true → P 0
+  unfolding at_weights
+  holds_at_0 [] passed = sound 0 passed
+  holds_at_0 (w ∷ ws) passed = holds_at_0 ws (both_true _ _ passed).1
+
+  holds_chosen : (there : Bool) (w : ℕ) → P w → P 0 → P (cond there w 0)
+  holds_chosen true w one none = one
+  holds_chosen false w one none = none
+
+  holds_at_sum : (ws : List ℕ) → at_weights test ws ≡ true → (b : ℕ) → (sum_of_bits ws b < 256) × P (sum_of_bits ws b)
+  unfolding at_weights sum_of_bits
+  holds_at_sum [] passed b = (lit< tt, sound 0 passed)
+  holds_at_sum (w ∷ ws) passed b =
+      let parts = both_true _ _ passed in
+      let here = both_true _ _ parts.0 in
+      let rest = holds_at_sum ws parts.1 b in
+      let there = eqb (b / w % 2) 1 in
+      let low = chosen-lt there w (ltb-true w 256 here.0) in
+      let one = holds_chosen there w (sound w here.1) (holds_at_0 ws parts.1) in
+      (xor_byte (cond there w 0) (sum_of_bits ws b) low rest.0, sum (cond there w 0) (sum_of_bits ws b) low rest.0 one rest.1)
+
+  pub at_bytes : at_weights test weights ≡ true → (b : ℕ) → b < 256 → P b
+  at_bytes passed b low = subst P (bits_of_byte b low) (holds_at_sum weights passed b).1
+
+-- a is added before or after the product with x
+adds : ℕ → Type 0
+adds a = (b : ℕ) → b < 256 → times_x (a ⊕ b) ≡ times_x a ⊕ times_x b
+
+adds-sum : (x y : ℕ) → x < 256 → y < 256 → adds x → adds y → adds (x ⊕ y)
+unfolding adds
+adds-sum x y x_low y_low of_x of_y b low =
+    ap (λ (n : ℕ). times_x n) (xor_assoc x y b)
+    ∙ of_x (y ⊕ b) (xor_byte y b y_low low)
+    ∙ ap (bit_xor (times_x x)) (of_y b low)
+    ∙ sym (xor_assoc (times_x x) (times_x y) (times_x b))
+    ∙ ap (λ (n : ℕ). n ⊕ times_x b) (sym (of_x y y_low))
+
+adds_by : ℕ → Bool
+adds_by a = all_below (λ b. eqb (times_x (a ⊕ b)) (times_x a ⊕ times_x b)) 256
+
+adds_if : (a : ℕ) → adds_by a ≡ true → adds a
+unfolding adds adds_by
+adds_if a passed b low = agree_below (λ b. times_x (a ⊕ b)) (λ b. times_x a ⊕ times_x b) 256 passed b low
+
 pub times_x-xor : (a b : ℕ) → a < 256 → b < 256 → times_x (a ⊕ b) ≡ times_x a ⊕ times_x b
-unfolding all_below
-times_x-xor a b a_byte b_byte =
-    let rows : all_below (λ a. all_below (λ b. eqb (times_x (a ⊕ b)) (times_x a ⊕ times_x b)) 256) 256 ≡ true = refl in
-    agree_below (λ b. times_x (a ⊕ b)) (λ b. times_x a ⊕ times_x b) 256
-    (all_below-at (λ a. all_below (λ b. eqb (times_x (a ⊕ b)) (times_x a ⊕ times_x b)) 256) 256 rows a a_byte) b b_byte
+unfolding adds adds_by all_below at_weights
+times_x-xor a b a_byte b_byte = at_bytes adds adds-sum adds_by adds_if refl a a_byte b b_byte
 
 pub times_x-lt : (a : ℕ) → a < 256 → times_x a < 256
 unfolding all_below
 times_x-lt a byte = ltb-true (times_x a) 256 (all_below-at (λ a. ltb (times_x a) 256) 256 refl a byte)
-
--- a summand that is there or not
-pub chosen-lt : (p : Bool) (b : ℕ) → b < 256 → cond p b 0 < 256
-chosen-lt true b byte = byte
-chosen-lt false b byte = lit< tt
 
 pub chosen-xor : (p : Bool) (b c : ℕ) → cond p (b ⊕ c) 0 ≡ cond p b 0 ⊕ cond p c 0
 chosen-xor true b c = refl

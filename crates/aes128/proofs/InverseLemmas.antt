@@ -1,19 +1,21 @@
 -- The inverse cipher undoes the cipher, step by step.
-use Rattle.std.proofs.Common.{◌≡◌, ℕ, zero, suc, ◌<◌, ◌≤◌, ◌-◌, List, [], ◌∷◌, map, length, get_or, refl, sym, ap, subst, ◌∙◌, ◌+◌, add-one, arith}
+use Rattle.std.proofs.Common.{◌≡◌, ℕ, zero, suc, ◌<◌, ◌≤◌, ◌-◌, List, [], ◌∷◌, map, get_or, refl, sym, ap, subst, ◌∙◌, ◌+◌, add-one, arith}
 use Rattle.std.specs.Prelude.{All}
-use Rattle.aes128.specs.declared.substitution.TheConstants.{INVERSE_S_BOX}
-use Rattle.aes128.specs.Field.{◌•◌, terms_times, inverse, inverse_up_to, word_product}
+use Rattle.aes128.specs.declared.substitution.TheConstants.{S_BOX, INVERSE_S_BOX}
+use Rattle.aes128.specs.Field.{word_product}
 use Rattle.aes128.specs.Cipher.{IsBlock, xor, column, byte_at, s_box, sub_bytes, shift_rows, mix_columns, round_key, rounds, encrypted}
 use Rattle.aes128.specs.InverseCipher.{inv_s_box, inv_sub_bytes, unshifted_column, inv_shift_rows, inv_mix_columns, inv_rounds, decrypted}
 use Rattle.aes128.proofs.Below.{all_below, agree_below}
 use Rattle.aes128.proofs.LawLemmas.{IsByte, block_byte, column_bytes, word_bytes, four_words, product_bytes, xor_block, round_key-block, encrypted_one_to_one, encrypted-block}
-use Rattle.aes128.proofs.SBoxLemmas.{inverse-lt, s_box-inverse}
+use Rattle.aes128.proofs.SBoxLemmas.{inverse-table, unaffine, unaffine-lt, inverse-lt, s_box-inverse}
 use Rattle.aes128.proofs.StateLemmas.{mix_columns-joined, shift_rows-joined}
 use Rattle.aes128.proofs.WordLemmas.{AreBytes, mixed-unmixed, unmixing, xor-twice}
 
 pub table-inv_s_box : (byte : ℕ) → byte < 256 → get_or INVERSE_S_BOX byte 0 ≡ inv_s_box byte
-unfolding all_below ◌•◌ terms_times inverse inverse_up_to inv_s_box
-table-inv_s_box byte low = agree_below (λ b. get_or INVERSE_S_BOX b 0) inv_s_box 256 refl byte low
+unfolding all_below inv_s_box unaffine
+table-inv_s_box byte low =
+    agree_below (λ b. get_or INVERSE_S_BOX b 0) (λ b. unaffine (get_or S_BOX (unaffine b) 0)) 256 refl byte low
+    ∙ sym (inverse-table (unaffine byte) (unaffine-lt byte low))
 
 inv_s_box-lt : (byte : ℕ) → byte < 256 → inv_s_box byte < 256
 inv_s_box-lt byte low = let P : ℕ → Type 0 = λ n. n < 256 in subst P (table-inv_s_box byte low) (inverse-lt byte low)

@@ -7,9 +7,27 @@ use Rattle.aes128.specs.Field.{◌⊕◌, ◌•◌, terms_times, inverse, inver
 use Rattle.aes128.specs.Cipher.{s_box}
 use Rattle.aes128.proofs.Below.{all_below, all_below-at, agree_below}
 
+-- the affine map that follows the inverse
+affine : ℕ → ℕ
+affine b = b ⊕ rotate_left w8 b 1 ⊕ rotate_left w8 b 2 ⊕ rotate_left w8 b 3 ⊕ rotate_left w8 b 4 ⊕ 0x63
+
+-- the map that undoes it
+unfoldable pub unaffine : ℕ → ℕ
+unaffine b = rotate_left w8 b 1 ⊕ rotate_left w8 b 3 ⊕ rotate_left w8 b 6 ⊕ 0x05
+
+-- the inverses, searched for once: the table holds their images
+pub inverse-table : (b : ℕ) → b < 256 → inverse b ≡ unaffine (get_or S_BOX b 0)
+unfolding all_below ◌•◌ terms_times inverse inverse_up_to unaffine
+inverse-table b low = agree_below inverse (λ b. unaffine (get_or S_BOX b 0)) 256 refl b low
+
 pub table-s_box : (byte : ℕ) → byte < 256 → get_or S_BOX byte 0 ≡ s_box byte
-unfolding all_below ◌•◌ terms_times inverse inverse_up_to s_box
-table-s_box byte low = agree_below (λ b. get_or S_BOX b 0) s_box 256 refl byte low
+unfolding all_below s_box affine unaffine
+table-s_box byte low =
+    agree_below (λ b. get_or S_BOX b 0) (λ b. affine (unaffine (get_or S_BOX b 0))) 256 refl byte low ∙ ap affine (sym (inverse-table byte low))
+
+pub unaffine-lt : (b : ℕ) → b < 256 → unaffine b < 256
+unfolding all_below unaffine
+unaffine-lt b low = ltb-true _ 256 (all_below-at (λ b. ltb (unaffine b) 256) 256 refl b low)
 
 pub inverse-lt : (byte : ℕ) → byte < 256 → get_or INVERSE_S_BOX byte 0 < 256
 unfolding all_below
@@ -20,10 +38,6 @@ unfolding all_below
 s_box-lt byte low =
     let P : ℕ → Type 0 = λ n. n < 256 in
     subst P (table-s_box byte low) (ltb-true _ 256 (all_below-at (λ b. ltb (get_or S_BOX b 0) 256) 256 refl byte low))
-
--- the affine map that follows the inverse
-affine : ℕ → ℕ
-affine b = b ⊕ rotate_left w8 b 1 ⊕ rotate_left w8 b 2 ⊕ rotate_left w8 b 3 ⊕ rotate_left w8 b 4 ⊕ 0x63
 
 affine-lt : (b : ℕ) → b < 256 → affine b < 256
 unfolding all_below affine

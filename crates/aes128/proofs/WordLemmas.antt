@@ -5,8 +5,8 @@ use Rattle.std.proofs.lemmas.List.{same_lists, get_or_default}
 use Rattle.std.specs.Int.Bits.{bit_xor, xor_assoc, xor_zero_r, xor_self}
 use Rattle.aes128.specs.Field.{◌⊕◌, ◌•◌, terms_times, word_product}
 use Rattle.aes128.specs.Cipher.{xor, column, state_of, mixed_column}
-use Rattle.aes128.proofs.Below.{all_below, all_below-at, both_true}
-use Rattle.aes128.proofs.FieldLemmas.{interchange, product-lt, product-xor, xor_byte, nine_times, eleven_times, thirteen_times, fourteen_times}
+use Rattle.aes128.proofs.Below.{both_true}
+use Rattle.aes128.proofs.FieldLemmas.{weights, at_weights, at_bytes, interchange, product-lt, product-xor, xor_byte, nine_times, eleven_times, thirteen_times, fourteen_times}
 
 pub length-xor : (xs ys : List ℕ) → length xs ≤ length ys → length (xor xs ys) ≡ length xs
 length-xor [] ys fits = refl
@@ -130,23 +130,65 @@ undoes_unit p q x =
     (same (twice p q x 0 0 0) (x ∷ 0 ∷ 0 ∷ 0 ∷ []) && same (twice p q 0 x 0 0) (0 ∷ x ∷ 0 ∷ 0 ∷ []))
     && (same (twice p q 0 0 x 0) (0 ∷ 0 ∷ x ∷ 0 ∷ []) && same (twice p q 0 0 0 x) (0 ∷ 0 ∷ 0 ∷ x ∷ []))
 
--- then it undoes it at every word
-undone : (p q : List ℕ) → all_below (undoes_unit p q) 256 ≡ true → (a b c d : ℕ) → AreBytes a b c d → twice p q a b c d ≡ a ∷ b ∷ c ∷ d ∷ []
+-- the same, as equations
+record UndoneAt (p q : List ℕ) (x : ℕ) : Type 0 where
+  first : twice p q x 0 0 0 ≡ x ∷ 0 ∷ 0 ∷ 0 ∷ []
+  second : twice p q 0 x 0 0 ≡ 0 ∷ x ∷ 0 ∷ 0 ∷ []
+  third : twice p q 0 0 x 0 ≡ 0 ∷ 0 ∷ x ∷ 0 ∷ []
+  fourth : twice p q 0 0 0 x ≡ 0 ∷ 0 ∷ 0 ∷ x ∷ []
+
+undone_unit : (p q : List ℕ) (x : ℕ) → undoes_unit p q x ≡ true → UndoneAt p q x
 unfolding undoes_unit
+undone_unit p q x test =
+    let halves = both_true _ _ test in
+    let front = both_true _ _ halves.0 in
+    let back = both_true _ _ halves.1 in
+    record { first = same-true _ _ front.0; second = same-true _ _ front.1; third = same-true _ _ back.0; fourth = same-true _ _ back.1 }
+
+byte_0 : 0 < 256
+byte_0 = lit< tt
+
+only_first : (x : ℕ) → x < 256 → AreBytes x 0 0 0
+only_first x low = record { first = low; second = byte_0; third = byte_0; fourth = byte_0 }
+
+only_second : (x : ℕ) → x < 256 → AreBytes 0 x 0 0
+only_second x low = record { first = byte_0; second = low; third = byte_0; fourth = byte_0 }
+
+only_third : (x : ℕ) → x < 256 → AreBytes 0 0 x 0
+only_third x low = record { first = byte_0; second = byte_0; third = low; fourth = byte_0 }
+
+only_fourth : (x : ℕ) → x < 256 → AreBytes 0 0 0 x
+only_fourth x low = record { first = byte_0; second = byte_0; third = byte_0; fourth = low }
+
+-- products are linear, so it undoes the product at a sum of bytes too
+undone-sum : (p q : List ℕ) (x y : ℕ) → x < 256 → y < 256 → UndoneAt p q x → UndoneAt p q y → UndoneAt p q (x ⊕ y)
+undone-sum p q x y x_low y_low at_x at_y =
+    let both = λ (f g k l : List ℕ) (left : f ≡ g) (right : k ≡ l). ap (λ (n : List ℕ). xor n k) left ∙ ap (xor g) right in
+    record {
+      first = twice-xor p q x 0 0 0 y 0 0 0 (only_first x x_low) (only_first y y_low) ∙ both _ _ _ _ at_x.first at_y.first;
+      second = twice-xor p q 0 x 0 0 0 y 0 0 (only_second x x_low) (only_second y y_low) ∙ both _ _ _ _ at_x.second at_y.second;
+      third = twice-xor p q 0 0 x 0 0 0 y 0 (only_third x x_low) (only_third y y_low) ∙ both _ _ _ _ at_x.third at_y.third;
+      fourth = twice-xor p q 0 0 0 x 0 0 0 y (only_fourth x x_low) (only_fourth y y_low) ∙ both _ _ _ _ at_x.fourth at_y.fourth;
+    }
+
+undone_byte : (p q : List ℕ) → at_weights (undoes_unit p q) weights ≡ true → (b : ℕ) → b < 256 → UndoneAt p q b
+undone_byte p q test = at_bytes (UndoneAt p q) (undone-sum p q) (undoes_unit p q) (undone_unit p q) test
+
+-- then it undoes it at every word
+undone : (p q : List ℕ) → at_weights (undoes_unit p q) weights ≡ true → (a b c d : ℕ) → AreBytes a b c d → twice p q a b c d ≡ a ∷ b ∷ c ∷ d ∷ []
 undone p q test a b c d v =
-    let at_a = both_true _ _ (all_below-at (undoes_unit p q) 256 test a v.first) in
-    let at_b = both_true _ _ (all_below-at (undoes_unit p q) 256 test b v.second) in
-    let at_c = both_true _ _ (all_below-at (undoes_unit p q) 256 test c v.third) in
-    let at_d = both_true _ _ (all_below-at (undoes_unit p q) 256 test d v.fourth) in
-    let z : 0 < 256 = lit< tt in
-    let one_a : twice p q a 0 0 0 ≡ a ∷ 0 ∷ 0 ∷ 0 ∷ [] = same-true _ _ (both_true _ _ at_a.0).0 in
-    let one_b : twice p q 0 b 0 0 ≡ 0 ∷ b ∷ 0 ∷ 0 ∷ [] = same-true _ _ (both_true _ _ at_b.0).1 in
-    let one_c : twice p q 0 0 c 0 ≡ 0 ∷ 0 ∷ c ∷ 0 ∷ [] = same-true _ _ (both_true _ _ at_c.1).0 in
-    let one_d : twice p q 0 0 0 d ≡ 0 ∷ 0 ∷ 0 ∷ d ∷ [] = same-true _ _ (both_true _ _ at_d.1).1 in
-    let a_alone : AreBytes a 0 0 0 = record { first = v.first; second = z; third = z; fourth = z } in
-    let b_alone : AreBytes 0 b 0 0 = record { first = z; second = v.second; third = z; fourth = z } in
-    let c_alone : AreBytes 0 0 c 0 = record { first = z; second = z; third = v.third; fourth = z } in
-    let d_alone : AreBytes 0 0 0 d = record { first = z; second = z; third = z; fourth = v.fourth } in
+    let at_b = undone_byte p q test b v.second in
+    let at_c = undone_byte p q test c v.third in
+    let at_d = undone_byte p q test d v.fourth in
+    let z = byte_0 in
+    let one_a : twice p q a 0 0 0 ≡ a ∷ 0 ∷ 0 ∷ 0 ∷ [] = (undone_byte p q test a v.first).first in
+    let one_b : twice p q 0 b 0 0 ≡ 0 ∷ b ∷ 0 ∷ 0 ∷ [] = at_b.second in
+    let one_c : twice p q 0 0 c 0 ≡ 0 ∷ 0 ∷ c ∷ 0 ∷ [] = at_c.third in
+    let one_d : twice p q 0 0 0 d ≡ 0 ∷ 0 ∷ 0 ∷ d ∷ [] = at_d.fourth in
+    let a_alone = only_first a v.first in
+    let b_alone = only_second b v.second in
+    let c_alone = only_third c v.third in
+    let d_alone = only_fourth d v.fourth in
     let front_2 : AreBytes a b 0 0 = record { first = v.first; second = v.second; third = z; fourth = z } in
     let front_3 : AreBytes a b c 0 = record { first = v.first; second = v.second; third = v.third; fourth = z } in
     let two : twice p q a b 0 0 ≡ a ∷ b ∷ 0 ∷ 0 ∷ [] =
@@ -160,11 +202,11 @@ abbrev pub unmixing : List ℕ
 unmixing = 14 ∷ 9 ∷ 13 ∷ 11 ∷ []
 
 pub mixed-unmixed : (a b c d : ℕ) → AreBytes a b c d → mixed_column (word_product unmixing (a ∷ b ∷ c ∷ d ∷ [])) ≡ a ∷ b ∷ c ∷ d ∷ []
-unfolding all_below undoes_unit same ◌•◌ terms_times
+unfolding at_weights undoes_unit same ◌•◌ terms_times
 mixed-unmixed a b c d v = undone (2 ∷ 1 ∷ 1 ∷ 3 ∷ []) unmixing refl a b c d v
 
 pub unmixed-mixed : (a b c d : ℕ) → AreBytes a b c d → word_product unmixing (mixed_column (a ∷ b ∷ c ∷ d ∷ [])) ≡ a ∷ b ∷ c ∷ d ∷ []
-unfolding all_below undoes_unit same ◌•◌ terms_times
+unfolding at_weights undoes_unit same ◌•◌ terms_times
 unmixed-mixed a b c d v = undone unmixing (2 ∷ 1 ∷ 1 ∷ 3 ∷ []) refl a b c d v
 
 -- the products of a byte that `unmixed` sums

@@ -1,6 +1,5 @@
-use Rattle.std.proofs.Common.{◌≡◌, ◌-◌, ◌∙◌, arith, sym, ap, ℕ, [], List, get_or}
-use Rattle.aes128.specs.Cipher.{round_key, xor}
-use Rattle.aes128.specs.InverseCipher.{decrypted, inv_mix_columns, inv_rounds, inv_shift_rows, inv_sub_bytes}
+use Rattle.std.proofs.Common.{◌≡◌, ◌-◌, ◌∙◌, arith, ap, ℕ, [], List, get_or}
+use Rattle.aes128.specs.InverseCipher.{decrypted, inv_shift_rows, inv_sub_bytes}
 use Rattle.aes128.proofs.InverseLemmas.{decrypted-last, inv_rounds-next, inv_rounds-zero}
 use Rattle.aes128.proofs.schedule.KeySchedule.decrypt.Goals as goal
 
