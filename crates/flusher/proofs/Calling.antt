@@ -33,6 +33,22 @@ then_refused state failures outlook old mid new e first (inl same) =
 then_refused state failures outlook old mid new e first (inr (is, last)) =
     inr (is, record { count = last.count ∙ ap (λ n. n + 1) first.count; armed = λ all. last.armed (first.unarmed all); failed = last.failed })
 
+-- calls that succeeded, and others that did
+pub none_then : {D : Type 0} {g : _} (failures : D → ℕ) (outlook : D → Outlook) (old mid new : Store D g)
+    → NoneFailed failures outlook old mid → NoneFailed failures outlook mid new → NoneFailed failures outlook old new
+none_then failures outlook old mid new first next = record {
+  count = next.count ∙ first.count;
+  unarmed = λ all. next.unarmed (first.unarmed all);
+  failed = next.failed ∙ first.failed;
+}
+
+-- a store that has failed stays untouched
+pub untouched_then : {D : Type 0} {g : _} (state : D → State) (old mid new : Store D g) → (seen state old).failed ≡ true → IsUntouched state old mid
+    → ((seen state mid).failed ≡ true → IsUntouched state mid new) → IsUntouched state old new
+untouched_then state old mid new is first next =
+    let then = next (ap (λ s. s.failed) first.0 ∙ is) in
+    (then.0 ∙ first.0, then.1 ∙ first.1)
+
 -- no call
 pub none_yet : {D : Type 0} {g : _} (failures : D → ℕ) (outlook : D → Outlook) (s : Store D g) → NoneFailed failures outlook s s
 none_yet failures outlook s = record { count = refl; unarmed = λ all. all; failed = refl }

@@ -100,6 +100,10 @@ pub lacks-full : (s : DecisionsState) (c : Command) → has_room s ≡ false →
 lacks-full s c full =
     subst (λ w. AnswersTo c w NoStep (Err Backlog)) (sym (ap (λ b. cond b (step (now_of s) c) (Err Backlog)) full)) (no_room NoStep (is_frugal c))
 
+-- no room is answered before anything else
+pub full-there : (s : DecisionsState) (c : Command) (Is : Step → Unit {0} → Type 0) → has_room s ≡ false → AnswersTo c (wanted s c) Is (Err Backlog)
+full-there s c Is full = subst (λ w. AnswersTo c w Is (Err Backlog)) (sym (ap (λ b. cond b (step (now_of s) c) (Err Backlog)) full)) (no_room Is (is_frugal c))
+
 module _ (s : DecisionsState) (t : TableState) (c : Command) (now : t ≡ now_of s) (room : has_room s ≡ true) where
   here : wanted s c ≡ step t c
   here = wanted-room s c room ∙ ap (λ (t : TableState). step t c) (sym now)

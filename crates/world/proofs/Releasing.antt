@@ -97,3 +97,9 @@ take_left origin c most (answers.GivenUp n) = refl
 take_left origin c most (answers.Refused OutOfStep) = refl
 take_left origin c most (answers.Refused e) = refl
 take_left origin c most answer = refl
+
+-- nor does a device call
+pub call_left : (origin : Origin) (c : Course) (answer : Answer) → (after origin c steps.Call answer).left ≡ c.left
+call_left origin c answers.Called = refl
+call_left origin c (answers.Refused e) = refl
+call_left origin c answer = refl

@@ -1,8 +1,8 @@
-use Rattle.std.proofs.Common.{◌≡◌, ◌∙◌, [], List, length, inl, inr, ap, subst, sym, Ok, arith}
+use Rattle.std.proofs.Common.{◌≡◌, ◌∙◌, [], List, length, inl, inr, refl, ap, subst, sym, Ok, Err, arith}
 use Rattle.sessions.specs.Decision.{effects_in}
 use Rattle.sessions.specs.declared.decision.Decision.{Decision}
 use Rattle.store.specs.State.{seen}
-use Rattle.flusher.proofs.Calling.{none_yet, refused_images, settled_still, then_refused, uncommitted_along}
+use Rattle.flusher.proofs.Calling.{none_then, none_yet, refused_images, settled_still, then_refused, uncommitted_along, untouched_then}
 use Rattle.flusher.proofs.Holding.{commits_along, held_along, on_refused, on_some}
 use Rattle.flusher.proofs.rounds.cycle.Goals as goal
 
@@ -102,3 +102,45 @@ returns-in_err-durable-clause-refused g c =
         ),
       ),
     ))
+
+pub returns-in_err-make_room-clause-images : goal.returns-in_err-make_room-clause-images
+returns-in_err-make_room-clause-images g c honest settled =
+    let r = c.from_residual-in_err-make_room in
+    on_refused r.result c.in_err-make_room.field-0.0 _ _ r.ensures.1 (inl (c.in_err-make_room.ensures.images honest settled))
+
+pub returns-in_err-make_room-clause-refused : goal.returns-in_err-make_room-clause-refused
+returns-in_err-make_room-clause-refused g c =
+    let r = c.from_residual-in_err-make_room in
+    on_refused r.result c.in_err-make_room.field-0.0 _ _ r.ensures.1 (inl (refl, c.in_err-make_room.ensures.calls))
+
+pub returns-in_err-batch-clause-refused : goal.returns-in_err-batch-clause-refused
+returns-in_err-batch-clause-refused g c =
+    let r = c.from_residual-in_err-batch in
+    let e = c.in_err-batch.field-0.0 in
+    let given = subst (λ m. g.F.Feed.gives c.args.feed.now m (Err e) c.next.new.self) c.largest.ensures c.in_err-batch.ensures in
+    on_refused r.result e _ _ r.ensures.1 (inr (c.in_ok-make_room.ensures.ready, inl given))
+
+pub returns-in_err-batch-clause-calls : goal.returns-in_err-batch-clause-calls
+returns-in_err-batch-clause-calls g c =
+    let r = c.from_residual-in_err-batch in
+    on_refused r.result c.in_err-batch.field-0.0 _ _ r.ensures.1 (inl c.in_ok-make_room.ensures.calls)
+
+pub returns-in_err-batch-clause-settled : goal.returns-in_err-batch-clause-settled
+returns-in_err-batch-clause-settled g c honest settled none = c.in_ok-make_room.ensures.images honest settled
+
+pub returns-then-count-eq0-clause-settled : goal.returns-then-count-eq0-clause-settled
+returns-then-count-eq0-clause-settled g c honest settled none = c.in_ok-make_room.ensures.images honest settled
+
+pub returns-clause-settled : goal.returns-clause-settled
+returns-clause-settled g c honest settled none = c.in_ok-durable.ensures.images honest (c.in_ok-make_room.ensures.images honest settled)
+
+pub returns-clause-calls : goal.returns-clause-calls
+returns-clause-calls g c = none_then g.D.Disk.failures g.D.Disk.outlook c.args.store.now c.make_room.new.store c.commit.new.store c.in_ok-make_room.ensures.calls c.in_ok-durable.ensures.calls
+
+pub returns-in_err-durable-clause-closed : goal.returns-in_err-durable-clause-closed
+returns-in_err-durable-clause-closed g c is =
+    untouched_then g.D.Disk.state c.args.store.now c.make_room.new.store c.commit.new.store is (c.in_ok-make_room.ensures.closed is) c.in_err-durable.ensures.closed
+
+pub returns-clause-closed : goal.returns-clause-closed
+returns-clause-closed g c is =
+    untouched_then g.D.Disk.state c.args.store.now c.make_room.new.store c.commit.new.store is (c.in_ok-make_room.ensures.closed is) c.in_ok-durable.ensures.closed

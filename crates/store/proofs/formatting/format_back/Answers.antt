@@ -1,4 +1,4 @@
-use Rattle.std.proofs.Common.{◌+◌, ◌∙◌, ℕ, false, sym, ap, subst}
+use Rattle.std.proofs.Common.{◌+◌, ◌∙◌, List, ℕ, false, drop, inr, sym, ap, subst}
 use Rattle.gate_log.specs.declared.layout.Areas.{Areas}
 use Rattle.gate_log.specs.Log.{LogState}
 use Rattle.sessions.specs.Table.{TableState}
@@ -25,3 +25,15 @@ pub returns-in-Err-write_empty-clause-images : goal.returns-in-Err-write_empty-c
 returns-in-Err-write_empty-clause-images g c honest nothing image permitted =
     let old = (g.D.Disk.state c.args.disk).content in
     subst (λ k. IsFormatImage c.args.net_id k old image) (c.in-Some.ensures.1) (c.in-Err-write_empty.ensures.images honest nothing image permitted)
+
+pub returns-in_default-clause-images : goal.returns-in_default-clause-images
+returns-in_default-clause-images g c honest nothing image permitted =
+    inr (inr (ap (λ (l : List ℕ). drop 1 l) (c.settled_disk_keeps_its_content.ensures (g.D.Disk.state c.args.disk) nothing image permitted)))
+
+pub returns-then-len-disk_len-clause-images : goal.returns-then-len-disk_len-clause-images
+returns-then-len-disk_len-clause-images g c honest nothing image permitted =
+    inr (inr (ap (λ (l : List ℕ). drop 1 l) (c.settled_disk_keeps_its_content.ensures (g.D.Disk.state c.args.disk) nothing image permitted)))
+
+pub returns-in-Err-clause-images : goal.returns-in-Err-clause-images
+returns-in-Err-clause-images g c honest nothing image permitted =
+    inr (inr (ap (λ (l : List ℕ). drop 1 l) (c.settled_disk_keeps_its_content.ensures (g.D.Disk.state c.args.disk) nothing image permitted)))

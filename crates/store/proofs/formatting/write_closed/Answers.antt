@@ -52,3 +52,13 @@ returns-clause-other_area g c honest =
     let torn : IsTorn 32 31 old new = subst (λ at. IsTorn at 31 old new) area (c.format_area.ensures.opens honest).torn in
     let closed : IsClosedArea (area_b slots) old = subst (λ (a : Area). IsClosedArea a old) c.second_area.ensures (c.in_ok-close_area.ensures.closed honest) in
     OnOk-of c.format_area.result (closed_after 32 31 (area_b slots) old new torn (omega arith) closed)
+
+pub returns-in_err-write_at-clause-shut : goal.returns-in_err-write_at-clause-shut
+returns-in_err-write_at-clause-shut g c honest shut =
+    shut_after 1 _ (g.D.Disk.state c.args.disk.now) (g.D.Disk.state c.write_at.new.self) (omega arith) (c.write_at.ensures.opens honest) shut
+
+pub returns-in_err-close_area-clause-shut : goal.returns-in_err-close_area-clause-shut
+returns-in_err-close_area-clause-shut g c honest shut =
+    let b = ap (λ (a : Area). a.start) c.second_area.ensures in
+    shut_after c.second_area.result.start 1 (g.D.Disk.state c.write_at.new.self) (g.D.Disk.state c.close_area.new.disk) (omega (arith, b)) (c.close_area.ensures.opens honest)
+    (shut_after 1 _ (g.D.Disk.state c.args.disk.now) (g.D.Disk.state c.write_at.new.self) (omega arith) (c.write_at.ensures.opens honest) shut)

@@ -1,11 +1,12 @@
-use Rattle.std.proofs.Common.{◌≡◌, ◌+◌, ◌∙◌, [], ◌∷◌, List, ℕ, length, drop, refl, ap, subst, arith}
-use Rattle.disk.specs.State.{IsTorn, written}
+use Rattle.std.proofs.Common.{◌≡◌, ◌+◌, ◌∙◌, [], ◌∷◌, List, ℕ, length, drop, refl, inl, inr, sym, ap, subst, arith}
+use Rattle.disk.specs.State.{IsTorn, State, written}
 use Rattle.gate_log.specs.declared.layout.TheConstants.{OPEN}
 use Rattle.gate_log.specs.Layout.{checkpoint, fresh_header}
 use Rattle.store.specs.declared.areas.TheConstants.{RECORD_VERSION}
+use Rattle.store.specs.Formatting.{IsShut}
 use Rattle.store.specs.Image.{area_a, area_b}
 use Rattle.store_layout.specs.Superblock.{area_len, disk_len}
-use Rattle.store.proofs.EmptyStore.{closed_after, formatted_image, opened_front, opened_range}
+use Rattle.store.proofs.EmptyStore.{closed_after, formatted_image, opened_front, opened_range, shut_images}
 use Rattle.store.proofs.formatting.write_empty.Goals as goal
 
 pub returns-clause-area : goal.returns-clause-area
@@ -55,3 +56,18 @@ returns-clause-other_area g c honest =
     c.in_ok-open_front.ensures.opened honest ∙ ap (λ (l : List ℕ). written l 0 (OPEN ∷ [])) (c.in_ok-sync.ensures.settled honest).content in
     let torn : IsTorn 0 1 old new = record { same_length = c.in_ok-open_front.ensures.same_length ∙ c.in_ok-sync.ensures.same_length; before = refl; after = ap (λ (l : List ℕ). drop 1 l) is } in
     closed_after 0 1 (area_b slots) old new torn (omega arith) (c.in_ok-next.ensures.other_area honest)
+
+pub returns-clause-settled : goal.returns-clause-settled
+returns-clause-settled g c honest = c.in_ok-open_front.ensures.settled honest
+
+pub returns-in_err-shut-clause-images : goal.returns-in_err-shut-clause-images
+returns-in_err-shut-clause-images g c honest nothing image permitted = inr (inr (c.shut.ensures.images honest nothing image permitted))
+
+pub returns-in_err-next-clause-images : goal.returns-in_err-next-clause-images
+returns-in_err-next-clause-images g c honest nothing image permitted =
+    inl (shut_images (g.D.Disk.state c.write_closed.new.disk) (c.write_closed.ensures.shut honest (c.in_ok-shut.ensures.shut honest)) image permitted)
+
+pub returns-in_err-sync-clause-images : goal.returns-in_err-sync-clause-images
+returns-in_err-sync-clause-images g c honest nothing image permitted =
+    let shut = c.write_closed.ensures.shut honest (c.in_ok-shut.ensures.shut honest) in
+    inl (shut_images (g.D.Disk.state c.sync.new.self) (subst (λ (s : State). IsShut s) (sym (c.in_err-sync.ensures.unsettled honest)) shut) image permitted)

@@ -6,7 +6,7 @@ use Rattle.sessions.specs.declared.decision.Decision.{Decision}
 use Rattle.session_core.specs.State.{DecisionsState, IsLawful, now_of, last_number}
 use Rattle.session_core.specs.Deciding.{Makes, has_room, wanted}
 use Rattle.session_core.specs.Kept.{state_of}
-use Rattle.session_core.proofs.Lawful.{not-kept, refused-there, room-few, step-made, lawful-made, now-made, state-made, decided-made, decided}
+use Rattle.session_core.proofs.Lawful.{full-there, not-kept, refused-there, room-few, step-made, lawful-made, now-made, state-made, decided-made, decided}
 use Rattle.session_core.proofs.decisions.Decisions.keep.Goals as goal
 
 room_is : {a b found : Bool} → a ≡ b → found ≡ b → found ≡ true → a ≡ true
@@ -91,3 +91,7 @@ pub returns-in_err-apply-clause-made : goal.returns-in_err-apply-clause-made
 returns-in_err-apply-clause-made c =
     not-kept c.args.self.now c.self.inside.table c.args.command (c.self.invariant.table ∙ ap now_of c.self.view_is) (sym c.has_room.ensures.room ∙ c.if-not-has_room.false)
     (c.seq.result + 1) _ c.in_ok-decision.decision c.from_residual-in_err-apply.result (subst (λ e. IsErrAnd c.from_residual-in_err-apply.result (λ x. x ≡ e)) c.in_err-apply.ensures.0 c.from_residual-in_err-apply.ensures.1) c.in_ok-decision.ensures.decides
+
+pub returns-then-not-has_room-clause-made : goal.returns-then-not-has_room-clause-made
+returns-then-not-has_room-clause-made c =
+    full-there c.args.self.now c.args.command (λ st _. Makes c.args.self.now c.args.command st (state_of c.self.inside)) (sym c.has_room.ensures.room ∙ c.if-not-has_room.true)

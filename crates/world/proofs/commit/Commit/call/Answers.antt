@@ -119,3 +119,6 @@ returns-in_err-next-in-Checkpoint-clause-goes g c on =
     on_refusal _ _ _ _ refused.1
     (subst (λ k. GoesTo (moved_on failed (flights_in k)) s s') (sym c.in-Checkpoint.is)
     (stays s s' [] refl refl e.table e.seq (e.images (subst (IsOn s) c.in-Checkpoint.is on))))
+
+pub returns-in_ok-sync-in-GateWritten-clause-on : goal.returns-in_ok-sync-in-GateWritten-clause-on
+returns-in_ok-sync-in-GateWritten-clause-on g c on = c.in_ok-sync-in-GateWritten.ensures.settled g.met.D.Sim.is_honest (subst (IsOn (seen g.D.Disk.state c.args.store.now)) c.in-GateWritten.is on)
