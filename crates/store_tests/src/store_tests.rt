@@ -1,8 +1,8 @@
 // New stores, commits, crashes in the midst of commits and checkpoints, and failing disks.
 use crate::devices_under_test::{net_id, new_table, provisionings};
 use crate::stores_under_test::{
-    ALL, LEN, SECOND_AREA, TORN, begin_commit, blank, crashed, cut, found, new_store, opened,
-    state_of, store_after, take, take_all, torn,
+    ALL, LEN, SECOND_AREA, TORN, begin_commit, blank, crashed, cut, found, new_store, state_of,
+    store_after, take, take_all, torn,
 };
 use disk::{Image, MemDisk, Sim};
 use lw_types::Refusal;
