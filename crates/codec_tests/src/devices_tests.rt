@@ -2,8 +2,8 @@ use crate::fixtures::{
     DEVICE, application, brought, current, empty_downlink, item, items, name, session,
 };
 use devices::{
-    Activation, Application, CurrentSession, Effect, Effects, Hearing, Hearings, Item, ItemQueue,
-    MacQueue, Mark, NextDown, Port, Report, RxDelay, Session, Tag, dev_addr, slot_at,
+    Activation, Application, Device, Effect, Effects, Hearing, Hearings, ItemQueue, MacQueue, Mark,
+    NextDown, Port, Report, RxDelay, SessionName, Tag, dev_addr, slot_at,
 };
 use lw_types::{DevAddr, Eui, JoinNonce, NetId, Reception, Refusal, read_hex};
 use mac_commands::are_queueable;
@@ -19,15 +19,20 @@ const RANGES: &[(u64, bool, bool, bool)] = &[
     (224, false, false, false),
 ];
 
+// Whether a number is an application, a port and a delay.
+fn ranges(value: u64) -> (bool, bool, bool) {
+    (
+        Application::new(value).is_some(),
+        Port::new(value).is_some(),
+        RxDelay::new(value).is_some(),
+    )
+}
+
 #[test]
 fn ranges_have_their_ends(rt: HostRuntime) {
     for (value, application, port, delay) in RANGES {
-        assert!(rt;
-            Application::new(*value).is_some() == *application,
-            "{value}"
-        );
-        assert!(rt; Port::new(*value).is_some() == *port, "{value}");
-        assert!(rt; RxDelay::new(*value).is_some() == *delay, "{value}");
+        let wanted = (*application, *port, *delay);
+        assert!(rt; ranges(*value) == wanted, "{value}");
     }
     assert!(rt; NextDown::new(1 << 32).is_some());
     assert!(rt; NextDown::new((1 << 32) + 1).is_none());
@@ -35,17 +40,20 @@ fn ranges_have_their_ends(rt: HostRuntime) {
 
 // Whether a device may have these bytes for a MAC queue, which is made of a vector as of a slice.
 fn may_wait(alloc: Global, bytes: &[u8]) -> Result<bool, Refusal> {
-    let Ok(queue) = MacQueue::new(Vec::from_slice(alloc, bytes)?) else {
-        return Ok(false);
-    };
-    Ok(queue.as_slice() == bytes && is_made(alloc, bytes)?)
+    match MacQueue::new(Vec::from_slice(alloc, bytes)?) {
+        Ok(queue) => Ok(queue.as_slice() == bytes && is_made(alloc, bytes)),
+        Err(_) => Ok(false),
+    }
 }
 
-fn is_made(alloc: Global, bytes: &[u8]) -> Result<bool, Refusal> {
+fn is_made(alloc: Global, bytes: &[u8]) -> bool {
     if !are_queueable(bytes) || bytes.len() > 64 {
-        return Ok(false);
+        return false;
     }
-    Ok(MacQueue::from_slice(alloc, bytes)?.as_slice() == bytes)
+    match MacQueue::from_slice(alloc, bytes) {
+        Ok(queue) => queue.as_slice() == bytes,
+        Err(_) => false,
+    }
 }
 
 const QUEUES: &[(&[u8], bool)] = &[
@@ -71,12 +79,15 @@ fn a_mac_queue_is_whole_commands_that_may_be_queued(rt: HostRuntime) {
 
 // Whether so many bytes of a queue fit the room, and these are left where they leave it.
 fn leaves(alloc: Global, hex: &str, room: u8, fits: usize, rest: &str) -> Result<bool, Refusal> {
-    let mut queue = MacQueue::new(read_hex(alloc, hex)?)
-        .ok()
-        .ok_or(Refusal::BadMac)?;
-    let is_fitting = queue.fitting(room) == fits;
-    queue.leave(room);
-    Ok(is_fitting && queue.as_slice() == read_hex(alloc, rest)?.as_slice())
+    let rest = read_hex(alloc, rest)?;
+    match MacQueue::new(read_hex(alloc, hex)?) {
+        Ok(mut queue) => {
+            let is_fitting = queue.fitting(room) == fits;
+            queue.leave(room);
+            Ok(is_fitting && queue.as_slice() == rest.as_slice())
+        }
+        Err(_) => Err(Refusal::BadMac),
+    }
 }
 
 const ROOMS: &[(&str, u8, usize, &str)] = &[
@@ -95,94 +106,88 @@ fn whole_commands_leave_the_queue(rt: HostRuntime) {
     }
 }
 
+// Whether so many items wait in the order of their tags.
+fn wait_in_order(queue: &ItemQueue, count: u32) -> bool {
+    let items = queue.as_slice();
+    let mut are_right = items.len() == count as usize;
+    for (item, tag) in items.iter().zip(0..count) {
+        are_right = are_right && item.tag == Tag(tag);
+    }
+    are_right
+}
+
 // The tag of the item that leaves first, which is the one that was seen there.
 fn leaving(queue: &mut ItemQueue) -> Option<u32> {
     let seen = queue.first()?.tag;
     let left = queue.pop_first()?.tag;
-    (left == seen).then_some(left.0)
+    if left == seen { Some(left.0) } else { None }
 }
 
-// Whether three items leave in the order of their tags.
-fn leave_in_order(alloc: Global) -> Result<bool, Refusal> {
-    let mut queue = ItemQueue::new(items(alloc, 3, 1)?)
-        .ok()
-        .ok_or(Refusal::QueueFull)?;
-    let mut are_right = true;
-    for tag in 0..3 {
+// Whether so many items, and no more, leave in the order of their tags.
+fn leave_in_order(mut queue: ItemQueue, count: u32) -> bool {
+    let mut are_right = wait_in_order(&queue, count);
+    for tag in 0..count {
         are_right = leaving(&mut queue) == Some(tag) && are_right;
     }
-    Ok(are_right && queue.is_empty() && queue.pop_first().is_none())
+    are_right && queue.is_empty() && queue.pop_first().is_none()
 }
 
-#[test]
-fn items_leave_in_order(rt: HostRuntime) {
-    assert!(rt; leave_in_order(rt.alloc()) == Ok(true));
-}
-
-// How many items of a copy of so many wait; `None` where they are too many.
-fn waiting_items(alloc: Global, count: u32) -> Result<Option<usize>, Refusal> {
-    match ItemQueue::new(items(alloc, count, 242)?.clone()?) {
-        Ok(queue) => Ok(Some(queue.as_slice().len())),
+// Whether a copy of so many items waits and leaves in order; `None` where they are too many.
+fn wait_and_leave(alloc: Global, count: u32, len: usize) -> Result<Option<bool>, Refusal> {
+    match ItemQueue::new(items(alloc, count, len)?.clone()?) {
+        Ok(queue) => Ok(Some(leave_in_order(queue, count))),
         Err(_) => Ok(None),
     }
 }
 
-#[test]
-fn sixteen_items_wait(rt: HostRuntime) {
-    assert!(rt; waiting_items(rt.alloc(), 16) == Ok(Some(16)));
-    assert!(rt; waiting_items(rt.alloc(), 17) == Ok(None));
-}
-
-// Sixteen items that came one after another.
-fn pushed(alloc: Global) -> Result<ItemQueue, Refusal> {
-    let mut queue = ItemQueue::empty(alloc);
+// Sixteen items come one after another.
+fn push_items(alloc: Global, queue: &mut ItemQueue) -> Result<(), Refusal> {
     for tag in 0..16 {
         if queue.as_slice().len() >= ItemQueue::MOST {
             return Err(Refusal::QueueFull);
         }
         queue.push(item(alloc, tag, 1)?)?;
     }
-    Ok(queue)
+    Ok(())
 }
 
-fn wait_in_order(alloc: Global) -> Result<bool, Refusal> {
-    let queue = pushed(alloc)?;
-    let mut are_right = queue.as_slice().len() == 16;
-    for (item, tag) in queue.as_slice().iter().zip(0..16) {
-        are_right = are_right && item.tag == Tag(tag);
-    }
-    Ok(are_right)
+fn pushed_wait(alloc: Global) -> bool {
+    let mut queue = ItemQueue::empty(alloc);
+    push_items(alloc, &mut queue).is_ok() && leave_in_order(queue, 16)
 }
+
+const ITEMS: &[(u32, usize, Option<bool>)] = &[
+    (3, 1, Some(true)),
+    (16, 242, Some(true)),
+    (17, 242, None),
+];
 
 #[test]
-fn items_wait_in_order(rt: HostRuntime) {
-    assert!(rt; wait_in_order(rt.alloc()) == Ok(true));
-}
-
-// The session of this JoinNonce, in use.
-fn in_use(number: Option<u32>) -> Result<Option<CurrentSession>, Refusal> {
-    match number {
-        None => Ok(None),
-        Some(number) => Ok(Some(current(number, 5)?)),
+fn sixteen_items_wait_and_leave_in_order(rt: HostRuntime) {
+    for (count, len, wanted) in ITEMS {
+        assert!(rt;
+            wait_and_leave(rt.alloc(), *count, *len) == Ok(*wanted),
+            "{count}"
+        );
     }
+    assert!(rt; pushed_wait(rt.alloc()));
 }
 
-// The session of this JoinNonce, not in use yet.
-fn waiting(number: Option<u32>) -> Result<Option<Session>, Refusal> {
-    match number {
-        None => Ok(None),
-        Some(number) => Ok(Some(session(number)?)),
-    }
-}
-
-// What was granted last, and sessions of these JoinNonces.
+// What was granted last, and sessions of these JoinNonces, in use and not in use yet.
 fn activation(
     granted: u32,
-    current: Option<u32>,
-    pending: Option<u32>,
+    in_use: Option<u32>,
+    waiting: Option<u32>,
 ) -> Result<Option<Activation>, Refusal> {
-    let (current, pending) = (in_use(current)?, waiting(pending)?);
-    Ok(Activation::new(JoinNonce::new(granted), current, pending))
+    let in_use = match in_use {
+        Some(number) => Some(current(number, 5)?),
+        None => None,
+    };
+    let waiting = match waiting {
+        Some(number) => Some(session(number)?),
+        None => None,
+    };
+    Ok(Activation::new(JoinNonce::new(granted), in_use, waiting))
 }
 
 // Whether sessions with these JoinNonces are in order.
@@ -218,13 +223,8 @@ fn both() -> Result<Activation, Refusal> {
 fn has_parts() -> Result<bool, Refusal> {
     let activation = both()?;
     let is_granted = activation.granted() == JoinNonce::new(2);
-    let is_in_use = activation.current() == in_use(Some(1))?;
-    Ok(is_granted && is_in_use && activation.pending() == waiting(Some(2))?)
-}
-
-#[test]
-fn an_activation_has_its_parts(rt: HostRuntime) {
-    assert!(rt; has_parts() == Ok(true));
+    let is_in_use = activation.current() == Some(current(1, 5)?);
+    Ok(is_granted && is_in_use && activation.pending() == Some(session(2)?))
 }
 
 // The counters of a session in use.
@@ -264,7 +264,8 @@ fn begins_and_grows() -> Result<bool, Refusal> {
 }
 
 #[test]
-fn a_session_begins_with_its_first_uplink_and_grows(rt: HostRuntime) {
+fn an_activation_has_its_parts_and_grows(rt: HostRuntime) {
+    assert!(rt; has_parts() == Ok(true));
     assert!(rt; begins_and_grows() == Ok(true));
 }
 
@@ -298,19 +299,26 @@ fn addresses_have_network_slot_and_join(rt: HostRuntime) {
 }
 
 // Whether a new device has its name and empty queues, is as its copy, and is as one with another tag.
-fn compared(alloc: Global) -> Result<(bool, bool, bool), Refusal> {
-    let device = brought(alloc, DEVICE)?;
-    let mut tagged = device.copy()?;
-    let is_copied = tagged.same_as(&device);
-    tagged.awaited = Some(Tag(1));
+fn compared(device: &Device) -> Option<(bool, bool, bool)> {
     let are_empty = device.items.as_slice().is_empty() && device.mac_queue.as_slice().is_empty();
     let is_new = are_empty && device.dev_eui == DEVICE;
-    Ok((is_new, is_copied, tagged.same_as(&device)))
+    match device.copy() {
+        Ok(mut tagged) => {
+            let is_copied = tagged.same_as(device);
+            tagged.awaited = Some(Tag(1));
+            Some((is_new, is_copied, tagged.same_as(device)))
+        }
+        Err(_) => None,
+    }
+}
+
+fn is_copied_whole(alloc: Global) -> Result<bool, Refusal> {
+    Ok(compared(&brought(alloc, DEVICE)?) == Some((true, true, false)))
 }
 
 #[test]
 fn a_device_is_copied_whole(rt: HostRuntime) {
-    assert!(rt; compared(rt.alloc()) == Ok((true, true, false)));
+    assert!(rt; is_copied_whole(rt.alloc()) == Ok(true));
 }
 
 // The report that a device was brought to a slot.
@@ -322,23 +330,22 @@ fn provisioned(slot: u16) -> Result<Effect, Refusal> {
     })
 }
 
-// Reports of the slots from 4 to 7.
-fn four_effects(alloc: Global) -> Result<Effects, Refusal> {
-    let mut effects = Effects::empty(alloc);
+// Adds reports of the slots from 4 to 7.
+fn push_reports(effects: &mut Effects) -> Result<(), Refusal> {
     for slot in 4..8 {
         if effects.as_slice().len() >= Effects::MOST {
             return Err(Refusal::QueueFull);
         }
         effects.push(provisioned(slot)?)?;
     }
-    Ok(effects)
+    Ok(())
 }
 
 fn effects_are_in_order(alloc: Global) -> Result<bool, Refusal> {
-    let effects = four_effects(alloc)?;
-    let are_four = effects.as_slice().len() == 4;
-    let effects = effects.into_vec();
-    Ok(are_four && effects.first() == Some(&provisioned(4)?))
+    let first = provisioned(4)?;
+    let mut effects = Effects::empty(alloc);
+    let is_pushed = push_reports(&mut effects).is_ok() && effects.as_slice().len() == 4;
+    Ok(is_pushed && effects.into_vec().first() == Some(&first))
 }
 
 #[test]
@@ -346,45 +353,46 @@ fn effects_leave_in_order(rt: HostRuntime) {
     assert!(rt; effects_are_in_order(rt.alloc()) == Ok(true));
 }
 
-fn sent_is_marked(alloc: Global) -> Result<bool, Refusal> {
-    let (session, counter) = (name(7)?, 9);
+// The marks of a frame and of an accept of one session, and of a report.
+fn marks(alloc: Global, session: SessionName) -> Result<[Option<Mark>; 3], Refusal> {
     let down = Effect::Down {
         session,
-        counter,
+        counter: 9,
         downlink: empty_downlink(alloc)?,
     };
-    Ok(down.mark() == Some(Mark::Sent { session, counter }))
-}
-
-fn granted_is_marked(alloc: Global) -> Result<bool, Refusal> {
-    let session = name(7)?;
+    let sent = down.mark();
     let accept = Effect::Accept {
         session,
         downlink: empty_downlink(alloc)?,
     };
-    Ok(accept.mark() == Some(Mark::Granted { session }))
+    let granted = accept.mark();
+    Ok([sent, granted, provisioned(0)?.mark()])
 }
 
-fn mark_of_report() -> Result<Option<Mark>, Refusal> {
-    Ok(provisioned(0)?.mark())
+fn are_marked(alloc: Global) -> Result<bool, Refusal> {
+    let session = name(7)?;
+    let sent = Mark::Sent {
+        session,
+        counter: 9,
+    };
+    let granted = Mark::Granted { session };
+    Ok(marks(alloc, session)? == [Some(sent), Some(granted), None])
 }
 
 #[test]
 fn effects_have_their_marks(rt: HostRuntime) {
-    assert!(rt; sent_is_marked(rt.alloc()) == Ok(true));
-    assert!(rt; granted_is_marked(rt.alloc()) == Ok(true));
-    assert!(rt; mark_of_report() == Ok(None));
+    assert!(rt; are_marked(rt.alloc()) == Ok(true));
 }
 
 // How a gateway heard a frame.
-fn hearing(gateway: u64, frequency: u32, data_rate: u8) -> Hearing {
+fn hearing(gateway: u64, frequency: u32, data_rate: u8, snr: i16, rssi: i16) -> Hearing {
     Hearing {
         reception: Reception {
             gateway: Eui(gateway),
             frequency,
             data_rate,
-            snr: -20,
-            rssi: -95,
+            snr,
+            rssi,
         },
         stamp: 7,
     }
@@ -394,19 +402,16 @@ fn hearing(gateway: u64, frequency: u32, data_rate: u8) -> Hearing {
 fn hearings(alloc: Global, count: u64) -> Result<Vec<Hearing>, Refusal> {
     let mut hearings = Vec::new(alloc);
     for gateway in 0..count {
-        let hearing = hearing(gateway, 868_500_000, 5);
-        hearings.push(hearing)?;
+        hearings.push(hearing(gateway, 868_500_000, 5, -20, -95))?;
     }
     Ok(hearings)
 }
 
 // Whether so many copies of a frame stay in their order; `None` where so many may not be.
 fn keep_their_order(alloc: Global, count: u64) -> Result<Option<bool>, Refusal> {
+    let wanted = hearings(alloc, count)?;
     match Hearings::new(hearings(alloc, count)?) {
-        Some(heard) => {
-            let wanted = hearings(alloc, count)?;
-            Ok(Some(heard.as_slice() == wanted.as_slice()))
-        }
+        Some(heard) => Ok(Some(heard.as_slice() == wanted.as_slice())),
         None => Ok(None),
     }
 }
@@ -439,7 +444,7 @@ const LAST_COPIES: &[(u32, u8, u64, bool)] = &[
 #[test]
 fn copies_are_of_different_gateways_on_channels(rt: HostRuntime) {
     for (frequency, data_rate, gateway, may) in LAST_COPIES {
-        let last = hearing(*gateway, *frequency, *data_rate);
+        let last = hearing(*gateway, *frequency, *data_rate, -20, -95);
         let may_be_heard = may_be_heard(rt.alloc(), last);
         assert!(rt;
             may_be_heard == Ok(*may),
@@ -452,10 +457,7 @@ fn copies_are_of_different_gateways_on_channels(rt: HostRuntime) {
 fn best(alloc: Global, copies: &[(u64, i16, i16)]) -> Result<Option<u64>, Refusal> {
     let mut hearings = Vec::new(alloc);
     for (gateway, snr, rssi) in copies {
-        let mut hearing = hearing(*gateway, 868_100_000, 0);
-        hearing.reception.snr = *snr;
-        hearing.reception.rssi = *rssi;
-        hearings.push(hearing)?;
+        hearings.push(hearing(*gateway, 868_100_000, 0, *snr, *rssi))?;
     }
     match Hearings::new(hearings) {
         Some(hearings) => Ok(Some(hearings.best().reception.gateway.0)),

@@ -1,4 +1,4 @@
-use crate::fixtures::{GATEWAY, application};
+use crate::fixtures::GATEWAY;
 use gateway_wire::{Fed, Feeder, Message, Peer};
 use lw_types::{FrameCopy, Reception, Refusal, read_hex};
 use std::alloc::Global;
@@ -30,21 +30,27 @@ fn feed(
     Ok(fed.fault)
 }
 
-// What a stream says that comes byte after byte.
-fn cut(alloc: Global, feeder: &mut Feeder, stream: &[u8]) -> Result<Fed, Refusal> {
+// What a stream says that comes in one piece, or byte after byte.
+fn fed(alloc: Global, feeder: &mut Feeder, stream: &[u8], is_whole: bool) -> Result<Fed, Refusal> {
     let mut messages = Vec::new(alloc);
     let mut fault = None;
-    for byte in stream {
-        fault = feed(feeder, &[*byte], &mut messages)?;
+    if is_whole {
+        fault = feed(feeder, stream, &mut messages)?;
+    } else {
+        for byte in stream {
+            fault = feed(feeder, &[*byte], &mut messages)?;
+        }
     }
     Ok(Fed { messages, fault })
 }
 
-// What a stream says that comes in one piece.
-fn whole(alloc: Global, feeder: &mut Feeder, stream: &[u8]) -> Result<Fed, Refusal> {
-    let mut messages = Vec::new(alloc);
-    let fault = feed(feeder, stream, &mut messages)?;
-    Ok(Fed { messages, fault })
+// What a stream says, and what its end is refused.
+fn heard(alloc: Global, stream: &[u8], is_whole: bool) -> Result<(Fed, Option<Refusal>), Refusal> {
+    let mut feeder = Feeder::new(alloc);
+    match fed(alloc, &mut feeder, stream, is_whole) {
+        Ok(fed) => Ok((fed, feeder.end().err())),
+        Err(refusal) => Err(refusal),
+    }
 }
 
 // Whether a text with so many of 41 behind it says so many messages and this fault, and ends so, however it comes.
@@ -55,11 +61,15 @@ fn says(
     end: Option<Refusal>,
 ) -> Result<bool, Refusal> {
     let bytes = stream(alloc, hex, filled)?;
-    let (mut one, mut other) = (Feeder::new(alloc), Feeder::new(alloc));
-    let fed = whole(alloc, &mut one, &bytes)?;
-    let is_same = fed == cut(alloc, &mut other, &bytes)?;
-    let is_ended = one.end().err() == end && other.end().err() == end;
-    Ok(is_same && is_ended && fed.messages.len() == count && fed.fault == fault)
+    Ok(
+        match (heard(alloc, &bytes, true), heard(alloc, &bytes, false)) {
+            (Ok((whole, whole_end)), Ok((cut, cut_end))) => {
+                let is_same = whole == cut && whole_end == cut_end;
+                is_same && whole_end == end && whole.messages.len() == count && whole.fault == fault
+            }
+            _ => false,
+        },
+    )
 }
 
 // Texts, how many of 41 stand behind them, and how many messages they say.
@@ -201,13 +211,22 @@ fn copy(alloc: Global) -> Result<FrameCopy, Refusal> {
     FrameCopy::new(alloc, reception, 50_000, frame.as_slice())
 }
 
-// What a gateway's greeting and its copy say.
+// Whether they are a gateway's greeting and its copy.
+fn are_of_gateway(messages: &[Message], copy: &FrameCopy) -> bool {
+    match messages {
+        [
+            Message::Greeting(Peer::Gateway(gateway)),
+            Message::Copy(found),
+        ] => { *gateway == GATEWAY && found == copy }
+        _ => false,
+    }
+}
+
 fn hands_in_a_copy(alloc: Global) -> Result<bool, Refusal> {
     let mut bytes = read_hex(alloc, GREETING)?;
     bytes.extend_from_slice(&read_hex(alloc, COPY)?)?;
-    let fed = cut(alloc, &mut Feeder::new(alloc), &bytes)?;
-    let greeting = Message::Greeting(Peer::Gateway(GATEWAY));
-    Ok(fed.messages == vec![in alloc; greeting, Message::Copy(copy(alloc)?)]?)
+    let (fed, _) = heard(alloc, &bytes, false)?;
+    Ok(are_of_gateway(&fed.messages, &copy(alloc)?))
 }
 
 #[test]
@@ -215,19 +234,21 @@ fn a_gateway_hands_in_its_copy(rt: HostRuntime) {
     assert!(rt; hands_in_a_copy(rt.alloc()) == Ok(true));
 }
 
-fn is_line(message: Option<&Message>, text: &str) -> bool {
-    match message {
-        Some(Message::Line(line)) => line.as_str() == text,
+// Whether they are the greeting of application 3 and its line.
+fn are_of_application(messages: &[Message], text: &str) -> bool {
+    match messages {
+        [
+            Message::Greeting(Peer::Application(application)),
+            Message::Line(line),
+        ] => { application.get() == 3 && line.as_str() == text }
         _ => false,
     }
 }
 
-// Whether an application's greeting and its line are told.
 fn hands_in_a_line(alloc: Global) -> Result<bool, Refusal> {
     let bytes = read_hex(alloc, "000202030006036D6163202D")?;
-    let fed = whole(alloc, &mut Feeder::new(alloc), &bytes)?;
-    let greeting = Message::Greeting(Peer::Application(application()?));
-    Ok(fed.messages.first() == Some(&greeting) && is_line(fed.messages.get(1), "mac -"))
+    let (fed, _) = heard(alloc, &bytes, true)?;
+    Ok(are_of_application(&fed.messages, "mac -"))
 }
 
 #[test]

@@ -4,14 +4,13 @@ use crate::fixtures::{
 };
 use devices::{
     Activation, Application, AskedBytes, Command, Copies, Device, Downlink, Effect, ItemQueue,
-    MacQueueing, Mark, Payload, Port, Provisioning, Queueing, Report, Rx1Offset, RxDelay, Tag,
-    Windows,
+    MacQueueing, Mark, Payload, Port, Queueing, Report, Rx1Offset, RxDelay, Tag, Windows,
 };
 use gateway_wire::{
     Emission, Request, app_line, gateway_bytes, list_text, next_ranged, next_value, read_line,
     read_request,
 };
-use lw_types::{Eui, NetId, PhyPayload, Reception, Refusal, Words, read_hex};
+use lw_types::{Eui, NetId, PhyPayload, Reception, Refusal, Words, read_hex, write_hex};
 use sessions::{Slots, Table};
 use std::alloc::{AllocError, Global};
 
@@ -22,16 +21,10 @@ fn payload(alloc: Global, bytes: &[u8]) -> Result<Payload, Refusal> {
 }
 
 // The bytes of a text, and so many of A5 behind them.
-fn followed(alloc: Global, hex: &str, count: usize) -> Result<Vec<u8>, Refusal> {
+fn frame(alloc: Global, hex: &str, count: usize) -> Result<PhyPayload, Refusal> {
     let mut bytes = read_hex(alloc, hex)?;
     bytes.extend_from_slice(vec![in alloc; 0xA5; count]?.as_slice())?;
-    Ok(bytes)
-}
-
-fn frame(alloc: Global, hex: &str, count: usize) -> Result<PhyPayload, Refusal> {
-    PhyPayload::new(followed(alloc, hex, count)?)
-        .ok()
-        .ok_or(Refusal::FrameTooLong)
+    PhyPayload::new(bytes).ok().ok_or(Refusal::FrameTooLong)
 }
 
 // A frame in a downlink, one second later.
@@ -49,117 +42,6 @@ fn downlink(data_rate: u8, windows: Windows, frame: PhyPayload) -> Result<Effect
             frame,
         },
     })
-}
-
-// Whether it is these bytes, for the gateway.
-fn is_frame(emission: &Emission, bytes: &[u8]) -> bool {
-    match emission {
-        Emission::Gateway { gateway, frame } => *gateway == GATEWAY && frame.as_slice() == bytes,
-        Emission::Application { .. } => false,
-    }
-}
-
-// Whether the gateway is sent these bytes.
-fn gateway_bytes_are(alloc: Global, effect: &Effect, bytes: &[u8]) -> Result<bool, Refusal> {
-    match gateway_bytes(alloc, effect)? {
-        Some(frame) => Ok(frame.as_slice() == bytes),
-        None => Ok(false),
-    }
-}
-
-// Whether the effect leaves as these bytes for its gateway, and as nothing for an application.
-fn is_sent(alloc: Global, effect: &Effect, bytes: &[u8]) -> Result<bool, Refusal> {
-    let is_told = app_line(alloc, effect)?.is_some();
-    let is_emitted = is_frame(&Emission::of(alloc, effect)?, bytes);
-    Ok(!is_told && is_emitted && gateway_bytes_are(alloc, effect, bytes)?)
-}
-
-// A frame in a downlink, and the bytes that it leaves as; both are followed by so many of A5.
-type Sent = (u8, Windows, &'static str, &'static str, usize);
-
-fn sends(alloc: Global, row: &Sent) -> Result<bool, Refusal> {
-    let (data_rate, windows, hex, wire, count) = *row;
-    let effect = downlink(data_rate, windows, frame(alloc, hex, count)?)?;
-    is_sent(alloc, &effect, &followed(alloc, wire, count)?)
-}
-
-// The shortest one, a long one, and the longest.
-const DOWNLINKS: &[Sent] = &[
-    (
-        0,
-        Windows::Rx1OrRx2,
-        "6001000054300000AABBCCDD",
-        "00201100000000000000B10000C35033BE27A00001026001000054300000AABBCCDD",
-        0,
-    ),
-    (
-        5,
-        Windows::Rx1,
-        "600100005400010007",
-        "00851100000000000000B10000C35033BE27A0050100600100005400010007",
-        104,
-    ),
-    (
-        0,
-        Windows::Rx1OrRx2,
-        "",
-        "01131100000000000000B10000C35033BE27A0000102",
-        255,
-    ),
-    (
-        5,
-        Windows::Rx1OrRx2,
-        "",
-        "002D1100000000000000B10000C35033BE27A0050102",
-        25,
-    ),
-];
-
-#[test]
-fn downlinks_are_frames_of_the_wire(rt: HostRuntime) {
-    for row in DOWNLINKS {
-        assert!(rt; sends(rt.alloc(), row) == Ok(true), "{row:?}");
-    }
-}
-
-// Whether an accept leaves as these bytes.
-fn accept_is_sent(alloc: Global, wire: &str) -> Result<bool, Refusal> {
-    let accept = Effect::Accept {
-        session: name(1)?,
-        downlink: empty_downlink(alloc)?,
-    };
-    is_sent(alloc, &accept, &read_hex(alloc, wire)?)
-}
-
-#[test]
-fn an_accept_goes_to_its_gateway(rt: HostRuntime) {
-    let wire = "00141100000000000000B10000000133C44220020506";
-    assert!(rt; accept_is_sent(rt.alloc(), wire) == Ok(true));
-}
-
-// Whether it is this line, for application 3.
-fn is_line(emission: &Emission, text: &str) -> bool {
-    match emission {
-        Emission::Application { application, line } => {
-            application.get() == 3 && line.as_str() == text
-        }
-        Emission::Gateway { .. } => false,
-    }
-}
-
-// Whether the application is told this line.
-fn app_line_is(alloc: Global, effect: &Effect, text: &str) -> Result<bool, Refusal> {
-    match app_line(alloc, effect)? {
-        Some(line) => Ok(line.as_str() == text),
-        None => Ok(false),
-    }
-}
-
-// Whether the effect leaves as this line for its application, and as nothing for a gateway.
-fn is_told(alloc: Global, effect: &Effect, text: &str) -> Result<bool, Refusal> {
-    let is_sent = gateway_bytes(alloc, effect)?.is_some();
-    let is_emitted = is_line(&Emission::of(alloc, effect)?, text);
-    Ok(!is_sent && is_emitted && app_line_is(alloc, effect, text)?)
 }
 
 // A payload of the last session that there may be, at its last counter.
@@ -181,8 +63,10 @@ fn forward(payload: Payload) -> Result<Effect, Refusal> {
     })
 }
 
-// What an application is told: of a payload, and of the reports.
-enum Told {
+// What leaves: a frame of these bytes and so many of A5 behind them, an accept, a payload, and the reports.
+enum Leaving {
+    Down(u8, Windows, &'static str, usize),
+    Accept,
     Up(&'static [u8]),
     Spent,
     Provisioned(u16),
@@ -193,87 +77,127 @@ enum Told {
     Mac(&'static [u8]),
 }
 
-fn effect(alloc: Global, told: &Told) -> Result<Effect, Refusal> {
-    match told {
-        Told::Up(bytes) => forward(payload(alloc, bytes)?),
+fn effect(alloc: Global, leaving: &Leaving) -> Result<Effect, Refusal> {
+    match leaving {
+        Leaving::Down(data_rate, windows, hex, count) => {
+            downlink(*data_rate, *windows, frame(alloc, hex, *count)?)
+        }
+        Leaving::Accept => Ok(Effect::Accept {
+            session: name(1)?,
+            downlink: empty_downlink(alloc)?,
+        }),
+        Leaving::Up(bytes) => forward(payload(alloc, bytes)?),
         _ => Ok(Effect::Report {
             application: application()?,
             dev_eui: DEVICE,
-            report: report(alloc, told)?,
+            report: report(alloc, leaving)?,
         }),
     }
 }
 
-fn report(alloc: Global, told: &Told) -> Result<Report, Refusal> {
+fn report(alloc: Global, leaving: &Leaving) -> Result<Report, Refusal> {
     let join_nonce = nonce(1)?;
-    match told {
-        Told::Up(_) | Told::Spent => Ok(Report::Spent { join_nonce }),
-        Told::Provisioned(slot) => Ok(Report::Provisioned { slot: *slot }),
-        Told::Queued(tag) => Ok(Report::Queued { tag: Tag(*tag) }),
-        Told::Acked(tag) => Ok(Report::Acked { tag: Tag(*tag) }),
-        Told::Lost(tag) => Ok(Report::Lost { tag: Tag(*tag) }),
-        Told::MacQueued(bytes) => Ok(Report::MacQueued {
+    match leaving {
+        Leaving::Spent => Ok(Report::Spent { join_nonce }),
+        Leaving::Provisioned(slot) => Ok(Report::Provisioned { slot: *slot }),
+        Leaving::Queued(tag) => Ok(Report::Queued { tag: Tag(*tag) }),
+        Leaving::Acked(tag) => Ok(Report::Acked { tag: Tag(*tag) }),
+        Leaving::Lost(tag) => Ok(Report::Lost { tag: Tag(*tag) }),
+        Leaving::MacQueued(bytes) => Ok(Report::MacQueued {
             commands: payload(alloc, bytes)?,
         }),
-        Told::Mac(bytes) => Ok(Report::Mac {
+        Leaving::Mac(bytes) => Ok(Report::Mac {
             join_nonce,
             commands: payload(alloc, bytes)?,
         }),
+        _ => Err(Refusal::Damaged),
     }
 }
 
 // The longest payload.
 const LONG: &[u8] = &[0xA5; 242];
 
-// What is told, and its line: a text, so many of A5 in hex, and a text.
-const LINES: &[(Told, &str, usize, &str)] = &[
+// What leaves, and as what: a text, so many of A5 in hex, and a text. A gateway is sent these bytes, and the application of
+// number 3 is told this line.
+const EFFECTS: &[(Leaving, &str, usize, &str)] = &[
+    // The shortest downlink, a long one, and the longest.
     (
-        Told::Up(&[0x00, 0xFF]),
+        Leaving::Down(0, Windows::Rx1OrRx2, "6001000054300000AABBCCDD", 0),
+        "00201100000000000000B10000C35033BE27A00001026001000054300000AABBCCDD",
+        0,
+        "",
+    ),
+    (
+        Leaving::Down(5, Windows::Rx1, "600100005400010007", 104),
+        "00851100000000000000B10000C35033BE27A0050100600100005400010007",
+        104,
+        "",
+    ),
+    (
+        Leaving::Down(0, Windows::Rx1OrRx2, "", 255),
+        "01131100000000000000B10000C35033BE27A0000102",
+        255,
+        "",
+    ),
+    (
+        Leaving::Down(5, Windows::Rx1OrRx2, "", 25),
+        "002D1100000000000000B10000C35033BE27A0050102",
+        25,
+        "",
+    ),
+    (
+        Leaving::Accept,
+        "00141100000000000000B10000000133C44220020506",
+        0,
+        "",
+    ),
+    (
+        Leaving::Up(&[0x00, 0xFF]),
         "up 1112131415161718 16777215 4294967295 223 00FF 32 00000000000000B1 868100000 5 -20 -95",
         0,
         "",
     ),
     (
-        Told::Up(LONG),
+        Leaving::Up(LONG),
         "up 1112131415161718 16777215 4294967295 223 ",
         242,
         " 32 00000000000000B1 868100000 5 -20 -95",
     ),
-    (Told::Spent, "spent 1112131415161718 1", 0, ""),
+    (Leaving::Spent, "spent 1112131415161718 1", 0, ""),
     (
-        Told::Provisioned(0),
+        Leaving::Provisioned(0),
         "provisioned 1112131415161718 0",
         0,
         "",
     ),
-    (Told::Queued(9), "queued 1112131415161718 9", 0, ""),
+    (Leaving::Queued(9), "queued 1112131415161718 9", 0, ""),
     (
-        Told::Acked(4_294_967_295),
+        Leaving::Acked(4_294_967_295),
         "acked 1112131415161718 4294967295",
         0,
         "",
     ),
-    (Told::Lost(0), "lost 1112131415161718 0", 0, ""),
+    (Leaving::Lost(0), "lost 1112131415161718 0", 0, ""),
     (
-        Told::MacQueued(&[0x06]),
+        Leaving::MacQueued(&[0x06]),
         "macqueued 1112131415161718 06",
         0,
         "",
     ),
     (
-        Told::MacQueued(LONG),
+        Leaving::MacQueued(LONG),
         "macqueued 1112131415161718 ",
         242,
         "",
     ),
     (
-        Told::Mac(&[0x03, 0x07]),
+        Leaving::Mac(&[0x03, 0x07]),
         "mac 1112131415161718 1 0307",
         0,
         "",
     ),
-    (Told::Mac(&[]), "mac 1112131415161718 1 -", 0, ""),
-    (Told::Mac(LONG), "mac 1112131415161718 1 ", 242, ""),
+    (Leaving::Mac(&[]), "mac 1112131415161718 1 -", 0, ""),
+    (Leaving::Mac(LONG), "mac 1112131415161718 1 ", 242, ""),
 ];
 
 // A text, so many of A5 in hex, and a text.
@@ -282,20 +206,50 @@ fn long_text(alloc: Global, front: &str, count: usize, back: &str) -> Result<Str
     format!(in alloc; "{front}{hex}{back}")
 }
 
-fn has_line(
+// Whether bytes have this text as hex.
+fn has_hex(alloc: Global, bytes: &[u8], text: &str) -> bool {
+    match write_hex(alloc, bytes) {
+        Ok(hex) => hex.as_str() == text,
+        Err(_) => false,
+    }
+}
+
+// Whether it is these bytes for the gateway, or this line for application 3.
+fn is_emission(alloc: Global, emission: &Emission, wanted: &str) -> bool {
+    match emission {
+        Emission::Gateway { gateway, frame } => {
+            *gateway == GATEWAY && has_hex(alloc, frame.as_slice(), wanted)
+        }
+        Emission::Application { application, line } => {
+            application.get() == 3 && line.as_str() == wanted
+        }
+    }
+}
+
+// Whether the effect leaves as these bytes for its gateway, and as nothing for an application, or the other way round.
+fn leaves_as(alloc: Global, effect: &Effect, wanted: &str) -> Result<bool, Refusal> {
+    let is_alone = match (gateway_bytes(alloc, effect)?, app_line(alloc, effect)?) {
+        (Some(frame), None) => has_hex(alloc, frame.as_slice(), wanted),
+        (None, Some(line)) => line.as_str() == wanted,
+        _ => false,
+    };
+    Ok(is_alone && is_emission(alloc, &Emission::of(alloc, effect)?, wanted))
+}
+
+fn leaves(
     alloc: Global,
-    told: &Told,
+    leaving: &Leaving,
     (front, count, back): (&str, usize, &str),
 ) -> Result<bool, Refusal> {
-    let line = long_text(alloc, front, count, back)?;
-    is_told(alloc, &effect(alloc, told)?, line.as_str())
+    let text = long_text(alloc, front, count, back)?;
+    leaves_as(alloc, &effect(alloc, leaving)?, text.as_str())
 }
 
 #[test]
-fn each_effect_for_an_application_has_its_line(rt: HostRuntime) {
-    for (told, front, count, back) in LINES {
-        let has_line = has_line(rt.alloc(), told, (front, *count, back));
-        assert!(rt; has_line == Ok(true), "{front}");
+fn each_effect_leaves_as_its_frame_or_its_line(rt: HostRuntime) {
+    for (leaving, front, count, back) in EFFECTS {
+        let leaves = leaves(rt.alloc(), leaving, (front, *count, back));
+        assert!(rt; leaves == Ok(true), "{front}");
     }
 }
 
@@ -312,16 +266,32 @@ fn a_forward_has_its_mark(rt: HostRuntime) {
     assert!(rt; forward_is_marked(rt.alloc()) == Ok(true));
 }
 
+fn emission(alloc: Global, leaving: &Leaving) -> Result<Emission, Refusal> {
+    Emission::of(alloc, &effect(alloc, leaving)?)
+}
+
 // Whether an emission is as its copy, and not as that of another slot.
-fn are_told_apart(alloc: Global) -> Result<bool, Refusal> {
-    let emission = Emission::of(alloc, &effect(alloc, &Told::Provisioned(7))?)?;
-    let other = Emission::of(alloc, &effect(alloc, &Told::Provisioned(8))?)?;
-    Ok(emission.clone()? == emission && emission != other)
+fn are_told_apart(emission: &Emission, other: &Emission) -> bool {
+    let copy: Result<_, _> = emission.clone();
+    match copy {
+        Ok(copy) => copy == *emission && emission != other,
+        Err(_) => false,
+    }
+}
+
+fn slots_are_told_apart(alloc: Global) -> bool {
+    match (
+        emission(alloc, &Leaving::Provisioned(7)),
+        emission(alloc, &Leaving::Provisioned(8)),
+    ) {
+        (Ok(emission), Ok(other)) => are_told_apart(&emission, &other),
+        _ => false,
+    }
 }
 
 #[test]
 fn emissions_are_told_apart(rt: HostRuntime) {
-    assert!(rt; are_told_apart(rt.alloc()) == Ok(true));
+    assert!(rt; slots_are_told_apart(rt.alloc()));
 }
 
 fn provision() -> Result<Request, Refusal> {
@@ -339,28 +309,45 @@ const FIELDS: &str = "1112131415161718 0102030405060708 2B7E151628AED2A6ABF71588
 const PROVISION: &str =
     "provision 1112131415161718 0102030405060708 2B7E151628AED2A6ABF7158809CF4F3C 5 15";
 
-// Whether a provisioning is read of its line, and of its words, and is copied.
-fn provision_is_read(alloc: Global) -> Result<bool, Refusal> {
-    let of_line = read_line(alloc, PROVISION)?;
-    let of_words = read_request(alloc, "provision", Words::of(FIELDS))?;
-    Ok(of_line == provision()? && of_words.clone()? == of_line)
+// Whether the request is read of its line, and of its words, and is copied.
+fn is_read(alloc: Global, request: &Request) -> bool {
+    let of_line = read_line(alloc, PROVISION);
+    let of_words = read_request(alloc, "provision", Words::of(FIELDS));
+    let copy: Result<_, _> = request.clone();
+    match (of_line, of_words, copy) {
+        (Ok(of_line), Ok(of_words), Ok(copy)) => {
+            of_line == *request && of_words == *request && copy == *request
+        }
+        _ => false,
+    }
+}
+
+// The command that it becomes.
+fn wanted_command() -> Result<Command, Refusal> {
+    let mut asked = provisioning(DEVICE)?;
+    asked.rx1_offset = Rx1Offset::new(5).ok_or(Refusal::Damaged)?;
+    asked.rx_delay = RxDelay::new(15).ok_or(Refusal::Damaged)?;
+    Ok(Command::Provision(asked))
+}
+
+fn becomes(request: Request, command: &Command) -> Result<bool, Refusal> {
+    Ok(request.into_command(application()?) == *command)
+}
+
+fn is_read_and_becomes(alloc: Global) -> Result<bool, Refusal> {
+    let request = provision()?;
+    Ok(is_read(alloc, &request) && becomes(request, &wanted_command()?)?)
 }
 
 #[test]
-fn a_provisioning_is_read_of_its_line_and_of_its_words(rt: HostRuntime) {
-    assert!(rt; provision_is_read(rt.alloc()) == Ok(true));
+fn a_provisioning_is_read_and_is_a_command(rt: HostRuntime) {
+    assert!(rt; is_read_and_becomes(rt.alloc()) == Ok(true));
 }
 
-// Whether the line, with so many of A5 in hex behind it, asks for this command.
-fn asks_for(
-    alloc: Global,
-    front: &str,
-    count: usize,
-    command: Result<Command, Refusal>,
-) -> Result<bool, Refusal> {
-    let line = long_text(alloc, front, count, "")?;
-    let request = read_line(alloc, line.as_str())?;
-    Ok(request.into_command(application()?) == command?)
+// What a line asks for: an item of this tag, port, kind and payload, or these MAC commands.
+enum Asks {
+    Item(u32, u8, bool, &'static [u8]),
+    Mac(&'static [u8]),
 }
 
 fn asked(alloc: Global, bytes: &[u8]) -> Result<AskedBytes, Refusal> {
@@ -369,92 +356,68 @@ fn asked(alloc: Global, bytes: &[u8]) -> Result<AskedBytes, Refusal> {
         .ok_or(Refusal::TooLong)
 }
 
-fn queueing(
-    alloc: Global,
-    tag: u32,
-    port: u8,
-    confirmed: bool,
-    payload: &[u8],
-) -> Result<Command, Refusal> {
-    Ok(Command::Queue(Queueing {
-        application: application()?,
-        dev_eui: DEVICE,
-        tag: Tag(tag),
-        port,
-        confirmed,
-        payload: asked(alloc, payload)?,
-    }))
+fn command(alloc: Global, asks: &Asks) -> Result<Command, Refusal> {
+    let application = application()?;
+    match asks {
+        Asks::Item(tag, port, confirmed, payload) => Ok(Command::Queue(Queueing {
+            application,
+            dev_eui: DEVICE,
+            tag: Tag(*tag),
+            port: *port,
+            confirmed: *confirmed,
+            payload: asked(alloc, payload)?,
+        })),
+        Asks::Mac(commands) => Ok(Command::QueueMac(MacQueueing {
+            application,
+            dev_eui: DEVICE,
+            commands: asked(alloc, commands)?,
+        })),
+    }
 }
 
-// Lines, each with so many of A5 in hex behind it, and the tag, the port, the kind and the payload of the item that it asks
-// for; the last one is too long for any data rate.
-const ITEMS: &[(&str, usize, u32, u8, bool, &[u8])] = &[
-    ("queue 1112131415161718 9 7 u AA", 0, 9, 7, false, &[0xAA]),
-    ("queue 1112131415161718 0 0 c -", 0, 0, 0, true, &[]),
+// Whether the line asks for this command.
+fn asks_for(alloc: Global, line: &str, command: &Command) -> Result<bool, Refusal> {
+    becomes(read_line(alloc, line)?, command)
+}
+
+// Whether the line, with so many of A5 in hex behind it, does.
+fn is_asked(alloc: Global, front: &str, count: usize, asks: &Asks) -> Result<bool, Refusal> {
+    let line = long_text(alloc, front, count, "")?;
+    asks_for(alloc, line.as_str(), &command(alloc, asks)?)
+}
+
+// Lines, each with so many of A5 in hex behind it, and what they ask for; the fourth item is too long for any data rate.
+const REQUESTS: &[(&str, usize, Asks)] = &[
+    (
+        "queue 1112131415161718 9 7 u AA",
+        0,
+        Asks::Item(9, 7, false, &[0xAA]),
+    ),
+    (
+        "queue 1112131415161718 0 0 c -",
+        0,
+        Asks::Item(0, 0, true, &[]),
+    ),
     (
         "queue 1112131415161718 4294967295 255 c 00FF",
         0,
-        4_294_967_295,
-        255,
-        true,
-        &[0x00, 0xFF],
+        Asks::Item(4_294_967_295, 255, true, &[0x00, 0xFF]),
     ),
     (
         "queue 1112131415161718 9 7 u ",
         243,
-        9,
-        7,
-        false,
-        &[0xA5; 243],
+        Asks::Item(9, 7, false, &[0xA5; 243]),
     ),
+    ("mac 1112131415161718 06", 0, Asks::Mac(&[0x06])),
+    ("mac 1112131415161718 -", 0, Asks::Mac(&[])),
 ];
 
 #[test]
-fn items_are_read_of_their_lines(rt: HostRuntime) {
-    let alloc = rt.alloc();
-    for (front, count, tag, port, confirmed, payload) in ITEMS {
-        let command = queueing(alloc, *tag, *port, *confirmed, payload);
-        let asks = asks_for(alloc, front, *count, command);
-        assert!(rt; asks == Ok(true), "{front}");
+fn items_and_commands_are_read_of_their_lines(rt: HostRuntime) {
+    for (front, count, wanted) in REQUESTS {
+        let is_asked = is_asked(rt.alloc(), front, *count, wanted);
+        assert!(rt; is_asked == Ok(true), "{front}");
     }
-}
-
-fn mac_queueing(alloc: Global, commands: &[u8]) -> Result<Command, Refusal> {
-    Ok(Command::QueueMac(MacQueueing {
-        application: application()?,
-        dev_eui: DEVICE,
-        commands: asked(alloc, commands)?,
-    }))
-}
-
-// Lines, and the MAC commands that they ask for.
-const MAC_LINES: &[(&str, &[u8])] = &[
-    ("mac 1112131415161718 06", &[0x06]),
-    ("mac 1112131415161718 -", &[]),
-];
-
-#[test]
-fn commands_are_read_of_their_lines(rt: HostRuntime) {
-    let alloc = rt.alloc();
-    for (line, commands) in MAC_LINES {
-        let asks = asks_for(alloc, line, 0, mac_queueing(alloc, commands));
-        assert!(rt; asks == Ok(true), "{line}");
-    }
-}
-
-// Whether a request to provision becomes its command.
-fn becomes_command() -> Result<bool, Refusal> {
-    let asked = Provisioning {
-        rx1_offset: Rx1Offset::new(5).ok_or(Refusal::Damaged)?,
-        rx_delay: RxDelay::new(15).ok_or(Refusal::Damaged)?,
-        ..provisioning(DEVICE)?
-    };
-    Ok(provision()?.into_command(application()?) == Command::Provision(asked))
-}
-
-#[test]
-fn a_provisioning_is_a_command(rt: HostRuntime) {
-    assert!(rt; becomes_command() == Ok(true));
 }
 
 const NO_REQUESTS: &[&str] = &[
@@ -521,31 +484,26 @@ fn words_are_values(rt: HostRuntime) {
     assert!(rt; nothing.is_none());
 }
 
-fn in_use() -> Result<Activation, Refusal> {
-    let activation = Activation::new(Some(nonce(5)?), Some(current(3, 70)?), None);
-    activation.ok_or(Refusal::Damaged)
-}
-
 // A device with a session in use and one item.
 fn busy(alloc: Global) -> Result<Device, Refusal> {
-    let items = ItemQueue::new(items(alloc, 1, 1)?)
-        .ok()
-        .ok_or(Refusal::QueueFull)?;
-    Ok(Device {
-        activation: in_use()?,
-        items,
-        ..brought(alloc, Eui(0xAB))?
-    })
+    let mut device = brought(alloc, Eui(0xAB))?;
+    be_busy(alloc, &mut device)?;
+    Ok(device)
+}
+
+fn be_busy(alloc: Global, device: &mut Device) -> Result<(), Refusal> {
+    let activation = Activation::new(Some(nonce(5)?), Some(current(3, 70)?), None);
+    device.activation = activation.ok_or(Refusal::Damaged)?;
+    match ItemQueue::new(items(alloc, 1, 1)?) {
+        Ok(items) => device.items = items,
+        Err(_) => return Err(Refusal::QueueFull),
+    }
+    Ok(())
 }
 
 // Whether the list of a table is this text.
 fn is_listed(alloc: Global, table: &Table, seq: u64, text: &str) -> Result<bool, Refusal> {
     Ok(list_text(alloc, table, seq)?.as_str() == text)
-}
-
-fn new_table(alloc: Global) -> Result<Table, Refusal> {
-    let net_id = NetId::new(0x2A).ok_or(Refusal::Damaged)?;
-    Table::new(alloc, net_id, Slots::new(8).ok_or(Refusal::Damaged)?)
 }
 
 // The lists of a table with no device, with one, and with two.
@@ -555,17 +513,22 @@ const LISTS: [&str; 3] = [
     "0 1112131415161718 0 - - - 0\n1 00000000000000AB 5 3 70 4294967296 1\ndevices 2 seq 18446744073709551615\n",
 ];
 
-fn are_listed(alloc: Global) -> Result<bool, Refusal> {
+fn are_listed(alloc: Global, table: &mut Table) -> Result<bool, Refusal> {
     let [none, one, two] = LISTS;
-    let mut table = new_table(alloc)?;
-    let is_empty = is_listed(alloc, &table, 0, none)?;
+    let is_empty = is_listed(alloc, table, 0, none)?;
     table.put(0, brought(alloc, DEVICE)?)?;
-    let has_one = is_listed(alloc, &table, 1, one)?;
+    let has_one = is_listed(alloc, table, 1, one)?;
     table.put(1, busy(alloc)?)?;
-    Ok(is_empty && has_one && is_listed(alloc, &table, u64::MAX, two)?)
+    Ok(is_empty && has_one && is_listed(alloc, table, u64::MAX, two)?)
+}
+
+fn a_new_table_lists(alloc: Global) -> Result<bool, Refusal> {
+    let net_id = NetId::new(0x2A).ok_or(Refusal::Damaged)?;
+    let slots = Slots::new(8).ok_or(Refusal::Damaged)?;
+    are_listed(alloc, &mut Table::new(alloc, net_id, slots)?)
 }
 
 #[test]
 fn devices_are_listed_by_slot(rt: HostRuntime) {
-    assert!(rt; are_listed(rt.alloc()) == Ok(true));
+    assert!(rt; a_new_table_lists(rt.alloc()) == Ok(true));
 }

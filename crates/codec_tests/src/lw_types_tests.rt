@@ -59,13 +59,6 @@ const SPELLED: &[(&[u8], &str, &str)] = &[
     (&[0, 0x5A, 0xFF], "005AFF", "005AFF"),
 ];
 
-#[test]
-fn bytes_are_upper_case_hex(rt: HostRuntime) {
-    for (bytes, hex, field) in SPELLED {
-        assert!(rt; are_spelled(rt.alloc(), bytes, hex, field), "{field}");
-    }
-}
-
 // Whether the longest payload has a text of twice its length, in hex as in a line.
 fn has_long_text(alloc: Global) -> Result<bool, AllocError> {
     let text = "A5".repeat(alloc, LONGEST_PAYLOAD)?;
@@ -74,7 +67,10 @@ fn has_long_text(alloc: Global) -> Result<bool, AllocError> {
 }
 
 #[test]
-fn long_texts_are_read_again(rt: HostRuntime) {
+fn bytes_are_upper_case_hex(rt: HostRuntime) {
+    for (bytes, hex, field) in SPELLED {
+        assert!(rt; are_spelled(rt.alloc(), bytes, hex, field), "{field}");
+    }
     assert!(rt; has_long_text(rt.alloc()) == Ok(true));
 }
 

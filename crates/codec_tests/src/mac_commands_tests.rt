@@ -102,32 +102,9 @@ fn is_whole(alloc: Global, direction: Direction, cid: Cid, bytes: &[u8]) -> Resu
     match (bytes.split_first(), bytes.split_last()) {
         (Some((_, payload)), Some((_, cut))) => {
             let is_read = is_read(alloc, direction, bytes, &[(cid, payload)], bytes.len())?;
-            Ok(is_read && is_read_of(alloc, direction, cut, 0)?)
+            Ok(is_read && read(alloc, direction, cut)?.stop == 0)
         }
         _ => Ok(false),
-    }
-}
-
-// Whether reading stops there.
-fn is_read_of(
-    alloc: Global,
-    direction: Direction,
-    bytes: &[u8],
-    stop: usize,
-) -> Result<bool, Refusal> {
-    Ok(read(alloc, direction, bytes)?.stop == stop)
-}
-
-#[test]
-fn each_command_is_read_whole_both_ways(rt: HostRuntime) {
-    let alloc = rt.alloc();
-    for (number, cid, up, down) in TABLE {
-        assert!(rt;
-            is_whole(alloc, Direction::Up, *cid, up) == Ok(true),
-            "{number}"
-        );
-        let is_down = is_whole(alloc, Direction::Down, *cid, down);
-        assert!(rt; is_down == Ok(true), "{number}");
     }
 }
 
@@ -136,13 +113,6 @@ fn is_written(alloc: Global, bytes: &[u8]) -> Result<bool, Refusal> {
     let mut out = Vec::from_slice(alloc, &[0xAA])?;
     encode_down(alloc, &decode_down(alloc, bytes)?.commands, &mut out)?;
     Ok(out.as_slice().strip_prefix(&[0xAA]) == Some(bytes))
-}
-
-#[test]
-fn downlinks_are_written_behind_what_is_there(rt: HostRuntime) {
-    for (number, _, _, down) in TABLE {
-        assert!(rt; is_written(rt.alloc(), down) == Ok(true), "{number}");
-    }
 }
 
 #[test]
@@ -165,10 +135,19 @@ fn has_row(row: &Row) -> bool {
         && are_queueable(down) == may
 }
 
+// Whether it is read whole both ways, and in a downlink written as it was.
+fn is_read_and_written(alloc: Global, row: &Row) -> Result<bool, Refusal> {
+    let (_, cid, up, down) = *row;
+    let is_up = is_whole(alloc, Direction::Up, cid, up)?;
+    let is_down = is_whole(alloc, Direction::Down, cid, down)?;
+    Ok(is_up && is_down && is_written(alloc, down)?)
+}
+
 #[test]
 fn each_command_has_its_row(rt: HostRuntime) {
     for row in TABLE {
-        assert!(rt; has_row(row), "{}", row.0);
+        let is_right = has_row(row) && is_read_and_written(rt.alloc(), row) == Ok(true);
+        assert!(rt; is_right, "{}", row.0);
     }
 }
 
@@ -207,14 +186,19 @@ fn requests(alloc: Global, count: usize, rest: &[u8]) -> Result<Vec<u8>, AllocEr
     Ok(bytes)
 }
 
+// Whether what was read so far is written again.
+fn is_again(alloc: Global, found: &Decoded, bytes: &[u8]) -> Result<bool, Refusal> {
+    let mut out = Vec::new(alloc);
+    encode_down(alloc, &found.commands, &mut out)?;
+    Ok(bytes.get(..found.stop) == Some(out.as_slice()))
+}
+
 // How many commands are read of 48 and these bytes, where reading stops, and whether what was read is written again.
 fn read_again(alloc: Global, rest: &[u8]) -> Result<(usize, usize, bool), Refusal> {
     let bytes = requests(alloc, 48, rest)?;
     let found = decode_down(alloc, &bytes)?;
-    let mut out = Vec::new(alloc);
-    encode_down(alloc, &found.commands, &mut out)?;
-    let is_written = bytes.get(..found.stop) == Some(out.as_slice());
-    Ok((found.commands.len(), found.stop, is_written))
+    let is_again = is_again(alloc, &found, &bytes) == Ok(true);
+    Ok((found.commands.len(), found.stop, is_again))
 }
 
 fn checks(alloc: Global) -> Result<(usize, usize), Refusal> {

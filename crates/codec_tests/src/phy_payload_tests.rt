@@ -58,9 +58,16 @@ fn written(alloc: Global, frame: &Phy) -> Result<Vec<u8>, Refusal> {
     Ok(out)
 }
 
+fn is_read(alloc: Global, bytes: &[u8], frame: &Phy) -> bool {
+    match decode(alloc, bytes) {
+        Ok(found) => found == *frame,
+        Err(_) => false,
+    }
+}
+
 // Whether these bytes are this frame: each is made of the other.
 fn are_same(alloc: Global, bytes: &[u8], frame: &Phy) -> Result<bool, Refusal> {
-    Ok(decode(alloc, bytes)? == *frame && written(alloc, frame)?.as_slice() == bytes)
+    Ok(is_read(alloc, bytes, frame) && written(alloc, frame)?.as_slice() == bytes)
 }
 
 fn spells(alloc: Global, text: &str, frame: &Phy) -> Result<bool, Refusal> {
@@ -336,8 +343,10 @@ fn refused(alloc: Global, mhdr: u8, len: usize) -> Result<Option<Refusal>, Refus
 // Whether they are a frame, and written again.
 fn is_frame(alloc: Global, mhdr: u8, len: usize) -> Result<bool, Refusal> {
     let whole = zeros(alloc, mhdr, len)?;
-    let frame = decode(alloc, &whole)?;
-    Ok(written(alloc, &frame)? == whole)
+    match decode(alloc, &whole) {
+        Ok(frame) => are_same(alloc, &whole, &frame),
+        Err(refusal) => Err(refusal),
+    }
 }
 
 const SHORTEST: &[(u8, usize)] = &[
@@ -360,26 +369,6 @@ fn the_low_bits_of_an_mhdr_are_0(rt: HostRuntime) {
     }
 }
 
-// MHDRs, lengths from one to another, and those of them that a frame has.
-const JOIN_LENGTHS: &[(u8, usize, usize, &[usize])] = &[
-    (0x00, 22, 25, &[23]),
-    (0x20, 16, 35, &[17, 33]),
-];
-
-#[test]
-fn joins_have_their_lengths(rt: HostRuntime) {
-    for (mhdr, from, to, frames) in JOIN_LENGTHS {
-        for len in *from..*to {
-            let refusal = if frames.contains(&len) {
-                None
-            } else {
-                Some(Refusal::Malformed)
-            };
-            assert!(rt; refused(rt.alloc(), *mhdr, len) == Ok(refusal), "{len}");
-        }
-    }
-}
-
 // The length of the payload in a data frame of so many bytes without FOpts.
 fn payload_len(alloc: Global, len: usize) -> Result<Option<usize>, Refusal> {
     match decode(alloc, &zeros(alloc, 0x40, len)?)? {
@@ -391,42 +380,61 @@ fn payload_len(alloc: Global, len: usize) -> Result<Option<usize>, Refusal> {
     }
 }
 
+const PAYLOADS: &[(usize, Option<usize>)] = &[(12, None), (13, Some(0)), (255, Some(242))];
+
 #[test]
 fn data_frames_have_12_to_255_bytes(rt: HostRuntime) {
-    assert!(rt; payload_len(rt.alloc(), 12) == Ok(None));
-    assert!(rt; payload_len(rt.alloc(), 13) == Ok(Some(0)));
-    assert!(rt; payload_len(rt.alloc(), 255) == Ok(Some(242)));
+    for (len, wanted) in PAYLOADS {
+        assert!(rt; payload_len(rt.alloc(), *len) == Ok(*wanted), "{len}");
+    }
 }
 
-// No frame has 256 bytes, and one of another type may have 255.
-const LONG: &[(u8, usize, Refusal)] = &[
-    (0x00, 256, Refusal::Malformed),
-    (0x20, 256, Refusal::Malformed),
-    (0x40, 256, Refusal::Malformed),
-    (0x60, 256, Refusal::Malformed),
-    (0x80, 256, Refusal::Malformed),
-    (0xA0, 256, Refusal::Malformed),
-    (0xC0, 256, Refusal::Malformed),
-    (0xE0, 256, Refusal::Malformed),
-    (0xC0, 255, Refusal::NotServed),
-    (0xE0, 255, Refusal::NotServed),
+// MHDRs, lengths from one to another, and what such bytes are refused, if anything.
+const BY_LENGTH: &[(u8, usize, usize, Option<Refusal>)] = &[
+    // Join-Requests and Join-Accepts have their lengths.
+    (0x00, 22, 23, Some(Refusal::Malformed)),
+    (0x00, 23, 24, None),
+    (0x00, 24, 25, Some(Refusal::Malformed)),
+    (0x20, 16, 17, Some(Refusal::Malformed)),
+    (0x20, 17, 18, None),
+    (0x20, 18, 33, Some(Refusal::Malformed)),
+    (0x20, 33, 34, None),
+    (0x20, 34, 35, Some(Refusal::Malformed)),
+    // No frame has 256 bytes, and one of another type may have 255.
+    (0x00, 256, 257, Some(Refusal::Malformed)),
+    (0x20, 256, 257, Some(Refusal::Malformed)),
+    (0x40, 256, 257, Some(Refusal::Malformed)),
+    (0x60, 256, 257, Some(Refusal::Malformed)),
+    (0x80, 256, 257, Some(Refusal::Malformed)),
+    (0xA0, 256, 257, Some(Refusal::Malformed)),
+    (0xC0, 256, 257, Some(Refusal::Malformed)),
+    (0xE0, 256, 257, Some(Refusal::Malformed)),
+    (0xC0, 255, 256, Some(Refusal::NotServed)),
+    (0xE0, 255, 256, Some(Refusal::NotServed)),
 ];
 
 #[test]
-fn a_frame_has_at_most_255_bytes(rt: HostRuntime) {
-    for (mhdr, len, refusal) in LONG {
-        assert!(rt;
-            refused(rt.alloc(), *mhdr, *len) == Ok(Some(*refusal)),
-            "{mhdr}"
-        );
+fn frames_have_their_lengths(rt: HostRuntime) {
+    for (mhdr, from, to, refusal) in BY_LENGTH {
+        for len in *from..*to {
+            let refused = refused(rt.alloc(), *mhdr, len);
+            assert!(rt; refused == Ok(*refusal), "{mhdr}, {len}");
+        }
     }
 }
 
 // Whether a copy of one byte of FOpts and two of payload on port 9 is the same, and comes apart.
 fn has_parts(alloc: Global) -> Result<bool, Refusal> {
     let whole = contents(alloc, &[2], Some(9), &[5, 6])?;
-    let is_seen = whole.f_opts() == [2].as_slice() && whole.clone()? == whole;
-    Ok(is_seen && are_parts(whole))
+    Ok(is_copied(&whole) && are_parts(whole))
+}
+
+fn is_copied(whole: &Contents) -> bool {
+    let copy: Result<_, _> = whole.clone();
+    match copy {
+        Ok(copy) => whole.f_opts() == [2].as_slice() && copy == *whole,
+        Err(_) => false,
+    }
 }
 
 fn are_parts(contents: Contents) -> bool {
@@ -450,12 +458,21 @@ fn parts(alloc: Global, len: usize) -> Result<(bool, bool), Refusal> {
     Ok((is_payload, FOpts::new(vec![in alloc; 0u8; len]?).is_ok()))
 }
 
+const LENGTHS: &[(usize, bool, bool)] = &[
+    (15, true, true),
+    (16, true, false),
+    (242, true, false),
+    (243, false, false),
+];
+
 #[test]
 fn parts_have_their_lengths(rt: HostRuntime) {
-    assert!(rt; parts(rt.alloc(), 15) == Ok((true, true)));
-    assert!(rt; parts(rt.alloc(), 16) == Ok((true, false)));
-    assert!(rt; parts(rt.alloc(), 242) == Ok((true, false)));
-    assert!(rt; parts(rt.alloc(), 243) == Ok((false, false)));
+    for (len, is_payload, is_f_opts) in LENGTHS {
+        assert!(rt;
+            parts(rt.alloc(), *len) == Ok((*is_payload, *is_f_opts)),
+            "{len}"
+        );
+    }
 }
 
 // A data frame with so many bytes of FOpts and, where there is a port, of payload.
@@ -477,62 +494,33 @@ fn data_frame(
     })
 }
 
-// The length of what is written of such a frame, where it is read again.
-fn len_again(
+// The lengths of a frame's message and of what is written of it behind 7, where that is read again.
+fn lengths(alloc: Global, frame: DataFrame) -> Result<(usize, usize), Refusal> {
+    let (mut message, mut out) = (Vec::new(alloc), Vec::from_slice(alloc, &[7])?);
+    encode_message(alloc, &frame, &mut message)?;
+    let frame = Phy::DataFrame(frame);
+    encode(alloc, &frame, &mut out)?;
+    match out.as_slice().split_first() {
+        Some((7, bytes)) if are_same(alloc, bytes, &frame)? => Ok((message.len(), bytes.len())),
+        _ => Err(Refusal::Malformed),
+    }
+}
+
+// Those of such a frame.
+fn lengths_of(
     alloc: Global,
     f_opts: usize,
     port: Option<u8>,
     payload: usize,
-) -> Result<usize, Refusal> {
-    let frame = Phy::DataFrame(data_frame(alloc, f_opts, port, payload)?);
-    let bytes = written(alloc, &frame)?;
-    if decode(alloc, &bytes)? == frame {
-        Ok(bytes.len())
-    } else {
-        Err(Refusal::Malformed)
-    }
+) -> Result<(usize, usize), Refusal> {
+    lengths(alloc, data_frame(alloc, f_opts, port, payload)?)
 }
 
+// A MIC is made of the bytes before it, and frames are written behind what is there.
 #[test]
 fn each_length_of_f_opts_is_read_again(rt: HostRuntime) {
     for len in 0usize..16 {
-        assert!(rt; len_again(rt.alloc(), len, None, 0) == Ok(12 + len));
-        assert!(rt; len_again(rt.alloc(), len, Some(9), 242 - len) == Ok(255));
+        assert!(rt; lengths_of(rt.alloc(), len, None, 0) == Ok((8 + len, 12 + len)));
+        assert!(rt; lengths_of(rt.alloc(), len, Some(9), 242 - len) == Ok((251, 255)));
     }
-}
-
-// The length of what is written of an empty frame behind 7, and its first byte.
-fn behind_7(alloc: Global) -> Result<(usize, Option<u8>), Refusal> {
-    let frame = Phy::DataFrame(data_frame(alloc, 0, None, 0)?);
-    let mut out = Vec::from_slice(alloc, &[7])?;
-    encode(alloc, &frame, &mut out)?;
-    Ok((out.len(), out.first().copied()))
-}
-
-#[test]
-fn frames_are_written_behind_what_is_there(rt: HostRuntime) {
-    assert!(rt; behind_7(rt.alloc()) == Ok((13, Some(7))));
-}
-
-// The length of the message of a data frame.
-fn message_len(
-    alloc: Global,
-    f_opts: usize,
-    port: Option<u8>,
-    payload: usize,
-) -> Result<usize, Refusal> {
-    let mut message = Vec::new(alloc);
-    encode_message(
-        alloc,
-        &data_frame(alloc, f_opts, port, payload)?,
-        &mut message,
-    )?;
-    Ok(message.len())
-}
-
-// That of a data frame of 12 bytes, and of 255.
-#[test]
-fn a_mic_is_made_of_the_bytes_before_it(rt: HostRuntime) {
-    assert!(rt; message_len(rt.alloc(), 0, None, 0) == Ok(8));
-    assert!(rt; message_len(rt.alloc(), 15, Some(9), 227) == Ok(251));
 }

@@ -25,39 +25,83 @@ fn both_sessions() -> Result<Activation, Refusal> {
     activation.ok_or(Refusal::Damaged)
 }
 
-// A device with both sessions, a tag awaited, a DevNonce of 0, and these queues.
-fn busy(alloc: Global, mac_queue: Vec<u8>, items: Vec<Item>) -> Result<Device, Refusal> {
-    let mac_queue = MacQueue::new(mac_queue).ok().ok_or(Refusal::BadMac)?;
-    let items = ItemQueue::new(items).ok().ok_or(Refusal::QueueFull)?;
-    Ok(Device {
-        last_dev_nonce: Some(0),
-        activation: both_sessions()?,
-        awaited: Some(Tag(0)),
-        mac_queue,
-        items,
-        ..brought(alloc, DEVICE)?
-    })
+// What a device has beyond what it was brought with.
+enum Has {
+    Nothing,
+    /// A pending session.
+    Pending,
+    /// Both sessions, a tag awaited, a DevNonce of 0, these MAC commands, and so many items of this length.
+    All(&'static [u8], u32, usize),
 }
 
-// The record of the device, which is read as the device.
+// Gives the device what it has.
+fn give(alloc: Global, device: &mut Device, has: &Has) -> Result<(), Refusal> {
+    match has {
+        Has::Nothing => Ok(()),
+        Has::Pending => {
+            let activation = Activation::new(JoinNonce::new(1), None, Some(session(1)?));
+            device.activation = activation.ok_or(Refusal::Damaged)?;
+            Ok(())
+        }
+        Has::All(mac_commands, count, len) => {
+            device.last_dev_nonce = Some(0);
+            device.activation = both_sessions()?;
+            device.awaited = Some(Tag(0));
+            queue(alloc, device, mac_commands, items(alloc, *count, *len)?)
+        }
+    }
+}
+
+fn queue(
+    alloc: Global,
+    device: &mut Device,
+    mac_commands: &[u8],
+    items: Vec<Item>,
+) -> Result<(), Refusal> {
+    match (
+        MacQueue::new(Vec::from_slice(alloc, mac_commands)?),
+        ItemQueue::new(items),
+    ) {
+        (Ok(mac_queue), Ok(items)) => {
+            device.mac_queue = mac_queue;
+            device.items = items;
+            Ok(())
+        }
+        _ => Err(Refusal::QueueFull),
+    }
+}
+
+fn device(alloc: Global, has: &Has) -> Result<Device, Refusal> {
+    let mut device = brought(alloc, DEVICE)?;
+    match give(alloc, &mut device, has) {
+        Ok(()) => Ok(device),
+        Err(refusal) => Err(refusal),
+    }
+}
+
+fn is_read(alloc: Global, record: &[u8], device: &Device) -> bool {
+    match read_device(alloc, record) {
+        Ok(found) => found == *device,
+        Err(_) => false,
+    }
+}
+
+// The record of the device, which is read as the device, and written behind 9 too.
 fn record_of(alloc: Global, device: &Device) -> Result<Vec<u8>, Refusal> {
-    let mut out = Vec::new(alloc);
+    let (mut out, mut behind) = (Vec::new(alloc), Vec::from_slice(alloc, &[9])?);
     write_device(alloc, device, &mut out)?;
-    if read_device(alloc, &out)? == *device {
+    write_device(alloc, device, &mut behind)?;
+    let is_behind = behind.as_slice().strip_prefix(&[9]) == Some(out.as_slice());
+    if is_behind && is_read(alloc, &out, device) {
         Ok(out)
     } else {
         Err(Refusal::Damaged)
     }
 }
 
-// Whether a new device has its record, which is written behind 9 too.
 fn is_brought(alloc: Global) -> Result<bool, Refusal> {
-    let device = brought(alloc, DEVICE)?;
-    let record = record_of(alloc, &device)?;
-    let mut out = Vec::from_slice(alloc, &[9])?;
-    write_device(alloc, &device, &mut out)?;
-    let is_behind_9 = out.as_slice().strip_prefix(&[9]) == Some(BROUGHT.as_slice());
-    Ok(is_behind_9 && record.as_slice() == BROUGHT.as_slice())
+    let record = record_of(alloc, &device(alloc, &Has::Nothing)?)?;
+    Ok(record.as_slice() == BROUGHT.as_slice())
 }
 
 #[test]
@@ -65,78 +109,60 @@ fn a_new_device_has_50_bytes(rt: HostRuntime) {
     assert!(rt; is_brought(rt.alloc()) == Ok(true));
 }
 
-fn with_a_pending_session(alloc: Global) -> Result<Device, Refusal> {
-    let activation = Activation::new(JoinNonce::new(1), None, Some(session(1)?));
-    Ok(Device {
-        activation: activation.ok_or(Refusal::Damaged)?,
-        ..brought(alloc, DEVICE)?
-    })
+fn len_of(alloc: Global, has: &Has) -> Result<usize, Refusal> {
+    Ok(record_of(alloc, &device(alloc, has)?)?.len())
 }
 
-fn pending_len(alloc: Global) -> Result<usize, Refusal> {
-    Ok(record_of(alloc, &with_a_pending_session(alloc)?)?.len())
-}
-
-#[test]
-fn a_pending_session_takes_35_bytes_more(rt: HostRuntime) {
-    assert!(rt; pending_len(rt.alloc()) == Ok(85));
-}
-
-// The length of the record of a busy device with these MAC commands and so many items of this length.
-fn busy_len(alloc: Global, mac_queue: &[u8], count: u32, len: usize) -> Result<usize, Refusal> {
-    let items = items(alloc, count, len)?;
-    let device = busy(alloc, Vec::from_slice(alloc, mac_queue)?, items)?;
-    Ok(record_of(alloc, &device)?.len())
-}
-
-#[test]
-fn a_busy_device_is_read_back(rt: HostRuntime) {
-    assert!(rt; busy_len(rt.alloc(), &[6, 4, 0], 1, 2) == Ok(50 + 47 + 35 + 3 + 9));
-    // The largest record.
-    assert!(rt; busy_len(rt.alloc(), &[6; 64], 16, 242) == Ok(4180));
-}
-
-// A place of a new device's record, and a byte there that is out of range.
-const FAULTS: &[(usize, u8, &str)] = &[
-    (32, 16, "application"),
-    (33, 6, "RX1DROffset"),
-    (34, 0, "delay"),
-    (34, 16, "delay"),
-    (35, 2, "flag of the DevNonce"),
-    (37, 1, "a DevNonce that is not there"),
-    (41, 1, "a current session that is cut short"),
-    (43, 3, "flag of the tag"),
-    (47, 1, "a tag that is not there"),
-    (48, 1, "a MAC queue of no command"),
-    (49, 1, "an item that is cut short"),
+// A pending session takes 35 bytes more; the last record is the largest.
+const LENGTHS: &[(Has, usize)] = &[
+    (Has::Pending, 85),
+    (Has::All(&[6, 4, 0], 1, 2), 50 + 47 + 35 + 3 + 9),
+    (Has::All(&[6; 64], 16, 242), 4180),
 ];
 
-// What the record with another byte at a place is refused.
-fn refused(alloc: Global, place: usize, byte: u8) -> Option<Refusal> {
-    let mut bytes = BROUGHT;
-    *bytes.get_mut(place)? = byte;
-    read_device(alloc, &bytes).err()
-}
-
 #[test]
-fn a_field_out_of_range_is_damaged(rt: HostRuntime) {
-    for (place, byte, fault) in FAULTS {
-        let refused = refused(rt.alloc(), *place, *byte);
-        assert!(rt; refused == Some(Refusal::Damaged), "{fault}");
+fn devices_are_read_back(rt: HostRuntime) {
+    for (has, wanted) in LENGTHS {
+        assert!(rt; len_of(rt.alloc(), has) == Ok(*wanted), "{wanted}");
     }
 }
 
-// What the record with one byte more is refused.
-fn refused_long(alloc: Global) -> Result<Option<Refusal>, Refusal> {
-    let mut long = Vec::from_slice(alloc, &BROUGHT)?;
-    long.push(0)?;
-    Ok(read_device(alloc, &long).err())
+// A place of a new device's record behind which a 0 stands, another byte there, and how many bytes are read.
+const FAULTS: &[(usize, u8, usize, &str)] = &[
+    (32, 16, 50, "application"),
+    (33, 6, 50, "RX1DROffset"),
+    (34, 0, 50, "delay"),
+    (34, 16, 50, "delay"),
+    (35, 2, 50, "flag of the DevNonce"),
+    (37, 1, 50, "a DevNonce that is not there"),
+    (41, 1, 50, "a current session that is cut short"),
+    (43, 3, 50, "flag of the tag"),
+    (47, 1, 50, "a tag that is not there"),
+    (48, 1, 50, "a MAC queue of no command"),
+    (49, 1, 50, "an item that is cut short"),
+    (50, 0, 51, "a byte more"),
+    (50, 0, 49, "a byte less"),
+    (50, 0, 0, "no byte"),
+];
+
+// What such bytes are refused.
+fn refused(alloc: Global, place: usize, byte: u8, len: usize) -> Result<Option<Refusal>, Refusal> {
+    let mut bytes = Vec::from_slice(alloc, &BROUGHT)?;
+    bytes.push(0)?;
+    match bytes.get_mut(place) {
+        Some(there) => *there = byte,
+        None => return Err(Refusal::Malformed),
+    }
+    match bytes.get(..len) {
+        Some(read) => Ok(read_device(alloc, read).err()),
+        None => Err(Refusal::Malformed),
+    }
 }
 
 #[test]
-fn a_record_of_another_length_is_damaged(rt: HostRuntime) {
-    assert!(rt; refused_long(rt.alloc()) == Ok(Some(Refusal::Damaged)));
-    let short = read_device(rt.alloc(), &BROUGHT[..49]);
-    assert!(rt; short.err() == Some(Refusal::Damaged));
-    assert!(rt; read_device(rt.alloc(), &[]).err() == Some(Refusal::Damaged));
+fn a_field_out_of_range_or_another_length_is_damaged(rt: HostRuntime) {
+    for (place, byte, len, fault) in FAULTS {
+        let refused = refused(rt.alloc(), *place, *byte, *len);
+        assert!(rt; refused == Ok(Some(Refusal::Damaged)), "{fault}");
+    }
 }

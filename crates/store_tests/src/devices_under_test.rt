@@ -1,13 +1,12 @@
-// The devices that these tests bring.
-ghost use Rattle.std.specs.Prelude.{IfOk};
-ghost use Rattle.sessions.specs.Decision.{Fits};
+// The devices that these tests bring, and batches of their provisionings.
+ghost use Rattle.std.specs.Prelude.{◌<◌, length};
 
 use devices::{
     Application, Command, Device, Item, ItemQueue, Payload, Port, Provisioning, Rx1Offset, RxDelay,
     Tag,
 };
 use lw_types::{Eui, Key, NetId, Refusal};
-use sessions::{Batch, Decision, Slots, Table};
+use sessions::{Batch, Slots, Table};
 use std::alloc::Global;
 
 pub fn net_id() -> Result<NetId, Refusal> {
@@ -18,69 +17,86 @@ pub fn slots(slots: u64) -> Result<Slots, Refusal> {
     Slots::new(slots).ok_or(Refusal::Damaged)
 }
 
-pub fn provisioning(dev_eui: u64) -> Option<Provisioning> {
+/// A table of network 00002A without devices.
+pub fn new_table(alloc: Global, most: u64) -> Result<Table, Refusal> {
+    Table::new(alloc, net_id()?, slots(most)?)
+}
+
+/// The key of the devices that don't join.
+pub const PLAIN_KEY: Key = Key([0x2B; 16]);
+
+pub fn provisioning(dev_eui: u64, app_key: Key) -> Option<Provisioning> {
     Some(Provisioning {
         application: Application::new(3)?,
         dev_eui: Eui(dev_eui),
-        join_eui: Eui(0x0102030405060708),
-        app_key: Key([0x2B; 16]),
+        join_eui: Eui(0x0102_0304_0506_0708),
+        app_key,
         rx1_offset: Rx1Offset::new(0)?,
         rx_delay: RxDelay::new(1)?,
     })
 }
 
-// Provisionings of new devices, each decided on the table that those before it leave. The DevEUI of a device
-// is the number of its decision.
+/// Provisionings of new devices, each decided on the table that those before it leave. The DevEUI of a device
+/// is the number of its decision.
 pub fn provisionings(alloc: Global, table: &Table, seq: u64, count: u64) -> Result<Batch, Refusal> {
-    let mut table = table.copy()?;
     let mut batch = Batch::new(alloc)?;
-    for last in seq..seq.saturating_add(count) {
-        let provisioning = provisioning(last.saturating_add(1)).ok_or(Refusal::Damaged)?;
-        let command = Command::Provision(provisioning);
-        add(alloc, &mut table, last, &mut batch, command)?;
-    }
+    let mut table = table.copy()?;
+    add_provisionings(alloc, &mut table, seq, &mut batch, count)?;
     Ok(batch)
 }
 
-/// Decides a command on the table, under the number after `seq`, and adds the decision to the batch.
+fn add_provisionings(
+    alloc: Global,
+    table: &mut Table,
+    seq: u64,
+    batch: &mut Batch,
+    count: u64,
+) -> Result<(), Refusal> {
+    for last in seq..seq.saturating_add(count) {
+        if batch.len() >= Batch::MOST {
+            return Err(Refusal::OutOfStep);
+        }
+        let Some(provisioning) = provisioning(last.saturating_add(1), PLAIN_KEY) else {
+            return Err(Refusal::Damaged);
+        };
+        add(alloc, table, last, batch, Command::Provision(provisioning))?;
+    }
+    Ok(())
+}
+
+/// Decides a command on the table, under the number after `seq`, and adds the decision to the batch, which is thrown away
+/// where the table doesn't admit it.
 pub fn add(
     alloc: Global,
     table: &mut Table,
     seq: u64,
     batch: &mut Batch,
     command: Command,
-) -> Result<(), Refusal> {
-    let decision = decided(alloc, table, seq, command)?;
-    table.apply(&decision)?;
-    if batch.len() >= Batch::MOST {
-        return Err(Refusal::OutOfStep);
-    }
-    batch.push(decision);
-    Ok(())
-}
-
-// The decision, where the table admits it.
-fn decided(alloc: Global, table: &Table, seq: u64, command: Command) -> Result<Decision, Refusal>
-    ensures { IfOk result (λ decision. Fits table.now decision) }
+) -> Result<(), Refusal>
+    requires { length batch.old < 64 }
 {
     let decision = table.decide(alloc, seq.saturating_add(1), command)?;
-    if !table.admits(seq, &decision) {
-        return Err(Refusal::OutOfStep);
-    }
-    Ok(decision)
+    let applied = if table.admits(seq, &decision) {
+        table.apply(&decision)
+    } else {
+        Err(Refusal::OutOfStep)
+    };
+    batch.push(decision);
+    applied
 }
 
 pub fn idle_device(alloc: Global, dev_eui: u64) -> Result<Device, Refusal> {
-    match provisioning(dev_eui) {
+    match provisioning(dev_eui, PLAIN_KEY) {
         Some(provisioning) => Ok(Device::provisioned(alloc, &provisioning)),
         None => Err(Refusal::Damaged),
     }
 }
 
-// A device with a full queue, whose record has 4,034 bytes.
+/// A device with a full queue, whose record has 4,034 bytes.
 pub fn busy_device(alloc: Global, dev_eui: u64) -> Result<Device, Refusal> {
+    let items = full_queue(alloc)?;
     let mut device = idle_device(alloc, dev_eui)?;
-    device.items = full_queue(alloc)?;
+    device.items = items;
     Ok(device)
 }
 

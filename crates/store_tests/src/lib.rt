@@ -19,3 +19,5 @@ mod store_joins_tests;
 mod store_layout_tests;
 #[cfg(test)]
 mod store_tests;
+#[cfg(test)]
+mod stores_under_test;

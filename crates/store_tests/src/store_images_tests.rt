@@ -1,20 +1,30 @@
 // Images of stores, opened.
 use crate::devices_under_test::{busy_device, idle_device};
-use crate::store_tests::{FRONT, LEN, SECOND_AREA, found, provision, with_one_device};
+use crate::store_tests::FRONT;
+use crate::stores_under_test::{ALL, LEN, SECOND_AREA, found, opened, store_after, take};
 use devices::Device;
 use disk::{MemDisk, Sim};
 use lw_types::{Eui, Refusal};
 use std::alloc::Global;
-use store::{open, open_back};
+use store::{Store, open};
 use store_layout::{RecordVersion, put_entry};
 
 // The bytes of a store with one device.
 fn image(alloc: Global) -> Result<Vec<u8>, Refusal> {
-    let disk = with_one_device(alloc)?.close();
+    let disk = store_after(alloc, "1")?.close();
     Ok(disk.content().to_vec(alloc)?)
 }
 
-// A disk of so many of these bytes, of which those from one place to another are this byte.
+// The length of a disk, of whose bytes those from one place to another are this byte; the call of its opening that fails, if
+// any; and the answer.
+type Spoiled = (
+    usize,
+    (usize, usize),
+    u8,
+    u64,
+    Result<(usize, u64), Refusal>,
+);
+
 fn spoiled(alloc: Global, len: usize, place: (usize, usize), byte: u8) -> Result<MemDisk, Refusal> {
     let mut bytes = image(alloc)?;
     let (from, to) = place;
@@ -26,135 +36,116 @@ fn spoiled(alloc: Global, len: usize, place: (usize, usize), byte: u8) -> Result
     Ok(MemDisk::new(alloc, bytes)?)
 }
 
-// What the opening of such a disk is refused.
-fn refused(alloc: Global, len: usize, place: (usize, usize), byte: u8) -> Option<Refusal> {
-    match spoiled(alloc, len, place, byte) {
-        Ok(disk) => open(alloc, disk).err(),
-        Err(refusal) => Some(refusal),
+// Whether the opening of such a disk has its answer, and the disk comes back as it was.
+fn answers_so(alloc: Global, row: &Spoiled) -> Result<bool, Refusal> {
+    let (len, place, byte, failing, wanted) = *row;
+    let mut disk = spoiled(alloc, len, place, byte)?;
+    if failing > 0 {
+        disk.arm(failing);
     }
+    let answer = opened(alloc, &mut disk);
+    let is_there = place.0 == place.1 || disk.content().get(place.0) == Some(&byte);
+    Ok(answer == wanted && is_there && disk.content().len() == len)
 }
 
-const SUPERBLOCKS: &[(usize, (usize, usize), u8, Refusal)] = &[
-    (31, (0, 0), 0, Refusal::WrongSize),
-    (31, (0, 1), 0x00, Refusal::WrongSize),
-    (LEN - 1, (0, 0), 0, Refusal::WrongSize),
-    (LEN + 1, (0, 0), 0, Refusal::WrongSize),
+const SPOILED: &[Spoiled] = &[
+    (31, (0, 0), 0, 0, Err(Refusal::WrongSize)),
+    (31, (0, 1), 0x00, 0, Err(Refusal::WrongSize)),
+    (LEN - 1, (0, 0), 0, 0, Err(Refusal::WrongSize)),
+    (LEN + 1, (0, 0), 0, 0, Err(Refusal::WrongSize)),
     // The gate, the version and the NetID.
-    (LEN, (0, 1), 0x00, Refusal::NotFormatted),
-    (LEN, (8, 9), 0x02, Refusal::WrongVersion),
-    (LEN, (9, 10), 0x01, Refusal::Damaged),
+    (LEN, (0, 1), 0x00, 0, Err(Refusal::NotFormatted)),
+    (LEN, (8, 9), 0x02, 0, Err(Refusal::WrongVersion)),
+    (LEN, (9, 10), 0x01, 0, Err(Refusal::Damaged)),
     // Its fields count before the length, and the areas behind it.
-    (LEN - 1, (9, 10), 0x01, Refusal::Damaged),
-    (LEN - 1, (32, 33), 0x00, Refusal::WrongSize),
-];
-
-#[test]
-fn a_bad_superblock_is_refused(rt: HostRuntime) {
-    for (len, place, byte, refusal) in SUPERBLOCKS {
-        let answer = refused(rt.alloc(), *len, *place, *byte);
-        assert!(rt;
-            answer == Some(*refusal),
-            "{len} bytes, {place:?} are {byte}"
-        );
-    }
-}
-
-const AREAS: &[((usize, usize), u8, Option<Refusal>)] = &[
+    (LEN - 1, (9, 10), 0x01, 0, Err(Refusal::Damaged)),
+    (LEN - 1, (32, 33), 0x00, 0, Err(Refusal::WrongSize)),
+    // Nothing is spoiled.
+    (LEN, (0, 0), 0, 0, Ok((1, 1))),
     // The area's gate, version and generation.
-    ((32, 33), 0x00, Some(Refusal::Damaged)),
-    ((33, 34), 0x09, Some(Refusal::WrongVersion)),
-    ((34, 35), 0x7F, None),
-    ((34, 35), 0x80, Some(Refusal::Damaged)),
+    (LEN, (32, 33), 0x00, 0, Err(Refusal::Damaged)),
+    (LEN, (33, 34), 0x09, 0, Err(Refusal::WrongVersion)),
+    (LEN, (34, 35), 0x7F, 0, Ok((1, 1))),
+    (LEN, (34, 35), 0x80, 0, Err(Refusal::Damaged)),
     // The length of the records.
-    ((54, 55), 0x01, Some(Refusal::Damaged)),
-    // The batch's length, last sequence number and number of entries.
-    ((63, 67), 0xFF, Some(Refusal::Damaged)),
-    ((74, 75), 0x02, Some(Refusal::Damaged)),
-    ((76, 77), 0x00, Some(Refusal::Damaged)),
+    (LEN, (54, 55), 0x01, 0, Err(Refusal::Damaged)),
+    // The batch's gate, behind which nothing counts, its length, last sequence number and number of entries.
+    (LEN, (62, 63), 0x00, 0, Ok((0, 0))),
+    (LEN, (63, 67), 0xFF, 0, Err(Refusal::Damaged)),
+    (LEN, (74, 75), 0x02, 0, Err(Refusal::Damaged)),
+    (LEN, (76, 77), 0x00, 0, Err(Refusal::Damaged)),
+    // A call fails, or there is no failing one any more.
+    (LEN, (0, 1), 0xA5, 1, Err(Refusal::DeviceFailed)),
+    (LEN, (0, 1), 0xA5, 2, Err(Refusal::DeviceFailed)),
+    (LEN, (0, 1), 0x00, 9, Err(Refusal::NotFormatted)),
 ];
 
+// With a refusal the disk comes back, too.
 #[test]
-fn a_bad_header_or_batch_is_refused(rt: HostRuntime) {
-    for (place, byte, refusal) in AREAS {
-        let answer = refused(rt.alloc(), LEN, *place, *byte);
-        assert!(rt; answer == *refusal, "{place:?} are {byte}");
+fn a_disk_is_opened_or_comes_back(rt: HostRuntime) {
+    for row in SPOILED {
+        assert!(rt; answers_so(rt.alloc(), row) == Ok(true), "{row:?}");
     }
 }
 
-fn is_none(alloc: Global) -> Result<bool, Refusal> {
-    let disk = spoiled(alloc, LEN, (62, 63), 0x00)?;
-    Ok(found(alloc, disk)? == (0, 0))
-}
+// A slot, the DevEUI of the device there, and whether that has a full queue.
+type Entry = (u16, u64, bool);
 
-#[test]
-fn a_batch_behind_a_closed_gate_is_none(rt: HostRuntime) {
-    assert!(rt; is_none(rt.alloc()) == Ok(true));
-}
-
-// Whether a disk with this first byte, whose call behind so many fails, comes back with this refusal.
-fn comes_back(alloc: Global, byte: u8, calls: u8, refusal: Refusal) -> Result<bool, Refusal> {
-    let mut disk = spoiled(alloc, LEN, (0, 1), byte)?;
-    disk.arm(u64::from(calls) + 1);
-    match open_back(alloc, disk) {
-        Ok(_) => Ok(false),
-        Err((disk, answer)) => {
-            let content = disk.content();
-            Ok(answer == refusal && content.len() == LEN && content.first() == Some(&byte))
-        }
+fn device_of(alloc: Global, entry: &Entry) -> Result<Device, Refusal> {
+    let (_, dev_eui, is_busy) = *entry;
+    if is_busy {
+        busy_device(alloc, dev_eui)
+    } else {
+        idle_device(alloc, dev_eui)
     }
 }
 
-// With a refusal the disk comes back: of a failing call, and of a bad image.
-#[test]
-fn a_refused_disk_comes_back(rt: HostRuntime) {
-    let alloc = rt.alloc();
-    assert!(rt; comes_back(alloc, 0xA5, 0, Refusal::DeviceFailed) == Ok(true));
-    assert!(rt; comes_back(alloc, 0xA5, 1, Refusal::DeviceFailed) == Ok(true));
-    assert!(rt; comes_back(alloc, 0x00, 8, Refusal::NotFormatted) == Ok(true));
-}
-
-fn is_kept(alloc: Global) -> Result<bool, Refusal> {
-    match open_back(alloc, MemDisk::new(alloc, image(alloc)?)?) {
-        Ok(store) => Ok(store.seq() == 1),
-        Err((_, refusal)) => Err(refusal),
+// Adds these entries.
+fn add_entries(alloc: Global, bytes: &mut Vec<u8>, entries: &[Entry]) -> Result<(), Refusal> {
+    for entry in entries {
+        let device = device_of(alloc, entry)?;
+        put_entry(alloc, RecordVersion::V1, entry.0, &device, bytes)?;
     }
+    Ok(())
 }
 
-#[test]
-fn a_good_disk_is_kept(rt: HostRuntime) {
-    assert!(rt; is_kept(rt.alloc()) == Ok(true));
-}
-
-// Adds the entry of a record at a slot.
-fn add_entry(
-    alloc: Global,
-    bytes: &mut Vec<u8>,
-    slot: u16,
-    device: &Device,
-) -> Result<(), Refusal> {
-    put_entry(alloc, RecordVersion::V1, slot, device, bytes)
-}
-
-// Adds the entry of an idle device at a slot.
-fn add_idle(alloc: Global, bytes: &mut Vec<u8>, slot: u16, dev_eui: u64) -> Result<(), Refusal> {
-    add_entry(alloc, bytes, slot, &idle_device(alloc, dev_eui)?)
-}
-
-// An image whose checkpoint at number 7 has these records.
-fn checkpoint(alloc: Global, count: u8, records: &[u8]) -> Result<Vec<u8>, Refusal> {
-    let mut bytes = FRONT[..42].to_vec(alloc)?;
-    bytes.extend_from_slice(&[0, 0, 0, 0, 0, 0, 0, 7, 0, 0, 0, count])?;
-    bytes.extend_from_slice(&(records.len() as u64).to_be_bytes())?;
-    bytes.extend_from_slice(records)?;
+fn entries_of(alloc: Global, entries: &[Entry]) -> Result<Vec<u8>, Refusal> {
+    let mut bytes = Vec::new(alloc);
+    add_entries(alloc, &mut bytes, entries)?;
     Ok(bytes)
 }
 
-// Adds a batch behind its open gate.
-fn add_batch(bytes: &mut Vec<u8>, last: u8, count: u8, entries: &[u8]) -> Result<(), Refusal> {
+// Whether these are the devices of the entries, slot by slot.
+fn are_devices(alloc: Global, devices: &[Device], entries: &[Entry]) -> Result<bool, Refusal> {
+    let mut are_same = devices.len() == entries.len();
+    for (device, entry) in devices.iter().zip(entries) {
+        are_same = *device == device_of(alloc, entry)? && are_same;
+    }
+    Ok(are_same)
+}
+
+// An image whose checkpoint at number 7 has these records, and says that they are so many.
+fn checkpoint(alloc: Global, count: u8, entries: &[Entry]) -> Result<Vec<u8>, Refusal> {
+    let records = entries_of(alloc, entries)?;
+    let mut bytes = FRONT[..42].to_vec(alloc)?;
+    bytes.extend_from_slice(&[0, 0, 0, 0, 0, 0, 0, 7, 0, 0, 0, count])?;
+    bytes.extend_from_slice(&(records.len() as u64).to_be_bytes())?;
+    bytes.extend_from_slice(&records)?;
+    Ok(bytes)
+}
+
+// Adds a batch of these entries behind its open gate.
+fn add_batch(
+    alloc: Global,
+    bytes: &mut Vec<u8>,
+    (last, count): (u8, u8),
+    entries: &[Entry],
+) -> Result<(), Refusal> {
+    let entries = entries_of(alloc, entries)?;
     bytes.push(0xA5)?;
     bytes.extend_from_slice(&(entries.len() as u64).to_be_bytes()[4..])?;
     bytes.extend_from_slice(&[0, 0, 0, 0, 0, 0, 0, last, 0, count])?;
-    bytes.extend_from_slice(entries)?;
+    bytes.extend_from_slice(&entries)?;
     Ok(())
 }
 
@@ -166,71 +157,54 @@ fn disk_of(alloc: Global, mut bytes: Vec<u8>) -> Result<MemDisk, Refusal> {
     Ok(MemDisk::new(alloc, bytes)?)
 }
 
-// The entries of a busy device of DevEUI 1 at slot 0 and an idle one of DevEUI 2 at slot 1.
-fn two_entries(alloc: Global) -> Result<Vec<u8>, Refusal> {
-    let mut entries = Vec::new(alloc);
-    add_entry(alloc, &mut entries, 0, &busy_device(alloc, 1)?)?;
-    add_idle(alloc, &mut entries, 1, 2)?;
-    Ok(entries)
+const BUSY_AND_IDLE: &[Entry] = &[(0, 1, true), (1, 2, false)];
+
+// Whether a store has a busy and an idle device after seven decisions, and goes on with three more.
+fn goes_on(alloc: Global, store: &mut Store<MemDisk>) -> Result<bool, Refusal> {
+    let is_right = store.seq() == 7 && are_devices(alloc, store.table().devices(), BUSY_AND_IDLE)?;
+    take(alloc, store, '3', ALL)?;
+    Ok(is_right)
 }
 
-// Whether devices begin with a busy one of DevEUI 1, which an idle one of this DevEUI follows.
-fn begin_with(alloc: Global, devices: &[Device], second: u64) -> Result<bool, Refusal> {
-    let busy = devices.first() == Some(&busy_device(alloc, 1)?);
-    Ok(busy && devices.get(1) == Some(&idle_device(alloc, second)?))
-}
-
-fn are_found(alloc: Global) -> Result<bool, Refusal> {
-    let image = checkpoint(alloc, 2, &two_entries(alloc)?)?;
+fn are_found(alloc: Global) -> Result<(bool, (usize, u64)), Refusal> {
+    let image = checkpoint(alloc, 2, BUSY_AND_IDLE)?;
     let mut store = open(alloc, disk_of(alloc, image)?)?;
-    let is_whole = store.seq() == 7 && store.table().devices().len() == 2;
-    let is_right = is_whole && begin_with(alloc, store.table().devices(), 2)?;
-    provision(alloc, &mut store, 3)?;
-    Ok(is_right && found(alloc, store.close())? == (5, 10))
+    let goes_on = goes_on(alloc, &mut store);
+    Ok((goes_on == Ok(true), found(alloc, store.close())?))
 }
 
 #[test]
 fn the_records_of_a_checkpoint_are_found(rt: HostRuntime) {
-    assert!(rt; are_found(rt.alloc()) == Ok(true));
+    assert!(rt; are_found(rt.alloc()) == Ok((true, (5, 10))));
 }
 
-// The entries of busy devices of DevEUIs 1 to 3 at the slots from 0 on.
-fn busy_entries(alloc: Global) -> Result<Vec<u8>, Refusal> {
-    let mut bytes = Vec::new(alloc);
-    for slot in 0..3 {
-        add_entry(
-            alloc,
-            &mut bytes,
-            slot,
-            &busy_device(alloc, u64::from(slot) + 1)?,
-        )?;
-    }
-    Ok(bytes)
-}
+const IDLE: &[Entry] = &[(0, 1, false)];
 
-// The entry of an idle device alone.
-fn idle_entry(alloc: Global, slot: u16, dev_eui: u64) -> Result<Vec<u8>, Refusal> {
-    let mut bytes = Vec::new(alloc);
-    add_idle(alloc, &mut bytes, slot, dev_eui)?;
-    Ok(bytes)
-}
+const BUSY: &[Entry] = &[(0, 1, true), (1, 2, true), (2, 3, true)];
+
+const OTHER: &[Entry] = &[(1, 9, false)];
+
+const REPLACED: &[Entry] = &[(0, 1, true), (1, 9, false), (2, 3, true)];
 
 // A store with an idle device, a batch of more than 12,000 bytes that puts records at its slot and at new ones, and a
 // batch that gives the second slot to another device.
 fn replaced(alloc: Global) -> Result<MemDisk, Refusal> {
-    let mut bytes = checkpoint(alloc, 1, &idle_entry(alloc, 0, 1)?)?;
-    add_batch(&mut bytes, 10, 3, &busy_entries(alloc)?)?;
-    add_batch(&mut bytes, 11, 1, &idle_entry(alloc, 1, 9)?)?;
+    let mut bytes = checkpoint(alloc, 1, IDLE)?;
+    let before = bytes.len();
+    add_batch(alloc, &mut bytes, (10, 3), BUSY)?;
+    if bytes.len().saturating_sub(before) != 15 + 3 * 4_039 {
+        return Err(Refusal::WrongSize);
+    }
+    add_batch(alloc, &mut bytes, (11, 1), OTHER)?;
     disk_of(alloc, bytes)
 }
 
 // Whether the first device is busy, the second is the other one, and the third is busy.
 fn are_replaced(alloc: Global) -> Result<bool, Refusal> {
     let store = open(alloc, replaced(alloc)?)?;
-    let devices = store.table().devices();
-    let is_whole = store.seq() == 11 && store.table().slot_of(Eui(2)).is_none();
-    let third = devices.get(2) == Some(&busy_device(alloc, 3)?);
-    Ok(is_whole && third && devices.len() == 3 && begin_with(alloc, devices, 9)?)
+    let (table, seq) = (store.table(), store.seq());
+    let are_right = are_devices(alloc, table.devices(), REPLACED);
+    Ok(seq == 11 && table.slot_of(Eui(2)).is_none() && are_right == Ok(true))
 }
 
 #[test]
@@ -238,51 +212,38 @@ fn records_are_put_at_slots_in_use(rt: HostRuntime) {
     assert!(rt; are_replaced(rt.alloc()) == Ok(true));
 }
 
-#[test]
-fn a_busy_device_has_a_long_entry(rt: HostRuntime) {
-    assert!(rt; busy_entries(rt.alloc()).is_ok_and(|entries| entries.len() == 3 * 4_039));
-}
-
-// The refusal of a checkpoint that says so many records, and has those of idle devices at these slots.
-fn refused_records(
-    alloc: Global,
-    count: u8,
-    devices: &[(u16, u64)],
-) -> Result<Option<Refusal>, Refusal> {
-    let mut records = Vec::new(alloc);
-    for (slot, dev_eui) in devices {
-        add_idle(alloc, &mut records, *slot, *dev_eui)?;
-    }
-    let disk = disk_of(alloc, checkpoint(alloc, count, &records)?)?;
+// The refusal of a checkpoint that says so many records, and has these.
+fn refused(alloc: Global, count: u8, entries: &[Entry]) -> Result<Option<Refusal>, Refusal> {
+    let disk = disk_of(alloc, checkpoint(alloc, count, entries)?)?;
     Ok(open(alloc, disk).err())
 }
 
-// Slots and DevEUIs of records that may not stand, and the number that the header says.
-const RECORDS: &[(u8, &[(u16, u64)])] = &[
+// Records that may not stand, and the number that the header says.
+const RECORDS: &[(u8, &[Entry])] = &[
     // A DevEUI in two slots, a slot passed over, one more record than slots.
-    (2, &[(0, 1), (1, 1)]),
-    (2, &[(0, 1), (2, 2)]),
-    (2, &[(0, 1), (8, 9)]),
+    (2, &[(0, 1, false), (1, 1, false)]),
+    (2, &[(0, 1, false), (2, 2, false)]),
+    (2, &[(0, 1, false), (8, 9, false)]),
     // A slot twice, of another device or of the same one, and behind others.
-    (2, &[(0, 1), (0, 2)]),
-    (2, &[(0, 1), (0, 1)]),
-    (3, &[(0, 1), (1, 2), (0, 3)]),
+    (2, &[(0, 1, false), (0, 2, false)]),
+    (2, &[(0, 1, false), (0, 1, false)]),
+    (3, &[(0, 1, false), (1, 2, false), (0, 3, false)]),
     // Another order.
-    (2, &[(1, 2), (0, 1)]),
-    (1, &[(1, 1)]),
+    (2, &[(1, 2, false), (0, 1, false)]),
+    (1, &[(1, 1, false)]),
     // Another number.
-    (0, &[(0, 1)]),
-    (1, &[(0, 1), (1, 2)]),
-    (3, &[(0, 1), (1, 2)]),
+    (0, &[(0, 1, false)]),
+    (1, &[(0, 1, false), (1, 2, false)]),
+    (3, &[(0, 1, false), (1, 2, false)]),
 ];
 
 #[test]
 fn records_that_may_not_stand_are_refused(rt: HostRuntime) {
-    for (count, devices) in RECORDS {
-        let refused = refused_records(rt.alloc(), *count, devices);
+    for (count, entries) in RECORDS {
+        let refused = refused(rt.alloc(), *count, entries);
         assert!(rt;
             refused == Ok(Some(Refusal::Damaged)),
-            "{count} of {devices:?}"
+            "{count} of {entries:?}"
         );
     }
 }

@@ -1,10 +1,10 @@
 // Batches that replace the record of a slot in use. The frames were made by Python's `cryptography`.
-use crate::devices_under_test::add;
-use crate::store_tests::{begin_commit, new_store};
-use devices::{Application, Command, Heard, Hearing, Hearings, Provisioning, Rx1Offset, RxDelay};
+use crate::devices_under_test::{add, provisioning};
+use crate::stores_under_test::{ALL, begin_commit, new_store};
+use devices::{Command, Heard, Hearing, Hearings};
 use disk::{Image, MemDisk, Sim};
 use lw_types::{Eui, Key, PhyPayload, Reception, Refusal, read_hex};
-use sessions::Batch;
+use sessions::{Batch, Table};
 use std::alloc::Global;
 use store::{Store, open};
 
@@ -13,20 +13,7 @@ const KEY: Key = Key([
     0x2B, 0x7E, 0x15, 0x16, 0x28, 0xAE, 0xD2, 0xA6, 0xAB, 0xF7, 0x15, 0x88, 0x09, 0xCF, 0x4F, 0x3C,
 ]);
 
-fn joining() -> Option<Provisioning> {
-    Some(Provisioning {
-        application: Application::new(3)?,
-        dev_eui: Eui(0x1112_1314_1516_1718),
-        join_eui: Eui(0x0102_0304_0506_0708),
-        app_key: KEY,
-        rx1_offset: Rx1Offset::new(0)?,
-        rx_delay: RxDelay::new(1)?,
-    })
-}
-
-// Its provisioning, and Join-Requests of it with the DevNonces 1 to 3.
-const BRING: &str = "";
-
+// Join-Requests of it with the DevNonces 1 to 3.
 const JOIN_1: &str = "000807060504030201181716151413121101009E7419CE";
 
 const JOIN_2: &str = "00080706050403020118171615141312110200C13BE455";
@@ -55,23 +42,40 @@ fn heard(alloc: Global, frame: &str) -> Result<Command, Refusal> {
     }
 }
 
-fn command(alloc: Global, frame: &str) -> Result<Command, Refusal> {
-    if !frame.is_empty() {
-        return heard(alloc, frame);
-    }
-    match joining() {
-        Some(joining) => Ok(Command::Provision(joining)),
-        None => Err(Refusal::Damaged),
+// What a letter asks for: `b` brings the device, and a digit is its Join-Request with this DevNonce.
+fn command(alloc: Global, letter: char) -> Result<Command, Refusal> {
+    match letter {
+        '1' => heard(alloc, JOIN_1),
+        '2' => heard(alloc, JOIN_2),
+        '3' => heard(alloc, JOIN_3),
+        _ => match provisioning(0x1112_1314_1516_1718, KEY) {
+            Some(provisioning) => Ok(Command::Provision(provisioning)),
+            None => Err(Refusal::Damaged),
+        },
     }
 }
 
-// A batch of what these frames ask for, behind what the store has.
-fn batch(alloc: Global, store: &Store<MemDisk>, frames: &[&str]) -> Result<Batch, Refusal> {
-    let mut table = store.table().copy()?;
-    let mut batch = Batch::new(alloc)?;
-    for (seq, frame) in (store.seq()..u64::MAX).zip(frames) {
-        add(alloc, &mut table, seq, &mut batch, command(alloc, frame)?)?;
+fn add_all(
+    alloc: Global,
+    table: &mut Table,
+    seq: u64,
+    batch: &mut Batch,
+    letters: &str,
+) -> Result<(), Refusal> {
+    for (seq, letter) in (seq..u64::MAX).zip(letters.chars()) {
+        if batch.len() >= Batch::MOST {
+            return Err(Refusal::OutOfStep);
+        }
+        add(alloc, table, seq, batch, command(alloc, letter)?)?;
     }
+    Ok(())
+}
+
+// A batch of what these letters ask for, behind what the store has.
+fn batch(alloc: Global, store: &Store<MemDisk>, letters: &str) -> Result<Batch, Refusal> {
+    let mut batch = Batch::new(alloc)?;
+    let mut table = store.table().copy()?;
+    add_all(alloc, &mut table, store.seq(), &mut batch, letters)?;
     Ok(batch)
 }
 
@@ -79,22 +83,29 @@ fn batch(alloc: Global, store: &Store<MemDisk>, frames: &[&str]) -> Result<Batch
 fn commit(
     alloc: Global,
     store: &mut Store<MemDisk>,
-    frames: &[&str],
+    letters: &str,
     calls: u64,
 ) -> Result<(), Refusal> {
-    let batch = batch(alloc, store, frames)?;
+    let batch = batch(alloc, store, letters)?;
     begin_commit(alloc, store, batch, calls)
 }
 
-// Whether the store has the one device after this many decisions, with this last DevNonce.
-fn has_joined(store: &Store<MemDisk>, seq: u64, dev_nonce: Option<u16>) -> bool {
-    match store.table().devices() {
-        [device] => {
-            let granted = device.activation.granted().map_or(0, |nonce| nonce.get());
-            let is_right = granted == u32::from(dev_nonce.unwrap_or(0));
-            is_right && device.last_dev_nonce == dev_nonce && store.seq() == seq
-        }
-        _ => false,
+// The number of the last decision, and the last DevNonce, if the device has joined.
+type Joined = (u64, Option<u16>);
+
+// Those of a store with the one device, which has a session of that DevNonce.
+fn joined(store: &Store<MemDisk>) -> Option<Joined> {
+    let [device] = store.table().devices() else {
+        return None;
+    };
+    let granted = match device.activation.granted() {
+        Some(nonce) => nonce.get(),
+        None => 0,
+    };
+    if granted == u32::from(device.last_dev_nonce.unwrap_or(0)) {
+        Some((store.seq(), device.last_dev_nonce))
+    } else {
+        None
     }
 }
 
@@ -105,89 +116,67 @@ fn crashed(alloc: Global, store: Store<MemDisk>, image: &Image) -> Result<Store<
     open(alloc, disk)
 }
 
-// The frames of a batch, and which decision and which DevNonce come last then.
-type Row = (&'static [&'static str], u64, Option<u16>);
-
 // The store after a batch and a crash, if it has what the batch leads to before and after it.
 fn found_again(
     alloc: Global,
     mut store: Store<MemDisk>,
-    row: &Row,
-) -> Result<Option<Store<MemDisk>>, Refusal> {
-    let (frames, seq, dev_nonce) = *row;
-    commit(alloc, &mut store, frames, 4)?;
-    let before = has_joined(&store, seq, dev_nonce);
+    letters: &str,
+    wanted: Joined,
+) -> Result<Store<MemDisk>, Refusal> {
+    let committed = commit(alloc, &mut store, letters, ALL);
+    let before = joined(&store);
     let store = crashed(alloc, store, &Image::Fill(0xA5))?;
-    Ok((before && has_joined(&store, seq, dev_nonce)).then_some(store))
-}
-
-// Whether these batches, one after the other, are found again, each after a crash.
-fn are_found(alloc: Global, batches: &[Row]) -> Result<bool, Refusal> {
-    let mut store = new_store(alloc, 8)?;
-    for row in batches {
-        match found_again(alloc, store, row)? {
-            Some(again) => store = again,
-            None => return Ok(false),
-        }
+    if committed.is_ok() && before == Some(wanted) && joined(&store) == Some(wanted) {
+        Ok(store)
+    } else {
+        Err(Refusal::Damaged)
     }
-    Ok(true)
 }
 
-const ALONE: &[Row] = &[
-    (&[BRING], 1, None),
-    (&[JOIN_1], 2, Some(1)),
-    (&[JOIN_2], 3, Some(2)),
-];
+// What a batch asks for, and what it leads to.
+type Leads = (&'static str, Joined);
 
-const TOGETHER: &[Row] = &[
-    (&[BRING, JOIN_1], 2, Some(1)),
-    (&[JOIN_2, JOIN_3], 4, Some(3)),
-];
+// Whether batches, one after the other, are found again, each after a crash.
+fn are_found(alloc: Global, batches: &[Leads]) -> Result<(), Refusal> {
+    let mut store = new_store(alloc, 8)?;
+    for (letters, wanted) in batches {
+        store = found_again(alloc, store, letters, *wanted)?;
+    }
+    Ok(())
+}
+
+const ALONE: &[Leads] = &[("b", (1, None)), ("1", (2, Some(1))), ("2", (3, Some(2)))];
+
+const TOGETHER: &[Leads] = &[("b1", (2, Some(1))), ("23", (4, Some(3)))];
 
 #[test]
 fn a_record_of_a_slot_in_use_is_replaced(rt: HostRuntime) {
-    assert!(rt;
-        are_found(rt.alloc(), ALONE) == Ok(true),
-        "each in a batch of its own"
-    );
-    assert!(rt;
-        are_found(rt.alloc(), TOGETHER) == Ok(true),
-        "two in a batch"
-    );
+    assert!(rt; are_found(rt.alloc(), ALONE) == Ok(()), "each alone");
+    assert!(rt; are_found(rt.alloc(), TOGETHER) == Ok(()), "two in a batch");
 }
 
-// The store after a crash behind the first calls of the commit of a join.
-fn cut(alloc: Global, calls: u64, image: &Image) -> Result<Store<MemDisk>, Refusal> {
+// What a crash behind the first calls of the commit of a join leaves.
+fn left(alloc: Global, calls: u64, image: &Image) -> Result<Option<Joined>, Refusal> {
     let mut store = new_store(alloc, 8)?;
-    commit(alloc, &mut store, &[BRING], 4)?;
-    commit(alloc, &mut store, &[JOIN_1], calls)?;
-    crashed(alloc, store, image)
+    let brought = commit(alloc, &mut store, "b", ALL);
+    let begun = commit(alloc, &mut store, "1", calls);
+    let left = joined(&crashed(alloc, store, image)?);
+    brought?;
+    begun?;
+    Ok(left)
 }
 
-// Whether it has joined, or is as it was before.
-fn is_left(alloc: Global, calls: u64, image: &Image, joined: bool) -> bool {
-    match cut(alloc, calls, image) {
-        Ok(store) if joined => has_joined(&store, 2, Some(1)),
-        Ok(store) => has_joined(&store, 1, None),
-        Err(_) => false,
-    }
-}
+const OLD: Result<Option<Joined>, Refusal> = Ok(Some((1, None)));
 
+const NEW: Result<Option<Joined>, Refusal> = Ok(Some((2, Some(1))));
+
+// The body may be torn, is written, and is synced; the gate is not open, and is open.
 #[test]
 fn a_crash_leaves_the_old_record_or_the_new(rt: HostRuntime) {
     let alloc = rt.alloc();
-    assert!(rt;
-        is_left(alloc, 1, &Image::Old, false),
-        "the body may be torn"
-    );
-    assert!(rt;
-        is_left(alloc, 1, &Image::New, false),
-        "the body is written"
-    );
-    assert!(rt; is_left(alloc, 2, &Image::New, false), "the body is synced");
-    assert!(rt;
-        is_left(alloc, 3, &Image::Old, false),
-        "the gate is not open"
-    );
-    assert!(rt; is_left(alloc, 3, &Image::New, true), "the gate is open");
+    assert!(rt; left(alloc, 1, &Image::Old) == OLD);
+    assert!(rt; left(alloc, 1, &Image::New) == OLD);
+    assert!(rt; left(alloc, 2, &Image::New) == OLD);
+    assert!(rt; left(alloc, 3, &Image::Old) == OLD);
+    assert!(rt; left(alloc, 3, &Image::New) == NEW);
 }

@@ -1,12 +1,8 @@
-use crate::devices_under_test::{idle_device, net_id, provisionings, slots};
+use crate::devices_under_test::{idle_device, net_id, new_table, provisionings, slots};
 use lw_types::{Eui, Refusal};
 use sessions::Table;
 use std::alloc::Global;
 use store_layout::{RecordVersion, Superblock, batch_entries, put_entry, replay};
-
-fn table(alloc: Global, most: u64) -> Result<Table, Refusal> {
-    Table::new(alloc, net_id()?, slots(most)?)
-}
 
 // The superblock of network 00002A with 8 slots, as the format spells it.
 const SUPERBLOCK: [u8; 32] = [
@@ -57,80 +53,73 @@ fn another_superblock_is_refused(rt: HostRuntime) {
     }
 }
 
-// A byte, and the entry of a device behind it.
-fn entry(alloc: Global) -> Result<Vec<u8>, Refusal> {
-    let mut bytes = [7].to_vec(alloc)?;
-    let device = idle_device(alloc, 0x1112131415161718)?;
-    put_entry(alloc, RecordVersion::V1, 0x0102, &device, &mut bytes)?;
-    Ok(bytes)
-}
-
 const FRONT_OF_ENTRY: [u8; 14] = [
     7, 1, 1, 2, 0, 50, 0x11, 0x12, 0x13, 0x14, 0x15, 0x16, 0x17, 0x18,
 ];
 
+// Whether the entry of a device stands behind a byte.
+fn has_entry(alloc: Global) -> Result<bool, Refusal> {
+    let mut bytes = [7].to_vec(alloc)?;
+    let device = idle_device(alloc, 0x1112131415161718)?;
+    put_entry(alloc, RecordVersion::V1, 0x0102, &device, &mut bytes)?;
+    Ok(bytes.len() == 1 + 5 + 50 && bytes.starts_with(&FRONT_OF_ENTRY))
+}
+
 #[test]
 fn an_entry_has_its_layout(rt: HostRuntime) {
-    assert!(rt;
-        entry(rt.alloc()).is_ok_and(|bytes| bytes.len() == 1 + 5 + 50
-            && bytes.starts_with(&FRONT_OF_ENTRY))
-    );
+    assert!(rt; has_entry(rt.alloc()) == Ok(true));
 }
 
 // The entries of a batch of so many provisionings.
 fn entries(alloc: Global, count: u64) -> Result<Vec<u8>, Refusal> {
-    let batch = provisionings(alloc, &table(alloc, 64)?, 0, count)?;
+    let batch = provisionings(alloc, &new_table(alloc, 64)?, 0, count)?;
     batch_entries(alloc, RecordVersion::V1, &batch)
 }
 
-// The length of that many entries, how many devices they bring, and the slot of the last one.
-fn replayed(alloc: Global, count: u32) -> Result<(usize, usize, Option<u16>), Refusal> {
-    let bytes = entries(alloc, u64::from(count))?;
-    let mut opened = table(alloc, 64)?;
-    replay(alloc, RecordVersion::V1, &mut opened, &bytes, count)?;
-    let slot = opened.slot_of(Eui(u64::from(count)));
-    Ok((bytes.len(), opened.devices().len(), slot))
+// How many devices a table has, and in which slot that of a DevEUI is.
+type Replayed = (usize, Option<u16>);
+
+// So many bytes of the entries are read as so many, on the table, which then has the device of that DevEUI.
+fn replayed(
+    alloc: Global,
+    table: &mut Table,
+    entries: &[u8],
+    len: usize,
+    count: u32,
+) -> Result<Replayed, Refusal> {
+    let Some(front) = entries.get(..len) else {
+        return Err(Refusal::CutShort);
+    };
+    replay(alloc, RecordVersion::V1, table, front, count)?;
+    Ok((table.devices().len(), table.slot_of(Eui(u64::from(count)))))
 }
 
-#[test]
-fn what_a_batch_writes_replays(rt: HostRuntime) {
-    let alloc = rt.alloc();
-    assert!(rt; replayed(alloc, 1) == Ok((55, 1, Some(0))));
-    assert!(rt; replayed(alloc, 5) == Ok((275, 5, Some(4))));
-    assert!(rt; replayed(alloc, 64) == Ok((3520, 64, Some(63))));
+// How many provisionings a batch has, and the length of their entries; how many bytes of them are read as how many entries,
+// on a table of how many slots; and what that leads to.
+type Replay = (u64, usize, usize, u32, u64, Result<Replayed, Refusal>);
+
+fn replays(alloc: Global, row: &Replay) -> Result<bool, Refusal> {
+    let (made, whole, len, count, most, wanted) = *row;
+    let entries = entries(alloc, made)?;
+    let mut table = new_table(alloc, most)?;
+    let answer = replayed(alloc, &mut table, &entries, len, count);
+    Ok(entries.len() == whole && answer == wanted)
 }
 
-// How many bytes of the entries of five provisionings are read as how many entries, on a table of how many slots.
-const DAMAGED: &[(usize, u32, u64)] = &[
-    (274, 5, 8),
-    (275, 4, 8),
-    (275, 6, 8),
-    (0, 1, 8),
-    (275, 5, 4),
+const REPLAYS: &[Replay] = &[
+    (1, 55, 55, 1, 64, Ok((1, Some(0)))),
+    (5, 275, 275, 5, 64, Ok((5, Some(4)))),
+    (64, 3520, 3520, 64, 64, Ok((64, Some(63)))),
+    (5, 275, 274, 5, 8, Err(Refusal::Damaged)),
+    (5, 275, 275, 4, 8, Err(Refusal::Damaged)),
+    (5, 275, 275, 6, 8, Err(Refusal::Damaged)),
+    (5, 275, 0, 1, 8, Err(Refusal::Damaged)),
+    (5, 275, 275, 5, 4, Err(Refusal::Damaged)),
 ];
 
-// What their replay is refused.
-fn refused_replay(
-    alloc: Global,
-    cut: usize,
-    count: u32,
-    most: u64,
-) -> Result<Option<Refusal>, Refusal> {
-    let bytes = entries(alloc, 5)?;
-    let mut other = table(alloc, most)?;
-    match bytes.get(..cut) {
-        Some(front) => Ok(replay(alloc, RecordVersion::V1, &mut other, front, count).err()),
-        None => Ok(None),
-    }
-}
-
 #[test]
-fn other_bytes_do_not_replay(rt: HostRuntime) {
-    for (cut, count, most) in DAMAGED {
-        let refused = refused_replay(rt.alloc(), *cut, *count, *most);
-        assert!(rt;
-            refused == Ok(Some(Refusal::Damaged)),
-            "{cut} bytes, {count} entries"
-        );
+fn what_a_batch_writes_replays_and_nothing_else(rt: HostRuntime) {
+    for row in REPLAYS {
+        assert!(rt; replays(rt.alloc(), row) == Ok(true), "{row:?}");
     }
 }
