@@ -1,7 +1,8 @@
 // How long a checkpoint of the largest store takes, and opening it.
 use crate::MOST;
 use crate::server::Server;
-use crate::timing::{Unmeasured, clock_nanos, nanos_of_one};
+use crate::timing::{Unmeasured, clock_nanos, nanos_of_one, nanos_since};
+use crate::told::{Told, tell};
 use disk::MemDisk;
 use lw_types::Refusal;
 use std::alloc::Global;
@@ -12,46 +13,35 @@ use std::rt::Clock;
 const BYTES: u64 = 4096 * 4039;
 
 /// Tells how long a checkpoint of 4,096 devices takes with 16 items of 242 bytes each, and how long it takes to open it.
-pub fn tell(rt: &(impl Clock + Eprint), alloc: Global) -> io::Result<()> {
+pub fn tell_checkpoint(rt: &(impl Clock + Eprint), alloc: Global) -> io::Result<()> {
     match measure(rt, alloc) {
         Ok((checkpoint, opening)) => {
-            tell_one(rt, "a checkpoint", checkpoint)?;
-            tell_one(rt, "opening it", opening)
+            tell(rt, "a checkpoint", MOST, Told::Bytes(checkpoint, BYTES))?;
+            tell(rt, "opening it", MOST, Told::Bytes(opening, BYTES))
         }
-        Err(why) => {
-            eprintln!(rt; "a checkpoint, {MOST} devices: not measured, {why}")?;
-            Ok(())
-        }
+        Err(why) => tell(rt, "a checkpoint", MOST, Told::Nothing(why)),
     }
-}
-
-fn tell_one(rt: &impl Eprint, what: &str, nanos: u32) -> io::Result<()> {
-    let millis = nanos / 1_000_000;
-    let rate = BYTES * 1000 / (u64::from(nanos) + 1);
-    eprintln!(rt; "{what}, {MOST} devices: {millis} milliseconds, {rate} megabytes a second")?;
-    Ok(())
 }
 
 // The nanoseconds that a checkpoint takes, and those that it takes to open it.
 fn measure(rt: &impl Clock, alloc: Global) -> Result<(u32, u32), Unmeasured> {
-    let mut server = Server::loaded(alloc, MOST)?;
+    let mut server = Server::new(alloc, MOST)?;
     let checkpoint = measure_checkpoint(rt, &mut server);
     let opening = measure_opening(rt, alloc, server.close());
     Ok((checkpoint?, opening?))
 }
 
 fn measure_checkpoint(rt: &impl Clock, server: &mut Server) -> Result<u32, Unmeasured> {
-    let start = clock_nanos(rt)?;
+    server.load_all(MOST)?;
+    let start = clock_nanos(rt);
     server.checkpoint()?;
-    nanos_of_one(clock_nanos(rt)?.saturating_sub(start), 1)
+    nanos_of_one(nanos_since(rt, start)?, 1)
 }
 
 fn measure_opening(rt: &impl Clock, alloc: Global, disk: MemDisk) -> Result<u32, Unmeasured> {
     let start = clock_nanos(rt);
-    let opened = open(alloc, disk);
-    let end = clock_nanos(rt)?;
-    opened?;
-    nanos_of_one(end.saturating_sub(start?), 1)
+    open(alloc, disk)?;
+    nanos_of_one(nanos_since(rt, start)?, 1)
 }
 
 // Opens the store on a disk, and closes it again.

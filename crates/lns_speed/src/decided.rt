@@ -1,6 +1,6 @@
 // How long it takes to decide what one device sends.
 use crate::network::{full_table, heard, record};
-use crate::timing::{Unmeasured, clock_nanos, nanos_of_one};
+use crate::timing::{Unmeasured, clock_nanos, nanos_of_one, nanos_since};
 use devices::{Command, Device, Heard};
 use lw_types::Refusal;
 use sessions::Table;
@@ -37,24 +37,21 @@ pub const ANSWERED: Event = Event::Uplink {
     items: 16,
 };
 
-/// A full table, and the frames that come one after another to the device at its last slot, which has this record first.
+/// Frames that come one after another to the device at a slot, which has this record first.
 #[derive(Drop)]
 struct Course {
-    table: Table,
     slot: u16,
     record: Device,
     frames: Vec<Heard>,
 }
 
 impl Course {
-    fn new(alloc: Global, event: Event, slots: u16) -> Result<Self, Refusal> {
-        let slot = slots.saturating_sub(1);
+    fn new(alloc: Global, event: Event, slot: u16) -> Result<Self, Refusal> {
         let mut frames = Vec::new(alloc);
         for number in 0..TIMES {
             frames.push(heard(alloc, event, slot, number)?)?;
         }
         Ok(Course {
-            table: full_table(alloc, slots)?,
             slot,
             record: record(alloc, event, slot)?,
             frames,
@@ -62,10 +59,10 @@ impl Course {
     }
 
     /// Decides the frames and puts the records that they leave into the table, where the device has its first record.
-    fn decide(&mut self, alloc: Global) -> Result<(), Refusal> {
-        self.table.put(self.slot, self.record.copy()?)?;
+    fn decide(&self, alloc: Global, table: &mut Table) -> Result<(), Refusal> {
+        table.put(self.slot, self.record.copy()?)?;
         for (seq, frame) in self.frames.iter().enumerate() {
-            decide_one(alloc, &mut self.table, seq as u64, frame.clone()?)?;
+            decide_one(alloc, table, seq as u64, frame.clone()?)?;
         }
         Ok(())
     }
@@ -83,15 +80,21 @@ pub fn measure(
     event: Event,
     slots: u16,
 ) -> Result<u32, Unmeasured> {
-    let mut course = Course::new(alloc, event, slots)?;
-    measure_course(rt, alloc, &mut course)
+    let course = Course::new(alloc, event, slots.saturating_sub(1))?;
+    let mut table = full_table(alloc, slots)?;
+    measure_course(rt, alloc, &course, &mut table)
 }
 
-fn measure_course(rt: &impl Clock, alloc: Global, course: &mut Course) -> Result<u32, Unmeasured> {
-    let start = clock_nanos(rt)?;
+fn measure_course(
+    rt: &impl Clock,
+    alloc: Global,
+    course: &Course,
+    table: &mut Table,
+) -> Result<u32, Unmeasured> {
+    let start = clock_nanos(rt);
     for round in 1..=MOST_ROUNDS {
-        course.decide(alloc)?;
-        let spent = clock_nanos(rt)?.saturating_sub(start);
+        course.decide(alloc, table)?;
+        let spent = nanos_since(rt, start)?;
         if spent >= MEASURED_NANOS {
             return nanos_of_one(spent, u128::from(round) * u128::from(TIMES));
         }

@@ -9,6 +9,7 @@ mod decided;
 mod network;
 mod server;
 mod timing;
+mod told;
 mod whole;
 
 use decided::Event;
@@ -16,6 +17,7 @@ use std::alloc::Global;
 use std::io;
 use std::rt::Clock;
 use timing::Unmeasured;
+use told::{Told, tell};
 
 /// The slots of a small table, of one between them, and of the largest.
 const SLOTS: [u16; 3] = [8, 512, MOST];
@@ -53,30 +55,6 @@ fn measure(rt: &impl Clock, alloc: Global, what: Measured, slots: u16) -> Result
     }
 }
 
-/// Tells how long something takes where there are so many devices, and gives the nanoseconds; 0 where they were not
-/// measured.
-fn tell(
-    rt: &impl Eprint,
-    name: &str,
-    slots: u16,
-    nanos: Result<u32, Unmeasured>,
-) -> io::Result<u32> {
-    match nanos {
-        Ok(nanos) => {
-            let (micros, tenth) = (nanos / 1000, nanos / 100 % 10);
-            let a_second = 1_000_000_000_u32.checked_div(nanos).unwrap_or(0);
-            eprintln!(rt;
-                "{name}, {slots} devices: {micros}.{tenth} microseconds, {a_second} a second"
-            )?;
-            Ok(nanos)
-        }
-        Err(why) => {
-            eprintln!(rt; "{name}, {slots} devices: not measured, {why}")?;
-            Ok(0)
-        }
-    }
-}
-
 /// Tells how much longer something takes with the most devices than with few, where both were measured.
 fn tell_ratio(rt: &impl Eprint, name: &str, few: u32, most: u32) -> io::Result<()> {
     let [fewest, ..] = SLOTS;
@@ -101,7 +79,9 @@ fn compare(
     let mut few = None;
     let mut most = 0;
     for slots in SLOTS {
-        most = tell(rt, name, slots, measure(rt, alloc, what, slots))?;
+        let nanos = measure(rt, alloc, what, slots);
+        tell(rt, name, slots, Told::of(nanos))?;
+        most = nanos.unwrap_or(0);
         few = few.or(Some(most));
     }
     tell_ratio(rt, name, few.unwrap_or(0), most)
@@ -111,5 +91,5 @@ fn main(rt: HostRuntime) -> io::Result<()> {
     for (name, what) in MEASURED {
         compare(&rt, rt.alloc(), name, what)?;
     }
-    checkpoints::tell(&rt, rt.alloc())
+    checkpoints::tell_checkpoint(&rt, rt.alloc())
 }

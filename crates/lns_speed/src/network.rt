@@ -63,25 +63,31 @@ pub fn full_table(alloc: Global, slots: u16) -> Result<Table, Refusal> {
 pub fn record(alloc: Global, event: Event, slot: u16) -> Result<Device, Refusal> {
     let mut device = Device::provisioned(alloc, &provisioning(slot));
     if let Event::Uplink { items, .. } = event {
-        device.activation = in_use().ok_or(Refusal::Damaged)?;
-        device.items = waiting(alloc, items)?;
+        put_in_use(alloc, items, &mut device)?;
     }
     Ok(device)
 }
 
-// A device whose session had its uplink 0.
+// The device has a session that had its uplink 0, and so many items wait for it.
+fn put_in_use(alloc: Global, items: u32, device: &mut Device) -> Result<(), Refusal> {
+    device.items = waiting(alloc, items)?;
+    device.activation = in_use().ok_or(Refusal::Damaged)?;
+    Ok(())
+}
+
+// One session, which had its uplink 0.
 fn in_use() -> Option<Activation> {
-    let session = Session {
-        join_nonce: JoinNonce::new(1)?,
-        nwk_skey: NWK_SKEY,
-        app_skey: APP_KEY,
-    };
+    let first = JoinNonce::new(1)?;
     let current = CurrentSession {
-        session,
+        session: Session {
+            join_nonce: first,
+            nwk_skey: NWK_SKEY,
+            app_skey: APP_KEY,
+        },
         last_up: 0,
         next_down: NextDown::new(0)?,
     };
-    Activation::new(Some(session.join_nonce), Some(current), None)
+    Activation::new(Some(first), Some(current), None)
 }
 
 // So many unconfirmed items of 24 bytes.
@@ -114,17 +120,17 @@ pub fn longest_item(alloc: Global, slot: u16, tag: u32) -> Result<Queueing, Refu
 
 /// The frame of this number of the device at a slot, as the gateway heard it. An uplink has the counter behind the number.
 pub fn heard(alloc: Global, event: Event, slot: u16, number: u16) -> Result<Heard, Refusal> {
+    let hearings = Hearings::of(alloc, HEARING)?;
     let phy_payload = match event {
-        Event::Join => PhyPayload::from_slice(alloc, &join_request(slot, number))?,
+        Event::Join => PhyPayload::from_slice(alloc, &join_request(slot, number)),
         Event::Uplink { mhdr, .. } => {
             let counter = u32::from(number) + 1;
-            PhyPayload::from_slice(alloc, &uplink(mhdr, slot, counter, &NWK_SKEY))?
+            PhyPayload::from_slice(alloc, &uplink(mhdr, slot, counter, &NWK_SKEY))
         }
     };
-    let hearings = Hearings::new(Vec::from_slice(alloc, &[HEARING])?);
     Ok(Heard {
-        phy_payload,
-        hearings: hearings.ok_or(Refusal::UnknownChannel)?,
+        phy_payload: phy_payload?,
+        hearings,
     })
 }
 
@@ -140,9 +146,8 @@ pub fn join_request(slot: u16, dev_nonce: u16) -> [u8; 23] {
 }
 
 /// The NwkSKey of a device that joined with the first JoinNonce and DevNonce 0.
-pub fn joined_key() -> Result<Key, Refusal> {
-    let first = JoinNonce::new(1).ok_or(Refusal::Damaged)?;
-    Ok(derive_keys(&APP_KEY, first, NetId::zero(), 0).0)
+pub fn joined_key() -> Key {
+    derive_keys(&APP_KEY, JoinNonce::new(1).unwrap(), NetId::zero(), 0).0
 }
 
 /// A data frame of this MHDR on port 1 with 24 bytes (TS001-1.0.4 §4.3).

@@ -23,7 +23,7 @@ const GATEWAY: u64 = 1;
 /// A core over a store on a disk in memory.
 #[derive(Drop)]
 pub struct Server {
-    alloc: Global,
+    pub alloc: Global,
     store: Store<MemDisk>,
     core: Core,
     now: Moment,
@@ -31,28 +31,19 @@ pub struct Server {
 
 impl Server {
     /// A server without devices, with so many slots.
-    fn new(alloc: Global, slots: u16) -> Result<Self, Refusal> {
+    pub fn new(alloc: Global, slots: u16) -> Result<Self, Refusal> {
         let now = Moment::new(0).ok_or(Refusal::Damaged)?;
         let store = new_store(alloc, u64::from(slots))?;
-        let core = Core::new(alloc, store.table(), store.seq())?;
         Ok(Server {
             alloc,
+            core: Core::new(alloc, store.table(), store.seq())?,
             store,
-            core,
             now,
         })
     }
 
-    /// A server of so many devices, each of which has joined.
-    pub fn joined(alloc: Global, slots: u16) -> Result<Self, Refusal> {
-        let mut server = Server::new(alloc, slots)?;
-        match server.join_all(slots) {
-            Ok(()) => Ok(server),
-            Err(refusal) => Err(refusal),
-        }
-    }
-
-    fn join_all(&mut self, slots: u16) -> Result<(), Refusal> {
+    /// So many devices are brought, and each joins.
+    pub fn join_all(&mut self, slots: u16) -> Result<(), Refusal> {
         for slot in 0..slots {
             self.bring(slot)?;
             self.hear(copy_of(self.alloc, &join_request(slot, 0), GATEWAY)?)?;
@@ -63,16 +54,8 @@ impl Server {
         self.settle()
     }
 
-    /// A server of so many devices, each of which has as many items waiting as may, the longest there are.
-    pub fn loaded(alloc: Global, slots: u16) -> Result<Self, Refusal> {
-        let mut server = Server::new(alloc, slots)?;
-        match server.load_all(slots) {
-            Ok(()) => Ok(server),
-            Err(refusal) => Err(refusal),
-        }
-    }
-
-    fn load_all(&mut self, slots: u16) -> Result<(), Refusal> {
+    /// So many devices are brought, and as many items are queued for each as may wait, the longest there are.
+    pub fn load_all(&mut self, slots: u16) -> Result<(), Refusal> {
         for slot in 0..slots {
             self.bring(slot)?;
             self.load(slot)?;
@@ -98,13 +81,20 @@ impl Server {
         Ok(())
     }
 
-    /// A copy of a frame comes.
-    pub fn hear(&mut self, copy: FrameCopy) -> Result<(), Refusal> {
+    /// Copies of frames come, and what is decided of them is committed and released.
+    pub fn handle(&mut self, copies: Vec<FrameCopy>) -> Result<(), Refusal> {
+        for copy in copies {
+            self.hear(copy)?;
+        }
+        self.settle()
+    }
+
+    fn hear(&mut self, copy: FrameCopy) -> Result<(), Refusal> {
         is_done(self.core.hear(self.now, copy))
     }
 
-    /// All windows are closed, and what was decided is committed and released.
-    pub fn settle(&mut self) -> Result<(), Refusal> {
+    // All windows are closed, and what was decided is committed and released.
+    fn settle(&mut self) -> Result<(), Refusal> {
         self.now = Moment::new(self.now.get().saturating_add(WAIT)).ok_or(Refusal::Damaged)?;
         is_done(self.core.tick(self.now))?;
         for _ in 0..self.core.untaken().div_ceil(usize::from(BATCH)) {
@@ -140,8 +130,7 @@ impl Server {
     // The oldest decisions are committed, and their effects are released.
     fn commit(&mut self) -> Result<(), Refusal> {
         let room = Room::new(self.alloc)?;
-        let most = Most::new(u64::from(BATCH)).ok_or(Refusal::Damaged)?;
-        let batch = self.core.take(most)?;
+        let batch = self.core.take(Most::new(u64::from(BATCH)).unwrap())?;
         let durable = self.write(batch)?;
         let _ = Durable::new(durable, room).release();
         Ok(())

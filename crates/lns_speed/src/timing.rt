@@ -1,10 +1,9 @@
 // What a measurement gives, or why nothing was measured.
 use lw_types::Refusal;
-use std::fmt;
 use std::rt::Clock;
 
 /// Why nothing was measured.
-#[derive(Drop)]
+#[derive(Clone, Copy)]
 pub enum Unmeasured {
     /// A table was not made, or an event was refused.
     Refused(Refusal),
@@ -22,22 +21,17 @@ impl From<Refusal> for Unmeasured {
     }
 }
 
-impl fmt::Display for Unmeasured {
-    fn fmt<W: fmt::Write>(&self, f: &mut fmt::Formatter<W>) -> fmt::Result {
-        match self {
-            Unmeasured::Refused(refusal) => write!(f, "as it was refused: {refusal}"),
-            Unmeasured::NoClock => write!(f, "as the clock can't be read"),
-            Unmeasured::OddClock => write!(f, "as the clock stands still or leaps"),
-        }
-    }
-}
-
 /// The nanoseconds on the clock.
 pub fn clock_nanos(rt: &impl Clock) -> Result<u128, Unmeasured> {
     match rt.monotonic() {
         Ok(since_start) => Ok(since_start.as_nanos()),
         Err(_) => Err(Unmeasured::NoClock),
     }
+}
+
+/// The nanoseconds since the clock was read, if it was.
+pub fn nanos_since(rt: &impl Clock, start: Result<u128, Unmeasured>) -> Result<u128, Unmeasured> {
+    Ok(clock_nanos(rt)?.saturating_sub(start?))
 }
 
 /// The nanoseconds of one of so many events that took so long together. On no machine of today are they none, or seconds.

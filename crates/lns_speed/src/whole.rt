@@ -1,7 +1,7 @@
 // How long whole uplinks take, from their copies to their effects' release.
 use crate::network::{copy_of, joined_key, uplink};
 use crate::server::{BATCH, Server};
-use crate::timing::{Unmeasured, clock_nanos, nanos_of_one};
+use crate::timing::{Unmeasured, clock_nanos, nanos_of_one, nanos_since};
 use lw_types::{FrameCopy, Key, Refusal};
 use std::alloc::Global;
 use std::rt::Clock;
@@ -15,37 +15,23 @@ const MOST_BATCHES: u32 = 100_000;
 /// How often a server is made anew, since its journal fills.
 const MOST_LIVES: u32 = 10_000;
 
-/// A server, whose devices take turns in sending.
+/// The devices of a server, which take turns in sending.
 #[derive(Drop)]
-struct Life {
-    server: Server,
+struct Senders {
     slots: u16,
-    gateways: u64,
     key: Key,
     // Who sends next, and with which counter.
     next: u16,
     counter: u32,
 }
 
-impl Life {
-    fn new(alloc: Global, gateways: u64, slots: u16) -> Result<Self, Refusal> {
-        let key = joined_key()?;
-        Ok(Life {
-            server: Server::joined(alloc, slots)?,
-            slots,
-            gateways,
-            key,
-            next: 0,
-            counter: 0,
-        })
-    }
-
+impl Senders {
     /// The copies of the uplinks of a batch: each frame is heard by so many gateways.
-    fn copies(&mut self, alloc: Global) -> Result<Vec<FrameCopy>, Refusal> {
+    fn copies(&mut self, alloc: Global, gateways: u64) -> Result<Vec<FrameCopy>, Refusal> {
         let mut copies = Vec::new(alloc);
         for _ in 0..BATCH {
             let frame = uplink(0x40, self.next, self.counter, &self.key);
-            for gateway in 0..self.gateways {
+            for gateway in 0..gateways {
                 copies.push(copy_of(alloc, &frame, gateway)?)?;
             }
             self.turn();
@@ -59,14 +45,6 @@ impl Life {
             self.next = 0;
             self.counter = self.counter.saturating_add(1);
         }
-    }
-
-    /// Handles the uplinks of a batch.
-    fn handle(&mut self, copies: Vec<FrameCopy>) -> Result<(), Refusal> {
-        for copy in copies {
-            self.server.hear(copy)?;
-        }
-        self.server.settle()
     }
 }
 
@@ -96,25 +74,34 @@ fn one_life(
     gateways: u64,
     slots: u16,
 ) -> Result<(u128, u32), Unmeasured> {
-    let mut life = Life::new(alloc, gateways, slots)?;
-    measure_life(rt, alloc, &mut life)
+    let mut server = Server::new(alloc, slots)?;
+    measure_life(rt, &mut server, gateways, slots)
 }
 
-// Handles batches until the journal is full, or long enough: the nanoseconds, and how many there were.
+// The devices join, and batches are handled until the journal is full, or long enough: the nanoseconds of the batches, and
+// how many there were.
 fn measure_life(
     rt: &impl Clock,
-    alloc: Global,
-    life: &mut Life,
+    server: &mut Server,
+    gateways: u64,
+    slots: u16,
 ) -> Result<(u128, u32), Unmeasured> {
+    server.join_all(slots)?;
+    let mut senders = Senders {
+        slots,
+        key: joined_key(),
+        next: 0,
+        counter: 0,
+    };
     let mut spent: u128 = 0;
     for batches in 0..MOST_BATCHES {
-        if !life.server.is_roomy() || spent >= MEASURED_NANOS {
+        if !server.is_roomy() || spent >= MEASURED_NANOS {
             return Ok((spent, batches));
         }
-        let copies = life.copies(alloc)?;
-        let start = clock_nanos(rt)?;
-        life.handle(copies)?;
-        spent = spent.saturating_add(clock_nanos(rt)?.saturating_sub(start));
+        let copies = senders.copies(server.alloc, gateways)?;
+        let start = clock_nanos(rt);
+        server.handle(copies)?;
+        spent = spent.saturating_add(nanos_since(rt, start)?);
     }
     Ok((spent, MOST_BATCHES))
 }
