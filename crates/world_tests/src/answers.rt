@@ -1,22 +1,11 @@
 // Answers, by what rows of tests tell of them, and by each other.
+use devices::Device;
 use lw_types::Refusal;
+use session_core::Turn;
+use std::io::{self, Write};
 use world::{Answer, Event, EventTurn};
 
-/// What a row tells of an answer.
-#[derive(Clone, Copy)]
-pub(crate) enum Told {
-    Idle,
-    /// A turn: from, to, the number of its refusal, or 0, and how many windows were closed.
-    Turn(u64, u64, u8, usize),
-    /// Of each event that a piece hands in a letter: `h` a copy, `a` a command, in capitals where it is refused. And the
-    /// number of the fault behind them, or 0.
-    Turns(&'static str, u8),
-    /// The store was opened with so many devices, and this number.
-    Opened(usize, u64),
-    /// A list, by the DevNonce that was seen last of the device at slot 0, and the number.
-    Listed(Option<u16>, u64),
-}
-
+// The letter of an event that a piece hands in: `h` for a copy, `a` for a command, in capitals where it is refused.
 fn letter_of(turn: &EventTurn) -> char {
     match (&turn.event, turn.turn.refused) {
         (Event::Hear(_), None) => 'h',
@@ -27,49 +16,59 @@ fn letter_of(turn: &EventTurn) -> char {
     }
 }
 
-fn are_letters(turns: &[EventTurn], letters: &str) -> bool {
-    turns.len() == letters.len()
-        && turns
-            .iter()
-            .zip(letters.chars())
-            .all(|(turn, letter)| letter_of(turn) == letter)
-}
-
 // The number of a refusal, or 0.
 fn number_of(refused: Option<Refusal>) -> u8 {
-    refused.map_or(0, |refusal| refusal.number())
+    match refused {
+        Some(refusal) => refusal.number(),
+        None => 0,
+    }
 }
 
-/// Whether the answer is as told.
-pub(crate) fn is_told(answer: &Answer, told: Told) -> bool {
-    match (answer, told) {
-        (Answer::Idle, Told::Idle) => true,
-        (Answer::Turn { turn, closings }, Told::Turn(from, to, refused, closed)) => {
-            (turn.from, turn.to, number_of(turn.refused), *closings) == (from, to, refused, closed)
+fn tell_turns(out: &mut Vec<u8>, turns: &[EventTurn], fault: u8) -> io::Result<()> {
+    write!(out, "turns {fault}")?;
+    for turn in turns {
+        let letter = letter_of(turn);
+        write!(out, " {letter}")?;
+    }
+    writeln!(out)
+}
+
+fn tell_list(out: &mut Vec<u8>, devices: &[Device], seq: u64) -> io::Result<()> {
+    match devices {
+        [] => writeln!(out, "listed nobody {seq}"),
+        [device, ..] => match device.last_dev_nonce {
+            Some(dev_nonce) => writeln!(out, "listed {dev_nonce} {seq}"),
+            None => writeln!(out, "listed - {seq}"),
+        },
+    }
+}
+
+/// Adds the line of what rows tell of an answer: `idle`; a turn's decisions before and after it, the number of its refusal or 0,
+/// and how many windows were closed; the number of the fault behind a piece, or 0, and a letter for each of its events; how many
+/// devices were opened, and the number; or the DevNonce that was seen last of the device at slot 0, and the number.
+pub(crate) fn tell(out: &mut Vec<u8>, answer: &Answer) -> io::Result<()> {
+    match answer {
+        Answer::Idle => writeln!(out, "idle"),
+        Answer::Turn { turn, closings } => {
+            let Turn { from, to, refused } = *turn;
+            let number = number_of(refused);
+            writeln!(out, "turn {from} {to} {number} {closings}")
         }
-        (Answer::Turns { turns, fault }, Told::Turns(letters, number)) => {
-            are_letters(turns, letters) && number_of(*fault) == number
-        }
-        (Answer::Opened { devices, seq }, Told::Opened(count, number)) => {
-            (*devices, *seq) == (count, number)
-        }
-        (Answer::Listed { table, seq }, Told::Listed(dev_nonce, number)) => {
-            *seq == number
-                && table
-                    .devices()
-                    .first()
-                    .is_some_and(|device| device.last_dev_nonce == dev_nonce)
-        }
-        _ => false,
+        Answer::Turns { turns, fault } => tell_turns(out, turns, number_of(*fault)),
+        Answer::Opened { devices, seq } => writeln!(out, "opened {devices} {seq}"),
+        Answer::Listed { table, seq } => tell_list(out, table.devices(), *seq),
+        _ => writeln!(out, "another answer"),
     }
 }
 
 // Whether these events and their turns are the same.
 fn are_same(turns: &[EventTurn], others: &[EventTurn]) -> bool {
+    for (one, other) in turns.iter().zip(others) {
+        if one.event != other.event || one.turn != other.turn || one.closings != other.closings {
+            return false;
+        }
+    }
     turns.len() == others.len()
-        && turns.iter().zip(others).all(|(one, other)| {
-            one.event == other.event && one.turn == other.turn && one.closings == other.closings
-        })
 }
 
 /// Whether the answers are the same, tables by their devices.

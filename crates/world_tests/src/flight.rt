@@ -2,7 +2,7 @@
 use devices::Command;
 
 /// How far the commit of a batch is.
-#[derive(Clone, Copy, Debug, PartialEq, Eq)]
+#[derive(Clone, Copy, PartialEq, Eq)]
 pub(crate) enum Stage {
     Begun,
     Written,

@@ -1,82 +1,53 @@
 // Steps that are letters, and scripts that are words of them.
-use crate::steps::{Say, step_of};
+use crate::steps::step_of;
 use lw_types::Refusal;
-use session_tests::fixture::{REQUEST_1, REQUEST_2, REQUEST_3};
 use std::alloc::Global;
 use world::Step;
 
-// How a gateway heard a frame, on a channel and beside all of them.
-const B1: &str = " 00000000000000B1 868100000 5 -20 -95 50000 ";
-
-const B2: &str = " 00000000000000B2 868100000 5 -20 -95 50000 ";
-
-const STRAY: &str = " 00000000000000B1 868200000 5 -20 -95 50000 ";
-
-// A Join-Request of the device of the DevEUI 0: made by Python's `cryptography`.
-const REQUEST: &str = "00010000000000000000000000000000000100D684CEBF";
-
-const LETTERS: &[(char, Say)] = &[
-    // Two devices of the script.
-    ('a', Say::Device(0)),
-    ('b', Say::Device(1)),
-    // Three sizes of a batch.
-    ('t', Say::Line(&["take 1"])),
-    ('s', Say::Line(&["take 2"])),
-    ('T', Say::Line(&["take 64"])),
-    ('p', Say::Line(&["checkpoint"])),
-    ('c', Say::Line(&["call"])),
-    ('f', Say::Line(&["fail"])),
-    ('r', Say::Line(&["release"])),
-    ('e', Say::Line(&["emit"])),
-    // Two images of a crash.
-    ('o', Say::Line(&["crash old"])),
-    ('n', Say::Line(&["crash new"])),
-    ('l', Say::Line(&["list"])),
-    // Copies of the Join-Request of the device of the DevEUI 0, of which the second joins the first and the third doesn't;
-    // one on no channel; and a moment.
-    ('h', Say::Line(&["hear 0", B1, REQUEST])),
-    ('g', Say::Line(&["hear 199", B2, REQUEST])),
-    ('G', Say::Line(&["hear 200", B2, REQUEST])),
-    ('u', Say::Line(&["hear 200", STRAY, REQUEST])),
-    ('k', Say::Line(&["tick 400"])),
-    // What a gateway says on its link: its greeting, and a copy of that Join-Request, cut in two.
-    (
-        'w',
-        Say::Piece(
-            7,
-            0,
-            "00090000000000000000B1002D0100000000000000B133BE27A005",
-        ),
-    ),
-    (
-        'W',
-        Say::Piece(
-            7,
-            150,
-            "FFECFFA10000C35000010000000000000000000000000000000100D684CEBF",
-        ),
-    ),
-    // An item and a MAC command for that device.
-    ('q', Say::Line(&["queue 200 3 0000000000000000 9 7 u 06"])),
-    ('m', Say::Line(&["mac 200 3 0000000000000000 06"])),
-    // A device that joins is brought; its Join-Requests of the DevNonces 1, 2 and 3; and a frame of no device.
-    (
-        'J',
-        Say::Line(&[
-            "provision 0 3 1112131415161718 0102030405060708 2B7E151628AED2A6ABF7158809CF4F3C 0 1",
-        ]),
-    ),
-    ('1', Say::Frame(0, REQUEST_1)),
-    ('2', Say::Frame(0, REQUEST_2)),
-    ('3', Say::Frame(0, REQUEST_3)),
-    ('x', Say::Frame(0, "40F17DBE4900020001954378762B11FF0D")),
-];
+// Each letter with the line of its step. The Join-Request of the device of the DevEUI 0 was made by Python's `cryptography`.
+const LETTERS: &str = "\
+# Two devices of the script.
+a device 0
+b device 1
+# Three sizes of a batch.
+t take 1
+s take 2
+T take 64
+p checkpoint
+c call
+f fail
+r release
+e emit
+# Two images of a crash.
+o crash old
+n crash new
+l list
+# Copies of the Join-Request of the device of the DevEUI 0, of which the second joins the first and the third doesn't;
+# one on no channel; and a moment.
+h hear 0 00000000000000B1 868100000 5 -20 -95 50000 00010000000000000000000000000000000100D684CEBF
+g hear 199 00000000000000B2 868100000 5 -20 -95 50000 00010000000000000000000000000000000100D684CEBF
+G hear 200 00000000000000B2 868100000 5 -20 -95 50000 00010000000000000000000000000000000100D684CEBF
+u hear 200 00000000000000B1 868200000 5 -20 -95 50000 00010000000000000000000000000000000100D684CEBF
+k tick 400
+# What a gateway says on its link: its greeting, and a copy of that Join-Request, cut in two.
+w piece 7 0 00090000000000000000B1002D0100000000000000B133BE27A005
+W piece 7 150 FFECFFA10000C35000010000000000000000000000000000000100D684CEBF
+# An item and a MAC command for that device.
+q queue 200 3 0000000000000000 9 7 u 06
+m mac 200 3 0000000000000000 06
+# A device that joins is brought; its Join-Requests of the DevNonces 1, 2 and 3; and a frame of no device.
+J provision 0 3 1112131415161718 0102030405060708 2B7E151628AED2A6ABF7158809CF4F3C 0 1
+1 frame 0 000807060504030201181716151413121101009E7419CE
+2 frame 0 00080706050403020118171615141312110200C13BE455
+3 frame 0 00080706050403020118171615141312110300E85E42DA
+x frame 0 40F17DBE4900020001954378762B11FF0D
+";
 
 // The step of a letter.
 fn step_of_letter(alloc: Global, script: u32, letter: char) -> Result<Step, Refusal> {
-    for (name, say) in LETTERS {
-        if *name == letter {
-            return step_of(alloc, script, *say);
+    for line in LETTERS.split('\n') {
+        if line.starts_with(letter) {
+            return step_of(alloc, script, line.get(2..).unwrap_or(""));
         }
     }
     Err(Refusal::Damaged)

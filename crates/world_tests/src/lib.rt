@@ -18,6 +18,8 @@ mod model;
 #[cfg(test)]
 mod row_tests;
 #[cfg(test)]
+mod rows;
+#[cfg(test)]
 mod scripts_tests;
 #[cfg(test)]
 mod steps;

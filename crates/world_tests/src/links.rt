@@ -1,191 +1,50 @@
 // Pieces of the bytes of links, by the events that they hand in.
-use crate::answers::Told;
-use crate::row_tests::Row;
-use crate::steps::Say;
 
-/// Links say the same wherever they are cut.
-pub(crate) const STREAMS: &[&[Row]] = &[
-    // A gateway greets, and has a copy; the same again is refused, and another one isn't.
-    &[
-        (
-            Say::Piece(1, 0, "00090000000000000000B1"),
-            Told::Turns("", 0),
-        ),
-        (
-            Say::Piece(
-                1,
-                0,
-                "00270100000000000000B133BE27A005FFECFFA10000C35040F17DBE4900020001954378762B11FF0D",
-            ),
-            Told::Turns("h", 0),
-        ),
-        (
-            Say::Piece(
-                1,
-                0,
-                "00270100000000000000B133BE27A005FFECFFA10000C35040F17DBE4900020001954378762B11FF0D",
-            ),
-            Told::Turns("H", 0),
-        ),
-        (
-            Say::Piece(
-                1,
-                0,
-                "00270100000000000000B133BE27A005FFECFFA10000C35040F17DBE4900020001954378762B11FF0E",
-            ),
-            Told::Turns("h", 0),
-        ),
-    ],
-    // The same in pieces that end anywhere: in a length, in a content, behind two messages.
-    &[
-        (Say::Piece(1, 0, "00"), Told::Turns("", 0)),
-        (Say::Piece(1, 0, "090000000000000000"), Told::Turns("", 0)),
-        (
-            Say::Piece(
-                1,
-                0,
-                "B100270100000000000000B133BE27A005FFECFFA10000C35040F17DBE4900020001954378762B11FF0D00",
-            ),
-            Told::Turns("h", 0),
-        ),
-        (
-            Say::Piece(
-                1,
-                0,
-                "270100000000000000B133BE27A005FFECFFA10000C35040F17DBE4900020001954378762B11FF",
-            ),
-            Told::Turns("", 0),
-        ),
-        (
-            Say::Piece(
-                1,
-                0,
-                "0E00270100000000000000B133BE27A005FFECFFA10000C35040F17DBE4900020001954378762B11FF0E",
-            ),
-            Told::Turns("hH", 0),
-        ),
-        (Say::Piece(1, 0, ""), Told::Turns("", 0)),
-    ],
-    // An application brings a device, in the piece of its greeting; the same again is refused; a line that is no request
-    // hands in nothing; and a second device comes in two pieces.
-    &[
-        (
-            Say::Piece(
-                2,
-                0,
-                "00020203\
-            00510370726F766973696F6E203131313231333134313531363137313820303130323033303430353036303730382032423745313531\
-            3632384145443241364142463731353838303943463446334320302031",
-            ),
-            Told::Turns("a", 0),
-        ),
-        (
-            Say::Piece(
-                2,
-                0,
-                "00510370726F766973696F6E203131313231333134313531363137313820303130323033303430353036303730382032423745313531\
-            3632384145443241364142463731353838303943463446334320302031",
-            ),
-            Told::Turns("A", 0),
-        ),
-        (Say::Piece(2, 0, "0007036C697374656E"), Told::Turns("", 0)),
-        (
-            Say::Piece(
-                2,
-                0,
-                "00510370726F766973696F6E203131313231333134313531363137313920303130323033303430353036303730382032423745313531",
-            ),
-            Told::Turns("", 0),
-        ),
-        (
-            Say::Piece(
-                2,
-                0,
-                "3632384145443241364142463731353838303943463446334320302031",
-            ),
-            Told::Turns("a", 0),
-        ),
-    ],
-    // Behind a fault nothing is read any more; other links go on.
-    &[
-        (
-            Say::Piece(
-                3,
-                0,
-                "00270100000000000000B133BE27A005FFECFFA10000C35040F17DBE4900020001954378762B11FF0D",
-            ),
-            Told::Turns("", 51),
-        ),
-        (
-            Say::Piece(3, 0, "00090000000000000000B1"),
-            Told::Turns("", 51),
-        ),
-        (Say::Piece(4, 0, "02BD"), Told::Turns("", 50)),
-        (
-            Say::Piece(1, 0, "00090000000000000000B1"),
-            Told::Turns("", 0),
-        ),
-        (
-            Say::Piece(
-                1,
-                0,
-                "00270100000000000000B133BE27A005FFECFFA10000C35040F17DBE4900020001954378762B11FF0D00090000000000000000B1",
-            ),
-            Told::Turns("h", 51),
-        ),
-        (Say::Piece(1, 0, ""), Told::Turns("", 51)),
-    ],
-    // A gateway hands in copies of its own alone, and no requests; an application no copies.
-    &[
-        (
-            Say::Piece(1, 0, "00090000000000000000B2"),
-            Told::Turns("", 0),
-        ),
-        (
-            Say::Piece(
-                1,
-                0,
-                "00270100000000000000B133BE27A005FFECFFA10000C35040F17DBE4900020001954378762B11FF0D",
-            ),
-            Told::Turns("", 51),
-        ),
-        (
-            Say::Piece(2, 0, "000202030007036C697374656E"),
-            Told::Turns("", 0),
-        ),
-        (
-            Say::Piece(
-                2,
-                0,
-                "00270100000000000000B133BE27A005FFECFFA10000C35040F17DBE4900020001954378762B11FF0D",
-            ),
-            Told::Turns("", 51),
-        ),
-        (
-            Say::Piece(5, 0, "00090000000000000000B50007036C697374656E"),
-            Told::Turns("", 51),
-        ),
-    ],
-    // Links begin anew after a crash: in the middle of a frame, behind a fault, and without a greeting.
-    &[
-        (
-            Say::Piece(1, 0, "00090000000000000000B10027"),
-            Told::Turns("", 0),
-        ),
-        (Say::Piece(3, 0, "0001FF"), Told::Turns("", 51)),
-        (Say::Line(&["crash old"]), Told::Opened(0, 0)),
-        (Say::Piece(1, 0, "0100000000000000B1"), Told::Turns("", 0)),
-        (
-            Say::Piece(3, 0, "00090000000000000000B3"),
-            Told::Turns("", 0),
-        ),
-        (
-            Say::Piece(
-                4,
-                0,
-                "00270100000000000000B133BE27A005FFECFFA10000C35040F17DBE4900020001954378762B11FF0D",
-            ),
-            Told::Turns("", 51),
-        ),
-    ],
-];
+/// Links say the same wherever they are cut: scripts, as `rows` reads them. An answer to a piece has the number of the fault
+/// behind its events, or 0, and a letter for each of these: `h` is a copy, `a` a command, in capitals where it is refused.
+pub(crate) const STREAMS: &str = "\
+# A gateway greets, and has a copy; the same again is refused, and another one isn't.
+piece 1 0 00090000000000000000B1 -> turns 0
+piece 1 0 00270100000000000000B133BE27A005FFECFFA10000C35040F17DBE4900020001954378762B11FF0D -> turns 0 h
+piece 1 0 00270100000000000000B133BE27A005FFECFFA10000C35040F17DBE4900020001954378762B11FF0D -> turns 0 H
+piece 1 0 00270100000000000000B133BE27A005FFECFFA10000C35040F17DBE4900020001954378762B11FF0E -> turns 0 h
+
+# The same in pieces that end anywhere: in a length, in a content, behind two messages.
+piece 1 0 00 -> turns 0
+piece 1 0 090000000000000000 -> turns 0
+piece 1 0 B100270100000000000000B133BE27A005FFECFFA10000C35040F17DBE4900020001954378762B11FF0D00 -> turns 0 h
+piece 1 0 270100000000000000B133BE27A005FFECFFA10000C35040F17DBE4900020001954378762B11FF -> turns 0
+piece 1 0 0E00270100000000000000B133BE27A005FFECFFA10000C35040F17DBE4900020001954378762B11FF0E -> turns 0 h H
+piece 1 0 - -> turns 0
+
+# An application brings a device, in the piece of its greeting; the same again is refused; a line that is no request
+# hands in nothing; and a second device comes in two pieces.
+piece 2 0 0002020300510370726F766973696F6E2031313132313331343135313631373138203031303230333034303530363037303820324237453135313632384145443241364142463731353838303943463446334320302031 -> turns 0 a
+piece 2 0 00510370726F766973696F6E2031313132313331343135313631373138203031303230333034303530363037303820324237453135313632384145443241364142463731353838303943463446334320302031 -> turns 0 A
+piece 2 0 0007036C697374656E -> turns 0
+piece 2 0 00510370726F766973696F6E203131313231333134313531363137313920303130323033303430353036303730382032423745313531 -> turns 0
+piece 2 0 3632384145443241364142463731353838303943463446334320302031 -> turns 0 a
+
+# Behind a fault nothing is read any more; other links go on.
+piece 3 0 00270100000000000000B133BE27A005FFECFFA10000C35040F17DBE4900020001954378762B11FF0D -> turns 51
+piece 3 0 00090000000000000000B1 -> turns 51
+piece 4 0 02BD -> turns 50
+piece 1 0 00090000000000000000B1 -> turns 0
+piece 1 0 00270100000000000000B133BE27A005FFECFFA10000C35040F17DBE4900020001954378762B11FF0D00090000000000000000B1 -> turns 51 h
+piece 1 0 - -> turns 51
+
+# A gateway hands in copies of its own alone, and no requests; an application no copies.
+piece 1 0 00090000000000000000B2 -> turns 0
+piece 1 0 00270100000000000000B133BE27A005FFECFFA10000C35040F17DBE4900020001954378762B11FF0D -> turns 51
+piece 2 0 000202030007036C697374656E -> turns 0
+piece 2 0 00270100000000000000B133BE27A005FFECFFA10000C35040F17DBE4900020001954378762B11FF0D -> turns 51
+piece 5 0 00090000000000000000B50007036C697374656E -> turns 51
+
+# Links begin anew after a crash: in the middle of a frame, behind a fault, and without a greeting.
+piece 1 0 00090000000000000000B10027 -> turns 0
+piece 3 0 0001FF -> turns 51
+crash old -> opened 0 0
+piece 1 0 0100000000000000B1 -> turns 0
+piece 3 0 00090000000000000000B3 -> turns 0
+piece 4 0 00270100000000000000B133BE27A005FFECFFA10000C35040F17DBE4900020001954378762B11FF0D -> turns 51
+";

@@ -1,12 +1,11 @@
 // Many devices, whose decisions wait and are taken in more than one batch.
-use crate::answers::{Told, is_told};
 use crate::letters::add_letters;
 use crate::steps::provision;
 use crate::worlds::{answers_to, first_difference, net_id, new_disk};
 use disk::Image;
 use lw_types::Refusal;
 use std::alloc::Global;
-use world::Step;
+use world::{Answer, Step};
 
 // So many devices, whose decisions are so many batches, each by its letters.
 #[derive(Clone, Copy)]
@@ -67,13 +66,25 @@ fn many_decisions_wait(rt: HostRuntime) {
     }
 }
 
-// How many answers open a store with 4,096 devices.
+// Whether the answer opens a store with 4,096 devices.
+fn is_opening(answer: &Answer) -> bool {
+    matches!(
+        answer,
+        Answer::Opened {
+            devices: 4096,
+            seq: 4096
+        }
+    )
+}
+
+// How many answers do.
 fn openings(alloc: Global) -> Result<usize, Refusal> {
     let answers = answers_to(alloc, MOST.devices, &steps_of(alloc, &MOST)?)?;
-    let opened = answers
-        .iter()
-        .filter(|answer| is_told(answer, Told::Opened(4096, 4096)));
-    Ok(opened.count())
+    let mut opened: usize = 0;
+    for answer in &answers {
+        opened = opened.saturating_add(usize::from(is_opening(answer)));
+    }
+    Ok(opened)
 }
 
 // At its largest size a world stands beside no model, each of whose steps costs by all commands.

@@ -1,77 +1,75 @@
-// The steps of the tests here, as data.
-use devices::Command;
-use lw_types::{FrameCopy, Refusal, read_hex};
+// The steps of the tests here, as lines.
+use gateway_wire::{next_ranged, next_value};
+use lw_types::{FrameCopy, Refusal, Words, read_field};
 use scripts::read_step;
 use session_core::Moment;
 use session_tests::fixture;
 use std::alloc::Global;
 use world::{Event, Step};
 
-/// A step.
-#[derive(Clone, Copy)]
-pub(crate) enum Say {
-    /// That of a line of a script, in pieces.
-    Line(&'static [&'static str]),
-    /// At this moment the frame of these digits comes with its one copy, as a command.
-    Frame(u64, &'static str),
-    /// At this moment these bytes come on the link of this number.
-    Piece(u64, u64, &'static str),
-    /// This gateway has a copy, with this data rate, of the frame whose bytes are this number.
-    Copy(u64, u8, u16),
-    /// An application brings a device of the script's own.
-    Device(u8),
-}
-
 pub(crate) fn at(moment: u64) -> Result<Moment, Refusal> {
     Moment::new(moment).ok_or(Refusal::Damaged)
 }
 
-// The bytes of a line.
-fn line_of(alloc: Global, pieces: &[&str]) -> Result<Vec<u8>, Refusal> {
-    let mut line = Vec::new(alloc);
-    for piece in pieces {
-        line.extend_from_slice(piece.as_bytes())?;
-    }
-    Ok(line)
-}
-
-fn copy_of(alloc: Global, gateway: u64, data_rate: u8, frame: u16) -> Result<FrameCopy, Refusal> {
-    let mut hearing = fixture::hearing(gateway);
-    hearing.reception.data_rate = data_rate;
-    FrameCopy::new(
+/// At 0 a gateway has a copy of the frame whose bytes are this number.
+pub(crate) fn hear(alloc: Global, gateway: u64, frame: u16) -> Result<Step, Refusal> {
+    let moment = at(0)?;
+    let hearing = fixture::hearing(gateway);
+    let copy = FrameCopy::new(
         alloc,
         hearing.reception,
         hearing.stamp,
         &frame.to_be_bytes(),
-    )
+    )?;
+    Ok(Step::Event {
+        moment,
+        event: Event::Hear(copy),
+    })
 }
 
 /// An application brings a device of this DevEUI.
 pub(crate) fn provision(dev_eui: u64) -> Result<Step, Refusal> {
+    let moment = at(dev_eui)?;
     let command = fixture::provision(dev_eui).ok_or(Refusal::Damaged)?;
     Ok(Step::Event {
-        moment: at(dev_eui)?,
+        moment,
         event: Event::Ask(command),
     })
 }
 
-/// The step of the script of this number that is so said.
-pub(crate) fn step_of(alloc: Global, script: u32, say: Say) -> Result<Step, Refusal> {
-    match say {
-        Say::Line(pieces) => read_step(alloc, &line_of(alloc, pieces)?),
-        Say::Frame(moment, digits) => Ok(Step::Event {
-            moment: at(moment)?,
-            event: Event::Ask(fixture::heard(alloc, digits)?),
-        }),
-        Say::Piece(link, moment, digits) => Ok(Step::Piece {
-            link,
-            moment: at(moment)?,
-            bytes: read_hex(alloc, digits)?,
-        }),
-        Say::Copy(gateway, data_rate, frame) => Ok(Step::Event {
-            moment: at(0)?,
-            event: Event::Hear(copy_of(alloc, gateway, data_rate, frame)?),
-        }),
-        Say::Device(number) => provision(u64::from(script) * 2 + u64::from(number)),
+// A moment and digits: the frame that comes then with its one copy, as a command.
+fn frame(alloc: Global, mut words: Words<'_>) -> Result<Step, Refusal> {
+    let moment = next_ranged(&mut words).ok_or(Refusal::BadMessage)?;
+    let digits = words.next().ok_or(Refusal::BadMessage)?;
+    Ok(Step::Event {
+        moment,
+        event: Event::Ask(fixture::heard(alloc, digits)?),
+    })
+}
+
+// A link, a moment and the bytes that come on it then.
+fn piece(alloc: Global, mut words: Words<'_>) -> Result<Step, Refusal> {
+    let link = next_value(&mut words).ok_or(Refusal::BadMessage)?;
+    let moment = next_ranged(&mut words).ok_or(Refusal::BadMessage)?;
+    let digits = words.next().ok_or(Refusal::BadMessage)?;
+    Ok(Step::Piece {
+        link,
+        moment,
+        bytes: read_field(alloc, digits)?,
+    })
+}
+
+/// The step of a line in the script of this number: one of `scripts`, or a device of the script's own that an application
+/// brings, a frame or a piece.
+pub(crate) fn step_of(alloc: Global, script: u32, line: &str) -> Result<Step, Refusal> {
+    let mut words = Words::of(line);
+    match words.next() {
+        Some("device") => {
+            let number: u64 = next_value(&mut words).ok_or(Refusal::BadMessage)?;
+            provision((u64::from(script) * 2).saturating_add(number))
+        }
+        Some("frame") => frame(alloc, words),
+        Some("piece") => piece(alloc, words),
+        _ => read_step(alloc, line.as_bytes()),
     }
 }
