@@ -1,5 +1,5 @@
 use crate::fixtures::GATEWAY;
-use gateway_wire::{Fed, Feeder, Message, Peer};
+use link_messages::{Fed, Feeder, Message, Peer};
 use lw_types::{FrameCopy, Reception, Refusal, read_hex};
 use std::alloc::Global;
 

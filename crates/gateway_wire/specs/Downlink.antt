@@ -1,9 +1,10 @@
 -- What a gateway is told of a frame that it is to send: numbers with the highest byte first.
-use Rattle.std.specs.Prelude.{ℕ, ◌+◌, List, ◌∷◌, ◌++◌, length}
-use Rattle.std.specs.Int.{w16, w32, w64, to_be_bytes}
+use Rattle.std.specs.Prelude.{ℕ, ◌+◌, List, ◌∷◌, ◌++◌}
+use Rattle.std.specs.Int.{w32, w64, to_be_bytes}
 use Rattle.devices.specs.declared.effect.Downlink.{Downlink}
 use Rattle.devices.specs.declared.effect.Windows.{Windows}
 use Rattle.devices.specs.declared.effect.Windows.TheVariants.{Rx1, Rx1OrRx2}
+use Rattle.link_messages.specs.Wire.{wire_frame}
 use Rattle.gateway_wire.specs.declared.downlink.TheConstants.{DOWNLINK}
 
 -- RX2 is one second after RX1; 0 where it isn't to be used
@@ -19,10 +20,6 @@ downlink_content d =
     ++ (to_be_bytes w32 d.stamp
     ++ (to_be_bytes w32 d.frequency
     ++ (d.data_rate ∷ d.delay ∷ rx2_delay d.windows d.delay ∷ d.frame))))
-
--- a frame of the wire: the length of its content in two bytes, and the content
-abbrev pub wire_frame : List ℕ → List ℕ
-wire_frame content = to_be_bytes w16 (length content) ++ content
 
 abbrev pub downlink_frame : Downlink → List ℕ
 downlink_frame d = wire_frame (downlink_content d)

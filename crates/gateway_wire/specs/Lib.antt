@@ -3,9 +3,4 @@ pub mod Downlink
 pub mod Emission
 pub mod Request
 pub mod DeviceList
-pub mod Message
-pub mod MessageReading
-pub mod Stream
-pub mod Feeding
-pub mod Steps
 pub mod Finding

@@ -5,8 +5,9 @@ ghost use Rattle.gateway_wire.specs.Emission.{app_line, gateway_bytes};
 
 use crate::downlink::downlink_frame;
 use crate::report::{report_line, up_line};
-use crate::{Line, WireFrame};
+use crate::WireFrame;
 use devices::{Application, Effect};
+use link_messages::Line;
 use lw_types::{Eui, Refusal};
 use std::alloc::Global;
 

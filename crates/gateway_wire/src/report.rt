@@ -6,8 +6,8 @@ ghost use Rattle.lw_types.specs.Words.{line_of};
 ghost use Rattle.devices.specs.declared.effect.Report.TheVariants.{Mac, MacQueued};
 ghost use Rattle.gateway_wire.specs.AppLine.{report_line, up_line};
 
-use crate::Line;
 use devices::{Copies, Payload, Port, Report, SessionName};
+use link_messages::Line;
 use lw_types::{ByteField, Eui, JoinNonce, Reception};
 use std::alloc::{AllocError, Global};
 use std::fmt;

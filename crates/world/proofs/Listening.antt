@@ -23,7 +23,7 @@ use Rattle.world.specs.Course.{Origin, Course, Flight, admit, at_moment, command
 use Rattle.world.specs.Answers.{IsTurn}
 use Rattle.world.specs.Links.{HasSaid, Piece, heard_on, stream_on}
 use Rattle.world.specs.declared.links.Links.{Links}
-use Rattle.gateway_wire.specs.Feeding.{Heard, nothing_heard}
+use Rattle.link_messages.specs.Feeding.{Heard, nothing_heard}
 use Rattle.world.specs.Follows.{IsLife, IsListening}
 use Rattle.world.proofs.Shapes.{admit-shape}
 use Rattle.world.proofs.Turning.{admit-arrivals, admit-clock, admit-shut, closed, outcome-clock, turns-asked, turns-heard, turns-missed, turns-ticked}

@@ -3,10 +3,10 @@ use Rattle.std.proofs.Common.{◌≡◌, ◌∙◌, ℕ, Bool, true, false, nat_
 use Rattle.std.proofs.lemmas.Bool.{eqb-true, eqb-false}
 use Rattle.std.proofs.lemmas.List.{append-nil}
 use Rattle.lw_types.specs.declared.refusal.Refusal.{Refusal}
-use Rattle.gateway_wire.specs.declared.message.Peer.{Peer}
-use Rattle.gateway_wire.specs.declared.message.Message.{Message}
-use Rattle.gateway_wire.specs.Stream.{End, Rest, Fault, IsSaid, after, after_one}
-use Rattle.gateway_wire.specs.Feeding.{Adds, Heard}
+use Rattle.link_messages.specs.declared.message.Peer.{Peer}
+use Rattle.link_messages.specs.declared.message.Message.{Message}
+use Rattle.link_messages.specs.Stream.{End, Rest, Fault, IsSaid, after, after_one}
+use Rattle.link_messages.specs.Feeding.{Adds, Heard}
 use Rattle.world.specs.declared.event.Event.{Event}
 use Rattle.world.specs.declared.links.Links.{Links}
 use Rattle.world.specs.Links.{before_others, AreHandedIn, Completes, HasSaid, Piece, SaysMore, heard_on, stream_on}

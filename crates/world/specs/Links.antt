@@ -3,14 +3,14 @@ use Rattle.std.specs.Prelude.{◌≡◌, ◌≢◌, ℕ, List, [], ◌∷◌, �
 use Rattle.std.specs.BTreeMap.{get}
 use Rattle.std.specs.Ordering.{nat_cmp}
 use Rattle.lw_types.specs.declared.refusal.Refusal.{Refusal}
-use Rattle.gateway_wire.specs.declared.message.Peer.{Peer}
-use Rattle.gateway_wire.specs.declared.message.Peer.TheVariants.{Application}
-use Rattle.gateway_wire.specs.declared.message.Message.{Message}
-use Rattle.gateway_wire.specs.declared.message.Message.TheVariants.{Greeting, Copy, Line}
+use Rattle.link_messages.specs.declared.message.Peer.{Peer}
+use Rattle.link_messages.specs.declared.message.Peer.TheVariants.{Application}
+use Rattle.link_messages.specs.declared.message.Message.{Message}
+use Rattle.link_messages.specs.declared.message.Message.TheVariants.{Greeting, Copy, Line}
 use Rattle.gateway_wire.specs.declared.request.Request.{Request}
 use Rattle.gateway_wire.specs.Request.{IsRequest, IsRequestLine, request_line, command_of}
-use Rattle.gateway_wire.specs.Stream.{End, IsSaid, after as peer_after, after_one as peer_after_one}
-use Rattle.gateway_wire.specs.Feeding.{Heard, Hears, fault_in, nothing_heard}
+use Rattle.link_messages.specs.Stream.{End, IsSaid, after as peer_after, after_one as peer_after_one}
+use Rattle.link_messages.specs.Feeding.{Heard, Hears, fault_in, nothing_heard}
 use Rattle.world.specs.declared.event.Event.{Event}
 use Rattle.world.specs.declared.event.Event.TheVariants as events
 use Rattle.world.specs.declared.links.Links.{Links}

@@ -24,7 +24,7 @@ pub(crate) struct Life<D: Sim> {
 
 impl<D: Sim> Life<D> {
     ghost use Rattle.std.specs.Prelude.{◌≢◌, ◌<◌, ◌^◌, ℕ, [], IfOk, IfErr};
-    ghost use Rattle.gateway_wire.specs.Feeding.{nothing_heard};
+    ghost use Rattle.link_messages.specs.Feeding.{nothing_heard};
     ghost use Rattle.session_core.specs.Core.{begun};
     ghost use Rattle.store.specs.State.{seen, disk_of, IsRoomy};
     ghost use Rattle.world.specs.declared.commit.Commit.TheVariants as commits;

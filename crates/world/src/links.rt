@@ -1,14 +1,15 @@
 // The links of a life, and the events that what is said on them hands in.
 ghost use Rattle.std.specs.Prelude.{◌≡◌, ◌≤◌, ◌++◌, ℕ, Some, [], length, vec_capacity, IfOk, IfErr, MatchResult};
 ghost use Rattle.lw_types.specs.declared.refusal.Refusal.TheVariants.{OutOfMemory};
-ghost use Rattle.gateway_wire.specs.Feeding.{nothing_heard};
-ghost use Rattle.gateway_wire.specs.Stream.{after_one};
-ghost use Rattle.gateway_wire.specs.declared.message.Peer.TheVariants.{Application as Asking};
+ghost use Rattle.link_messages.specs.Feeding.{nothing_heard};
+ghost use Rattle.link_messages.specs.Stream.{after_one};
+ghost use Rattle.link_messages.specs.declared.message.Peer.TheVariants.{Application as Asking};
 ghost use Rattle.world.specs.Links.{before_others, heard_on, AreHandedIn, Asks, HandsIn, SaysMore};
 
 use crate::{Event, EventTurn};
 use devices::Application;
-use gateway_wire::{Fed, Feeder, Line, Message, Peer, read_line};
+use gateway_wire::read_line;
+use link_messages::{Fed, Feeder, Line, Message, Peer};
 use lw_types::Refusal;
 use std::alloc::{AllocError, Global};
 use std::collections::BTreeMap;

@@ -109,7 +109,7 @@ impl<D: Sim> Life<D> {
         ensures course { MovesPiece D.state self.old link moment bytes.now result self.new }
         ensures calls { IsNoFailure result }
     {
-        gateway_wire::laws::cuts_make_no_difference();
+        link_messages::laws::cuts_make_no_difference();
         match self.links.say(link, bytes) {
             Err(refusal) => Answer::Refused(refusal),
             Ok(handed_in) => {

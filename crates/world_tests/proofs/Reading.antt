@@ -2,10 +2,10 @@
 use Rattle.std.proofs.Common.{◌≡◌, ◌∙◌, ℕ, List, [], ◌∷◌, ◌++◌, Option, None, ap, subst, refl}
 use Rattle.std.proofs.lemmas.List.{append-nil}
 use Rattle.lw_types.specs.declared.refusal.Refusal.{Refusal}
-use Rattle.gateway_wire.specs.declared.message.Peer.{Peer}
-use Rattle.gateway_wire.specs.declared.message.Message.{Message}
-use Rattle.gateway_wire.specs.Stream.{IsSaid, after}
-use Rattle.gateway_wire.specs.Feeding.{Heard, Hears, HearsAll, fault_in, joined, nothing_heard}
+use Rattle.link_messages.specs.declared.message.Peer.{Peer}
+use Rattle.link_messages.specs.declared.message.Message.{Message}
+use Rattle.link_messages.specs.Stream.{IsSaid, after}
+use Rattle.link_messages.specs.Feeding.{Heard, Hears, HearsAll, fault_in, joined, nothing_heard}
 use Rattle.world.specs.declared.event.Event.{Event}
 use Rattle.world.specs.Links.{AreHandedIn, Completes}
 

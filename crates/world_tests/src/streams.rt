@@ -2,7 +2,7 @@
 ghost use Rattle.std.specs.Prelude.{◌≡◌, IfOk};
 ghost use Rattle.world.specs.Links.{Completes, stream_on};
 
-use gateway_wire::{Fed, Feeder};
+use link_messages::{Fed, Feeder};
 use lw_types::Refusal;
 use std::alloc::Global;
 use std::marker::Model;
@@ -44,7 +44,7 @@ pub(crate) fn completed(
 ) -> Result<(Vec<Event>, Option<Refusal>), Refusal>
     ensures { IfOk result (λ told. Completes (stream_on link pieces.now) piece.now told.0.items told.1) }
 {
-    gateway_wire::laws::cuts_make_no_difference();
+    link_messages::laws::cuts_make_no_difference();
     let stream = stream_on(alloc, pieces, link)?;
     let mut feeder = Feeder::new(alloc);
     let _ = feeder.feed(&stream)?;

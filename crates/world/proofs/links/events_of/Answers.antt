@@ -1,6 +1,6 @@
 use Rattle.std.proofs.Common.{rules, length, ◌≡◌, ◌∙◌, ◌++◌, ◌∷◌, [], List, ap, refl, subst, sym, append_assoc}
 use Rattle.std.proofs.lemmas.List.{append-nil, nil_from_length}
-use Rattle.gateway_wire.specs.declared.message.Message.{Message}
+use Rattle.link_messages.specs.declared.message.Message.{Message}
 use Rattle.world.specs.Links.{before_others, AreHandedIn}
 use Rattle.world.proofs.Saying.{before_append}
 use Rattle.world.proofs.links.events_of.Goals as goal

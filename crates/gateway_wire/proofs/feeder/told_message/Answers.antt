@@ -1,5 +1,0 @@
-use Rattle.gateway_wire.proofs.Telling.{tells}
-use Rattle.gateway_wire.proofs.feeder.told_message.Goals as goal
-
-pub returns : goal.returns
-returns c = tells c.args.peer c.args.content.now c.read_message.result (λ i. (c.type_inv.content i).fits) c.read_message.ensures

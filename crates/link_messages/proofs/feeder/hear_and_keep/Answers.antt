@@ -1,0 +1,11 @@
+use Rattle.link_messages.proofs.Hearing.{heard_rest}
+use Rattle.link_messages.proofs.feeder.hear_and_keep.Goals as goal
+
+pub keep-requires : goal.keep-requires
+keep-requires c =
+    (heard_rest c.args.peer.now c.args.stream.now c.args.messages.now.items c.hear.new.messages.items c.hear.new.peer c.in_ok-left.fault c.in_ok-left.left.now c.in_ok-left.ensures.heard c.in-None.is).0
+
+pub returns-in_ok-keep-in-None-clause-heard : goal.returns-in_ok-keep-in-None-clause-heard
+returns-in_ok-keep-in-None-clause-heard c =
+    let h = heard_rest c.args.peer.now c.args.stream.now c.args.messages.now.items c.hear.new.messages.items c.hear.new.peer c.in_ok-left.fault c.in_ok-left.left.now c.in_ok-left.ensures.heard c.in-None.is in
+    rw c.in_ok-keep-in-None.ensures.ok h

@@ -1,0 +1,312 @@
+// What a link says, of the pieces in which its bytes come.
+ghost use Rattle.std.specs.Prelude.{◌≡◌, ◌≤◌, ◌++◌, ◌<◌, ◌-◌, min, length, take, drop, IfErr, IfOk, OnErr, OnOk};
+ghost use Rattle.lw_types.specs.declared.refusal.Refusal.TheVariants.{OutOfMemory};
+ghost use Rattle.link_messages.specs.Stream.{after_one, told_length, IsPart};
+ghost use Rattle.link_messages.specs.Feeding.{end_of, ended, fault_in, nothing_heard, Hears};
+ghost use Rattle.link_messages.specs.Steps.{Begins, Continues, Finishes, IsHeard, Tells};
+
+use crate::message::{LONGEST_CONTENT, Message, Peer};
+use crate::read_message::read_message;
+use lw_types::Refusal;
+use std::alloc::{AllocError, Global};
+use std::marker::Model;
+
+// The length in front of the content of a frame, in bytes.
+const HEAD: usize = 2;
+
+/// What a piece of a link's bytes says.
+#[derive(Clone, Debug, PartialEq, Eq, Drop)]
+pub struct Fed {
+    /// The messages that became whole, in order.
+    pub messages: Vec<Message>,
+    /// What is wrong behind them.
+    pub fault: Option<Refusal>,
+}
+
+/// Reads the messages of a link, whose bytes come in pieces of any length. In contracts it is who is at
+/// the other end, and how the bytes so far end: in a part of a frame, or in a fault.
+#[derive(Drop)]
+pub struct Feeder {
+    alloc: Global,
+    peer: Option<Peer>,
+    fault: Option<Refusal>,
+    // The frame that isn't whole.
+    rest: Vec<u8>,
+}
+
+impl Model for Feeder {
+    ghost use Rattle.link_messages.specs.Feeding.{Heard, end_of};
+    ghost use Rattle.link_messages.specs.Stream.{IsPart};
+
+    ghost Value = { Heard };
+
+    ghost view = { λ f. record { peer = f.peer; end = end_of f.fault f.rest.items } };
+
+    ghost invariant = { λ f. IsPart f.rest.items };
+}
+
+// The length of content that is told in the first two bytes.
+fn told_length(stream: &[u8]) -> Option<usize>
+    ensures { result ≡ told_length stream.now }
+{
+    let (head, _) = stream.split_first_chunk::<HEAD>()?;
+    Some(usize::from(u16::from_be_bytes(*head)))
+}
+
+// The content of the first frame and what follows it; `None` where it isn't whole.
+fn first_frame(stream: &[u8]) -> Result<Option<(&[u8], &[u8])>, Refusal>
+    ensures { Begins stream.now result }
+{
+    match told_length(stream) {
+        None => Ok(None),
+        Some(len) if len > LONGEST_CONTENT => Err(Refusal::FrameTooLong),
+        Some(len) => Ok(stream[HEAD..].split_at_checked(len)),
+    }
+}
+
+// The length of content that is told in the first two bytes of both together.
+fn told_across(kept: &[u8], piece: &[u8]) -> Option<usize>
+    requires { 0 < length kept.now }
+    ensures { result ≡ told_length (kept.now ++ piece.now) }
+{
+    let (high, others) = kept.split_first()?;
+    let low = match others.first() {
+        Some(low) => *low,
+        None => *piece.first()?,
+    };
+    Some(usize::from(u16::from_be_bytes([*high, low])))
+}
+
+// How many bytes of the piece there are up to this length of both together.
+fn up_to(len: usize, kept: &[u8], piece: &[u8]) -> usize
+    ensures { result ≡ min (len - length kept.now) (length piece.now) }
+{
+    len.saturating_sub(kept.len()).min(piece.len())
+}
+
+// How many bytes of the piece finish the frame of which these bytes were kept.
+fn finishing(kept: &[u8], piece: &[u8]) -> usize
+    requires begun { 0 < length kept.now }
+    requires part { IsPart kept.now }
+    ensures some { result ≤ length piece.now }
+    ensures finished { Finishes (kept.now ++ take result piece.now) (drop result piece.now) }
+{
+    match told_across(kept, piece) {
+        None => 0,
+        Some(len) if len > LONGEST_CONTENT => up_to(HEAD, kept, piece),
+        Some(len) => up_to(HEAD + len, kept, piece),
+    }
+}
+
+// The message that content is, where it may be said.
+fn told_message(alloc: Global, peer: Option<Peer>, content: &[u8]) -> Result<Message, Refusal>
+    ensures { Tells peer content.now result }
+{
+    read_message(alloc, peer, content)
+}
+
+// What comes next in a stream.
+#[derive(Drop)]
+pub(crate) enum Next<'a> {
+    // A message, and what follows it.
+    Message(Message, &'a [u8]),
+    // A part of a frame.
+    Nothing,
+    Fault(Refusal),
+}
+
+fn next_message<'a>(
+    alloc: Global,
+    peer: &Option<Peer>,
+    stream: &'a [u8],
+) -> Result<Next<'a>, Refusal>
+    ensures { Continues peer.now stream.now result }
+{
+    match first_frame(stream) {
+        Err(fault) => Ok(Next::Fault(fault)),
+        Ok(None) => Ok(Next::Nothing),
+        Ok(Some((content, behind))) => match told_message(alloc, *peer, content) {
+            Ok(message) => Ok(Next::Message(message, behind)),
+            Err(Refusal::BadMessage) => Ok(Next::Fault(Refusal::BadMessage)),
+            Err(_) => Err(Refusal::OutOfMemory),
+        },
+    }
+}
+
+// A greeting tells who is at the other end.
+fn greet(peer: &mut Option<Peer>, message: &Message)
+    ensures { peer.new ≡ after_one peer.old message.now }
+{
+    if let Message::Greeting(greeted) = message {
+        *peer = Some(*greeted);
+    }
+}
+
+// Adds the messages of a stream. Answers what is left of it, and the fault that stands there.
+fn hear<'a>(
+    alloc: Global,
+    peer: &mut Option<Peer>,
+    stream: &'a [u8],
+    messages: &mut Vec<Message>,
+) -> Result<(&'a [u8], Option<Refusal>), Refusal>
+    ensures heard { IfOk result (λ r. IsHeard peer.old stream.now messages.old.items messages.new.items peer.new (end_of r.1 r.0.now)) }
+    ensures refused { IfErr result (λ e. e ≡ OutOfMemory) }
+{
+    let mut left = stream;
+    loop {
+        match next_message(alloc, peer, left)? {
+            Next::Nothing => return Ok((left, None)),
+            Next::Fault(fault) => return Ok((left, Some(fault))),
+            Next::Message(message, behind) => {
+                greet(peer, &message);
+                messages.push(message)?;
+                left = behind;
+            }
+        }
+    }
+}
+
+// Keeps a part of a frame in the place of what was kept. The room for the longest is taken once.
+fn keep(kept: &mut Vec<u8>, part: &[u8]) -> Result<(), AllocError>
+    requires { IsPart part.now }
+    ensures ok { OnOk result (kept.new.items ≡ part.now) }
+    ensures err { OnErr result (kept.new.items ≡ kept.old.items) }
+{
+    if !part.is_empty() {
+        kept.reserve((HEAD + LONGEST_CONTENT).saturating_sub(kept.len()))?;
+    }
+    kept.clear();
+    kept.extend_from_slice(part)
+}
+
+// Hears a stream behind these messages, and keeps its rest. Answers the fault that stands there.
+fn hear_and_keep(
+    alloc: Global,
+    peer: &mut Option<Peer>,
+    kept: &mut Vec<u8>,
+    stream: &[u8],
+    messages: &mut Vec<Message>,
+) -> Result<Option<Refusal>, Refusal>
+    ensures heard { IfOk result (λ fault. IsPart kept.new.items
+        × IsHeard peer.old stream.now messages.old.items messages.new.items peer.new (end_of fault kept.new.items)) }
+    ensures refused { IfErr result (λ e. (e ≡ OutOfMemory) × (kept.new.items ≡ kept.old.items)) }
+{
+    let (left, fault) = hear(alloc, peer, stream, messages)?;
+    match fault {
+        Some(fault) => {
+            kept.clear();
+            Ok(Some(fault))
+        }
+        None => {
+            keep(kept, left)?;
+            Ok(None)
+        }
+    }
+}
+
+// Hears a piece behind the bytes that were kept, and keeps the rest. Answers the fault that stands there.
+fn hear_piece(
+    alloc: Global,
+    peer: &mut Option<Peer>,
+    kept: &mut Vec<u8>,
+    piece: &[u8],
+    messages: &mut Vec<Message>,
+) -> Result<Option<Refusal>, Refusal>
+    requires part { IsPart kept.old.items }
+    ensures heard { IfOk result (λ fault. IsPart kept.new.items
+        × IsHeard peer.old (kept.old.items ++ piece.now) messages.old.items messages.new.items peer.new (end_of fault kept.new.items)) }
+    ensures refused { IfErr result (λ e. (e ≡ OutOfMemory) × (take (length kept.old.items) kept.new.items ≡ kept.old.items)) }
+{
+    if kept.is_empty() {
+        return hear_and_keep(alloc, peer, kept, piece, messages);
+    }
+    let (front, behind) = piece.split_at(finishing(kept.as_slice(), piece));
+    kept.extend_from_slice(front)?;
+    match next_message(alloc, peer, kept.as_slice())? {
+        Next::Nothing => Ok(None),
+        Next::Fault(fault) => {
+            kept.clear();
+            Ok(Some(fault))
+        }
+        Next::Message(message, _) => {
+            greet(peer, &message);
+            messages.push(message)?;
+            hear_and_keep(alloc, peer, kept, behind, messages)
+        }
+    }
+}
+
+impl Clone for Feeder {
+    ghost is_clone = { λ s t. t ≡ s };
+
+    fn clone(&self) -> Result<Self, AllocError> {
+        Ok(Feeder {
+            alloc: self.alloc,
+            peer: self.peer,
+            fault: self.fault,
+            rest: self.rest.clone()?,
+        })
+    }
+}
+
+impl Feeder {
+    /// The feeder of a new link. Takes no memory.
+    pub fn new(alloc: Global) -> Self
+        ensures { result ≡ nothing_heard }
+    {
+        Feeder {
+            alloc,
+            peer: None,
+            fault: None,
+            rest: Vec::new(alloc),
+        }
+    }
+
+    /// The messages that become whole by this piece, and the fault behind them: `FrameTooLong` as soon
+    /// as a length above 700 is there, `BadMessage` for content that is no message or may not be said.
+    /// Behind a fault nothing is read any more, and each piece is answered that fault. The only refusal is
+    /// `OutOfMemory`, and then the feeder is as before the piece.
+    pub fn feed(&mut self, piece: &[u8]) -> Result<Fed, Refusal>
+        ensures fed { IfOk result (λ fed. Hears self.old piece.now fed.messages.items self.new
+            × (fed.fault ≡ fault_in self.new.end)) }
+        ensures refused { IfErr result (λ e. (e ≡ OutOfMemory) × (self.new ≡ self.old)) }
+    {
+        let mut messages = Vec::new(self.alloc);
+        if self.fault.is_some() {
+            let fault = self.fault;
+            return Ok(Fed { messages, fault });
+        }
+        let mut peer = self.peer;
+        let len = self.rest.len();
+        match hear_piece(self.alloc, &mut peer, &mut self.rest, piece, &mut messages) {
+            Ok(fault) => {
+                self.peer = peer;
+                self.fault = fault;
+                Ok(Fed { messages, fault })
+            }
+            Err(_) => {
+                self.rest.truncate(len);
+                Err(Refusal::OutOfMemory)
+            }
+        }
+    }
+
+    /// Who is at the other end, none before the greeting.
+    pub fn peer(&self) -> Option<Peer>
+        ensures { result ≡ self.now.peer }
+    {
+        self.peer
+    }
+
+    /// What the end of the input is: `CutShort` exactly where a part of a frame is left, and behind a fault
+    /// that fault. Takes no memory.
+    pub fn end(&self) -> Result<(), Refusal>
+        ensures { result ≡ ended self.now.end }
+    {
+        match self.fault {
+            Some(fault) => Err(fault),
+            None if self.rest.is_empty() => Ok(()),
+            None => Err(Refusal::CutShort),
+        }
+    }
+}
