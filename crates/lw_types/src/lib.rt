@@ -10,7 +10,6 @@ mod identifiers;
 mod key;
 pub mod laws;
 mod payload;
-mod ranged;
 mod refusal;
 mod text;
 mod words;

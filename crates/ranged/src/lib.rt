@@ -1,4 +1,6 @@
-// Numbers of a range.
+//! Whole numbers of a range.
+#![tactic(auto)]
+
 ghost use Rattle.std.specs.Prelude.{◌≡◌, ◌≤◌, ℕ, SomeIff};
 
 use std::marker::Model;
