@@ -3,14 +3,14 @@ use devices::{Copies, Hearing};
 use lw_types::NetId;
 
 /// A slot of a network.
-#[derive(Clone, Copy, Debug, PartialEq, Eq)]
+#[derive(Clone, Copy)]
 pub(crate) struct Place {
     pub net_id: NetId,
     pub slot: u16,
 }
 
 /// How an uplink was heard.
-#[derive(Clone, Copy, Debug, PartialEq, Eq)]
+#[derive(Clone, Copy)]
 pub(crate) struct Reach {
     /// How many gateways heard it.
     pub copies: Copies,

@@ -13,7 +13,7 @@ use lw_types::{Direction, Refusal};
 use phy_payload::DataFrame;
 
 /// The session of which an uplink is.
-#[derive(Clone, Copy, Debug, PartialEq, Eq)]
+#[derive(Clone, Copy, Debug)]
 pub enum Fit {
     /// The session that waited for its first uplink, and the uplink's counter.
     First {
@@ -32,7 +32,7 @@ pub enum Fit {
 }
 
 /// How far an uplink came into a session.
-#[derive(Clone, Copy, Debug, PartialEq, Eq)]
+#[derive(Clone, Copy)]
 pub enum Trial {
     /// It has another address.
     Elsewhere,
