@@ -1,55 +1,54 @@
-use crate::fixtures::GATEWAY;
+use crate::fixtures::{GATEWAY, bytes};
 use link_messages::{Fed, Feeder, Message, Peer};
-use lw_types::{FrameCopy, Reception, Refusal, read_hex};
+use lw_types::{FrameCopy, Reception, Refusal};
 use std::alloc::Global;
 
-// The greeting of a gateway, and its copy of a frame of 17 bytes.
+// The greeting of a gateway, its copy of a frame of 17 bytes, and the one behind the other.
 const GREETING: &str = "00090000000000000000B1";
 
 const COPY: &str =
     "00270100000000000000B133BE27A005FFECFFA10000C35040F17DBE4900020001954378762B11FF0D";
 
-// The bytes of a text, and so many of 41 behind them.
-fn stream(alloc: Global, hex: &str, count: usize) -> Result<Vec<u8>, Refusal> {
-    let mut bytes = read_hex(alloc, hex)?;
-    bytes.extend_from_slice(vec![in alloc; 0x41; count]?.as_slice())?;
-    Ok(bytes)
-}
+const GREETING_AND_COPY: &str =
+    "00090000000000000000B100270100000000000000B133BE27A005FFECFFA10000C35040F17DBE4900020001954378762B11FF0D";
 
-// A piece that there was no memory for is fed again.
-fn feed(
-    feeder: &mut Feeder,
-    piece: &[u8],
-    messages: &mut Vec<Message>,
-) -> Result<Option<Refusal>, Refusal> {
-    let mut fed = match feeder.feed(piece) {
-        Ok(fed) => fed,
-        Err(_) => feeder.feed(piece)?,
+// Feeds a piece, and whether there was memory for it. A piece that there was none for is fed again.
+fn feed(feeder: &mut Feeder, piece: &[u8], said: &mut Fed) -> bool {
+    let answer = match feeder.feed(piece) {
+        Ok(fed) => Ok(fed),
+        Err(_) => feeder.feed(piece),
     };
-    messages.append(&mut fed.messages)?;
-    Ok(fed.fault)
+    let Ok(mut fed) = answer else {
+        return false;
+    };
+    said.fault = fed.fault;
+    said.messages.append(&mut fed.messages).is_ok()
 }
 
-// What a stream says that comes in one piece, or byte after byte.
-fn fed(alloc: Global, feeder: &mut Feeder, stream: &[u8], is_whole: bool) -> Result<Fed, Refusal> {
-    let mut messages = Vec::new(alloc);
-    let mut fault = None;
+// Feeds a stream in one piece, or byte after byte.
+fn feed_all(feeder: &mut Feeder, stream: &[u8], is_whole: bool, said: &mut Fed) -> bool {
     if is_whole {
-        fault = feed(feeder, stream, &mut messages)?;
-    } else {
-        for byte in stream {
-            fault = feed(feeder, &[*byte], &mut messages)?;
+        return feed(feeder, stream, said);
+    }
+    for byte in stream {
+        if !feed(feeder, &[*byte], said) {
+            return false;
         }
     }
-    Ok(Fed { messages, fault })
+    true
 }
 
 // What a stream says, and what its end is refused.
-fn heard(alloc: Global, stream: &[u8], is_whole: bool) -> Result<(Fed, Option<Refusal>), Refusal> {
+fn heard(alloc: Global, stream: &[u8], is_whole: bool) -> Option<(Fed, Option<Refusal>)> {
     let mut feeder = Feeder::new(alloc);
-    match fed(alloc, &mut feeder, stream, is_whole) {
-        Ok(fed) => Ok((fed, feeder.end().err())),
-        Err(refusal) => Err(refusal),
+    let mut said = Fed {
+        messages: Vec::new(alloc),
+        fault: None,
+    };
+    if feed_all(&mut feeder, stream, is_whole, &mut said) {
+        Some((said, feeder.end().err()))
+    } else {
+        None
     }
 }
 
@@ -59,17 +58,17 @@ fn says(
     (hex, filled, count): (&str, usize, usize),
     fault: Option<Refusal>,
     end: Option<Refusal>,
-) -> Result<bool, Refusal> {
-    let bytes = stream(alloc, hex, filled)?;
-    Ok(
-        match (heard(alloc, &bytes, true), heard(alloc, &bytes, false)) {
-            (Ok((whole, whole_end)), Ok((cut, cut_end))) => {
-                let is_same = whole == cut && whole_end == cut_end;
-                is_same && whole_end == end && whole.messages.len() == count && whole.fault == fault
-            }
-            _ => false,
-        },
-    )
+) -> bool {
+    let Some(stream) = bytes(alloc, hex, 0x41, filled) else {
+        return false;
+    };
+    match (heard(alloc, &stream, true), heard(alloc, &stream, false)) {
+        (Some((whole, whole_end)), Some((cut, cut_end))) => {
+            let is_same = whole == cut && whole_end == cut_end;
+            is_same && whole_end == end && whole.messages.len() == count && whole.fault == fault
+        }
+        _ => false,
+    }
 }
 
 // Texts, how many of 41 stand behind them, and how many messages they say.
@@ -194,12 +193,12 @@ fn streams_say_their_messages(rt: HostRuntime) {
     for (streams, fault, end) in STREAMS {
         for stream in *streams {
             let says = says(rt.alloc(), *stream, *fault, *end);
-            assert!(rt; says == Ok(true), "{}", stream.0);
+            assert!(rt; says, "{}", stream.0);
         }
     }
 }
 
-fn copy(alloc: Global) -> Result<FrameCopy, Refusal> {
+fn copy(alloc: Global) -> Option<FrameCopy> {
     let reception = Reception {
         gateway: GATEWAY,
         frequency: 868_100_000,
@@ -207,8 +206,8 @@ fn copy(alloc: Global) -> Result<FrameCopy, Refusal> {
         snr: -20,
         rssi: -95,
     };
-    let frame = read_hex(alloc, "40F17DBE4900020001954378762B11FF0D")?;
-    FrameCopy::new(alloc, reception, 50_000, frame.as_slice())
+    let frame = bytes(alloc, "40F17DBE4900020001954378762B11FF0D", 0, 0)?;
+    FrameCopy::new(alloc, reception, 50_000, &frame).ok()
 }
 
 // Whether they are a gateway's greeting and its copy.
@@ -222,16 +221,15 @@ fn are_of_gateway(messages: &[Message], copy: &FrameCopy) -> bool {
     }
 }
 
-fn hands_in_a_copy(alloc: Global) -> Result<bool, Refusal> {
-    let mut bytes = read_hex(alloc, GREETING)?;
-    bytes.extend_from_slice(&read_hex(alloc, COPY)?)?;
-    let (fed, _) = heard(alloc, &bytes, false)?;
-    Ok(are_of_gateway(&fed.messages, &copy(alloc)?))
+fn hands_in_a_copy(alloc: Global) -> Option<bool> {
+    let stream = bytes(alloc, GREETING_AND_COPY, 0, 0)?;
+    let (fed, _) = heard(alloc, &stream, false)?;
+    Some(are_of_gateway(&fed.messages, &copy(alloc)?))
 }
 
 #[test]
 fn a_gateway_hands_in_its_copy(rt: HostRuntime) {
-    assert!(rt; hands_in_a_copy(rt.alloc()) == Ok(true));
+    assert!(rt; hands_in_a_copy(rt.alloc()) == Some(true));
 }
 
 // Whether they are the greeting of application 3 and its line.
@@ -245,13 +243,13 @@ fn are_of_application(messages: &[Message], text: &str) -> bool {
     }
 }
 
-fn hands_in_a_line(alloc: Global) -> Result<bool, Refusal> {
-    let bytes = read_hex(alloc, "000202030006036D6163202D")?;
-    let (fed, _) = heard(alloc, &bytes, true)?;
-    Ok(are_of_application(&fed.messages, "mac -"))
+fn hands_in_a_line(alloc: Global) -> Option<bool> {
+    let stream = bytes(alloc, "000202030006036D6163202D", 0, 0)?;
+    let (fed, _) = heard(alloc, &stream, true)?;
+    Some(are_of_application(&fed.messages, "mac -"))
 }
 
 #[test]
 fn an_application_hands_in_its_line(rt: HostRuntime) {
-    assert!(rt; hands_in_a_line(rt.alloc()) == Ok(true));
+    assert!(rt; hands_in_a_line(rt.alloc()) == Some(true));
 }

@@ -3,7 +3,7 @@ use mac_commands::{
     Cid, Decoded, MacCommand, are_queueable, asks_link_check, decode_down, decode_up, encode_down,
     fit15, read_told,
 };
-use std::alloc::{AllocError, Global};
+use std::alloc::Global;
 
 // A command of TS001-1.0.4 §5: its number, and its bytes in an uplink and in a downlink. The payloads are of bytes that are
 // identifiers too.
@@ -56,11 +56,17 @@ fn read(alloc: Global, direction: Direction, bytes: &[u8]) -> Result<Decoded, Re
 
 // Whether these are the commands, with their payloads.
 fn are_commands(found: &[MacCommand], wanted: &[(Cid, &[u8])]) -> bool {
-    let mut are_same = found.len() == wanted.len();
-    for (command, (cid, payload)) in found.iter().zip(wanted) {
-        are_same = are_same && command.cid == *cid && command.payload.as_slice() == *payload;
+    let mut count: usize = 0;
+    for (cid, payload) in wanted {
+        let Some(command) = found.get(count) else {
+            return false;
+        };
+        if command.cid != *cid || command.payload.as_slice() != *payload {
+            return false;
+        }
+        count = count.saturating_add(1);
     }
-    are_same
+    found.len() == count
 }
 
 // Whether the bytes are read as these commands, as far as there.
@@ -70,9 +76,11 @@ fn is_read(
     bytes: &[u8],
     wanted: &[(Cid, &[u8])],
     stop: usize,
-) -> Result<bool, Refusal> {
-    let found = read(alloc, direction, bytes)?;
-    Ok(found.stop == stop && are_commands(&found.commands, wanted))
+) -> bool {
+    let Ok(found) = read(alloc, direction, bytes) else {
+        return false;
+    };
+    found.stop == stop && are_commands(&found.commands, wanted)
 }
 
 // Uplinks' commands, what is read of them, and where reading stops: at the end, and where no known command begins.
@@ -93,26 +101,29 @@ const READ: &[(&[u8], &[(Cid, &[u8])], usize)] = &[
 fn reading_stops_where_no_known_command_begins(rt: HostRuntime) {
     for (bytes, wanted, stop) in READ {
         let is_read = is_read(rt.alloc(), Direction::Up, bytes, wanted, *stop);
-        assert!(rt; is_read == Ok(true), "{stop}");
+        assert!(rt; is_read, "{stop}");
     }
 }
 
 // Whether the command is read whole of its bytes, and none without the last of them.
-fn is_whole(alloc: Global, direction: Direction, cid: Cid, bytes: &[u8]) -> Result<bool, Refusal> {
-    match (bytes.split_first(), bytes.split_last()) {
-        (Some((_, payload)), Some((_, cut))) => {
-            let is_read = is_read(alloc, direction, bytes, &[(cid, payload)], bytes.len())?;
-            Ok(is_read && read(alloc, direction, cut)?.stop == 0)
-        }
-        _ => Ok(false),
-    }
+fn is_whole(alloc: Global, direction: Direction, cid: Cid, bytes: &[u8]) -> bool {
+    let (Some((_, payload)), Some((_, cut))) = (bytes.split_first(), bytes.split_last()) else {
+        return false;
+    };
+    is_read(alloc, direction, bytes, &[(cid, payload)], bytes.len())
+        && is_read(alloc, direction, cut, &[], 0)
 }
 
-// Whether a downlink's command is read, and written behind AA as it was.
-fn is_written(alloc: Global, bytes: &[u8]) -> Result<bool, Refusal> {
-    let mut out = Vec::from_slice(alloc, &[0xAA])?;
-    encode_down(alloc, &decode_down(alloc, bytes)?.commands, &mut out)?;
-    Ok(out.as_slice().strip_prefix(&[0xAA]) == Some(bytes))
+// Whether a downlink's commands are read, so many of them and as far as there, and what was read is written behind AA as it was.
+fn is_written(alloc: Global, bytes: &[u8], count: usize, stop: usize) -> bool {
+    let (Ok(found), Ok(mut out)) = (decode_down(alloc, bytes), Vec::from_slice(alloc, &[0xAA]))
+    else {
+        return false;
+    };
+    encode_down(alloc, &found.commands, &mut out).is_ok()
+        && found.commands.len() == count
+        && found.stop == stop
+        && out.as_slice().strip_prefix(&[0xAA]) == bytes.get(..stop)
 }
 
 #[test]
@@ -123,30 +134,37 @@ fn ten_numbers_are_known(rt: HostRuntime) {
     }
 }
 
-// Whether a command has its number, payloads as long as those, and is one of three kinds where it may be queued.
+// Whether a command has payloads as long as those.
+fn has_lengths(cid: Cid, up: &[u8], down: &[u8]) -> bool {
+    cid.payload_len(Direction::Up) + 1 == up.len()
+        && cid.payload_len(Direction::Down) + 1 == down.len()
+}
+
+// Whether a command may be queued where it is one of three kinds.
+fn may_be_queued(cid: Cid, down: &[u8]) -> bool {
+    let may = matches!(cid, Cid::LinkAdr | Cid::DutyCycle | Cid::DevStatus);
+    cid.may_be_queued() == may && are_queueable(down) == may
+}
+
+// Whether a command has its number and its lengths, and may be queued or not.
 fn has_row(row: &Row) -> bool {
     let (number, cid, up, down) = *row;
-    let may = matches!(cid, Cid::LinkAdr | Cid::DutyCycle | Cid::DevStatus);
     let is_named = Cid::from_number(number) == Some(cid) && cid.number() == number;
-    is_named
-        && cid.payload_len(Direction::Up) + 1 == up.len()
-        && cid.payload_len(Direction::Down) + 1 == down.len()
-        && cid.may_be_queued() == may
-        && are_queueable(down) == may
+    is_named && has_lengths(cid, up, down) && may_be_queued(cid, down)
 }
 
 // Whether it is read whole both ways, and in a downlink written as it was.
-fn is_read_and_written(alloc: Global, row: &Row) -> Result<bool, Refusal> {
+fn is_read_and_written(alloc: Global, row: &Row) -> bool {
     let (_, cid, up, down) = *row;
-    let is_up = is_whole(alloc, Direction::Up, cid, up)?;
-    let is_down = is_whole(alloc, Direction::Down, cid, down)?;
-    Ok(is_up && is_down && is_written(alloc, down)?)
+    is_whole(alloc, Direction::Up, cid, up)
+        && is_whole(alloc, Direction::Down, cid, down)
+        && is_written(alloc, down, 1, down.len())
 }
 
 #[test]
 fn each_command_has_its_row(rt: HostRuntime) {
     for row in TABLE {
-        let is_right = has_row(row) && is_read_and_written(rt.alloc(), row) == Ok(true);
+        let is_right = has_row(row) && is_read_and_written(rt.alloc(), row);
         assert!(rt; is_right, "{}", row.0);
     }
 }
@@ -180,45 +198,42 @@ fn whole_commands_fit_the_room(rt: HostRuntime) {
 }
 
 // LinkADRReq so many times, and these bytes.
-fn requests(alloc: Global, count: usize, rest: &[u8]) -> Result<Vec<u8>, AllocError> {
-    let mut bytes = [0x03, 0xA5, 0xA5, 0xA5, 0xA5].repeat(alloc, count)?;
-    bytes.extend_from_slice(rest)?;
-    Ok(bytes)
+fn requests(alloc: Global, count: usize, rest: &[u8]) -> Option<Vec<u8>> {
+    let Ok(mut bytes) = [0x03, 0xA5, 0xA5, 0xA5, 0xA5].repeat(alloc, count) else {
+        return None;
+    };
+    match bytes.extend_from_slice(rest) {
+        Ok(()) => Some(bytes),
+        Err(_) => None,
+    }
 }
 
-// Whether what was read so far is written again.
-fn is_again(alloc: Global, found: &Decoded, bytes: &[u8]) -> Result<bool, Refusal> {
-    let mut out = Vec::new(alloc);
-    encode_down(alloc, &found.commands, &mut out)?;
-    Ok(bytes.get(..found.stop) == Some(out.as_slice()))
-}
-
-// How many commands are read of 48 and these bytes, where reading stops, and whether what was read is written again.
-fn read_again(alloc: Global, rest: &[u8]) -> Result<(usize, usize, bool), Refusal> {
+// Whether 48 commands are read of as many requests and these bytes, and written again.
+fn are_48(alloc: Global, rest: &[u8]) -> Option<bool> {
     let bytes = requests(alloc, 48, rest)?;
-    let found = decode_down(alloc, &bytes)?;
-    let is_again = is_again(alloc, &found, &bytes) == Ok(true);
-    Ok((found.commands.len(), found.stop, is_again))
+    Some(is_written(alloc, &bytes, 48, 240))
 }
 
-fn checks(alloc: Global) -> Result<(usize, usize), Refusal> {
-    let found = decode_up(alloc, &[0x02; LONGEST_PAYLOAD])?;
-    Ok((found.commands.len(), found.stop))
+fn checks(alloc: Global) -> Option<(usize, usize)> {
+    let Ok(found) = decode_up(alloc, &[0x02; LONGEST_PAYLOAD]) else {
+        return None;
+    };
+    Some((found.commands.len(), found.stop))
 }
 
 // All of 240 bytes; all but the last one, which is cut; and those of one byte each in an uplink.
 #[test]
 fn many_commands_are_read_and_written(rt: HostRuntime) {
     let alloc = rt.alloc();
-    assert!(rt; read_again(alloc, &[]) == Ok((48, 240, true)));
-    assert!(rt; read_again(alloc, &[0x03, 0xA5]) == Ok((48, 240, true)));
-    assert!(rt; checks(alloc) == Ok((242, 242)));
+    assert!(rt; are_48(alloc, &[]) == Some(true));
+    assert!(rt; are_48(alloc, &[0x03, 0xA5]) == Some(true));
+    assert!(rt; checks(alloc) == Some((242, 242)));
 }
 
 // How much of so many requests and these bytes fits a wide room, and whether all of them may be queued.
-fn queued(alloc: Global, count: usize, rest: &[u8]) -> Result<(usize, bool), AllocError> {
+fn queued(alloc: Global, count: usize, rest: &[u8]) -> Option<(usize, bool)> {
     let bytes = requests(alloc, count, rest)?;
-    Ok((fit15(&bytes, 242), are_queueable(&bytes)))
+    Some((fit15(&bytes, 242), are_queueable(&bytes)))
 }
 
 const QUEUES: &[(usize, &[u8], (usize, bool))] = &[
@@ -231,7 +246,10 @@ const QUEUES: &[(usize, &[u8], (usize, bool))] = &[
 #[test]
 fn queues_end_with_a_command(rt: HostRuntime) {
     for (count, rest, wanted) in QUEUES {
-        assert!(rt; queued(rt.alloc(), *count, rest) == Ok(*wanted), "{count}");
+        assert!(rt;
+            queued(rt.alloc(), *count, rest) == Some(*wanted),
+            "{count}"
+        );
     }
 }
 
@@ -258,18 +276,20 @@ const UPLINKS: &[(&[u8], &[u8], bool)] = &[
 ];
 
 // Whether this is what the application is told of these commands.
-fn is_told(alloc: Global, commands: &[u8], wanted: &[u8]) -> Result<bool, AllocError> {
+fn is_told(alloc: Global, commands: &[u8], wanted: &[u8]) -> bool {
     if commands.len() > LONGEST_PAYLOAD {
-        return Ok(false);
+        return false;
     }
-    Ok(read_told(alloc, commands)?.as_slice() == wanted)
+    let Ok(told) = read_told(alloc, commands) else {
+        return false;
+    };
+    told.as_slice() == wanted
 }
 
 #[test]
 fn applications_are_told_what_devices_answer(rt: HostRuntime) {
     for (commands, told, asks) in UPLINKS {
-        let is_told = is_told(rt.alloc(), commands, told);
-        assert!(rt; is_told == Ok(true), "{commands:?}");
-        assert!(rt; asks_link_check(commands) == *asks, "{commands:?}");
+        let is_right = is_told(rt.alloc(), commands, told) && asks_link_check(commands) == *asks;
+        assert!(rt; is_right, "{commands:?}");
     }
 }

@@ -20,24 +20,21 @@ const DOWNLINK: Control = Control::Downlink {
 };
 
 // FOpts and, where there is a port, its payload.
-fn contents(
-    alloc: Global,
-    f_opts: &[u8],
-    port: Option<u8>,
-    payload: &[u8],
-) -> Result<Contents, Refusal> {
-    let f_opts = FOpts::new(Vec::from_slice(alloc, f_opts)?).ok();
-    let frm_payload = FrmPayload::new(Vec::from_slice(alloc, payload)?).ok();
-    joined(f_opts, port, frm_payload).ok_or(Refusal::TooLong)
+fn contents(alloc: Global, f_opts: &[u8], port: Option<u8>, payload: &[u8]) -> Option<Contents> {
+    let (Ok(f_opts), Ok(payload)) = (
+        Vec::from_slice(alloc, f_opts),
+        Vec::from_slice(alloc, payload),
+    ) else {
+        return None;
+    };
+    match (FOpts::new(f_opts), FrmPayload::new(payload)) {
+        (Ok(f_opts), Ok(payload)) => joined(f_opts, port, payload),
+        _ => None,
+    }
 }
 
 // The contents of these parts, which are at most 242 bytes.
-fn joined(
-    f_opts: Option<FOpts>,
-    port: Option<u8>,
-    frm_payload: Option<FrmPayload>,
-) -> Option<Contents> {
-    let (f_opts, frm_payload) = (f_opts?, frm_payload?);
+fn joined(f_opts: FOpts, port: Option<u8>, frm_payload: FrmPayload) -> Option<Contents> {
     let Some(f_port) = port else {
         return Some(Contents::new(f_opts, None));
     };
@@ -51,11 +48,10 @@ fn joined(
     Some(Contents::new(f_opts, Some(message)))
 }
 
-// What is written of a frame.
-fn written(alloc: Global, frame: &Phy) -> Result<Vec<u8>, Refusal> {
+// Whether these bytes are written of a frame.
+fn is_written(alloc: Global, bytes: &[u8], frame: &Phy) -> bool {
     let mut out = Vec::new(alloc);
-    encode(alloc, frame, &mut out)?;
-    Ok(out)
+    encode(alloc, frame, &mut out).is_ok() && out.as_slice() == bytes
 }
 
 fn is_read(alloc: Global, bytes: &[u8], frame: &Phy) -> bool {
@@ -66,31 +62,43 @@ fn is_read(alloc: Global, bytes: &[u8], frame: &Phy) -> bool {
 }
 
 // Whether these bytes are this frame: each is made of the other.
-fn are_same(alloc: Global, bytes: &[u8], frame: &Phy) -> Result<bool, Refusal> {
-    Ok(is_read(alloc, bytes, frame) && written(alloc, frame)?.as_slice() == bytes)
+fn are_same(alloc: Global, bytes: &[u8], frame: &Phy) -> bool {
+    is_read(alloc, bytes, frame) && is_written(alloc, bytes, frame)
 }
 
-fn spells(alloc: Global, text: &str, frame: &Phy) -> Result<bool, Refusal> {
-    are_same(alloc, &read_hex(alloc, text)?, frame)
+fn spells(alloc: Global, text: &str, frame: &Phy) -> bool {
+    match read_hex(alloc, text) {
+        Ok(bytes) => are_same(alloc, &bytes, frame),
+        Err(_) => false,
+    }
 }
+
+const REQUEST: JoinRequest = JoinRequest {
+    join_eui: Eui(0x0102_0304_0506_0708),
+    dev_eui: Eui(0x1112_1314_1516_1718),
+    dev_nonce: 1,
+    mic: Mic([0xAA, 0xBB, 0xCC, 0xDD]),
+};
+
+const ACCEPTS: &[(&str, JoinAccept)] = &[
+    (
+        "2011111111111111111111111111111111",
+        JoinAccept::Short { sealed: [0x11; 16] },
+    ),
+    (
+        "202222222222222222222222222222222222222222222222222222222222222222",
+        JoinAccept::WithCfList { sealed: [0x22; 32] },
+    ),
+];
 
 #[test]
 fn joins(rt: HostRuntime) {
-    let alloc = rt.alloc();
-    let request = Phy::JoinRequest(JoinRequest {
-        join_eui: Eui(0x0102_0304_0506_0708),
-        dev_eui: Eui(0x1112_1314_1516_1718),
-        dev_nonce: 1,
-        mic: Mic([0xAA, 0xBB, 0xCC, 0xDD]),
-    });
     let text = "00080706050403020118171615141312110100AABBCCDD";
-    assert!(rt; spells(alloc, text, &request) == Ok(true));
-    let short = Phy::JoinAccept(JoinAccept::Short { sealed: [0x11; 16] });
-    let text = "2011111111111111111111111111111111";
-    assert!(rt; spells(alloc, text, &short) == Ok(true));
-    let long = Phy::JoinAccept(JoinAccept::WithCfList { sealed: [0x22; 32] });
-    let text = "202222222222222222222222222222222222222222222222222222222222222222";
-    assert!(rt; spells(alloc, text, &long) == Ok(true));
+    assert!(rt; spells(rt.alloc(), text, &Phy::JoinRequest(REQUEST)));
+    for (text, accept) in ACCEPTS {
+        let spells = spells(rt.alloc(), text, &Phy::JoinAccept(*accept));
+        assert!(rt; spells, "{text}");
+    }
 }
 
 // A data frame: its text, whether it is confirmed, DevAddr, FCtrl, FCnt, FOpts, FPort, FRMPayload and MIC.
@@ -250,23 +258,26 @@ const DATA_FRAMES: &[Data] = &[
     ),
 ];
 
-fn spells_data(alloc: Global, data: &Data) -> Result<bool, Refusal> {
+fn spells_data(alloc: Global, data: &Data) -> bool {
     let (text, confirmed, dev_addr, control, f_cnt, f_opts, port, payload, mic) = *data;
-    let frame = Phy::DataFrame(DataFrame {
+    let Some(contents) = contents(alloc, f_opts, port, payload) else {
+        return false;
+    };
+    let frame = DataFrame {
         confirmed,
         dev_addr: DevAddr(dev_addr),
         control,
         f_cnt,
-        contents: contents(alloc, f_opts, port, payload)?,
+        contents,
         mic: Mic(mic),
-    });
-    spells(alloc, text, &frame)
+    };
+    spells(alloc, text, &Phy::DataFrame(frame))
 }
 
 #[test]
 fn data_frames(rt: HostRuntime) {
     for data in DATA_FRAMES {
-        assert!(rt; spells_data(rt.alloc(), data) == Ok(true), "{}", data.0);
+        assert!(rt; spells_data(rt.alloc(), data), "{}", data.0);
     }
 }
 
@@ -327,26 +338,38 @@ fn what_is_no_frame_is_refused(rt: HostRuntime) {
 }
 
 // An MHDR with zeros behind it.
-fn zeros(alloc: Global, mhdr: u8, len: usize) -> Result<Vec<u8>, Refusal> {
-    let mut bytes = vec![in alloc; 0; len]?;
-    if let Some(first) = bytes.first_mut() {
-        *first = mhdr;
-    }
-    Ok(bytes)
+fn zeros(mhdr: u8) -> [u8; 257] {
+    let mut bytes = [0; 257];
+    bytes[0] = mhdr;
+    bytes
 }
 
-// What so many zeros behind the MHDR are refused.
-fn refused(alloc: Global, mhdr: u8, len: usize) -> Result<Option<Refusal>, Refusal> {
-    Ok(decode(alloc, &zeros(alloc, mhdr, len)?).err())
+// What so many bytes from the MHDR on are refused, if anything.
+fn refused(alloc: Global, mhdr: u8, len: usize) -> Option<Option<Refusal>> {
+    let zeros = zeros(mhdr);
+    Some(decode(alloc, zeros.get(..len)?).err())
 }
 
 // Whether they are a frame, and written again.
-fn is_frame(alloc: Global, mhdr: u8, len: usize) -> Result<bool, Refusal> {
-    let whole = zeros(alloc, mhdr, len)?;
-    match decode(alloc, &whole) {
-        Ok(frame) => are_same(alloc, &whole, &frame),
-        Err(refusal) => Err(refusal),
+fn is_frame(alloc: Global, mhdr: u8, len: usize) -> bool {
+    let zeros = zeros(mhdr);
+    let Some(bytes) = zeros.get(..len) else {
+        return false;
+    };
+    match decode(alloc, bytes) {
+        Ok(frame) => are_same(alloc, bytes, &frame),
+        Err(_) => false,
     }
+}
+
+// Whether each of the low bits makes an MHDR malformed.
+fn are_0(alloc: Global, mhdr: u8, len: usize) -> bool {
+    for bit in &[1u8, 2, 4, 8, 16] {
+        if refused(alloc, mhdr | *bit, len) != Some(Some(Refusal::Malformed)) {
+            return false;
+        }
+    }
+    true
 }
 
 const SHORTEST: &[(u8, usize)] = &[
@@ -361,22 +384,20 @@ const SHORTEST: &[(u8, usize)] = &[
 #[test]
 fn the_low_bits_of_an_mhdr_are_0(rt: HostRuntime) {
     for (mhdr, len) in SHORTEST {
-        assert!(rt; is_frame(rt.alloc(), *mhdr, *len) == Ok(true), "{mhdr}");
-        for bit in &[1u8, 2, 4, 8, 16] {
-            let refused = refused(rt.alloc(), *mhdr | *bit, *len);
-            assert!(rt; refused == Ok(Some(Refusal::Malformed)), "{mhdr}, {bit}");
-        }
+        let is_right = is_frame(rt.alloc(), *mhdr, *len) && are_0(rt.alloc(), *mhdr, *len);
+        assert!(rt; is_right, "{mhdr}");
     }
 }
 
 // The length of the payload in a data frame of so many bytes without FOpts.
-fn payload_len(alloc: Global, len: usize) -> Result<Option<usize>, Refusal> {
-    match decode(alloc, &zeros(alloc, 0x40, len)?)? {
-        Phy::DataFrame(data) => match data.contents.message() {
-            Some(message) => Ok(Some(message.frm_payload.len())),
-            None => Ok(None),
-        },
-        _ => Err(Refusal::Malformed),
+fn payload_len(alloc: Global, len: usize) -> Option<Option<usize>> {
+    let zeros = zeros(0x40);
+    let Ok(Phy::DataFrame(data)) = decode(alloc, zeros.get(..len)?) else {
+        return None;
+    };
+    match data.contents.message() {
+        Some(message) => Some(Some(message.frm_payload.len())),
+        None => Some(None),
     }
 }
 
@@ -385,7 +406,7 @@ const PAYLOADS: &[(usize, Option<usize>)] = &[(12, None), (13, Some(0)), (255, S
 #[test]
 fn data_frames_have_12_to_255_bytes(rt: HostRuntime) {
     for (len, wanted) in PAYLOADS {
-        assert!(rt; payload_len(rt.alloc(), *len) == Ok(*wanted), "{len}");
+        assert!(rt; payload_len(rt.alloc(), *len) == Some(*wanted), "{len}");
     }
 }
 
@@ -418,15 +439,15 @@ fn frames_have_their_lengths(rt: HostRuntime) {
     for (mhdr, from, to, refusal) in BY_LENGTH {
         for len in *from..*to {
             let refused = refused(rt.alloc(), *mhdr, len);
-            assert!(rt; refused == Ok(*refusal), "{mhdr}, {len}");
+            assert!(rt; refused == Some(*refusal), "{mhdr}, {len}");
         }
     }
 }
 
 // Whether a copy of one byte of FOpts and two of payload on port 9 is the same, and comes apart.
-fn has_parts(alloc: Global) -> Result<bool, Refusal> {
+fn has_parts(alloc: Global) -> Option<bool> {
     let whole = contents(alloc, &[2], Some(9), &[5, 6])?;
-    Ok(is_copied(&whole) && are_parts(whole))
+    Some(is_copied(&whole) && are_parts(whole))
 }
 
 fn is_copied(whole: &Contents) -> bool {
@@ -449,13 +470,15 @@ fn are_parts(contents: Contents) -> bool {
 
 #[test]
 fn contents_have_their_parts(rt: HostRuntime) {
-    assert!(rt; has_parts(rt.alloc()) == Ok(true));
+    assert!(rt; has_parts(rt.alloc()) == Some(true));
 }
 
 // Whether so many bytes are a payload, and FOpts.
-fn parts(alloc: Global, len: usize) -> Result<(bool, bool), Refusal> {
-    let is_payload = FrmPayload::new(vec![in alloc; 0u8; len]?).is_ok();
-    Ok((is_payload, FOpts::new(vec![in alloc; 0u8; len]?).is_ok()))
+fn parts(alloc: Global, len: usize) -> Option<(bool, bool)> {
+    let (Ok(payload), Ok(f_opts)) = (vec![in alloc; 0u8; len], vec![in alloc; 0u8; len]) else {
+        return None;
+    };
+    Some((FrmPayload::new(payload).is_ok(), FOpts::new(f_opts).is_ok()))
 }
 
 const LENGTHS: &[(usize, bool, bool)] = &[
@@ -469,58 +492,65 @@ const LENGTHS: &[(usize, bool, bool)] = &[
 fn parts_have_their_lengths(rt: HostRuntime) {
     for (len, is_payload, is_f_opts) in LENGTHS {
         assert!(rt;
-            parts(rt.alloc(), *len) == Ok((*is_payload, *is_f_opts)),
+            parts(rt.alloc(), *len) == Some((*is_payload, *is_f_opts)),
             "{len}"
         );
     }
 }
 
+// Bytes that a data frame is filled with.
+const FILLED: [u8; 242] = [0xA5; 242];
+
 // A data frame with so many bytes of FOpts and, where there is a port, of payload.
-fn data_frame(
-    alloc: Global,
-    f_opts: usize,
-    port: Option<u8>,
-    payload: usize,
-) -> Result<DataFrame, Refusal> {
-    let f_opts = vec![in alloc; 0xA5; f_opts]?;
-    let payload = vec![in alloc; 0xA5; payload]?;
-    Ok(DataFrame {
+fn data_frame(alloc: Global, f_opts: usize, port: Option<u8>, payload: usize) -> Option<DataFrame> {
+    let contents = contents(alloc, FILLED.get(..f_opts)?, port, FILLED.get(..payload)?)?;
+    Some(DataFrame {
         confirmed: true,
         dev_addr: DevAddr(0x5400_0001),
         control: UPLINK,
         f_cnt: 0xA5A5,
-        contents: contents(alloc, &f_opts, port, &payload)?,
+        contents,
         mic: Mic([0xAA, 0xBB, 0xCC, 0xDD]),
     })
 }
 
-// The lengths of a frame's message and of what is written of it behind 7, where that is read again.
-fn lengths(alloc: Global, frame: DataFrame) -> Result<(usize, usize), Refusal> {
-    let (mut message, mut out) = (Vec::new(alloc), Vec::from_slice(alloc, &[7])?);
-    encode_message(alloc, &frame, &mut message)?;
-    let frame = Phy::DataFrame(frame);
-    encode(alloc, &frame, &mut out)?;
+// The length of what is written of a frame behind 7, where that is read again.
+fn len_behind_7(alloc: Global, frame: &Phy) -> Option<usize> {
+    let mut out = Vec::new(alloc);
+    if out.push(7).is_err() || encode(alloc, frame, &mut out).is_err() {
+        return None;
+    }
     match out.as_slice().split_first() {
-        Some((7, bytes)) if are_same(alloc, bytes, &frame)? => Ok((message.len(), bytes.len())),
-        _ => Err(Refusal::Malformed),
+        Some((7, bytes)) if are_same(alloc, bytes, frame) => Some(bytes.len()),
+        _ => None,
     }
 }
 
-// Those of such a frame.
-fn lengths_of(
+fn message_len(alloc: Global, frame: &DataFrame) -> Option<usize> {
+    let mut message = Vec::new(alloc);
+    match encode_message(alloc, frame, &mut message) {
+        Ok(()) => Some(message.len()),
+        Err(_) => None,
+    }
+}
+
+// The lengths of such a frame's message and of the frame.
+fn lengths(
     alloc: Global,
     f_opts: usize,
     port: Option<u8>,
     payload: usize,
-) -> Result<(usize, usize), Refusal> {
-    lengths(alloc, data_frame(alloc, f_opts, port, payload)?)
+) -> Option<(usize, usize)> {
+    let frame = data_frame(alloc, f_opts, port, payload)?;
+    let message = message_len(alloc, &frame)?;
+    Some((message, len_behind_7(alloc, &Phy::DataFrame(frame))?))
 }
 
 // A MIC is made of the bytes before it, and frames are written behind what is there.
 #[test]
 fn each_length_of_f_opts_is_read_again(rt: HostRuntime) {
     for len in 0usize..16 {
-        assert!(rt; lengths_of(rt.alloc(), len, None, 0) == Ok((8 + len, 12 + len)));
-        assert!(rt; lengths_of(rt.alloc(), len, Some(9), 242 - len) == Ok((251, 255)));
+        assert!(rt; lengths(rt.alloc(), len, None, 0) == Some((8 + len, 12 + len)));
+        assert!(rt; lengths(rt.alloc(), len, Some(9), 242 - len) == Some((251, 255)));
     }
 }

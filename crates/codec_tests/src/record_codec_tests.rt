@@ -1,5 +1,5 @@
 use crate::fixtures::{DEVICE, brought, current, items, session};
-use devices::{Activation, Device, Item, ItemQueue, MacQueue, Tag};
+use devices::{Activation, Device, ItemQueue, MacQueue, Tag};
 use lw_types::{JoinNonce, Refusal};
 use record_codec::{read_device, write_device};
 use std::alloc::Global;
@@ -18,64 +18,51 @@ const BROUGHT: [u8; 50] = [
 ];
 
 // Both sessions, the second one pending.
-fn both_sessions() -> Result<Activation, Refusal> {
+fn both_sessions() -> Option<Activation> {
     let current = current(0x01_0203, u32::MAX)?;
     let pending = session(0x01_0204)?;
-    let activation = Activation::new(JoinNonce::new(0x01_0204), Some(current), Some(pending));
-    activation.ok_or(Refusal::Damaged)
+    Activation::new(JoinNonce::new(0x01_0204), Some(current), Some(pending))
 }
 
 // What a device has beyond what it was brought with.
 enum Has {
-    Nothing,
     /// A pending session.
     Pending,
     /// Both sessions, a tag awaited, a DevNonce of 0, these MAC commands, and so many items of this length.
     All(&'static [u8], u32, usize),
 }
 
-// Gives the device what it has.
-fn give(alloc: Global, device: &mut Device, has: &Has) -> Result<(), Refusal> {
+fn device(alloc: Global, has: &Has) -> Option<Device> {
     match has {
-        Has::Nothing => Ok(()),
         Has::Pending => {
-            let activation = Activation::new(JoinNonce::new(1), None, Some(session(1)?));
-            device.activation = activation.ok_or(Refusal::Damaged)?;
-            Ok(())
+            let activation = Activation::new(JoinNonce::new(1), None, Some(session(1)?))?;
+            let mut device = brought(alloc, DEVICE)?;
+            device.activation = activation;
+            Some(device)
         }
-        Has::All(mac_commands, count, len) => {
-            device.last_dev_nonce = Some(0);
-            device.activation = both_sessions()?;
-            device.awaited = Some(Tag(0));
-            queue(alloc, device, mac_commands, items(alloc, *count, *len)?)
-        }
+        Has::All(mac_commands, count, len) => full_device(alloc, mac_commands, *count, *len),
     }
 }
 
-fn queue(
-    alloc: Global,
-    device: &mut Device,
-    mac_commands: &[u8],
-    items: Vec<Item>,
-) -> Result<(), Refusal> {
+fn full_device(alloc: Global, mac_commands: &[u8], count: u32, len: usize) -> Option<Device> {
+    let activation = both_sessions()?;
+    let Ok(mac_commands) = Vec::from_slice(alloc, mac_commands) else {
+        return None;
+    };
     match (
-        MacQueue::new(Vec::from_slice(alloc, mac_commands)?),
-        ItemQueue::new(items),
+        MacQueue::new(mac_commands),
+        ItemQueue::new(items(alloc, count, len)?),
     ) {
         (Ok(mac_queue), Ok(items)) => {
+            let mut device = brought(alloc, DEVICE)?;
+            device.last_dev_nonce = Some(0);
+            device.activation = activation;
+            device.awaited = Some(Tag(0));
             device.mac_queue = mac_queue;
             device.items = items;
-            Ok(())
+            Some(device)
         }
-        _ => Err(Refusal::QueueFull),
-    }
-}
-
-fn device(alloc: Global, has: &Has) -> Result<Device, Refusal> {
-    let mut device = brought(alloc, DEVICE)?;
-    match give(alloc, &mut device, has) {
-        Ok(()) => Ok(device),
-        Err(refusal) => Err(refusal),
+        _ => None,
     }
 }
 
@@ -86,31 +73,40 @@ fn is_read(alloc: Global, record: &[u8], device: &Device) -> bool {
     }
 }
 
-// The record of the device, which is read as the device, and written behind 9 too.
-fn record_of(alloc: Global, device: &Device) -> Result<Vec<u8>, Refusal> {
-    let (mut out, mut behind) = (Vec::new(alloc), Vec::from_slice(alloc, &[9])?);
-    write_device(alloc, device, &mut out)?;
-    write_device(alloc, device, &mut behind)?;
-    let is_behind = behind.as_slice().strip_prefix(&[9]) == Some(out.as_slice());
-    if is_behind && is_read(alloc, &out, device) {
-        Ok(out)
-    } else {
-        Err(Refusal::Damaged)
+// What is there when the device's record is written behind these bytes.
+fn written(alloc: Global, front: &[u8], device: &Device) -> Option<Vec<u8>> {
+    let Ok(mut out) = Vec::from_slice(alloc, front) else {
+        return None;
+    };
+    match write_device(alloc, device, &mut out) {
+        Ok(()) => Some(out),
+        Err(_) => None,
     }
 }
 
-fn is_brought(alloc: Global) -> Result<bool, Refusal> {
-    let record = record_of(alloc, &device(alloc, &Has::Nothing)?)?;
-    Ok(record.as_slice() == BROUGHT.as_slice())
+// The record of the device, which is read as the device, and written behind 9 too.
+fn record_of(alloc: Global, device: &Device) -> Option<Vec<u8>> {
+    let (out, behind) = (written(alloc, &[], device)?, written(alloc, &[9], device)?);
+    let is_behind = behind.as_slice().strip_prefix(&[9]) == Some(out.as_slice());
+    if is_behind && is_read(alloc, &out, device) {
+        Some(out)
+    } else {
+        None
+    }
+}
+
+fn is_brought(alloc: Global) -> Option<bool> {
+    let record = record_of(alloc, &brought(alloc, DEVICE)?)?;
+    Some(record.as_slice() == BROUGHT.as_slice())
 }
 
 #[test]
 fn a_new_device_has_50_bytes(rt: HostRuntime) {
-    assert!(rt; is_brought(rt.alloc()) == Ok(true));
+    assert!(rt; is_brought(rt.alloc()) == Some(true));
 }
 
-fn len_of(alloc: Global, has: &Has) -> Result<usize, Refusal> {
-    Ok(record_of(alloc, &device(alloc, has)?)?.len())
+fn len_of(alloc: Global, has: &Has) -> Option<usize> {
+    Some(record_of(alloc, &device(alloc, has)?)?.len())
 }
 
 // A pending session takes 35 bytes more; the last record is the largest.
@@ -123,7 +119,7 @@ const LENGTHS: &[(Has, usize)] = &[
 #[test]
 fn devices_are_read_back(rt: HostRuntime) {
     for (has, wanted) in LENGTHS {
-        assert!(rt; len_of(rt.alloc(), has) == Ok(*wanted), "{wanted}");
+        assert!(rt; len_of(rt.alloc(), has) == Some(*wanted), "{wanted}");
     }
 }
 
@@ -146,23 +142,17 @@ const FAULTS: &[(usize, u8, usize, &str)] = &[
 ];
 
 // What such bytes are refused.
-fn refused(alloc: Global, place: usize, byte: u8, len: usize) -> Result<Option<Refusal>, Refusal> {
-    let mut bytes = Vec::from_slice(alloc, &BROUGHT)?;
-    bytes.push(0)?;
-    match bytes.get_mut(place) {
-        Some(there) => *there = byte,
-        None => return Err(Refusal::Malformed),
-    }
-    match bytes.get(..len) {
-        Some(read) => Ok(read_device(alloc, read).err()),
-        None => Err(Refusal::Malformed),
-    }
+fn refused(alloc: Global, place: usize, byte: u8, len: usize) -> Option<Refusal> {
+    let mut bytes = [0; 51];
+    bytes[..50].copy_from_slice(&BROUGHT);
+    *bytes.get_mut(place)? = byte;
+    read_device(alloc, bytes.get(..len)?).err()
 }
 
 #[test]
 fn a_field_out_of_range_or_another_length_is_damaged(rt: HostRuntime) {
     for (place, byte, len, fault) in FAULTS {
         let refused = refused(rt.alloc(), *place, *byte, *len);
-        assert!(rt; refused == Ok(Some(Refusal::Damaged)), "{fault}");
+        assert!(rt; refused == Some(Refusal::Damaged), "{fault}");
     }
 }
