@@ -1,18 +1,18 @@
 -- Calls of a store's disk, one after another.
-use Rattle.std.proofs.Common.{◌≡◌, ◌⊎◌, ◌∙◌, ◌+◌, ℕ, List, Bool, true, false, MatchBool, ap, subst, sym, refl, inl, inr, arith}
+use Rattle.std.proofs.Common.{◌≡◌, ◌⊎◌, ◌∙◌, ◌+◌, ℕ, List, Bool, true, false, Result, Ok, Err, MatchBool, ap, subst, sym, refl, inl, inr, arith}
 use Rattle.lw_types.specs.declared.refusal.Refusal.{Refusal}
 use Rattle.lw_types.specs.declared.refusal.Refusal.TheVariants.{DeviceFailed, Failed, OutOfMemory, OutOfStep}
-use Rattle.disk.specs.Outlook.{Outlook}
+use Rattle.disk.specs.Outlook.{IsForeseen, Outlook}
 use Rattle.disk.specs.State.{EveryImage, IsPermitted, State}
 use Rattle.sessions.specs.Decision.{IsLegalContinuation}
 use Rattle.sessions.specs.Table.{TableState}
 use Rattle.sessions.specs.declared.decision.Decision.{Decision}
 use Rattle.store.specs.Image.{HoldsTable}
 use Rattle.store.specs.declared.store.Store.{Store}
-use Rattle.store.specs.State.{IsSettled, StoreState, disk_of, seen}
+use Rattle.store.specs.State.{IsOneCall, IsSettled, StoreState, disk_of, seen}
 use Rattle.flusher.proofs.Holding.{held_along, with_or_without_along}
 use Rattle.flusher.specs.Cycle.{HoldsWithOrWithout, IsUncommitted}
-use Rattle.flusher.specs.Calls.{IsUntouched, LastFailed, NoneFailed}
+use Rattle.flusher.specs.Calls.{AreCalls, IsUntouched, LastFailed, NoneFailed}
 
 none_untouched : {D : Type 0} {g : _} (state : D → State) (failures : D → ℕ) (outlook : D → Outlook) (old new : Store D g)
     → IsUntouched state old new → NoneFailed failures outlook old new
@@ -52,6 +52,30 @@ untouched_then state old mid new is first next =
 -- no call
 pub none_yet : {D : Type 0} {g : _} (failures : D → ℕ) (outlook : D → Outlook) (s : Store D g) → NoneFailed failures outlook s s
 none_yet failures outlook s = record { count = refl; unarmed = λ all. all; failed = refl }
+
+-- one call
+pub one_call : {D T : Type 0} {g : _} (failures : D → ℕ) (outlook : D → Outlook) (old new : Store D g) (r : Result T Refusal)
+    → IsOneCall failures outlook old new r → AreCalls failures outlook old new r
+one_call failures outlook old new (Ok x) is = record {
+  count = is.cause;
+  unarmed = λ all. (subst (λ o. IsForeseen o true (outlook (disk_of new))) all is.foreseen).1;
+  failed = is.failed;
+}
+one_call failures outlook old new (Err e) is = (
+  is.failed.0,
+  record {
+    count = is.cause;
+    armed = λ all. let none : false ≡ true = (subst (λ o. IsForeseen o false (outlook (disk_of new))) all is.foreseen).0 in cc;
+    failed = is.failed.1;
+  },
+)
+
+-- calls that succeeded, and others
+pub calls_then : {D T : Type 0} {g : _} (failures : D → ℕ) (outlook : D → Outlook) (old mid new : Store D g) (r : Result T Refusal)
+    → NoneFailed failures outlook old mid → AreCalls failures outlook mid new r → AreCalls failures outlook old new r
+calls_then failures outlook old mid new (Ok x) first next = none_then failures outlook old mid new first next
+calls_then failures outlook old mid new (Err e) first (is, last) =
+    (is, record { count = last.count ∙ ap (λ n. n + 1) first.count; armed = λ all. last.armed (first.unarmed all); failed = last.failed })
 
 -- where none of the calls failed, a refused store is settled still
 pub settled_still : {D : Type 0} {g : _} (state : D → State) (failures : D → ℕ) (outlook : D → Outlook) (old mid new : Store D g) (e : Refusal)
