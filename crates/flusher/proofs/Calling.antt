@@ -1,20 +1,21 @@
 -- Calls of a store's disk, one after another.
-use Rattle.std.proofs.Common.{◌≡◌, ◌⊎◌, ◌∙◌, ◌+◌, ℕ, List, Bool, true, false, MatchBool, ap, subst, sym, refl, inl, inr, arith}
+use Rattle.std.proofs.Common.{◌≡◌, ◌≢◌, ◌⊎◌, ◌∙◌, ◌+◌, ◌<◌, ◌≤◌, ℕ, List, Bool, true, false, Result, Ok, Err, MatchBool, MatchResult, ap, subst, sym, refl, inl, inr, arith}
 use Rattle.lw_types.specs.declared.refusal.Refusal.{Refusal}
-use Rattle.lw_types.specs.declared.refusal.Refusal.TheVariants.{DeviceFailed, Failed, OutOfMemory, OutOfStep}
-use Rattle.disk.specs.Outlook.{Outlook}
+use Rattle.lw_types.specs.declared.refusal.Refusal.TheVariants.{Damaged, DeviceFailed, Failed, OutOfMemory, OutOfStep}
+use Rattle.disk.specs.Outlook.{IsForeseen, Outlook}
 use Rattle.disk.specs.State.{EveryImage, IsPermitted, State}
 use Rattle.sessions.specs.Decision.{IsLegalContinuation}
 use Rattle.sessions.specs.Table.{TableState}
 use Rattle.sessions.specs.declared.decision.Decision.{Decision}
+use Rattle.store.specs.declared.areas.TheConstants.{LAST_GENERATION}
 use Rattle.store.specs.Image.{HoldsTable}
 use Rattle.store.specs.declared.store.Store.{Store}
-use Rattle.store.specs.State.{IsSettled, StoreState, disk_of, seen}
+use Rattle.store.specs.State.{IsOneCall, IsSettled, StoreState, disk_of, seen}
 use Rattle.flusher.proofs.Holding.{held_along, with_or_without_along}
 use Rattle.flusher.specs.Cycle.{HoldsWithOrWithout, IsUncommitted}
-use Rattle.flusher.specs.Calls.{IsUntouched, LastFailed, NoneFailed}
+use Rattle.flusher.specs.Calls.{AreCalls, IsUntouched, LastFailed, NoneFailed}
 
-none_untouched : {D : Type 0} {g : _} (state : D → State) (failures : D → ℕ) (outlook : D → Outlook) (old new : Store D g)
+pub none_untouched : {D : Type 0} {g : _} (state : D → State) (failures : D → ℕ) (outlook : D → Outlook) (old new : Store D g)
     → IsUntouched state old new → NoneFailed failures outlook old new
 none_untouched state failures outlook old new (same, disk) = record {
   count = ap failures disk;
@@ -52,6 +53,30 @@ untouched_then state old mid new is first next =
 -- no call
 pub none_yet : {D : Type 0} {g : _} (failures : D → ℕ) (outlook : D → Outlook) (s : Store D g) → NoneFailed failures outlook s s
 none_yet failures outlook s = record { count = refl; unarmed = λ all. all; failed = refl }
+
+-- one call
+pub one_call : {D T : Type 0} {g : _} (failures : D → ℕ) (outlook : D → Outlook) (old new : Store D g) (r : Result T Refusal)
+    → IsOneCall failures outlook old new r → AreCalls failures outlook old new r
+one_call failures outlook old new (Ok x) is = record {
+  count = is.cause;
+  unarmed = λ all. (subst (λ o. IsForeseen o true (outlook (disk_of new))) all is.foreseen).1;
+  failed = is.failed;
+}
+one_call failures outlook old new (Err e) is = (
+  is.failed.0,
+  record {
+    count = is.cause;
+    armed = λ all. let none : false ≡ true = (subst (λ o. IsForeseen o false (outlook (disk_of new))) all is.foreseen).0 in cc;
+    failed = is.failed.1;
+  },
+)
+
+-- calls that succeeded, and others
+pub calls_then : {D T : Type 0} {g : _} (failures : D → ℕ) (outlook : D → Outlook) (old mid new : Store D g) (r : Result T Refusal)
+    → NoneFailed failures outlook old mid → AreCalls failures outlook mid new r → AreCalls failures outlook old new r
+calls_then failures outlook old mid new (Ok x) first next = none_then failures outlook old mid new first next
+calls_then failures outlook old mid new (Err e) first (is, last) =
+    (is, record { count = last.count ∙ ap (λ n. n + 1) first.count; armed = λ all. last.armed (first.unarmed all); failed = last.failed })
 
 -- where none of the calls failed, a refused store is settled still
 pub settled_still : {D : Type 0} {g : _} (state : D → State) (failures : D → ℕ) (outlook : D → Outlook) (old mid new : Store D g) (e : Refusal)
@@ -107,3 +132,50 @@ uncommitted_along state failures outlook old mid new ds e first table seq is =
     why_not old.failed (seen state old).table (seen state old).seq ds X (LastFailed failures outlook old new) e
     (λ last. record { count = last.count ∙ ap (λ n. n + 1) first.count; armed = λ all. last.armed (first.unarmed all); failed = last.failed })
     d
+
+-- ---- why no checkpoint was written
+
+abbrev WhyNone : Bool → ℕ → Type 0 → Refusal → Type 0
+WhyNone failed generation failure e =
+    MatchBool failed
+    (e ≡ Failed)
+    (((e ≡ Damaged) × (LAST_GENERATION ≤ generation))
+    ⊎ ((generation < LAST_GENERATION) × ((e ≡ OutOfMemory) ⊎ ((e ≡ DeviceFailed) × failure))))
+
+-- it wasn't begun
+pub not_begun : {T : Type 0} (failed : Bool) (generation : ℕ) (X : Type 0) (r : Result T Refusal) (e : Refusal) → r ≡ Err e
+    → MatchBool failed (r ≡ Err Failed) (((e ≡ Damaged) × (LAST_GENERATION ≤ generation)) ⊎ ((e ≡ OutOfMemory) × (generation < LAST_GENERATION)))
+    → WhyNone failed generation X e
+not_begun true generation X r e was h = cc
+not_begun false generation X r e was (inl h) = inl h
+not_begun false generation X r e was (inr (is, less)) = inr (less, inl is)
+
+-- it was begun, and its calls came
+pub once_begun : {T U : Type 0} (failed : Bool) (generation : ℕ) (rough N X : Type 0) (x : T) (r : Result U Refusal) → rough
+    → MatchBool failed (Ok x ≡ Err Failed) (generation < LAST_GENERATION)
+    → MatchResult r (λ _. N) (λ e. (e ≡ DeviceFailed) × X)
+    → MatchResult r (λ _. N) (λ e. (e ≡ OutOfMemory) ⊎ (rough × WhyNone failed generation X e))
+once_begun true generation rough N X x r no_room is calls = let no : ⊥ = cc in absurd no
+once_begun false generation rough N X x (Ok y) no_room less calls = calls
+once_begun false generation rough N X x (Err e) no_room less (is, failure) = inr (no_room, inr (less, inr (is, failure)))
+
+-- ---- why a batch that a store was given wasn't committed
+
+-- it wasn't begun
+pub not_written : {T : Type 0} (failed : Bool) (table : TableState) (seq : ℕ) (ds : List Decision) (X : Type 0) (r : Result T Refusal) (e : Refusal) → r ≡ Err e
+    → (r ≡ Err OutOfMemory → IsLegalContinuation table seq ds)
+    → MatchBool failed (r ≡ Err Failed) (e ≢ OutOfMemory → (e ≡ OutOfStep) × (¬ (IsLegalContinuation table seq ds)))
+    → WhyNot failed table seq ds X e
+not_written true table seq ds X r e was memory h = cc
+not_written false table seq ds X r OutOfMemory was memory h = inr (memory was, inl refl)
+not_written false table seq ds X r e was memory h = inl (h (λ is. cc))
+
+-- it was begun, and its calls came
+pub once_written : {T U : Type 0} (failed : Bool) (table : TableState) (seq : ℕ) (ds : List Decision) (may N X : Type 0) (x : T) (r : Result U Refusal)
+    → (may → IsLegalContinuation table seq ds)
+    → MatchBool failed (Ok x ≡ Err Failed) may
+    → MatchResult r (λ _. N) (λ e. (e ≡ DeviceFailed) × X)
+    → MatchResult r (λ _. N) (λ e. WhyNot failed table seq ds X e)
+once_written true table seq ds may N X x r legal is calls = let no : ⊥ = cc in absurd no
+once_written false table seq ds may N X x (Ok y) legal h calls = calls
+once_written false table seq ds may N X x (Err e) legal h (is, failure) = inr (legal h, inr (is, failure))

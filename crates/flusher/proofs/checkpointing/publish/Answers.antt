@@ -1,5 +1,6 @@
-use Rattle.std.proofs.Common.{◌∙◌}
+use Rattle.std.proofs.Common.{◌∙◌, Err, Ok}
 use Rattle.store.specs.State.{seen}
+use Rattle.flusher.proofs.Calling.{calls_then, none_then, one_call}
 use Rattle.flusher.proofs.Holding.{held_along, on_both, on_refused}
 use Rattle.flusher.proofs.checkpointing.publish.Goals as goal
 
@@ -48,3 +49,57 @@ returns-clause-images g c honest on =
     on_both c.sync-2.result _ _ (c.sync-2.ensures.settled honest opened)
     (λ image p. held_along s s4 image (third.table ∙ (second.table ∙ (first.table ∙ closed.table))) (third.seq ∙ (second.seq ∙ (first.seq ∙ closed.seq)))
     (c.sync-2.ensures.images honest opened image p))
+
+pub returns-in_err-checkpoint-clause-calls : goal.returns-in_err-checkpoint-clause-calls
+returns-in_err-checkpoint-clause-calls g c =
+    on_refused c.from_residual.result c.in_err-checkpoint.field-0.0 _ _ c.from_residual.ensures.1 c.in_err-checkpoint.ensures.calls
+
+pub returns-in_err-written-clause-calls : goal.returns-in_err-written-clause-calls
+returns-in_err-written-clause-calls g c =
+    let failures = g.D.Disk.failures in
+    let outlook = g.D.Disk.outlook in
+    let e = c.in_err-written.field-0.0 in
+    let r = c.from_residual-in_err-written in
+    on_refused r.result e _ _ r.ensures.1
+    (calls_then {T = Unit {0}} failures outlook c.args.store.now c.close_gate.new.store c.write.new.store (Err e)
+    c.in_ok-checkpoint.ensures.calls
+    (one_call failures outlook c.close_gate.new.store c.write.new.store (Err e) c.in_err-written.ensures.call))
+
+pub returns-in_err-synced-clause-calls : goal.returns-in_err-synced-clause-calls
+returns-in_err-synced-clause-calls g c =
+    let failures = g.D.Disk.failures in
+    let outlook = g.D.Disk.outlook in
+    let e = c.in_err-synced.field-0.0 in
+    let r = c.from_residual-in_err-synced in
+    on_refused r.result e _ _ r.ensures.1
+    (calls_then {T = Unit {0}} failures outlook c.args.store.now c.write.new.store c.sync.new.store (Err e)
+    (none_then failures outlook c.args.store.now c.close_gate.new.store c.write.new.store c.in_ok-checkpoint.ensures.calls
+    (one_call failures outlook c.close_gate.new.store c.write.new.store (Ok c.in_ok-written.written) c.in_ok-written.ensures.call))
+    (one_call failures outlook c.write.new.store c.sync.new.store (Err e) c.in_err-synced.ensures.call))
+
+pub returns-in_err-opened-clause-calls : goal.returns-in_err-opened-clause-calls
+returns-in_err-opened-clause-calls g c =
+    let failures = g.D.Disk.failures in
+    let outlook = g.D.Disk.outlook in
+    let e = c.in_err-opened.field-0.0 in
+    let r = c.from_residual-in_err-opened in
+    on_refused r.result e _ _ r.ensures.1
+    (calls_then {T = Unit {0}} failures outlook c.args.store.now c.sync.new.store c.open_gate.new.store (Err e)
+    (none_then failures outlook c.args.store.now c.write.new.store c.sync.new.store
+    (none_then failures outlook c.args.store.now c.close_gate.new.store c.write.new.store c.in_ok-checkpoint.ensures.calls
+    (one_call failures outlook c.close_gate.new.store c.write.new.store (Ok c.in_ok-written.written) c.in_ok-written.ensures.call))
+    (one_call failures outlook c.write.new.store c.sync.new.store (Ok c.in_ok-synced.synced) c.in_ok-synced.ensures.call))
+    (one_call failures outlook c.sync.new.store c.open_gate.new.store (Err e) c.in_err-opened.ensures.call))
+
+pub returns-clause-calls : goal.returns-clause-calls
+returns-clause-calls g c =
+    let failures = g.D.Disk.failures in
+    let outlook = g.D.Disk.outlook in
+    calls_then failures outlook c.args.store.now c.open_gate.new.store c.sync-2.new.store c.sync-2.result
+    (none_then failures outlook c.args.store.now c.sync.new.store c.open_gate.new.store
+    (none_then failures outlook c.args.store.now c.write.new.store c.sync.new.store
+    (none_then failures outlook c.args.store.now c.close_gate.new.store c.write.new.store c.in_ok-checkpoint.ensures.calls
+    (one_call failures outlook c.close_gate.new.store c.write.new.store (Ok c.in_ok-written.written) c.in_ok-written.ensures.call))
+    (one_call failures outlook c.write.new.store c.sync.new.store (Ok c.in_ok-synced.synced) c.in_ok-synced.ensures.call))
+    (one_call failures outlook c.sync.new.store c.open_gate.new.store (Ok c.in_ok-opened.opened) c.in_ok-opened.ensures.call))
+    (one_call failures outlook c.open_gate.new.store c.sync-2.new.store c.sync-2.result c.sync-2.ensures.call)

@@ -1,8 +1,13 @@
-use Rattle.std.proofs.Common.{◌≡◌, inl, subst, sym, MatchResult}
+use Rattle.std.proofs.Common.{◌≡◌, Err, List, inl, refl, subst, sym, MatchResult}
 use Rattle.disk.specs.State.{IsPermitted}
+use Rattle.sessions.specs.Decision.{IsLegalContinuation}
+use Rattle.sessions.specs.declared.decision.Decision.{Decision}
+use Rattle.store.specs.declared.phases.Begun.{Begun}
 use Rattle.store.specs.Commit.{MayFollow, table_after, tip_of}
 use Rattle.store.specs.Phases.{HoldsEither, IsBegunOn, begun_change, begun_size}
 use Rattle.store.specs.State.{StoreState, seen}
+use Rattle.flusher.specs.Calls.{LastFailed, NoneFailed}
+use Rattle.flusher.proofs.Calling.{calls_then, none_untouched, not_written, once_written}
 use Rattle.flusher.proofs.Holding.{committed, on_refused, unless, weaker, with_batch}
 use Rattle.flusher.proofs.committing.commit.Goals as goal
 
@@ -36,3 +41,26 @@ returns-clause-images g c honest settled =
     (λ images image p. with_batch c.folding.ensures.table s change (begun_size begun) c.args.batch e.batch may image
     (subst (λ (z : StoreState). HoldsEither z change image) e.same (images image p)))
     (c.write.ensures.images honest on)
+
+pub returns-in_err-begun-clause-calls : goal.returns-in_err-begun-clause-calls
+returns-in_err-begun-clause-calls g c =
+    let s = seen g.D.Disk.state c.args.store.now in
+    let e = c.in_err-begun.field-0.0 in
+    let failure = LastFailed g.D.Disk.failures g.D.Disk.outlook c.args.store.now c.begin.new.self in
+    on_refused c.from_residual.result e _ _ c.from_residual.ensures.1
+    (not_written {T = Begun} s.failed s.table s.seq c.args.batch failure (Err e) e refl c.in_err-begun.ensures.memory c.in_err-begun.ensures.answer)
+
+pub returns-clause-calls : goal.returns-clause-calls
+returns-clause-calls g c =
+    let failures = g.D.Disk.failures in
+    let outlook = g.D.Disk.outlook in
+    let s = seen g.D.Disk.state c.args.store.now in
+    let begun = c.in_ok-begun.begun in
+    let e = c.in_ok-begun.ensures in
+    let may = MayFollow (tip_of s) (begun_change begun) (begun_size begun) in
+    let none = NoneFailed failures outlook c.args.store.now c.write.new.store in
+    let failure = LastFailed failures outlook c.args.store.now c.write.new.store in
+    once_written s.failed s.table s.seq c.args.batch may none failure begun c.write.result
+    (λ (h : may). subst (λ (ds : List Decision). IsLegalContinuation s.table s.seq ds) e.batch h.legal) e.answer
+    (calls_then failures outlook c.args.store.now c.begin.new.self c.write.new.store c.write.result
+    (none_untouched g.D.Disk.state failures outlook c.args.store.now c.begin.new.self (e.same, e.disk)) c.write.ensures.calls)

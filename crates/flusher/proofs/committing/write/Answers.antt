@@ -1,6 +1,7 @@
-use Rattle.std.proofs.Common.{◌∙◌, inl}
+use Rattle.std.proofs.Common.{◌∙◌, Err, Ok, inl}
 use Rattle.store.specs.Phases.{begun_change, synced_change, opened_change}
 use Rattle.store.specs.State.{seen}
+use Rattle.flusher.proofs.Calling.{calls_then, none_then, one_call}
 use Rattle.flusher.proofs.Holding.{either_along, held_along, on_both, on_refused}
 use Rattle.flusher.proofs.committing.write.Goals as goal
 
@@ -39,3 +40,46 @@ returns-clause-images g c honest on =
     (λ image p. either_along s s3 (begun_change c.args.begun) (opened_change c.in_ok-opened.opened) image
     (third.table ∙ (second.table ∙ first.table)) (third.seq ∙ (second.seq ∙ first.seq)) (third.change ∙ (second.change ∙ first.change))
     (c.sync-2.ensures.images honest opened image p))
+
+pub returns-in_err-written-clause-calls : goal.returns-in_err-written-clause-calls
+returns-in_err-written-clause-calls g c =
+    let e = c.in_err-written.field-0.0 in
+    let r = c.from_residual in
+    on_refused r.result e _ _ r.ensures.1
+    (one_call g.D.Disk.failures g.D.Disk.outlook c.args.store.now c.write.new.store (Err e) c.in_err-written.ensures.call)
+
+pub returns-in_err-synced-clause-calls : goal.returns-in_err-synced-clause-calls
+returns-in_err-synced-clause-calls g c =
+    let failures = g.D.Disk.failures in
+    let outlook = g.D.Disk.outlook in
+    let e = c.in_err-synced.field-0.0 in
+    let r = c.from_residual-in_err-synced in
+    on_refused r.result e _ _ r.ensures.1
+    (calls_then {T = Unit {0}} failures outlook c.args.store.now c.write.new.store c.sync.new.store (Err e)
+    (one_call failures outlook c.args.store.now c.write.new.store (Ok c.in_ok-written.written) c.in_ok-written.ensures.call)
+    (one_call failures outlook c.write.new.store c.sync.new.store (Err e) c.in_err-synced.ensures.call))
+
+pub returns-in_err-opened-clause-calls : goal.returns-in_err-opened-clause-calls
+returns-in_err-opened-clause-calls g c =
+    let failures = g.D.Disk.failures in
+    let outlook = g.D.Disk.outlook in
+    let e = c.in_err-opened.field-0.0 in
+    let r = c.from_residual-in_err-opened in
+    on_refused r.result e _ _ r.ensures.1
+    (calls_then {T = Unit {0}} failures outlook c.args.store.now c.sync.new.store c.open_gate.new.store (Err e)
+    (none_then failures outlook c.args.store.now c.write.new.store c.sync.new.store
+    (one_call failures outlook c.args.store.now c.write.new.store (Ok c.in_ok-written.written) c.in_ok-written.ensures.call)
+    (one_call failures outlook c.write.new.store c.sync.new.store (Ok c.in_ok-synced.synced) c.in_ok-synced.ensures.call))
+    (one_call failures outlook c.sync.new.store c.open_gate.new.store (Err e) c.in_err-opened.ensures.call))
+
+pub returns-clause-calls : goal.returns-clause-calls
+returns-clause-calls g c =
+    let failures = g.D.Disk.failures in
+    let outlook = g.D.Disk.outlook in
+    calls_then failures outlook c.args.store.now c.open_gate.new.store c.sync-2.new.store c.sync-2.result
+    (none_then failures outlook c.args.store.now c.sync.new.store c.open_gate.new.store
+    (none_then failures outlook c.args.store.now c.write.new.store c.sync.new.store
+    (one_call failures outlook c.args.store.now c.write.new.store (Ok c.in_ok-written.written) c.in_ok-written.ensures.call)
+    (one_call failures outlook c.write.new.store c.sync.new.store (Ok c.in_ok-synced.synced) c.in_ok-synced.ensures.call))
+    (one_call failures outlook c.sync.new.store c.open_gate.new.store (Ok c.in_ok-opened.opened) c.in_ok-opened.ensures.call))
+    (one_call failures outlook c.open_gate.new.store c.sync-2.new.store c.sync-2.result c.sync-2.ensures.call)

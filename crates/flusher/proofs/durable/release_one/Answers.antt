@@ -18,3 +18,8 @@ loop-effect-preserved c =
           (front ∙ ap (λ e. e ∷ c.next.new.self.rest.items) (sym c.new.ensures)) c.loop-effect.invariant.0,
       (omega arith, omega (arith, c.loop-effect.invariant.1.1)),
     )
+
+pub unwrap-requires : goal.unwrap-requires
+unwrap-requires c =
+    let shorter = ap length c.in-Some.ensures.steps.0 in
+    c.push-pushed.ensures.succeeds (omega (arith, c.requires, c.loop-effect.invariant.1.0, c.loop-effect.invariant.1.1))

@@ -144,3 +144,13 @@ returns-in_err-durable-clause-closed g c is =
 pub returns-clause-closed : goal.returns-clause-closed
 returns-clause-closed g c is =
     untouched_then g.D.Disk.state c.args.store.now c.make_room.new.store c.commit.new.store is (c.in_ok-make_room.ensures.closed is) c.in_ok-durable.ensures.closed
+
+pub returns-in_err-room-clause-refused : goal.returns-in_err-room-clause-refused
+returns-in_err-room-clause-refused g c = on_refused c.from_residual.result c.in_err-room.field-0.0 _ _ c.from_residual.ensures.1 (inl (refl, inl c.in_err-room.ensures))
+
+pub returns-in_err-room-clause-calls : goal.returns-in_err-room-clause-calls
+returns-in_err-room-clause-calls g c =
+    on_refused c.from_residual.result c.in_err-room.field-0.0 _ _ c.from_residual.ensures.1 (inl (none_yet g.D.Disk.failures g.D.Disk.outlook c.args.store.now))
+
+pub returns-in_err-durable-clause-held_back : goal.returns-in_err-durable-clause-held_back
+returns-in_err-durable-clause-held_back g c = on_refused c.from_residual-in_err-durable.result c.in_err-durable.field-0.0 _ _ c.from_residual-in_err-durable.ensures.1 refl
