@@ -55,6 +55,6 @@ returns c =
     let same : answered place.net_id place.slot c.enter.new.device s c.asked-asked.result ≡ answered place.net_id place.slot (with_uplink d fit) s (asked_by s u reach.copies reach.best) =
     ap (λ (x : Device). answered place.net_id place.slot x s c.asked-asked.result) c.enter.ensures ∙ ap (answered place.net_id place.slot (with_uplink d fit) s) asked in
     subst (λ (s : CurrentSession). Leaves c.answer.result c.answer.new.device c.answer.new.effects
-      (with_effects (of_awaited d (acknowledges fit u) d.awaited ++ (mac_report d s (told_bytes (commands_of s u)) ++ forwarded u.frame.dev_addr d s reach.copies reach.best u.frame.contents.message))
-      (answered place.net_id place.slot (with_uplink d fit) s (asked_by s u reach.copies reach.best)))) c.session_after-session.ensures
+    (with_effects (of_awaited d (acknowledges fit u) d.awaited ++ (mac_report d s (told_bytes (commands_of s u)) ++ forwarded u.frame.dev_addr d s reach.copies reach.best u.frame.contents.message))
+    (answered place.net_id place.slot (with_uplink d fit) s (asked_by s u reach.copies reach.best)))) c.session_after-session.ensures
     (after c.answer.result c.answer.new.device c.answer.new.effects c.forward.new.effects _ (answered place.net_id place.slot c.enter.new.device s c.asked-asked.result) _ told same c.answer.ensures)
