@@ -1,8 +1,8 @@
 // The texts of joins, byte for byte, and which texts are none. Frames, keys and MICs were made by Python's `cryptography`.
 use backend_json::{answer_text, join_req_text, read_join_ans, read_join_req};
 use join_server::{JoinAsk, JoinRequest, JoinState, RxDelay};
-use lw_types::{DevAddr, Eui, JoinNonce, Key, NetId, Refusal};
-use std::alloc::Global;
+use lw_types::{DevAddr, Eui, JoinNonce, Key, NetId};
+use std::alloc::{AllocError, Global};
 
 const REQUEST: [u8; 23] =
     *b"\x00\x08\x07\x06\x05\x04\x03\x02\x01\x18\x17\x16\x15\x14\x13\x12\x11\x01\x00\xAA\xBB\xCC\xDD";
@@ -56,35 +56,41 @@ fn is_read(alloc: Global, text: &str) -> bool {
     }
 }
 
-fn is_written(alloc: Global) -> Result<bool, Refusal> {
-    match ask() {
-        Some(ask) => Ok(join_req_text(alloc, &ask)?.as_str() == QUESTION),
-        None => Ok(false),
+fn is_written(alloc: Global) -> bool {
+    let Some(ask) = ask() else {
+        return false;
+    };
+    match join_req_text(alloc, &ask) {
+        Ok(text) => text.as_str() == QUESTION,
+        Err(_) => false,
     }
 }
 
 #[test]
 fn a_question_is_written_and_read(rt: HostRuntime) {
-    assert!(rt; is_written(rt.alloc()) == Ok(true));
+    assert!(rt; is_written(rt.alloc()));
     assert!(rt; is_read(rt.alloc(), QUESTION));
 }
 
 // Whether the answer to a question is this text. It grants a session where the state is kept with a new DevNonce.
-fn answers(
-    alloc: Global,
-    state: &JoinState,
-    question: &str,
-    answer: &str,
-) -> Result<bool, Refusal> {
-    let (text, after) = answer_text(alloc, state, question)?;
-    let grants = after.is_some_and(|after| after.dev_nonce == Some(1));
-    let is_read = read_join_ans(alloc, answer)?.result.is_ok() == grants;
-    Ok(is_read && after.is_some() == grants && text.as_str() == answer)
+fn answers(alloc: Global, state: &JoinState, question: &str, answer: &str) -> bool {
+    let Ok(read) = read_join_ans(alloc, answer) else {
+        return false;
+    };
+    let Ok(answered) = answer_text(alloc, state, question) else {
+        return false;
+    };
+    let (text, after) = answered;
+    let is_kept = match after {
+        Some(after) => read.result.is_ok() && after.dev_nonce == Some(1),
+        None => read.result.is_err(),
+    };
+    is_kept && text.as_str() == answer
 }
 
 #[test]
 fn a_join_is_granted(rt: HostRuntime) {
-    assert!(rt; answers(rt.alloc(), &known_state(), SIGNED, GRANTED) == Ok(true));
+    assert!(rt; answers(rt.alloc(), &known_state(), SIGNED, GRANTED));
 }
 
 const UNKNOWN_DEVICE: &str =
@@ -118,10 +124,7 @@ const CAUSES: &[(u64, u64, Option<u16>, &str, &str)] = &[
 fn a_join_is_refused_for_its_first_cause(rt: HostRuntime) {
     for (dev_eui, join_eui, dev_nonce, question, answer) in CAUSES {
         let state = state(*dev_eui, *join_eui, *dev_nonce);
-        assert!(rt;
-            answers(rt.alloc(), &state, question, answer) == Ok(true),
-            "{answer}"
-        );
+        assert!(rt; answers(rt.alloc(), &state, question, answer), "{answer}");
     }
 }
 
@@ -129,13 +132,15 @@ fn a_join_is_refused_for_its_first_cause(rt: HostRuntime) {
 fn the_last_join_nonce_is_granted_once(rt: HostRuntime) {
     let mut spent = known_state();
     spent.join_nonce = JoinNonce::new(16_777_215);
-    assert!(rt; answers(rt.alloc(), &spent, SIGNED, JOIN_NONCE_SPENT) == Ok(true));
+    assert!(rt; answers(rt.alloc(), &spent, SIGNED, JOIN_NONCE_SPENT));
 }
 
 // Whether a text is answered as one that is no question, and no state is kept.
-fn is_no_question(alloc: Global, text: &str) -> Result<bool, Refusal> {
-    let (answer, after) = answer_text(alloc, &known_state(), text)?;
-    Ok(after.is_none() && answer.as_str() == NO_QUESTION)
+fn is_no_question(alloc: Global, text: &str) -> bool {
+    match answer_text(alloc, &known_state(), text) {
+        Ok((answer, None)) => answer.as_str() == NO_QUESTION,
+        _ => false,
+    }
 }
 
 const NO_QUESTIONS: &[&str] = &["", "{}", "no JSON", "[1]", r#"{"DLSettings":"00"}"#, NESTED];
@@ -143,7 +148,7 @@ const NO_QUESTIONS: &[&str] = &["", "{}", "no JSON", "[1]", r#"{"DLSettings":"00
 #[test]
 fn a_text_that_is_no_question_is_answered(rt: HostRuntime) {
     for text in NO_QUESTIONS {
-        assert!(rt; is_no_question(rt.alloc(), text) == Ok(true), "{text}");
+        assert!(rt; is_no_question(rt.alloc(), text), "{text}");
     }
 }
 
@@ -152,11 +157,8 @@ const FRONT: &str =
     r#"{"DLSettings":"00","DevAddr":"54000001","DevEUI":"1112131415161718","MACVersion":"1.0.4","MessageType":"JoinReq","PHYPayload":"00080706050403020118171615141312110100AABBCCDD","ProtocolVersion":"1.0","ReceiverID":"0102030405060708","#;
 
 // A question whose last members are these.
-fn question_with(alloc: Global, last: &str) -> Result<String, Refusal> {
-    let mut text = String::new(alloc);
-    text.push_str(FRONT)?;
-    text.push_str(last)?;
-    Ok(text)
+fn question_with(alloc: Global, last: &str) -> Result<String, AllocError> {
+    format!(in alloc; "{FRONT}{last}")
 }
 
 const WRONG_ENDS: &[&str] = &[
@@ -174,14 +176,17 @@ const WRONG_ENDS: &[&str] = &[
     r#""RxDelay":1,"SenderID":"00002A","TransactionID":2,"RxDelay":16}"#,
 ];
 
-fn is_wrong_end(alloc: Global, last: &str) -> Result<bool, Refusal> {
-    is_no_question(alloc, question_with(alloc, last)?.as_str())
+fn is_wrong_end(alloc: Global, last: &str) -> bool {
+    match question_with(alloc, last) {
+        Ok(text) => is_no_question(alloc, &text),
+        Err(_) => false,
+    }
 }
 
 #[test]
 fn each_member_has_one_form(rt: HostRuntime) {
     for last in WRONG_ENDS {
-        assert!(rt; is_wrong_end(rt.alloc(), last) == Ok(true), "{last}");
+        assert!(rt; is_wrong_end(rt.alloc(), last), "{last}");
     }
 }
 
@@ -190,13 +195,16 @@ const RIGHT_ENDS: &[&str] = &[
     r#""RxDelay":9,"SenderID":"00002A","TransactionID":2,"RxDelay":1}"#,
 ];
 
-fn is_right_end(alloc: Global, last: &str) -> Result<bool, Refusal> {
-    Ok(is_read(alloc, question_with(alloc, last)?.as_str()))
+fn is_right_end(alloc: Global, last: &str) -> bool {
+    match question_with(alloc, last) {
+        Ok(text) => is_read(alloc, &text),
+        Err(_) => false,
+    }
 }
 
 #[test]
 fn order_and_white_space_are_free(rt: HostRuntime) {
     for last in RIGHT_ENDS {
-        assert!(rt; is_right_end(rt.alloc(), last) == Ok(true), "{last}");
+        assert!(rt; is_right_end(rt.alloc(), last), "{last}");
     }
 }

@@ -6,7 +6,7 @@ use devices::{
     Tag,
 };
 use lw_types::{Eui, Key, NetId, Refusal};
-use sessions::{Batch, Slots, Table};
+use sessions::{Batch, Decision, Slots, Table};
 use std::alloc::Global;
 
 pub fn net_id() -> Result<NetId, Refusal> {
@@ -75,14 +75,22 @@ pub fn add(
 ) -> Result<(), Refusal>
     requires { length batch.old < 64 }
 {
-    let decision = table.decide(alloc, seq.saturating_add(1), command)?;
-    let applied = if table.admits(seq, &decision) {
-        table.apply(&decision)
+    match table.decide(alloc, seq.saturating_add(1), command) {
+        Ok(decision) => {
+            let applied = apply(table, seq, &decision);
+            batch.push(decision);
+            applied
+        }
+        Err(refusal) => Err(refusal),
+    }
+}
+
+fn apply(table: &mut Table, seq: u64, decision: &Decision) -> Result<(), Refusal> {
+    if table.admits(seq, decision) {
+        table.apply(decision)
     } else {
         Err(Refusal::OutOfStep)
-    };
-    batch.push(decision);
-    applied
+    }
 }
 
 pub fn idle_device(alloc: Global, dev_eui: u64) -> Result<Device, Refusal> {

@@ -384,12 +384,14 @@ fn commit_ten(alloc: Global, log: &mut Log<MemDisk>) -> Result<(), RecoverError>
 
 // Whether these batches are numbered from 1 on, and have 10,000 bytes each.
 fn are_numbered(batches: &[Batch]) -> bool {
-    let mut are_numbered = true;
-    for (number, batch) in (1..u64::MAX).zip(batches) {
-        let is_long = batch.entries().len() == 10_000;
-        are_numbered = are_numbered && is_long && batch.last_sequence() == number;
+    let mut number: u64 = 0;
+    for batch in batches {
+        number = number.saturating_add(1);
+        if batch.entries().len() != 10_000 || batch.last_sequence() != number {
+            return false;
+        }
     }
-    are_numbered
+    true
 }
 
 fn ten_are_recovered(alloc: Global) -> Result<bool, RecoverError> {

@@ -124,14 +124,27 @@ fn are_devices(alloc: Global, devices: &[Device], entries: &[Entry]) -> Result<b
     Ok(are_same)
 }
 
+// Adds these parts, and whether there was memory for them.
+fn add_parts(bytes: &mut Vec<u8>, parts: &[&[u8]]) -> bool {
+    for part in parts {
+        if bytes.extend_from_slice(part).is_err() {
+            return false;
+        }
+    }
+    true
+}
+
 // An image whose checkpoint at number 7 has these records, and says that they are so many.
 fn checkpoint(alloc: Global, count: u8, entries: &[Entry]) -> Result<Vec<u8>, Refusal> {
     let records = entries_of(alloc, entries)?;
     let mut bytes = FRONT[..42].to_vec(alloc)?;
-    bytes.extend_from_slice(&[0, 0, 0, 0, 0, 0, 0, 7, 0, 0, 0, count])?;
-    bytes.extend_from_slice(&(records.len() as u64).to_be_bytes())?;
-    bytes.extend_from_slice(&records)?;
-    Ok(bytes)
+    let len = (records.len() as u64).to_be_bytes();
+    let numbers = &[0, 0, 0, 0, 0, 0, 0, 7, 0, 0, 0, count];
+    if add_parts(&mut bytes, &[numbers, &len, &records]) {
+        Ok(bytes)
+    } else {
+        Err(Refusal::OutOfMemory)
+    }
 }
 
 // Adds a batch of these entries behind its open gate.
@@ -142,11 +155,13 @@ fn add_batch(
     entries: &[Entry],
 ) -> Result<(), Refusal> {
     let entries = entries_of(alloc, entries)?;
-    bytes.push(0xA5)?;
-    bytes.extend_from_slice(&(entries.len() as u64).to_be_bytes()[4..])?;
-    bytes.extend_from_slice(&[0, 0, 0, 0, 0, 0, 0, last, 0, count])?;
-    bytes.extend_from_slice(&entries)?;
-    Ok(())
+    let len = (entries.len() as u64).to_be_bytes();
+    let numbers = &[0, 0, 0, 0, 0, 0, 0, last, 0, count];
+    if add_parts(bytes, &[&[0xA5], &len[4..], numbers, &entries]) {
+        Ok(())
+    } else {
+        Err(Refusal::OutOfMemory)
+    }
 }
 
 // A disk with these bytes in front, then a closed gate, and open gates behind it up to the second area, which is closed.

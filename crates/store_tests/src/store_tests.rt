@@ -129,13 +129,24 @@ fn commits_and_checkpoints_write_what_the_layout_says(rt: HostRuntime) {
 // What is found of the old bytes, of the new ones and of open gates.
 type Images = ((usize, u64), (usize, u64), (usize, u64));
 
-// What a crash leaves after these steps, and so many calls of a last one.
+// What a crash to an image leaves after these steps, and so many calls of a last one.
+fn left_of(
+    alloc: Global,
+    steps: &str,
+    (last, calls): (char, u64),
+    image: &Image,
+) -> Result<(usize, u64), Refusal> {
+    match cut(alloc, steps, last, calls) {
+        Ok(disk) => crashed(alloc, disk, image),
+        Err(refusal) => Err(refusal),
+    }
+}
+
 fn left(alloc: Global, steps: &str, last: char, calls: u64) -> Result<Images, Refusal> {
-    Ok((
-        crashed(alloc, cut(alloc, steps, last, calls)?, &Image::Old)?,
-        crashed(alloc, cut(alloc, steps, last, calls)?, &Image::New)?,
-        crashed(alloc, cut(alloc, steps, last, calls)?, &Image::Fill(0xA5))?,
-    ))
+    let step = (last, calls);
+    let old = left_of(alloc, steps, step, &Image::Old)?;
+    let new = left_of(alloc, steps, step, &Image::New)?;
+    Ok((old, new, left_of(alloc, steps, step, &Image::Fill(0xA5))?))
 }
 
 const COMMITS: &[(u64, Images)] = &[
@@ -318,25 +329,36 @@ fn is_out_of_step(
     store: &mut Store<MemDisk>,
     other: Other,
 ) -> Result<bool, Refusal> {
-    let batch = batch_of(alloc, store.table(), other)?;
-    let refused = begin_commit(alloc, store, batch, ALL);
-    Ok(refused == Err(Refusal::OutOfStep) && state_of(store) == Ok((1, 1)))
+    match batch_of(alloc, store.table(), other) {
+        Ok(batch) => {
+            let refused = begin_commit(alloc, store, batch, ALL);
+            Ok(refused == Err(Refusal::OutOfStep) && state_of(store) == Ok((1, 1)))
+        }
+        Err(refusal) => Err(refusal),
+    }
 }
 
+const OTHERS: &[Other] = &[
+    Other::Twice,
+    Other::Jumping,
+    Other::Empty,
+    Other::BothOfOneTable,
+];
+
 // Whether each of them is, and the store goes on with two devices more.
-fn continues(alloc: Global, store: &mut Store<MemDisk>) -> Result<bool, Refusal> {
-    let is_right = is_out_of_step(alloc, store, Other::Twice)?
-        && is_out_of_step(alloc, store, Other::Jumping)?
-        && is_out_of_step(alloc, store, Other::Empty)?
-        && is_out_of_step(alloc, store, Other::BothOfOneTable)?;
-    take(alloc, store, '2', ALL)?;
-    Ok(is_right && state_of(store) == Ok((3, 3)))
+fn continues(alloc: Global, store: &mut Store<MemDisk>) -> bool {
+    for other in OTHERS {
+        if is_out_of_step(alloc, store, *other) != Ok(true) {
+            return false;
+        }
+    }
+    take(alloc, store, '2', ALL).is_ok() && state_of(store) == Ok((3, 3))
 }
 
 fn are_refused(alloc: Global) -> Result<(bool, (usize, u64)), Refusal> {
     let mut store = store_after(alloc, "1")?;
     let continues = continues(alloc, &mut store);
-    Ok((continues == Ok(true), found(alloc, store.close())?))
+    Ok((continues, found(alloc, store.close())?))
 }
 
 #[test]

@@ -1,6 +1,8 @@
 // The stores of these tests, steps on them, and what is found on their disks.
 ghost use Rattle.std.specs.Prelude.{◌≡◌, true, false};
-ghost use Rattle.store.specs.Checkpointing.{FitsOther, checkpoint_size};
+ghost use Rattle.store.specs.Checkpointing.{FitsOther, checkpoint_size, checkpoint_synced_size, checkpoint_written_size};
+ghost use Rattle.store.specs.Commit.{IsUnderWay};
+ghost use Rattle.store.specs.Phases.{begun_change, begun_size, opened_change, opened_size, synced_change, synced_size, written_change, written_size};
 ghost use Rattle.store.specs.State.{seen};
 
 use crate::devices_under_test::{net_id, provisionings, slots};
@@ -9,7 +11,10 @@ use lw_types::{Eui, Refusal};
 use sessions::Batch;
 use std::alloc::Global;
 use std::mem;
-use store::{Checkpoint, Store, disk_len, format, open, open_back};
+use store::{
+    Begun, BodySynced, Checkpoint, CheckpointSynced, CheckpointWritten, GateWritten, Store,
+    Written, disk_len, format, open, open_back,
+};
 
 /// The length of the disk of a store with 8 slots, and the place of its second area.
 pub const LEN: usize = 2_166_124;
@@ -63,23 +68,61 @@ pub fn begin_commit(
     if !store.roomy() {
         return Err(Refusal::Backlog);
     }
-    let written = store.begin(alloc, batch)?.write(store)?;
-    if calls == 1 {
-        written.lose();
-        return Ok(());
+    match store.begin(alloc, batch) {
+        Ok(begun) => write_batch(begun, store, calls),
+        Err(refusal) => Err(refusal),
     }
-    let synced = written.sync(store)?;
-    if calls == 2 {
-        synced.lose();
-        return Ok(());
+}
+
+fn write_batch<D: Disk>(begun: Begun, store: &mut Store<D>, calls: u64) -> Result<(), Refusal>
+    requires { IsUnderWay (seen D.state store.old) (begun_change begun) (begun_size begun) }
+{
+    match begun.write(store) {
+        Ok(written) if calls == 1 => {
+            written.lose();
+            Ok(())
+        }
+        Ok(written) => sync_batch(written, store, calls),
+        Err(refusal) => Err(refusal),
     }
-    let opened = synced.open_gate(store)?;
-    if calls == 3 {
-        opened.lose();
-        return Ok(());
+}
+
+fn sync_batch<D: Disk>(written: Written, store: &mut Store<D>, calls: u64) -> Result<(), Refusal>
+    requires { IsUnderWay (seen D.state store.old) (written_change written) (written_size written) }
+{
+    match written.sync(store) {
+        Ok(synced) if calls == 2 => {
+            synced.lose();
+            Ok(())
+        }
+        Ok(synced) => open_batch(synced, store, calls),
+        Err(refusal) => Err(refusal),
     }
-    let _ = opened.sync(store)?.into_batch();
-    Ok(())
+}
+
+fn open_batch<D: Disk>(synced: BodySynced, store: &mut Store<D>, calls: u64) -> Result<(), Refusal>
+    requires { IsUnderWay (seen D.state store.old) (synced_change synced) (synced_size synced) }
+{
+    match synced.open_gate(store) {
+        Ok(opened) if calls == 3 => {
+            opened.lose();
+            Ok(())
+        }
+        Ok(opened) => finish_batch(opened, store),
+        Err(refusal) => Err(refusal),
+    }
+}
+
+fn finish_batch<D: Disk>(opened: GateWritten, store: &mut Store<D>) -> Result<(), Refusal>
+    requires { IsUnderWay (seen D.state store.old) (opened_change opened) (opened_size opened) }
+{
+    match opened.sync(store) {
+        Ok(durable) => {
+            let _ = durable.into_batch();
+            Ok(())
+        }
+        Err(refusal) => Err(refusal),
+    }
 }
 
 /// The first calls of a checkpoint.
@@ -117,22 +160,48 @@ fn write<D: Disk>(checkpoint: Checkpoint, store: &mut Store<D>, calls: u64) -> R
     requires closed { (seen D.state store.old).log.other_open ≡ false }
     requires fits { FitsOther (seen D.state store.old) (checkpoint_size checkpoint) }
 {
-    let written = checkpoint.write(store)?;
-    if calls <= 1 {
-        written.lose();
-        return Ok(());
+    match checkpoint.write(store) {
+        Ok(written) if calls <= 1 => {
+            written.lose();
+            Ok(())
+        }
+        Ok(written) => sync(written, store, calls),
+        Err(refusal) => Err(refusal),
     }
-    let synced = written.sync(store)?;
-    if calls == 2 {
-        synced.lose();
-        return Ok(());
+}
+
+fn sync<D: Disk>(
+    written: CheckpointWritten,
+    store: &mut Store<D>,
+    calls: u64,
+) -> Result<(), Refusal>
+    requires { FitsOther (seen D.state store.old) (checkpoint_written_size written) }
+{
+    match written.sync(store) {
+        Ok(synced) if calls == 2 => {
+            synced.lose();
+            Ok(())
+        }
+        Ok(synced) => open_gate(synced, store, calls),
+        Err(refusal) => Err(refusal),
     }
-    let opened = synced.open_gate(store)?;
-    if calls == 3 {
-        opened.lose();
-        return Ok(());
+}
+
+fn open_gate<D: Disk>(
+    synced: CheckpointSynced,
+    store: &mut Store<D>,
+    calls: u64,
+) -> Result<(), Refusal>
+    requires { FitsOther (seen D.state store.old) (checkpoint_synced_size synced) }
+{
+    match synced.open_gate(store) {
+        Ok(opened) if calls == 3 => {
+            opened.lose();
+            Ok(())
+        }
+        Ok(opened) => opened.sync(store),
+        Err(refusal) => Err(refusal),
     }
-    opened.sync(store)
 }
 
 /// The first calls of a step: `c` is a checkpoint; a digit, `x` and `m` are commits of so many provisionings, of ten, and
