@@ -1,12 +1,16 @@
 //! What may be concluded of whole runs, in the words of their lists of steps alone.
 #![tactic(auto)]
 
-ghost use Rattle.std.specs.Prelude.{IfOk};
+ghost use Rattle.std.specs.Prelude.{◌≡◌, ◌≢◌, IfOk, IfErr, length};
+ghost use Rattle.disk.specs.Outlook.Outlook.{AllSucceed};
+ghost use Rattle.lw_types.specs.declared.refusal.Refusal.TheVariants.{DeviceFailed, OutOfMemory};
+ghost use Rattle.store.specs.Faults.{IsFormatRefusal};
 ghost use Rattle.store.specs.State.{seen};
 ghost use Rattle.world.specs.Answers.{AreRight};
 ghost use Rattle.world.specs.Calls.{AreForetold, passed_some};
 ghost use Rattle.world.specs.Course.{beginning, course_of, formatted};
 ghost use Rattle.sessions.specs.Marks.{AreOnce};
+ghost use Rattle.headline.specs.Failing.{ArmsNothing};
 ghost use Rattle.headline.specs.Recovers.{Recovers};
 
 use disk::{Image, Sim};
@@ -17,7 +21,9 @@ use world::{Answer, Step, World, run};
 
 /// Takes the steps on a world with a new store on this disk, crashes among them, lets the disk crash to this
 /// image at the end, and opens the store. With [`Image::Bytes`] each image that the disk permits can be asked
-/// for. Refused as [`World::format`], [`run`] and [`store::open`] are.
+/// for. Refused as [`World::format`] refuses such slots or such a disk, and else only with `OutOfMemory` for want of memory, or with
+/// `DeviceFailed` where a call of the disk was to fail: never where all were to succeed and no step arms a failure. What a crash
+/// leaves is never refused as no store.
 ///
 /// Where it isn't refused, each answer is the right one, a failed call of the disk comes where it is due, and the store
 /// has the table and the number that a beginning of the decided commands leaves. That beginning holds every command of
@@ -38,6 +44,9 @@ pub fn crash_after<D: Sim + Drop>(
     ensures recovers { IfOk result (λ found. Recovers (formatted net_id slots)
         (course_of (formatted net_id slots) (beginning (formatted net_id slots)) steps.now found.0.items)
         (seen D.state found.1).table (seen D.state found.1).seq) }
+    ensures refused { IfErr result (λ e. e ≢ DeviceFailed → e ≢ OutOfMemory
+        → IsFormatRefusal slots (length (D.state disk).content) e) }
+    ensures unarmed { D.outlook disk ≡ AllSucceed → ArmsNothing steps.now → IfErr result (λ e. e ≢ DeviceFailed) }
     ensures once { IfOk result (λ found. AreOnce
         (course_of (formatted net_id slots) (beginning (formatted net_id slots)) steps.now found.0.items).left) }
 {

@@ -1,7 +1,11 @@
-use Rattle.std.proofs.Common.{sym}
-use Rattle.world.specs.Calls.{Calls, passed_some}
+use Rattle.std.proofs.Common.{◌≡◌, ◌∙◌, Result, Ok, Err, IfErr, ap, subst, sym}
+use Rattle.std.specs.Result.{IsErrAnd}
+use Rattle.lw_types.specs.declared.refusal.Refusal.{Refusal}
+use Rattle.disk.specs.Outlook.Outlook.{AllSucceed}
+use Rattle.world.specs.Calls.{Calls, IsKnown, calls_of, passed_some}
 use Rattle.world.specs.Course.{beginning, course_of, formatted, table_from, number_from}
 use Rattle.sessions.specs.Table.{effects_of}
+use Rattle.headline.proofs.Calm.{stays_calm}
 use Rattle.headline.proofs.crash_after.Goals as goal
 
 pub returns-in_ok-store-in-Ok-clause-answers : goal.returns-in_ok-store-in-Ok-clause-answers
@@ -41,3 +45,32 @@ returns-in_ok-store-in-Ok-clause-once g c =
     let closed = c.close-disk.ensures.course origin course followed in
     c.no_mark_stands_twice.ensures.part (effects_of origin.table course.settled) course.left closed.1
     (c.no_mark_stands_twice.ensures.from_empty c.args.net_id c.args.slots course.settled)
+
+-- what holds of the refusal holds of the answer that it becomes
+refused_with : {T : Type 0} (P : Refusal → Type 0) (r : Result T Refusal) (e : Refusal) → IsErrAnd r (λ y. y ≡ e) → P e → IfErr r P
+refused_with P (Ok x) e is p = absurd is
+refused_with P (Err y) e is p = subst P (sym is) p
+
+pub returns-in_err-store-in-Ok-clause-refused : goal.returns-in_err-store-in-Ok-clause-refused
+returns-in_err-store-in-Ok-clause-refused g c =
+    let origin = formatted c.args.net_id c.args.slots in
+    let course = course_of origin (beginning origin) c.args.steps.now c.in-Ok.answers.items in
+    let followed = (c.in-Ok.ensures.course origin (beginning origin) c.in_ok-world.ensures.course).1 in
+    let closed = c.close-disk.ensures.course origin course followed in
+    let found = closed.0 (g.D.Disk.state c.crash.new.self).content c.crash.ensures.permitted in
+    let r = c.from_residual-in_err-store-in-Ok in
+    refused_with _ r.result c.in_err-store-in-Ok.field-0.0 r.ensures.1
+    (λ device memory.
+    absurd ((c.in_err-store-in-Ok.ensures.refused g.met.D.Sim.is_honest device memory).none (table_from origin found.0) (number_from origin found.0) found.2))
+
+pub returns-in_err-store-in-Ok-clause-unarmed : goal.returns-in_err-store-in-Ok-clause-unarmed
+returns-in_err-store-in-Ok-clause-unarmed g c = λ all nothing.
+    let outlook = g.D.Disk.outlook in
+    let calls : Calls = record { failed = g.D.Disk.failures c.args.disk; coming = passed_some (outlook c.args.disk) } in
+    let steps = c.args.steps.now in
+    let answers = c.in-Ok.answers.items in
+    let calm : (calls_of calls steps answers).coming ≡ AllSucceed = stays_calm calls steps answers nothing (ap passed_some all) in
+    let known = ((c.in-Ok.ensures.calls calls c.in_ok-world.ensures.calls).1 c.close-disk.result c.close-disk.ensures.disk).known in
+    let closed : outlook c.close-disk.result ≡ AllSucceed = subst (λ o. IsKnown o (outlook c.close-disk.result)) calm known in
+    let r = c.from_residual-in_err-store-in-Ok in
+    refused_with _ r.result c.in_err-store-in-Ok.field-0.0 r.ensures.1 (c.in_err-store-in-Ok.ensures.unarmed (c.crash.ensures.outlook ∙ closed))
