@@ -3,9 +3,9 @@ ghost use Rattle.std.specs.Prelude.{◌≡◌, MatchResult};
 ghost use Rattle.lw_types.specs.declared.refusal.Refusal.TheVariants.{OutOfMemory};
 ghost use Rattle.gateway_wire.specs.Emission.{app_line, gateway_bytes};
 
+use crate::WireFrame;
 use crate::downlink::downlink_frame;
 use crate::report::{report_line, up_line};
-use crate::WireFrame;
 use devices::{Application, Effect};
 use link_messages::Line;
 use lw_types::{Eui, Refusal};
