@@ -21,9 +21,8 @@ use world::{Answer, Step, World, run};
 
 /// Takes the steps on a world with a new store on this disk, crashes among them, lets the disk crash to this
 /// image at the end, and opens the store. With [`Image::Bytes`] each image that the disk permits can be asked
-/// for. Refused as [`World::format`] refuses such slots or such a disk, and else only with `OutOfMemory` for want of memory, or with
-/// `DeviceFailed` where a call of the disk was to fail: never where all were to succeed and no step arms a failure. What a crash
-/// leaves is never refused as no store.
+/// for. A refusal is `OutOfMemory`, `DeviceFailed`, or that of [`World::format`] for such slots or such a disk: what a crash leaves is
+/// never refused as no store. `DeviceFailed` never comes where all calls of the disk were to succeed and no step arms a failure.
 ///
 /// Where it isn't refused, each answer is the right one, a failed call of the disk comes where it is due, and the store
 /// has the table and the number that a beginning of the decided commands leaves. That beginning holds every command of
