@@ -171,8 +171,12 @@ fn sixteen_items_wait_and_leave_in_order(rt: HostRuntime) {
     assert!(rt; pushed_wait(rt.alloc()) == Some(true));
 }
 
-// What was granted last, and sessions of these JoinNonces, in use and not in use yet.
-fn activation(granted: u32, in_use: Option<u32>, waiting: Option<u32>) -> Option<Activation> {
+// What was granted last, and sessions of these JoinNonces, in use and not in use yet: the activation of them, if they are in order.
+fn activation(
+    granted: u32,
+    in_use: Option<u32>,
+    waiting: Option<u32>,
+) -> Option<Option<Activation>> {
     let in_use = match in_use {
         Some(number) => Some(current(number, 5)?),
         None => None,
@@ -181,7 +185,12 @@ fn activation(granted: u32, in_use: Option<u32>, waiting: Option<u32>) -> Option
         Some(number) => Some(session(number)?),
         None => None,
     };
-    Activation::new(JoinNonce::new(granted), in_use, waiting)
+    Some(Activation::new(JoinNonce::new(granted), in_use, waiting))
+}
+
+// Whether they are in order; none where a session can't be made.
+fn are_in_order(granted: u32, in_use: Option<u32>, waiting: Option<u32>) -> Option<bool> {
+    Some(activation(granted, in_use, waiting)?.is_some())
 }
 
 // Nothing was granted where the first number is 0.
@@ -199,14 +208,14 @@ const ORDERS: &[(u32, Option<u32>, Option<u32>, bool)] = &[
 #[test]
 fn sessions_are_in_order(rt: HostRuntime) {
     for (granted, current, pending, wanted) in ORDERS {
-        let are_in_order = activation(*granted, *current, *pending).is_some();
-        assert!(rt; are_in_order == *wanted, "granted {granted}");
+        let are_in_order = are_in_order(*granted, *current, *pending);
+        assert!(rt; are_in_order == Some(*wanted), "granted {granted}");
     }
 }
 
 // An activation with two sessions.
 fn both() -> Option<Activation> {
-    activation(2, Some(1), Some(2))
+    activation(2, Some(1), Some(2))?
 }
 
 fn has_parts() -> Option<bool> {
