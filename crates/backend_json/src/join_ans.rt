@@ -7,7 +7,7 @@ use join_server::SealedAccept;
 use lw_types::{Eui, Key, NetId};
 
 /// A session that is granted: its keys, and the accept for the device.
-#[derive(Clone, Copy, Debug, PartialEq, Eq)]
+#[derive(Clone, Copy, PartialEq, Eq)]
 pub struct Accepted {
     pub app_skey: Key,
     pub nwk_skey: Key,
@@ -15,7 +15,7 @@ pub struct Accepted {
 }
 
 /// Why a join isn't granted.
-#[derive(Clone, Copy, Debug, PartialEq, Eq)]
+#[derive(Clone, Copy, PartialEq, Eq)]
 pub enum Cause {
     /// The join server doesn't know the device.
     UnknownDevEui,
@@ -76,7 +76,7 @@ impl Cause {
 }
 
 /// An answer, from a join server to a network.
-#[derive(Clone, Copy, Debug, PartialEq, Eq)]
+#[derive(Clone, Copy, PartialEq, Eq)]
 pub struct JoinAns {
     pub receiver: NetId,
     pub sender: Eui,

@@ -7,7 +7,7 @@ use lw_types::{Eui, Key, Ranged};
 
 /// The bytes that are left to read. Each call reads the field at their front and passes it, or answers
 /// `None` where no such field stands there.
-#[derive(Clone, Copy, Debug)]
+#[derive(Clone, Copy)]
 pub struct FieldReader<'a> {
     pub rest: &'a [u8],
 }

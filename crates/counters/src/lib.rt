@@ -9,7 +9,7 @@ ghost use Rattle.counters.specs.Rebuilt.{if_near, least_from, rebuilt};
 pub mod laws;
 
 /// What the low bits of a counter stand for.
-#[derive(Clone, Copy, Debug, PartialEq, Eq)]
+#[derive(Clone, Copy, PartialEq, Eq)]
 pub enum Rebuilt {
     /// A new frame with this counter.
     New(u32),

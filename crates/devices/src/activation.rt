@@ -7,7 +7,7 @@ use lw_types::{JoinNonce, Key};
 use std::marker::Model;
 
 /// A session as a join makes it: its JoinNonce and its keys.
-#[derive(Clone, Copy, Debug, PartialEq, Eq)]
+#[derive(Clone, Copy, PartialEq, Eq)]
 pub struct Session {
     pub join_nonce: JoinNonce,
     pub nwk_skey: Key,
@@ -15,7 +15,7 @@ pub struct Session {
 }
 
 /// The session in use, with the counter of its last uplink and of its next downlink.
-#[derive(Clone, Copy, Debug, PartialEq, Eq)]
+#[derive(Clone, Copy, PartialEq, Eq)]
 pub struct CurrentSession {
     pub session: Session,
     pub last_up: u32,
@@ -24,7 +24,7 @@ pub struct CurrentSession {
 
 /// The last JoinNonce granted to a device and its sessions: none is above the last grant, and the
 /// pending one, which waits for its first uplink, is later than the current one.
-#[derive(Clone, Copy, Debug, PartialEq, Eq)]
+#[derive(Clone, Copy, PartialEq, Eq)]
 pub struct Activation {
     granted: Option<JoinNonce>,
     current: Option<CurrentSession>,

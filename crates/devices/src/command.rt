@@ -3,7 +3,7 @@ use crate::{Application, AskedBytes, Heard, Rx1Offset, RxDelay, Tag};
 use lw_types::{Eui, Key};
 
 /// What an application says of a device that it brings.
-#[derive(Clone, Copy, Debug, PartialEq, Eq)]
+#[derive(Clone, Copy, PartialEq, Eq)]
 pub struct Provisioning {
     pub application: Application,
     pub dev_eui: Eui,
@@ -14,7 +14,7 @@ pub struct Provisioning {
 }
 
 /// An item as an application hands it in: neither its port nor its length is known to be in range.
-#[derive(Clone, Debug, PartialEq, Eq, Drop)]
+#[derive(Clone, PartialEq, Eq, Drop)]
 pub struct Queueing {
     pub application: Application,
     pub dev_eui: Eui,
@@ -25,7 +25,7 @@ pub struct Queueing {
 }
 
 /// MAC commands as an application hands them in: any bytes.
-#[derive(Clone, Debug, PartialEq, Eq, Drop)]
+#[derive(Clone, PartialEq, Eq, Drop)]
 pub struct MacQueueing {
     pub application: Application,
     pub dev_eui: Eui,
@@ -33,7 +33,7 @@ pub struct MacQueueing {
 }
 
 /// What a device, or the network for it, is asked to do.
-#[derive(Clone, Debug, PartialEq, Eq, Drop)]
+#[derive(Clone, PartialEq, Eq, Drop)]
 pub enum Command {
     /// A new device is brought.
     Provision(Provisioning),

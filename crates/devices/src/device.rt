@@ -7,7 +7,7 @@ use lw_types::{Eui, Key, Refusal};
 use std::alloc::Global;
 
 /// What the network knows of a device. Its queues outlive a join.
-#[derive(Clone, Debug, PartialEq, Eq, Drop)]
+#[derive(Clone, PartialEq, Eq, Drop)]
 pub struct Device {
     pub dev_eui: Eui,
     pub join_eui: Eui,

@@ -3,7 +3,7 @@ use crate::{Application, Copies, Payload, Port, RxDelay, SessionName, Tag};
 use lw_types::{Eui, JoinNonce, PhyPayload, Reception};
 
 /// In which receive windows of the device a gateway may send (TS001-1.0.4 §3.3).
-#[derive(Clone, Copy, Debug, PartialEq, Eq)]
+#[derive(Clone, Copy, PartialEq, Eq)]
 pub enum Windows {
     /// In RX1 alone.
     Rx1,
@@ -12,7 +12,7 @@ pub enum Windows {
 }
 
 /// A frame that a gateway is to send once.
-#[derive(Debug, PartialEq, Eq, Drop)]
+#[derive(PartialEq, Eq, Drop)]
 pub struct Downlink {
     pub gateway: Eui,
     /// The gateway's moment of the uplink, in microseconds.
@@ -28,7 +28,7 @@ pub struct Downlink {
 }
 
 /// What an application is told of its device.
-#[derive(Debug, PartialEq, Eq, Drop)]
+#[derive(PartialEq, Eq, Drop)]
 pub enum Report {
     /// The device was brought, and has this slot.
     Provisioned {
@@ -63,7 +63,7 @@ pub enum Report {
 
 /// What leaves the network, once its decision is durable. What may leave but once names its mark: the session, and
 /// the counter that is used up. It isn't `Clone`, since each effect leaves once.
-#[derive(Debug, PartialEq, Eq, Drop)]
+#[derive(PartialEq, Eq, Drop)]
 pub enum Effect {
     /// A device's payload, for its application.
     Forward {

@@ -4,7 +4,6 @@ ghost use Rattle.devices.specs.Outcome.{told};
 
 use crate::{Device, Effect, Report};
 use std::alloc::{AllocError, Global};
-use std::fmt;
 use std::marker::Model;
 
 /// At most four effects, in the order in which they leave. In contracts it is the list of them.
@@ -76,11 +75,5 @@ impl Effects {
     {
         let Effects { items } = self;
         items
-    }
-}
-
-impl fmt::Debug for Effects {
-    fn fmt<W: fmt::Write>(&self, f: &mut fmt::Formatter<W>) -> fmt::Result {
-        self.items.fmt(f)
     }
 }

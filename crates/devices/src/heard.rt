@@ -8,11 +8,10 @@ use crate::Copies;
 use lw_types::{Eui, PhyPayload, Reception, Refusal};
 use region_eu868::is_channel;
 use std::alloc::{AllocError, Global};
-use std::fmt;
 use std::marker::Model;
 
 /// How one gateway heard a frame, and its moment of the frame's end, in microseconds.
-#[derive(Clone, Copy, Debug, PartialEq, Eq)]
+#[derive(Clone, Copy, PartialEq, Eq)]
 pub struct Hearing {
     pub reception: Reception,
     pub stamp: u32,
@@ -38,7 +37,7 @@ impl Model for Hearings {
 }
 
 /// A frame with all the copies of it that gateways heard. Its bytes are kept once.
-#[derive(Clone, Debug, PartialEq, Eq, Drop)]
+#[derive(Clone, PartialEq, Eq, Drop)]
 pub struct Heard {
     pub phy_payload: PhyPayload,
     pub hearings: Hearings,
@@ -151,12 +150,6 @@ impl Clone for Hearings {
         Ok(Hearings {
             items: self.items.clone()?,
         })
-    }
-}
-
-impl fmt::Debug for Hearings {
-    fn fmt<W: fmt::Write>(&self, f: &mut fmt::Formatter<W>) -> fmt::Result {
-        self.items.fmt(f)
     }
 }
 

@@ -51,5 +51,5 @@ pub type AskedBytes = Bytes<{ usize::MAX }>;
 pub type Copies = Ranged<1, 32>;
 
 /// The name by which an application knows an item that it queued.
-#[derive(Clone, Copy, Debug, PartialEq, Eq, PartialOrd, Ord, Hash)]
+#[derive(Clone, Copy, Debug, PartialEq, Eq)]
 pub struct Tag(pub u32);

@@ -9,7 +9,6 @@ ghost use Rattle.devices.specs.MacQueue.{may_queue};
 
 use mac_commands::{are_queueable, fit15};
 use std::alloc::{AllocError, Global};
-use std::fmt;
 use std::marker::Model;
 
 /// Whole MAC commands that an application may queue, LinkADRReq, DutyCycleReq and DevStatusReq
@@ -148,13 +147,4 @@ impl PartialEq for MacQueue {
 
 impl Eq for MacQueue {
     ghost laws = { nat_list_eq_equiv };
-}
-
-/// Shows the bytes as decimals, as in `[6, 4, 15]`.
-impl fmt::Debug for MacQueue {
-    ghost debug_output = { debug_list (λ byte. Some (decimal byte)) };
-
-    fn fmt<W: fmt::Write>(&self, f: &mut fmt::Formatter<W>) -> fmt::Result {
-        self.bytes.fmt(f)
-    }
 }

@@ -6,14 +6,14 @@ use crate::Effect;
 use lw_types::{Eui, JoinNonce};
 
 /// The name of a session: its device, and the join that granted it.
-#[derive(Clone, Copy, Debug, PartialEq, Eq)]
+#[derive(Clone, Copy, PartialEq, Eq)]
 pub struct SessionName {
     pub dev_eui: Eui,
     pub join_nonce: JoinNonce,
 }
 
 /// What an effect uses up. No mark may leave the network twice.
-#[derive(Clone, Copy, Debug, PartialEq, Eq)]
+#[derive(Clone, Copy, PartialEq, Eq)]
 pub enum Mark {
     /// The uplink of this counter was handed on.
     Forwarded { session: SessionName, counter: u32 },

@@ -3,11 +3,10 @@ ghost use Rattle.std.specs.Prelude.{◌≡◌, ◌≤◌, ◌<◌, ◌∷◌, �
 
 use crate::{Payload, Port, Tag};
 use std::alloc::{AllocError, Global};
-use std::fmt;
 use std::marker::Model;
 
 /// A payload that waits for a downlink.
-#[derive(Clone, Debug, PartialEq, Eq, Drop)]
+#[derive(Clone, PartialEq, Eq, Drop)]
 pub struct Item {
     pub tag: Tag,
     pub port: Port,
@@ -111,12 +110,6 @@ impl Clone for ItemQueue {
         Ok(ItemQueue {
             items: self.items.clone()?,
         })
-    }
-}
-
-impl fmt::Debug for ItemQueue {
-    fn fmt<W: fmt::Write>(&self, f: &mut fmt::Formatter<W>) -> fmt::Result {
-        self.items.fmt(f)
     }
 }
 

@@ -8,7 +8,7 @@ ghost use Rattle.disk.specs.Outlook.Outlook.{Unknown, FailsAfter};
 use crate::Disk;
 
 /// What a crash leaves at the open positions; all others keep their bytes.
-#[derive(Debug, PartialEq, Eq, Drop)]
+#[derive(PartialEq, Eq, Drop)]
 pub enum Image {
     /// The bytes of the last sync that succeeded.
     Old,

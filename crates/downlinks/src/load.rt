@@ -14,7 +14,7 @@ use std::alloc::{AllocError, Global};
 const LINK_CHECK_ANS: u8 = 0x02;
 
 /// What a new uplink asks of the network, and how it was heard.
-#[derive(Clone, Copy, Debug)]
+#[derive(Clone, Copy)]
 pub struct Asked {
     /// The uplink is confirmed.
     pub confirmed: bool,

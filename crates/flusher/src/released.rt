@@ -5,7 +5,7 @@ use devices::Effect;
 
 /// An effect of a durable decision. It is made where a durable batch is released and nowhere else, so
 /// whoever has one may let the effect out.
-#[derive(Debug, Drop)]
+#[derive(Drop)]
 pub struct Released {
     effect: Effect,
 }

@@ -19,21 +19,21 @@ pub const EMPTY_AREA_LEN: u64 = 31;
 pub const ENTRIES_AT: u64 = 15;
 
 /// Where an area begins and ends on its disk, in bytes from the front.
-#[derive(Clone, Copy, Debug, PartialEq, Eq)]
+#[derive(Clone, Copy, PartialEq, Eq)]
 pub struct Area {
     pub start: u64,
     pub end: u64,
 }
 
 /// The two areas of a disk: the live one has what the disk holds, and the other one is written by the next checkpoint.
-#[derive(Clone, Copy, Debug, PartialEq, Eq)]
+#[derive(Clone, Copy, PartialEq, Eq)]
 pub struct Areas {
     pub live: Area,
     pub other: Area,
 }
 
 /// What stands behind an area's gate.
-#[derive(Clone, Copy, Debug, PartialEq, Eq)]
+#[derive(Clone, Copy, PartialEq, Eq)]
 pub struct Header {
     pub version: u8,
     pub generation: u64,

@@ -12,7 +12,7 @@ use lw_types::{Eui, Refusal};
 use std::alloc::Global;
 
 /// What leaves the network by an effect, and on whose link.
-#[derive(Clone, Debug, PartialEq, Eq, Drop)]
+#[derive(Clone, PartialEq, Eq, Drop)]
 pub enum Emission {
     /// A frame, for a gateway.
     Gateway {

@@ -17,7 +17,7 @@ use lw_types::{Eui, Key, Refusal, Words, laws};
 use std::alloc::Global;
 
 /// What an application asks for on its link.
-#[derive(Clone, Debug, PartialEq, Eq, Drop)]
+#[derive(Clone, PartialEq, Eq, Drop)]
 pub enum Request {
     /// `provision`: a new device is brought.
     Provision {

@@ -33,7 +33,7 @@ pub fn next_ranged<const LEAST: u64, const MOST: u64>(
 }
 
 /// Whether an item is confirmed: `c` for yes, and `u` for no.
-#[derive(Clone, Copy, Debug, PartialEq, Eq)]
+#[derive(Clone, Copy, PartialEq, Eq)]
 pub(crate) struct Confirmed(pub bool);
 
 impl FromText for Confirmed {

@@ -6,7 +6,7 @@ use lw_types::{DevAddr, NetId, Ranged};
 pub type RxDelay = Ranged<1, 15>;
 
 /// A device's Join-Request, and what its session is to have if it is granted.
-#[derive(Clone, Copy, Debug, PartialEq, Eq)]
+#[derive(Clone, Copy, PartialEq, Eq)]
 pub struct JoinAsk {
     pub net_id: NetId,
     pub dev_addr: DevAddr,

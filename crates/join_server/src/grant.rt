@@ -5,7 +5,7 @@ use lw_types::{JoinNonce, Key};
 pub type SealedAccept = [u8; 17];
 
 /// A session: its JoinNonce and keys for the network, and the accept for the device.
-#[derive(Clone, Copy, Debug, PartialEq, Eq)]
+#[derive(Clone, Copy, PartialEq, Eq)]
 pub struct JoinGrant {
     pub join_nonce: JoinNonce,
     pub nwk_skey: Key,

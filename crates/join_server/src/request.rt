@@ -9,7 +9,7 @@ use lw_types::{Eui, FromText, HexArray, Key};
 use std::marker::Model;
 
 /// The 23 bytes of a Join-Request: MHDR, which is 0, JoinEUI, DevEUI, DevNonce and MIC (TS001-1.0.4 §6.2.5).
-#[derive(Clone, Copy, Debug, PartialEq, Eq)]
+#[derive(Clone, Copy, PartialEq, Eq)]
 pub struct JoinRequest {
     bytes: [u8; 23],
 }

@@ -2,7 +2,7 @@
 use lw_types::{Eui, JoinNonce, Key};
 
 /// A device with its AppKey, the DevNonce that it sent last, of those accepted, and the JoinNonce that it was granted last.
-#[derive(Clone, Copy, Debug, PartialEq, Eq)]
+#[derive(Clone, Copy, PartialEq, Eq)]
 pub struct JoinState {
     pub dev_eui: Eui,
     pub join_eui: Eui,

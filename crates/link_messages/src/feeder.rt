@@ -15,7 +15,7 @@ use std::marker::Model;
 const HEAD: usize = 2;
 
 /// What a piece of a link's bytes says.
-#[derive(Clone, Debug, PartialEq, Eq, Drop)]
+#[derive(PartialEq, Eq, Drop)]
 pub struct Fed {
     /// The messages that became whole, in order.
     pub messages: Vec<Message>,

@@ -5,7 +5,6 @@ ghost use Rattle.std.specs.Cmp.Lexicographic.{pointwise, nat_list_eq_equiv};
 ghost use Rattle.std.specs.String.{string_bytes};
 
 use std::alloc::AllocError;
-use std::fmt;
 use std::marker::Model;
 
 /// A line without its newline. In contracts it is the list of its bytes.
@@ -61,15 +60,4 @@ impl PartialEq for Line {
 
 impl Eq for Line {
     ghost laws = { nat_list_eq_equiv };
-}
-
-/// Shows the text as `Debug` of a `str` does.
-impl fmt::Debug for Line {
-    ghost use Rattle.std.specs.Fmt.{debug_str};
-
-    ghost debug_output = { debug_str };
-
-    fn fmt<W: fmt::Write>(&self, f: &mut fmt::Formatter<W>) -> fmt::Result {
-        self.text.fmt(f)
-    }
 }

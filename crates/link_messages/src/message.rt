@@ -4,14 +4,14 @@ use devices::Application;
 use lw_types::{Eui, FrameCopy};
 
 /// Who is at the other end of a link.
-#[derive(Clone, Copy, Debug, PartialEq, Eq)]
+#[derive(Clone, Copy, PartialEq, Eq)]
 pub enum Peer {
     Gateway(Eui),
     Application(Application),
 }
 
 /// What a gateway or an application says on its link.
-#[derive(Clone, Debug, PartialEq, Eq, Drop)]
+#[derive(PartialEq, Eq, Drop)]
 pub enum Message {
     /// Who it is: the first message of each link, and no later one.
     Greeting(Peer),

@@ -1,7 +1,7 @@
 // Which way a frame goes.
 
 /// Which way a frame goes.
-#[derive(Clone, Copy, Debug, PartialEq, Eq)]
+#[derive(Clone, Copy, PartialEq, Eq)]
 pub enum Direction {
     /// From the device to the network.
     Up,

@@ -10,7 +10,7 @@ use crate::refusal::Refusal;
 use std::alloc::Global;
 
 /// How a gateway heard a frame.
-#[derive(Clone, Copy, Debug, PartialEq, Eq)]
+#[derive(Clone, Copy, PartialEq, Eq)]
 pub struct Reception {
     pub gateway: Eui,
     /// In Hz.
@@ -23,7 +23,7 @@ pub struct Reception {
 }
 
 /// A frame as one gateway heard it: of one frame each gateway in reach has a copy.
-#[derive(Clone, Debug, PartialEq, Eq, Drop)]
+#[derive(Clone, PartialEq, Eq, Drop)]
 pub struct FrameCopy {
     pub reception: Reception,
     /// The gateway's moment of the frame's end, in microseconds.

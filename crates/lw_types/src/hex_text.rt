@@ -76,7 +76,7 @@ pub fn read_hex(alloc: Global, text: &str) -> Result<Vec<u8>, Refusal>
 }
 
 /// Bytes of a fixed number, as two digits each, the first byte first.
-#[derive(Clone, Copy, Debug, PartialEq, Eq)]
+#[derive(Clone, Copy, PartialEq, Eq)]
 pub struct HexArray<const N: usize>(pub [u8; N]);
 
 impl<const N: usize> fmt::Display for HexArray<N> {
@@ -102,7 +102,7 @@ impl<const N: usize> FromText for HexArray<N> {
 }
 
 /// Some bytes as one word of a line: their hex, and `-` where there are none.
-#[derive(Clone, Copy, Debug)]
+#[derive(Clone, Copy)]
 pub struct ByteField<'a>(pub &'a [u8]);
 
 impl fmt::Display for ByteField<'_> {

@@ -8,15 +8,15 @@ use std::fmt;
 use std::marker::Model;
 
 /// A 64-bit extended unique identifier: a DevEUI, a JoinEUI or a gateway's EUI (TS001-1.0.4 §6.1.1).
-#[derive(Clone, Copy, Debug, PartialEq, Eq, PartialOrd, Ord, Hash)]
+#[derive(Clone, Copy, Debug, PartialEq, Eq, PartialOrd, Ord)]
 pub struct Eui(pub u64);
 
 /// The 32-bit address of a session in a frame (TS001-1.0.4 §6.1.1.1).
-#[derive(Clone, Copy, Debug, PartialEq, Eq, PartialOrd, Ord, Hash)]
+#[derive(Clone, Copy, Debug, PartialEq, Eq)]
 pub struct DevAddr(pub u32);
 
 /// A network identifier of type 0 below 64, so that its six low bits are the whole of it.
-#[derive(Clone, Copy, Debug, PartialEq, Eq, PartialOrd, Ord, Hash)]
+#[derive(Clone, Copy, Debug, PartialEq, Eq)]
 pub struct NetId {
     number: u8,
 }
@@ -62,7 +62,7 @@ impl NetId {
 }
 
 /// The number of a join that was granted to a device, from 1 to 16,777,215 (TS001-1.0.4 §6.2.6).
-#[derive(Clone, Copy, Debug, PartialEq, Eq, PartialOrd, Ord, Hash)]
+#[derive(Clone, Copy, Debug, PartialEq, Eq)]
 pub struct JoinNonce {
     value: u32,
 }

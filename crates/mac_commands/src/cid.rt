@@ -5,7 +5,7 @@ use crate::command::LONGEST_COMMAND_PAYLOAD;
 use lw_types::Direction;
 
 /// A command identifier. A request and its answer have the same one, in opposite directions.
-#[derive(Clone, Copy, Debug, PartialEq, Eq)]
+#[derive(Clone, Copy, PartialEq, Eq)]
 pub enum Cid {
     LinkCheck = 0x02,
     LinkAdr = 0x03,

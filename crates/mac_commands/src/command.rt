@@ -9,14 +9,14 @@ pub const LONGEST_COMMAND_PAYLOAD: usize = 5;
 pub type CommandPayload = Bytes<LONGEST_COMMAND_PAYLOAD>;
 
 /// A MAC command: its identifier and its payload, the bits of which aren't looked at.
-#[derive(Clone, Debug, PartialEq, Eq, Drop)]
+#[derive(PartialEq, Eq, Drop)]
 pub struct MacCommand {
     pub cid: Cid,
     pub payload: CommandPayload,
 }
 
 /// The MAC commands at the front of some bytes.
-#[derive(Debug, PartialEq, Eq, Drop)]
+#[derive(PartialEq, Eq, Drop)]
 pub struct Decoded {
     /// The commands, in order.
     pub commands: Vec<MacCommand>,

@@ -16,7 +16,7 @@ pub type FOpts = Bytes<LONGEST_F_OPTS>;
 pub type FrmPayload = Payload;
 
 /// A port and the payload for it. On port 0 these are MAC commands.
-#[derive(Clone, Debug, PartialEq, Eq, Drop)]
+#[derive(Clone, PartialEq, Eq, Drop)]
 pub struct Message {
     pub f_port: u8,
     pub frm_payload: FrmPayload,
@@ -24,7 +24,7 @@ pub struct Message {
 
 /// FOpts and, where there is a port, FPort and FRMPayload. FOpts and FRMPayload have at most 242 bytes
 /// together, so that the frame has at most 255.
-#[derive(Debug, PartialEq, Eq, Drop)]
+#[derive(PartialEq, Eq, Drop)]
 pub struct Contents {
     f_opts: FOpts,
     message: Option<Message>,

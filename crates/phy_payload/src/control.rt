@@ -18,7 +18,7 @@ const UP_UNUSED: u8 = 0x10;
 const DOWN_UNUSED: u8 = 0x40;
 
 /// The direction of a data frame, and what its FCtrl says there.
-#[derive(Clone, Copy, Debug, PartialEq, Eq)]
+#[derive(Clone, Copy, PartialEq, Eq)]
 pub enum Control {
     /// From the device to the network.
     Uplink {

@@ -5,7 +5,7 @@ use crate::phy::Mic;
 use lw_types::DevAddr;
 
 /// A frame of a session.
-#[derive(Clone, Debug, PartialEq, Eq, Drop)]
+#[derive(PartialEq, Eq, Drop)]
 pub struct DataFrame {
     /// Whether the receiver has to acknowledge it.
     pub confirmed: bool,

@@ -3,7 +3,7 @@ use crate::phy::Mic;
 use lw_types::Eui;
 
 /// A device asks to join (TS001-1.0.4 §6.2.5).
-#[derive(Clone, Copy, Debug, PartialEq, Eq)]
+#[derive(Clone, Copy, PartialEq, Eq)]
 pub struct JoinRequest {
     pub join_eui: Eui,
     pub dev_eui: Eui,
@@ -13,7 +13,7 @@ pub struct JoinRequest {
 
 /// The network's answer to a Join-Request (TS001-1.0.4 §6.2.6). All but its first byte is sealed under the
 /// AppKey, and it is kept so.
-#[derive(Clone, Copy, Debug, PartialEq, Eq)]
+#[derive(Clone, Copy, PartialEq, Eq)]
 pub enum JoinAccept {
     /// The fields and their MIC.
     Short { sealed: [u8; 16] },

@@ -3,11 +3,11 @@ use crate::data_frame::DataFrame;
 use crate::join::{JoinAccept, JoinRequest};
 
 /// A message integrity code (TS001-1.0.4 §4.4, §6.2.5).
-#[derive(Clone, Copy, Debug, PartialEq, Eq)]
+#[derive(Clone, Copy, PartialEq, Eq)]
 pub struct Mic(pub [u8; 4]);
 
 /// A frame (TS001-1.0.4 §4.2.1).
-#[derive(Clone, Debug, PartialEq, Eq, Drop)]
+#[derive(PartialEq, Eq, Drop)]
 pub enum Phy {
     JoinRequest(JoinRequest),
     JoinAccept(JoinAccept),

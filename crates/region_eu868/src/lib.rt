@@ -11,7 +11,7 @@ pub mod laws;
 pub const RX2_FREQUENCY: u32 = 869_525_000;
 
 /// The frequency and the data rate of a receive window.
-#[derive(Clone, Copy, Debug, PartialEq, Eq)]
+#[derive(Clone, Copy, PartialEq, Eq)]
 pub struct Window {
     /// In Hz.
     pub frequency: u32,

@@ -6,7 +6,7 @@ use std::alloc::Global;
 use world::Step;
 
 /// A line behind the first one.
-#[derive(Clone, Copy, Debug, PartialEq, Eq)]
+#[derive(Clone, Copy, PartialEq, Eq)]
 pub enum Row {
     /// A step, the next one in order.
     Step,

@@ -5,7 +5,7 @@ use lw_types::Refusal;
 pub const MOST_OUTCOMES: usize = 64;
 
 /// What came of a command that was handed in to be decided.
-#[derive(Clone, Copy, Debug, PartialEq, Eq)]
+#[derive(Clone, Copy, PartialEq, Eq)]
 pub enum Outcome {
     /// It was decided, under this sequence number.
     Decided(u64),

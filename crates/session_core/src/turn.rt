@@ -9,7 +9,7 @@ pub type Moment = Ranged<0, LAST_MOMENT>;
 
 /// The decisions `from + 1` to `to` of this life were made in the call. `refused` says why the
 /// event's own command was not decided, if it was not.
-#[derive(Clone, Copy, Debug, PartialEq, Eq)]
+#[derive(Clone, Copy, PartialEq, Eq)]
 pub struct Turn {
     pub from: u64,
     pub to: u64,

@@ -8,7 +8,7 @@ use lw_types::{NetId, Refusal};
 use sessions::Slots;
 
 /// The network of a store, and how many devices it has room for.
-#[derive(Clone, Copy, Debug, PartialEq, Eq)]
+#[derive(Clone, Copy, PartialEq, Eq)]
 pub struct Superblock {
     pub net_id: NetId,
     pub slots: Slots,

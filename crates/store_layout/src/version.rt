@@ -8,7 +8,7 @@ use lw_types::Refusal;
 use std::alloc::Global;
 
 /// The version of an area's records, which its header names. So far there is one.
-#[derive(Clone, Copy, Debug, PartialEq, Eq)]
+#[derive(Clone, Copy, PartialEq, Eq)]
 pub enum RecordVersion {
     V1,
 }

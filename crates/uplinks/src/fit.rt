@@ -13,7 +13,7 @@ use lw_types::{Direction, Refusal};
 use phy_payload::DataFrame;
 
 /// The session of which an uplink is.
-#[derive(Clone, Copy, Debug)]
+#[derive(Clone, Copy)]
 pub enum Fit {
     /// The session that waited for its first uplink, and the uplink's counter.
     First {

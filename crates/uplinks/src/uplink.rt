@@ -7,7 +7,7 @@ use lw_types::Refusal;
 use phy_payload::{Control, DataFrame, Message};
 
 /// A data frame from a device. Its MAC commands stand in FOpts or on port 0, and not in both.
-#[derive(Debug, Drop)]
+#[derive(Drop)]
 pub struct Uplink {
     pub frame: DataFrame,
     /// The device wants to know whether it is still heard (TS001-1.0.4 §4.3.1.1).

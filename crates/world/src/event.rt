@@ -3,7 +3,7 @@ use devices::Command;
 use lw_types::FrameCopy;
 
 /// What comes to a network at a moment.
-#[derive(Debug, PartialEq, Eq, Drop)]
+#[derive(PartialEq, Eq, Drop)]
 pub enum Event {
     /// A gateway's copy of a frame.
     Hear(FrameCopy),

@@ -5,7 +5,7 @@ use session_core::{Moment, Most};
 
 /// One step of a world. A crash falls between two steps, since no step makes more than one device
 /// call but a crash itself, which opens the store.
-#[derive(Debug, PartialEq, Eq, Drop)]
+#[derive(PartialEq, Eq, Drop)]
 pub enum Step {
     /// This comes at this moment.
     Event {
