@@ -1,12 +1,12 @@
 // Tells which of two areas is the live one.
-ghost use Rattle.std.specs.Prelude.{◌≡◌, ◌≤◌, ◌+◌, ℕ, List, MatchOption};
+ghost use Rattle.std.specs.Prelude.{◌≡◌, ◌<◌, ◌≤◌, ◌+◌, ℕ, List, MatchOption};
 ghost use Rattle.gate_log.specs.declared.layout.TheConstants.{EMPTY_AREA_LEN};
 ghost use Rattle.gate_log.specs.Areas.{AreOf, HasHeader, IsClosedArea, NoneLive};
 
 use crate::layout::{Area, Areas, Header};
 
 /// Which of a disk's areas is the live one, its header, and whether the other one's gate is open.
-#[derive(Clone, Copy, PartialEq, Eq)]
+#[derive(Clone, Copy, Debug, PartialEq, Eq)]
 pub struct Live {
     pub areas: Areas,
     pub header: Header,
@@ -36,8 +36,8 @@ impl Live {
         let second = Areas { live: b, other: a };
         match (header_a, header_b) {
             (None, None) => None,
-            (Some(header), None) => Some(Live::new(first, header, false)),
-            (None, Some(header)) => Some(Live::new(second, header, false)),
+            (Some(header), None) => Some(Live::beside_closed(a, header, b)),
+            (None, Some(header)) => Some(Live::beside_closed(b, header, a)),
             (Some(h), Some(k)) => {
                 if h.generation > k.generation {
                     Some(Live::new(first, h, true))
@@ -48,6 +48,19 @@ impl Live {
                 }
             }
         }
+    }
+
+    // The area with this header, of which the other one's gate is closed.
+    fn beside_closed(area: Area, header: Header, closed: Area) -> Self
+        requires { closed.start < closed.end }
+        ensures live { (disk : List ℕ) → HasHeader area header disk → IsClosedArea closed disk → IsLiveAs result disk }
+        ensures areas { result.areas ≡ record { live = area; other = closed } }
+    {
+        let areas = Areas {
+            live: area,
+            other: closed,
+        };
+        Live::new(areas, header, false)
     }
 
     fn new(areas: Areas, header: Header, other_open: bool) -> Self
