@@ -14,5 +14,5 @@ invariant_of-self-2 c =
     let within : c.args.at + length c.args.bytes.now ≤ length disk.content.items = grind (arith, common_steps) in
     let size : disk.content.len ≡ length c.put.new.target = grind (arith, common_steps, length-written disk.content.items c.args.bytes.now c.args.at within) in
     let whole = take_at c.put.new.target (drop (length c.put.new.target) disk.content.items) disk.content.len (sym size) ∙ is_written in
-    let tracked = tracked_write disk.content.items disk.synced.items c.args.bytes.now disk.marks.items disk.low disk.high c.args.at disk.tracked (grind (arith, common_steps)) (grind (arith, common_steps)) in
+    let tracked = tracked_write disk.content.items disk.synced.items c.args.bytes.now disk.marks.items disk.low disk.high c.args.at disk.tracked (omega (arith, c.open.ensures.covers_from)) (omega (arith, c.open.ensures.covers_to)) in
     record { tracked = subst (λ (l : List ℕ). IsTracked l disk.synced.items disk.marks.items disk.low disk.high) (sym whole) tracked }
