@@ -1,5 +1,5 @@
 -- The session into which an uplink fits is the device's.
-use Rattle.std.proofs.Common.{◌≡◌, ◌<◌, ℕ, Bool, true, false, cond, Option, Some, None, Result, Ok, Err, ap, refl, subst}
+use Rattle.std.proofs.Common.{◌≡◌, ◌<◌, ℕ, Bool, true, false, cond, Option, Some, None, Result, Ok, Err, IfOk, ap, refl, subst, sym}
 use Rattle.lw_types.specs.declared.refusal.Refusal.{Refusal}
 use Rattle.counters.specs.declared.Rebuilt.{Rebuilt}
 use Rattle.counters.specs.declared.Rebuilt.TheVariants as counter
@@ -100,3 +100,8 @@ pub fit_is : Grow → (net_id slot : ℕ) (g : Grants) (frame : DataFrame) (fit 
 fit_is grow net_id slot g frame fit h =
     either (IsOf g fit) (try_waiting net_id slot g.pending frame) (try_current net_id slot g.current frame) fit
     (waiting_is net_id slot g frame fit) (current_is grow net_id slot g frame fit) h
+
+-- so it is of a result that is one
+pub if_fit_is : {E : Type 0} {wanted : Result Fit E} (g : Grants) → ((fit : Fit) → wanted ≡ Ok fit → IsOf g fit) → (r : Result Fit E) → r ≡ wanted → IfOk r (λ fit. IsOf g fit)
+if_fit_is g law (Ok fit) is = law fit (sym is)
+if_fit_is g law (Err e) is = tt
