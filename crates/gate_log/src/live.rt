@@ -6,7 +6,7 @@ ghost use Rattle.gate_log.specs.Areas.{AreOf, HasHeader, IsClosedArea, NoneLive}
 use crate::layout::{Area, Areas, Header};
 
 /// Which of a disk's areas is the live one, its header, and whether the other one's gate is open.
-#[derive(Clone, Copy, Debug, PartialEq, Eq)]
+#[derive(Clone, Copy, PartialEq, Eq)]
 pub struct Live {
     pub areas: Areas,
     pub header: Header,
