@@ -53,8 +53,7 @@ fn release_one(decision: Decision, out: &mut Vec<Released>)
     ensures few { length out.new.items ≤ length out.old.items + Effects.MOST }
     ensures room { vec_capacity out.old ≤ vec_capacity out.new }
 {
-    let Decision { effects, .. } = decision;
-    for effect in effects.into_vec() {
+    for effect in decision.into_effects().into_vec() {
         let pushed: Result<_, _> = out.push(Released::new(effect));
         pushed.unwrap();
     }

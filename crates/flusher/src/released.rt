@@ -5,9 +5,15 @@ use devices::Effect;
 
 /// An effect of a durable decision. It is made where a durable batch is released and nowhere else, so
 /// whoever has one may let the effect out.
-#[derive(Drop)]
 pub struct Released {
     effect: Effect,
+}
+
+// By hand, so that its proof is done once: a derived drop is proved anew wherever a value goes.
+impl Drop for Released {
+    fn drop(self) {
+        let Self { effect: _ } = self;
+    }
 }
 
 impl Released {

@@ -8,7 +8,6 @@ use lw_types::NetId;
 
 /// A command, the slot at which it works, the record there before and after it, and its effects.
 /// Every value of this type is a step: `after` and `effects` are what `command` does to `before`.
-#[derive(Drop)]
 pub struct Decision {
     pub net_id: NetId,
     /// The sequence number, from 1 on.
@@ -19,4 +18,37 @@ pub struct Decision {
     pub after: Device,
     pub effects: Effects,
     pub ghost is_step: { step1 net_id slot before command ≡ Ok (outcome after effects) },
+}
+
+// By hand, so that its proof is done once: a derived drop is proved anew wherever a value goes.
+impl Drop for Decision {
+    fn drop(self) {
+        let Self {
+            net_id: _,
+            seq: _,
+            slot: _,
+            before: _,
+            command: _,
+            after: _,
+            effects: _,
+        } = self;
+    }
+}
+
+impl Decision {
+    /// Its effects, and nothing else of it.
+    pub fn into_effects(self) -> Effects
+        ensures { result ≡ self.effects }
+    {
+        let Self {
+            net_id: _,
+            seq: _,
+            slot: _,
+            before: _,
+            command: _,
+            after: _,
+            effects,
+        } = self;
+        effects
+    }
 }
