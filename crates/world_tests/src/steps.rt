@@ -3,7 +3,7 @@ use gateway_wire::{next_ranged, next_value};
 use lw_types::{FrameCopy, Refusal, Words, read_field};
 use scripts::read_step;
 use session_core::Moment;
-use session_tests::fixture;
+use server_tests::fixture;
 use std::alloc::Global;
 use world::{Event, Step};
 

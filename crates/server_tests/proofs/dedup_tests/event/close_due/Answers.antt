@@ -1,5 +1,5 @@
-use Rattle.session_tests.proofs.Closing.{none_left, rest_opened, rest_shorter}
-use Rattle.session_tests.proofs.dedup_tests.event.close_due.Goals as goal
+use Rattle.server_tests.proofs.Closing.{none_left, rest_opened, rest_shorter}
+use Rattle.server_tests.proofs.dedup_tests.event.close_due.Goals as goal
 
 pub loop-heard-preserved : goal.loop-heard-preserved
 loop-heard-preserved c = rest_opened c.args.now c.loop-heard.windows c.close.new.self c.in-Some.heard c.in-Some.ensures c.loop-heard.invariant
