@@ -13,4 +13,4 @@ pub returns-in_ok-apply-in-Ok-clause-effects : goal.returns-in_ok-apply-in-Ok-cl
 returns-in_ok-apply-in-Ok-clause-effects c =
     let t = c.args.table.now in
     let k = c.args.command.now in
-    c.into_vec.ensures.effects ∙ (taken t k c.in-Ok.decision (step t k) c.in-Ok.ensures.decided).1
+    c.into_vec.ensures.effects ∙ c.into_effects.ensures ∙ (taken t k c.in-Ok.decision (step t k) c.in-Ok.ensures.decided).1
