@@ -96,7 +96,7 @@ pub fn cycle<D: Disk, F: Feed, C: FnMut(Vec<Released>)>(
     store::laws::a_settled_store_is_on_its_disk();
     let room = Room::new(alloc)?;
     make_room(alloc, store)?;
-    let batch = feed.next(largest())?;
+    let batch = take(feed)?;
     let count = batch.len();
     if count == 0 {
         return Ok(0);
@@ -104,6 +104,13 @@ pub fn cycle<D: Disk, F: Feed, C: FnMut(Vec<Released>)>(
     let durable = commit(alloc, store, batch)?;
     release(durable, room, out);
     Ok(count)
+}
+
+// The feed's next batch, asked for as many decisions as the largest one has.
+fn take<F: Feed>(feed: &mut F) -> Result<Batch, Refusal>
+    ensures { F.gives feed.old MOST result feed.new }
+{
+    feed.next(largest())
 }
 
 // Gives the effects of a durable batch to `out`.

@@ -1,4 +1,4 @@
-use Rattle.std.proofs.Common.{◌≡◌, ◌∙◌, [], List, length, inl, inr, refl, ap, subst, sym, Ok, Err, arith}
+use Rattle.std.proofs.Common.{◌≡◌, ◌∙◌, [], List, length, inl, inr, refl, ap, sym, Ok, Err, arith}
 use Rattle.sessions.specs.Decision.{effects_in}
 use Rattle.sessions.specs.declared.decision.Decision.{Decision}
 use Rattle.store.specs.State.{seen}
@@ -52,7 +52,7 @@ returns-in_err-durable-clause-images g c honest settled =
     let s = seen g.D.Disk.state c.args.store.now in
     let ready = c.in_ok-make_room.ensures in
     let batch = c.in_ok-batch.batch in
-    let given = subst (λ m. g.F.Feed.gives c.args.feed.now m (Ok batch) c.next.new.self) c.largest.ensures c.in_ok-batch.ensures in
+    let given = c.in_ok-batch.ensures in
     let mid_settled = ready.images honest settled in
     let r = c.from_residual-in_err-durable in
     on_refused r.result c.in_err-durable.field-0.0 _ _ r.ensures.1
@@ -71,7 +71,7 @@ returns-clause-done g c =
     let ready = c.in_ok-make_room.ensures in
     let batch = c.in_ok-batch.batch in
     let commits = commits_along s mid new batch ready.table ready.seq c.in_ok-durable.ensures.commits in
-    let given = subst (λ m. g.F.Feed.gives c.args.feed.now m (Ok batch) c.next.new.self) c.largest.ensures c.in_ok-batch.ensures in
+    let given = c.in_ok-batch.ensures in
     let released = c.release.ensures in
     let effects = released.1.0 ∙ (ap effects_in c.in_ok-durable.ensures.batch ∙ sym (c.folding.ensures.effects s.table batch commits.continues.fit)) in
     (batch, (given, (c.len-count.ensures.len, (commits, on_some c.len-count.result _ _ c.if-count-eq0.false (released.0, (effects, released.1.1))))))
@@ -86,7 +86,7 @@ returns-in_err-durable-clause-refused g c =
     let r = c.from_residual-in_err-durable in
     let ready = c.in_ok-make_room.ensures in
     let batch = c.in_ok-batch.batch in
-    let given = subst (λ m. g.F.Feed.gives c.args.feed.now m (Ok batch) c.next.new.self) c.largest.ensures c.in_ok-batch.ensures in
+    let given = c.in_ok-batch.ensures in
     on_refused r.result c.in_err-durable.field-0.0 _ _ r.ensures.1
     (inr (
       ready.ready,
@@ -117,7 +117,7 @@ pub returns-in_err-batch-clause-refused : goal.returns-in_err-batch-clause-refus
 returns-in_err-batch-clause-refused g c =
     let r = c.from_residual-in_err-batch in
     let e = c.in_err-batch.field-0.0 in
-    let given = subst (λ m. g.F.Feed.gives c.args.feed.now m (Err e) c.next.new.self) c.largest.ensures c.in_err-batch.ensures in
+    let given = c.in_err-batch.ensures in
     on_refused r.result e _ _ r.ensures.1 (inr (c.in_ok-make_room.ensures.ready, inl given))
 
 pub returns-in_err-batch-clause-calls : goal.returns-in_err-batch-clause-calls
