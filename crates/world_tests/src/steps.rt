@@ -2,8 +2,8 @@
 use gateway_wire::{next_ranged, next_value};
 use lw_types::{FrameCopy, Refusal, Words, read_field};
 use scripts::read_step;
-use session_core::Moment;
 use server_tests::fixture;
+use session_core::Moment;
 use std::alloc::Global;
 use world::{Event, Step};
 
