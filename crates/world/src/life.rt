@@ -23,7 +23,7 @@ pub(crate) struct Life<D: Sim> {
 }
 
 impl<D: Sim> Life<D> {
-    ghost use Rattle.std.specs.Prelude.{◌≢◌, ◌<◌, ◌^◌, ℕ, [], IfOk, IfErr};
+    ghost use Rattle.std.specs.Prelude.{◌≢◌, ◌<◌, ◌^◌, ◌↔◌, ℕ, [], IfOk, IfErr, IsTrue};
     ghost use Rattle.link_messages.specs.Feeding.{nothing_heard};
     ghost use Rattle.session_core.specs.Core.{begun};
     ghost use Rattle.store.specs.State.{seen, disk_of, IsRoomy};
@@ -114,13 +114,20 @@ impl<D: Sim> Life<D> {
         if self.core.untaken() == 0 {
             return Answer::Idle;
         }
-        if !self.store.roomy() {
+        if self.is_full() {
             return Answer::Full;
         }
         match self.begin(alloc, most, released) {
             Ok(answer) => answer,
             Err(refusal) => Answer::Refused(refusal),
         }
+    }
+
+    // Whether the journal has no room for the largest batch.
+    fn is_full(&self) -> bool
+        ensures { IsTrue result ↔ ¬ (IsRoomy (seen D.state self.now.store)) }
+    {
+        !self.store.roomy()
     }
 
     // Takes a batch and begins its commit. The room for its effects is got first, so that nothing is
