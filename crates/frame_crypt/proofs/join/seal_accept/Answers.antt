@@ -4,6 +4,7 @@ use borrow.Rule.Slice.PartMut.{put_mid}
 use Rattle.aes128.specs.InverseCipher.{decrypted}
 use Rattle.frame_crypt.specs.Joins.{each_block}
 use Rattle.frame_crypt.proofs.AcceptLemmas.{block_left, block_step, each_block-zero}
+use Rattle.std.proofs.lemmas.Grind.{common_steps}
 use Rattle.frame_crypt.proofs.join.seal_accept.Goals as goal
 
 pub loop-i-init : goal.loop-i-init
@@ -41,3 +42,6 @@ loop-i-preserved c =
           ∙ block_left plain now bytes a fits size before.left
           ∙ ap (λ (n : ℕ). drop n plain) next;
     }
+
+pub returns : goal.returns
+returns c = grind (arith, common_steps)
