@@ -1,1 +1,5 @@
 mod Closing
+pub mod Piecing
+pub mod Reading
+pub mod Refusing
+pub mod Turning

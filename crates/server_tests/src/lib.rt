@@ -1,5 +1,5 @@
-//! Tests of the public calls of the disk, the log, the store, the table, the windows, the core and the flusher, a file a
-//! crate. They stand above those crates, so that each of these is proved once.
+//! Tests of the public calls of the disk, the log, the store, the table, the windows, the core, the flusher and the world,
+//! a file or a folder a crate. They stand above those crates, so that each of these is proved once.
 #![tactic(auto)]
 
 #[cfg(test)]
@@ -10,7 +10,8 @@ mod dedup_tests;
 mod devices_under_test;
 #[cfg(test)]
 mod disk_tests;
-pub mod fixture;
+#[cfg(test)]
+mod fixture;
 #[cfg(test)]
 mod flusher_tests;
 #[cfg(test)]
@@ -37,3 +38,4 @@ mod store_tests;
 mod stores_under_test;
 #[cfg(test)]
 mod tables;
+mod world_tests;

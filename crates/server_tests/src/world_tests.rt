@@ -1,0 +1,30 @@
+// Tests of worlds, beside a plain model whose contract is the definition, and of `headline` and `scripts`.
+#[cfg(test)]
+mod answers;
+mod flight;
+#[cfg(test)]
+mod gathering;
+#[cfg(test)]
+mod letters;
+#[cfg(test)]
+mod links;
+#[cfg(test)]
+mod many_tests;
+#[cfg(test)]
+mod model;
+#[cfg(test)]
+mod row_tests;
+#[cfg(test)]
+mod rows;
+#[cfg(test)]
+mod scripts_tests;
+#[cfg(test)]
+mod stage_tests;
+#[cfg(test)]
+mod steps;
+#[cfg(test)]
+mod streams;
+#[cfg(test)]
+mod windows;
+#[cfg(test)]
+mod worlds;

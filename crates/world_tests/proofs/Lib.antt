@@ -1,4 +1,0 @@
-pub mod Piecing
-pub mod Reading
-pub mod Refusing
-pub mod Turning
