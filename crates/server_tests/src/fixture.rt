@@ -1,4 +1,4 @@
-//! What tests begin with, also those of crates above. Frames and keys were made by Python's `cryptography`.
+//! What tests begin with. Frames and keys were made by Python's `cryptography`.
 use devices::{
     Application, Command, Heard, Hearing, Hearings, Provisioning, Rx1Offset, RxDelay, Session,
 };
