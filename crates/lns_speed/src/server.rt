@@ -1,10 +1,10 @@
 // A server with a network of its own: what comes is decided, committed and released.
 use crate::network::{copy_of, join_request, longest_item, provisioning};
 use disk::MemDisk;
-use flusher::{Durable, Room};
+use flusher::{StoredBatches, cycle};
 use lw_types::{FrameCopy, NetId, Refusal};
 use session_core::{Core, Moment, Most, Turn};
-use sessions::{Batch, Slots};
+use sessions::Slots;
 use std::alloc::Global;
 use store::{Store, disk_len};
 
@@ -59,9 +59,6 @@ impl Server {
         for slot in 0..slots {
             self.bring(slot)?;
             self.load(slot)?;
-            if !self.is_roomy() {
-                self.checkpoint()?;
-            }
             self.commit()?;
         }
         Ok(())
@@ -127,22 +124,16 @@ impl Server {
         self.store.close()
     }
 
-    // The oldest decisions are committed, and their effects are released.
+    // The oldest decisions are committed, after a checkpoint where the journal is full, and their effects are released.
     fn commit(&mut self) -> Result<(), Refusal> {
-        let room = Room::new(self.alloc)?;
-        let batch = self.core.take(Most::new(u64::from(BATCH)).unwrap())?;
-        let durable = self.write(batch)?;
-        let _ = Durable::new(durable, room).release();
-        Ok(())
-    }
-
-    fn write(&mut self, batch: Batch) -> Result<store::Durable, Refusal> {
-        let store = &mut self.store;
-        if !store.roomy() {
-            return Err(Refusal::Backlog);
+        let most = Most::new(u64::from(BATCH)).ok_or(Refusal::Damaged)?;
+        let mut batches = Vec::new(self.alloc);
+        batches.push(self.core.take(most)?)?;
+        let mut feed = StoredBatches::new(self.alloc, batches);
+        match cycle(&mut self.store, &mut feed, self.alloc, &mut |_| {}) {
+            Ok(_) => Ok(()),
+            Err(refusal) => Err(refusal),
         }
-        let written = store.begin(self.alloc, batch)?.write(store)?;
-        written.sync(store)?.open_gate(store)?.sync(store)
     }
 }
 
