@@ -2,4 +2,3 @@ pub mod Calling
 pub mod Holding
 pub mod Lasting
 pub mod Leaving
-pub mod Subsequences

@@ -17,5 +17,6 @@ pub fn no_mark_leaves_twice()
         → AreOnce (lives_of (empty_table net_id slots) events).left }
 {
     sessions::laws::composing();
+    sessions::laws::parts_of_longer_lists();
     sessions::laws::no_mark_stands_twice();
 }

@@ -11,3 +11,4 @@ pub mod Moves
 pub mod Grants
 pub mod Covering
 pub mod Once
+pub mod Subsequences

@@ -28,6 +28,13 @@ pub fn composing()
         effects_of t (first ++ second) ≡ effects_of t first ++ effects_of (folded t first) second }
 {}
 
+/// A part of a list is one of a longer list too, and with the same behind both.
+pub fn parts_of_longer_lists()
+    ensures longer { (left whole more : List Effect) → IsSubsequence left whole → IsSubsequence left (whole ++ more) }
+    ensures extended { (left whole more : List Effect) → IsSubsequence left whole
+        → IsSubsequence (left ++ more) (whole ++ more) }
+{}
+
 /// Two runs of decisions, one after the other, continue a table where the second continues what the
 /// first leaves.
 pub fn joining()

@@ -10,7 +10,6 @@ use Rattle.world.specs.Course.Stage.{Opened, Durable, Unsure}
 use Rattle.world.specs.Answers.{ByStage, Leaves, MayLeave}
 use Rattle.world.specs.Commits.{stored, with_durable}
 use Rattle.sessions.specs.Marks.{IsSubsequence}
-use Rattle.world.proofs.Subsequences.{longer}
 
 -- a call changes no commands
 pub flying_moved : (move : Stage → Stage) (flights : List Flight) → flying (moved_on move flights) ≡ flying flights
@@ -114,4 +113,4 @@ kept_once laws origin c left kept leaves once =
     ap (effects_from origin) found.kept_is
     ∙ (ap (λ l. origin.left ++ l) (laws.joined_effects origin.table c.settled found.more)
     ∙ sym (append_assoc origin.left (effects_of origin.table c.settled) more)) in
-    subst (IsSubsequence left) (sym whole) (longer left (effects_from origin c.settled) more once)
+    subst (IsSubsequence left) (sym whole) (laws.longer left (effects_from origin c.settled) more once)

@@ -17,7 +17,6 @@ use Rattle.world.specs.Answers.{AnswersOpen, AnswersClosed, IsRight}
 use Rattle.sessions.specs.Marks.{IsSubsequence}
 use Rattle.world.specs.Follows.{IsOwn}
 use Rattle.world.proofs.Shapes.{turned-shape, turned_all-shape, with_news_of}
-use Rattle.world.proofs.Subsequences.{extended}
 
 -- the effects that were emitted, and whether the store is open, stay, and what has left grows at its end
 pub record Keeps (origin : Origin) (c next : Course) : Type 0 where
@@ -63,7 +62,7 @@ released_keeps laws origin c (flight ∷ flights) =
     record {
       emitted = refl;
       is_open = refl;
-      once = λ h. subst (IsSubsequence (c.left ++ more)) (sym whole) (extended c.left (effects_from origin c.settled) more h);
+      once = λ h. subst (IsSubsequence (c.left ++ more)) (sym whole) (laws.extended c.left (effects_from origin c.settled) more h);
       complete = λ h. ap (λ l. l ++ more) h ∙ sym whole;
       grown = (more, refl);
     }

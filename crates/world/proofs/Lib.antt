@@ -1,4 +1,3 @@
-pub mod Subsequences
 pub mod Flights
 pub mod Calling
 pub mod Shapes

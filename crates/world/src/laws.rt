@@ -26,4 +26,5 @@ pub(crate) fn of_runs()
     sessions::laws::folding();
     sessions::laws::composing();
     sessions::laws::joining();
+    sessions::laws::parts_of_longer_lists();
 }

@@ -7,4 +7,6 @@ returns c = record {
   joined = c.composing.ensures.table;
   joined_effects = c.composing.ensures.effects;
   split = λ t seq first second. (c.joining.ensures.continues t seq first second).0;
+  longer = c.parts_of_longer_lists.ensures.longer;
+  extended = c.parts_of_longer_lists.ensures.extended;
 }

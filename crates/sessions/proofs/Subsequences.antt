@@ -2,11 +2,11 @@
 use Rattle.std.proofs.Common.{inl, inr, List, [], ◌∷◌, ◌++◌, ap, subst, sym, refl}
 use Rattle.sessions.specs.Marks.{IsSubsequence}
 
-pub nothing : {A : Type 0} (ys : List A) → IsSubsequence [] ys
+nothing : {A : Type 0} (ys : List A) → IsSubsequence [] ys
 nothing [] = refl
 nothing (y ∷ ys) = inl (nothing ys)
 
-pub whole : {A : Type 0} (ys : List A) → IsSubsequence ys ys
+whole : {A : Type 0} (ys : List A) → IsSubsequence ys ys
 whole [] = refl
 whole (y ∷ ys) = inr (ys, refl, whole ys)
 
