@@ -4,6 +4,43 @@ import textwrap
 from dataclasses import dataclass
 
 WIDTH = 100
+# a page shows at most so many lines in a row, else the first and the last of them
+MOST_SHOWN, HALF_SHOWN = 40, 8
+# a word that is longer is shown by its ends
+LONGEST_WORD, ENDS = 24, 8
+
+
+def shortened(line):
+    """A line with its long words cut in the middle."""
+    words = (
+        word if len(word) <= LONGEST_WORD else f"{word[:ENDS]}..{word[-ENDS:]}"
+        for word in line.split(" ")
+    )
+    return " ".join(words)
+
+
+def shown_line(numbers, script, answers):
+    """A line of a script with its answer, beside it where there is room."""
+    front = f"    {numbers:>7}  {shortened(script)}"
+    answers = [shortened(answer) for answer in answers]
+    beside = f"{front:<52} {answers[0]}"
+    if len(front) <= 52 and len(beside) <= WIDTH:
+        return [beside, *(f"{'':<52} {answer}" for answer in answers[1:])]
+    return [front, *(f"{'':<16} -> {answer}" for answer in answers)]
+
+
+def shown_lines(lines, start):
+    """The lines of a script from this one on, those that repeat as one."""
+    shown = []
+    while start < len(lines):
+        end = start
+        while end + 1 < len(lines) and lines[end + 1] == lines[start]:
+            end += 1
+        script, answers = lines[start]
+        numbers = f"{start + 1}" if end == start else f"{start + 1}-{end + 1}"
+        shown += shown_line(numbers, script, answers)
+        start = end + 1
+    return shown
 
 
 @dataclass
@@ -27,14 +64,15 @@ class Story:
 
     def __init__(self, name, title, opening):
         self.name, self.title = name, title
-        self.script, self.answers, self.page = [], [], []
+        # each line of the script with the lines of its answer
+        self.lines = []
+        self.page = []
         self.told = 0
         self.text(opening)
 
     def line(self, script, *answers):
         """A line of the script, and the lines that it has to be answered with."""
-        self.script.append(script)
-        self.answers.extend(answers)
+        self.lines.append((script, answers))
 
     def hear(self, moment, copy, frame, answer):
         """A gateway's copy of a frame."""
@@ -66,11 +104,13 @@ class Story:
         self.page += [f"## {title}", ""]
 
     def say(self, words):
-        """Tells the lines that were added since the last time."""
-        first, last = self.told + 1, len(self.script)
-        self.told = last
-        lines = f"Line {first}" if first == last else f"Lines {first} to {last}"
-        self.text(f"**{lines}.** {words}")
+        """Shows the lines that were added since the last time, and tells them."""
+        shown = shown_lines(self.lines, self.told)
+        if len(shown) > MOST_SHOWN:
+            shown = [*shown[:HALF_SHOWN], "         ...", *shown[-HALF_SHOWN:]]
+        self.told = len(self.lines)
+        self.page += [*shown, ""]
+        self.text(words)
 
     def opens(self, who, words):
         """What the device reads in a frame."""
@@ -82,7 +122,7 @@ class Story:
         play = [f"    bin/lns-sim < examples/{self.name}.in", ""]
         page = "\n".join(head + play + self.page).rstrip("\n") + "\n"
         return {
-            f"{self.name}.in": "\n".join(self.script) + "\n",
-            f"{self.name}.out": "\n".join(self.answers) + "\n",
+            f"{self.name}.in": "".join(f"{script}\n" for script, _ in self.lines),
+            f"{self.name}.out": "".join(f"{line}\n" for _, lines in self.lines for line in lines),
             f"{self.name}.md": page,
         }
