@@ -37,7 +37,7 @@ def data_mic(key, direction, dev_addr, counter, message):
 
 
 def session_keys(app_key, join_nonce, net_id, dev_nonce):
-    """NwkSKey and AppSKey (§6.2.6)."""
+    """NwkSKey and AppSKey (§6.2)."""
     fields = little(join_nonce, 3) + little(net_id, 3) + little(dev_nonce, 2) + bytes(7)
     return encrypt(app_key, b"\x01" + fields), encrypt(app_key, b"\x02" + fields)
 
