@@ -20,11 +20,11 @@ def address(slot, join_nonce):
     return (NET_ID % 64 << 25) + slot * 8192 + join_nonce % 8192
 
 
-def wire(gateway, stamp, frequency, data_rate, delay, second, frame):
-    """The line of `lns-sim` for a downlink to a gateway."""
-    content = b"\x11" + bytes.fromhex(gateway) + stamp.to_bytes(4, "big")
-    content += frequency.to_bytes(4, "big") + bytes([data_rate, delay, second]) + frame
-    return f"gw {gateway} {(len(content).to_bytes(2, 'big') + content).hex().upper()}"
+def wire(copy, data_rate, delay, second, frame):
+    """The line of `lns-sim` for a downlink to the gateway of a copy."""
+    content = b"\x11" + bytes.fromhex(copy.gateway) + copy.stamp.to_bytes(4, "big")
+    content += copy.frequency.to_bytes(4, "big") + bytes([data_rate, delay, second]) + frame
+    return f"gw {copy.gateway} {(len(content).to_bytes(2, 'big') + content).hex().upper()}"
 
 
 class Session:
@@ -39,12 +39,11 @@ class Session:
         self.fields += bytes([offset << 4, delay])
 
     def accept(self, copy):
-        """The Join-Accept, as the line to the gateway of the best copy, and its frame."""
-        frame = sealed_accept(self.app_key, self.fields)
-        return wire(copy.gateway, copy.stamp, copy.frequency, copy.data_rate, 5, 6, frame), frame
+        """The line of the Join-Accept, to the gateway of the best copy."""
+        return wire(copy, copy.data_rate, 5, 6, sealed_accept(self.app_key, self.fields))
 
     def downlink(self, copy, counter, item=None, f_opts=b"", ack=False, pending=False):
-        """A downlink, as the line to the gateway of the best copy, and its frame."""
+        """The line of a downlink, to the gateway of the best copy."""
         port, payload, confirmed = item or (None, b"", False)
         message = b"\xA0" if confirmed else b"\x60"
         message += little(self.address, 4) + bytes([ack << 5 | pending << 4 | len(f_opts)])
@@ -54,7 +53,4 @@ class Session:
         frame = message + data_mic(self.keys[0], DOWN, self.address, counter, message)
         second = self.delay + 1 if len(frame) <= 64 else 0
         rate = max(0, copy.data_rate - self.offset)
-        return (
-            wire(copy.gateway, copy.stamp, copy.frequency, rate, self.delay, second, frame),
-            frame,
-        )
+        return wire(copy, rate, self.delay, second, frame)

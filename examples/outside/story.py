@@ -3,6 +3,8 @@
 import textwrap
 from dataclasses import dataclass
 
+from .gateway import read_order
+
 WIDTH = 100
 # a page shows at most so many lines in a row, else the first and the last of them
 MOST_SHOWN, HALF_SHOWN = 40, 8
@@ -66,7 +68,7 @@ class Story:
         self.name, self.title = name, title
         # each line of the script with the lines of its answer
         self.lines = []
-        self.page = []
+        self.page, self.notes = [], []
         self.told = 0
         self.text(opening)
 
@@ -111,10 +113,17 @@ class Story:
         self.told = len(self.lines)
         self.page += [*shown, ""]
         self.text(words)
+        if self.notes:
+            self.page += [*self.notes, ""]
+            self.notes = []
 
-    def opens(self, who, words):
-        """What the device reads in a frame."""
-        self.page += [f"    {who} opens it: {words}", ""]
+    def downlink(self, line, take):
+        """The gateway and the device read what the network sent; it is told behind the lines."""
+        order = read_order(line)
+        self.notes += [
+            f"    The gateway sends it {order.words()}.",
+            f"    The device reads: {take(order.frame)}.",
+        ]
 
     def files(self):
         """The contents of the script, of its output and of its page, by their names."""

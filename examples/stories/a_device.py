@@ -50,16 +50,16 @@ def joins(it):
     it.part("It joins, and three gateways hear it")
     device, best = heard_by_three(it, 1)
     network = session(1, device.dev_nonce)
-    line, accept = network.accept(best)
+    line = network.accept(best)
     it.commit(1, [line])
     it.line("list", f"0 {METER} 1 - - - 0", "devices 1 seq 2")
+    it.downlink(line, device.take_accept)
     it.say(
         "The Join-Accept goes to gateway B2, which has the greatest SNR, with that gateway's "
         "stamp: in RX1 5 s after the request, on its frequency and at its data rate, or in RX2 "
         "after 6 s. The list says that JoinNonce 1 was granted, and that no session is in use "
         "yet: it waits for its first uplink."
     )
-    it.opens("The device", device.take_accept(accept))
     return device, network
 
 
@@ -67,7 +67,8 @@ def first_uplinks(it, device):
     """The first uplink and a repeat of it."""
     reading = bytes.fromhex("04D2")
     it.part("Its first uplink, and a repeat")
-    near, far = Copy(B1, 868_300_000, 5, 8, -90, 10_000_000), Copy(B2, 868_300_000, 5, -3, -99, 7)
+    near = Copy(B1, 868_300_000, 5, 8, -90, 10_000_000)
+    far = Copy(B2, 868_300_000, 5, -3, -99, 14_030_000)
     frame = device.uplink(7, reading)
     it.hear(10_000, near, frame, "turn 2 2")
     it.hear(10_050, far, frame, "turn 2 2")
@@ -105,13 +106,13 @@ def items(it, device, network):
     frame = device.uplink(7, bytes.fromhex("04D3"))
     it.hear(30_000, copy, frame, "turn 4 4")
     it.line("tick 30200", "turn 4 5")
-    line, down = network.downlink(copy, 0, (9, bytes.fromhex("0102"), True))
+    line = network.downlink(copy, 0, (9, bytes.fromhex("0102"), True))
     it.commit(1, [up(1, 7, bytes.fromhex("04D3"), 1, copy), line])
+    it.downlink(line, device.take_downlink)
     it.say(
         "The item leaves with the next uplink. The gateway sends the downlink in RX1, 1 s after "
         "the stamp of the uplink."
     )
-    it.opens("The device", device.take_downlink(down))
     copy = replace(copy, stamp=40_000_000)
     frame = device.uplink(7, bytes.fromhex("04D4"), ack=True)
     it.hear(40_000, copy, frame, "turn 5 5")
@@ -125,7 +126,7 @@ def items(it, device, network):
     frame = device.uplink(7, bytes.fromhex("04D5"))
     it.hear(50_000, copy, frame, "turn 7 7")
     it.line("tick 50200", "turn 7 8")
-    line, _ = network.downlink(copy, 1, (9, bytes.fromhex("0304"), True))
+    line = network.downlink(copy, 1, (9, bytes.fromhex("0304"), True))
     it.commit(
         2, [told(f"queued {METER} 7002"), up(3, 7, bytes.fromhex("04D5"), 1, copy), line]
     )
@@ -144,20 +145,21 @@ def items(it, device, network):
 def commands(it, device, network):
     """LinkCheckReq is answered, and a MAC command is queued and answered."""
     it.part("LinkCheckReq is answered")
-    near, far = Copy(B1, 868_100_000, 5, 12, -85, 70_000_000), Copy(B3, 868_100_000, 5, 2, -99, 9)
+    near = Copy(B1, 868_100_000, 5, 12, -85, 70_000_000)
+    far = Copy(B3, 868_100_000, 5, 2, -99, 78_070_000)
     frame = device.uplink(7, bytes.fromhex("04D7"), f_opts=LINK_CHECK)
     it.hear(70_000, near, frame, "turn 9 9")
     it.hear(70_010, far, frame, "turn 9 9")
     it.line("tick 70200", "turn 9 10")
     # margin: (12 + 30) quarter dB above the floor of data rate 5, in whole dB; two gateways
-    line, down = network.downlink(near, 2, f_opts=bytes([0x02, (12 + 30) // 4, 2]))
+    line = network.downlink(near, 2, f_opts=bytes([0x02, (12 + 30) // 4, 2]))
     it.commit(1, [up(5, 7, bytes.fromhex("04D7"), 2, near), line])
+    it.downlink(line, device.take_downlink)
     it.say(
         "The device asks how well it is heard (LinkCheckReq, 02). The answer is 02, the margin "
         "of the best copy, 3 dB above a floor of -7.5 dB so 10 whole dB, and the number of "
         "gateways, 2. The application isn't told of this command."
     )
-    it.opens("The device", device.take_downlink(down))
     it.part("A MAC command is queued and answered")
     it.line(f"mac 75000 3 {METER} 06", "turn 10 11")
     it.line(f"mac 75001 3 {METER} 02", "turn 11 11 refused 18")
@@ -165,14 +167,14 @@ def commands(it, device, network):
     frame = device.uplink(None, b"")
     it.hear(80_000, near, frame, "turn 11 11")
     it.line("tick 80200", "turn 11 12")
-    line, down = network.downlink(near, 3, f_opts=DEV_STATUS_REQ)
+    line = network.downlink(near, 3, f_opts=DEV_STATUS_REQ)
     it.commit(2, [told(f"macqueued {METER} 06"), line])
+    it.downlink(line, device.take_downlink)
     it.say(
         "The application queues DevStatusReq (06); 02 isn't one that it may queue (18, BadMac). "
         "The device sends an empty uplink without a port. The application isn't told of it, but "
         "the command leaves, in FOpts."
     )
-    it.opens("The device", device.take_downlink(down))
     near = replace(near, stamp=90_000_000)
     frame = device.uplink(7, bytes.fromhex("04D8"), f_opts=DEV_STATUS_ANS)
     it.hear(90_000, near, frame, "turn 12 12")
@@ -184,24 +186,25 @@ def commands(it, device, network):
 def repeats(it, device, network):
     """A confirmed uplink, and a repeat of it."""
     it.part("A confirmed uplink comes again")
-    copy = Copy(B2, 868_300_000, 0, -70, -120, 100_000_000)
+    copy = Copy(B2, 868_300_000, 0, -70, -120, 4_291_900_000)
     frame = device.uplink(7, bytes.fromhex("04D9"), confirmed=True)
     it.hear(100_000, copy, frame, "turn 13 13")
     it.line("tick 100200", "turn 13 14")
-    line, _ = network.downlink(copy, 4, ack=True)
+    line = network.downlink(copy, 4, ack=True)
     it.commit(1, [up(8, 7, bytes.fromhex("04D9"), 1, copy), line])
     it.say("A confirmed uplink is forwarded and acknowledged by a downlink, which is lost.")
-    again = Copy(B2, 868_500_000, 0, -70, -120, 103_000_000)
+    again = Copy(B2, 868_500_000, 0, -70, -120, 4_294_900_000)
     it.hear(103_000, again, frame, "turn 14 14")
     it.line("tick 103200", "turn 14 15")
-    line, down = network.downlink(again, 5, ack=True)
+    line = network.downlink(again, 5, ack=True)
     it.commit(1, [line])
     it.line("list", *listed(1, 8, 6, 0, 15))
+    it.downlink(line, device.take_downlink)
     it.say(
         "So the device sends the frame again, on another channel. It is acknowledged under a "
-        "fresh counter, 5, and not forwarded again."
+        "fresh counter, 5, and not forwarded again. RX1 is 1 s after the stamp, and in between "
+        "the gateway's clock goes back to 0."
     )
-    it.opens("The device", device.take_downlink(down))
 
 
 def story():

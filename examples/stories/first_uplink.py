@@ -30,14 +30,14 @@ def story():
         "decision 2."
     )
     granted = session(1, device.dev_nonce)
-    line, accept = granted.accept(near)
+    line = granted.accept(near)
     it.commit(2, [told(f"provisioned {METER} 0"), line])
+    it.downlink(line, device.take_accept)
     it.say(
         "Both decisions are committed in four device calls: they are written, synced, marked as "
         "valid by one byte, the gate, and that byte is synced. Only then their effects leave: "
         "the application is told, and the gateway gets the Join-Accept."
     )
-    it.opens("The device", device.take_accept(accept))
     it.part("The power is cut")
     reading = bytes.fromhex("04D2")
     uplink = device.uplink(7, reading)

@@ -16,9 +16,9 @@ def joined(it):
     it.hear(1000, COPY, device.join_request(), "turn 1 1")
     it.line("tick 1200", "turn 1 2")
     network = session(1, device.dev_nonce)
-    line, accept = network.accept(COPY)
+    line = network.accept(COPY)
     it.commit(2, [told(f"provisioned {METER} 0"), line])
-    words = device.take_accept(accept)
+    it.downlink(line, device.take_accept)
     reading = bytes.fromhex("04D2")
     it.hear(9000, COPY, device.uplink(7, reading), "turn 2 2")
     it.line("tick 9200", "turn 2 3")
@@ -27,7 +27,6 @@ def joined(it):
         "A meter is provisioned, joins, and sends its first uplink, as in `first-uplink`. "
         "Decisions 1 to 3 are durable, and their effects have left."
     )
-    it.opens("The device", words)
     return device, network
 
 
@@ -75,14 +74,14 @@ def before_the_gate():
         it.say(f"The device had no answer and sends again. {words} Decision 4 is gone.")
     it.part("At last the power stays on")
     sent(it, frame, 500, 0)
-    line, down = network.downlink(COPY, 0, ack=True)
+    line = network.downlink(COPY, 0, ack=True)
     it.commit(1, [up(1, 7, reading, 1, COPY), line])
     it.line("list", *listed(1, 1, 1, 0, 4))
+    it.downlink(line, device.take_downlink)
     it.say(
         "The sixth time the commit is whole. The application is told the reading once, and the "
         "device gets its acknowledgement under counter 0, which no frame has had before."
     )
-    it.opens("The device", device.take_downlink(down))
     return it
 
 
@@ -117,13 +116,13 @@ def at_the_gate():
         "forwarding is at most once."
     )
     sent(it, frame, 500, 0)
-    line, down = network.downlink(COPY, 1, ack=True)
+    line = network.downlink(COPY, 1, ack=True)
     it.commit(1, [line])
+    it.downlink(line, device.take_downlink)
     it.say(
         "The device sends again. The network knows the frame, so it isn't forwarded; it is "
         "acknowledged, under counter 1."
     )
-    it.opens("The device", device.take_downlink(down))
     it.part("The disk filled the gate")
     frame = device.uplink(7, bytes.fromhex("04D4"), confirmed=True)
     sent(it, frame, 20_000, 1)
@@ -131,15 +130,15 @@ def at_the_gate():
     it.call(3)
     it.line("crash fill", "opened 1 6")
     sent(it, frame, 500, 0)
-    line, down = network.downlink(COPY, 3, ack=True)
+    line = network.downlink(COPY, 3, ack=True)
     it.commit(1, [line])
     it.line("list", *listed(1, 2, 4, 0, 7))
+    it.downlink(line, device.take_downlink)
     it.say(
         "A disk that leaves A5 in the byte leaves an open gate, so it is as above: decision 6 is "
         "there, counter 2 is used up without a frame, and the repeat is acknowledged under "
         "counter 3."
     )
-    it.opens("The device", device.take_downlink(down))
     return it
 
 
@@ -169,10 +168,10 @@ def after_the_commit():
         "once."
     )
     sent(it, frame, 500, 0)
-    line, down = network.downlink(COPY, 1, ack=True)
+    line = network.downlink(COPY, 1, ack=True)
     it.commit(1, [line])
+    it.downlink(line, device.take_downlink)
     it.say("The device sends again, and is acknowledged under counter 1.")
-    it.opens("The device", device.take_downlink(down))
     it.part("After the release, before anything has left")
     reading = bytes.fromhex("04D4")
     frame = device.uplink(7, reading, confirmed=True)
@@ -183,13 +182,13 @@ def after_the_commit():
     it.line("crash new", "opened 1 7")
     it.line("emit", "idle")
     sent(it, frame, 500, 0)
-    line, down = network.downlink(COPY, 3, ack=True)
+    line = network.downlink(COPY, 3, ack=True)
     it.commit(1, [line])
+    it.downlink(line, device.take_downlink)
     it.say(
         "What was released and hasn't left when the power is cut doesn't leave afterwards. The "
         "repeat is acknowledged under counter 3; counter 2 was that of the lost answer."
     )
-    it.opens("The device", device.take_downlink(down))
     it.part("The application was told, the device not yet answered")
     reading = bytes.fromhex("04D5")
     frame = device.uplink(7, reading, confirmed=True)
@@ -200,14 +199,14 @@ def after_the_commit():
     it.line("emit", up(3, 7, reading, 1, COPY))
     it.line("crash fill", "opened 1 9")
     sent(it, frame, 500, 0)
-    line, down = network.downlink(COPY, 5, ack=True)
+    line = network.downlink(COPY, 5, ack=True)
     it.commit(1, [line])
     it.line("list", *listed(1, 3, 6, 0, 10))
+    it.downlink(line, device.take_downlink)
     it.say(
         "The application has the reading 04D5, and doesn't get it a second time. The device gets "
         "its acknowledgement, under counter 5."
     )
-    it.opens("The device", device.take_downlink(down))
     return it
 
 
@@ -253,10 +252,10 @@ def of_a_join():
     request = device.join_request()
     sent(it, request, 2000, 0)
     network = session(2, device.dev_nonce)
-    line, accept = network.accept(COPY)
+    line = network.accept(COPY)
     it.commit(1, [line])
+    it.downlink(line, device.take_accept)
     it.say("The device asks with DevNonce 3, and gets JoinNonce 2.")
-    it.opens("The device", device.take_accept(accept))
     reading = bytes.fromhex("04D2")
     sent(it, device.uplink(7, reading), 9000, 1)
     it.commit(1, [up(0, 7, reading, 1, COPY, 2)])

@@ -21,8 +21,8 @@ pub enum Refusal {
     CounterGap,
     /// An unconfirmed uplink comes again, under the last counter and with its MIC.
     Repeat,
-    /// No device has the DevEUI of a Join-Request, or of an application's request, or that device is
-    /// another application's.
+    /// No device has the DevEUI of a Join-Request or of an application's request, or that device
+    /// is another application's.
     UnknownDevEui,
     /// A Join-Request has another JoinEUI than its device.
     WrongJoinEui,
@@ -53,7 +53,8 @@ pub enum Refusal {
     SameGateway,
     /// A copy of a frame comes whose window has 32 copies.
     CopiesFull,
-    /// A command comes while 4,096 decisions wait to be taken, or the last number, 2^63 - 1, is used.
+    /// A command comes while 4,096 decisions wait to be taken, or where the last number, 2^63 - 1,
+    /// is used.
     Backlog,
     /// A copy of a frame was heard on no channel, or at a data rate above 5.
     UnknownChannel,
