@@ -54,11 +54,11 @@ class Device:
             f"DLSettings {fields[10]:02X}, RXDelay {fields[11]}"
         )
 
-    def uplink(self, port, payload, confirmed=False, ack=False, f_opts=b""):
-        """An uplink under the next counter (§4.3)."""
+    def uplink(self, port, payload, confirmed=False, ack=False, asks=False, f_opts=b""):
+        """An uplink under the next counter; `asks` is ADRACKReq (§4.3)."""
         counter, self.next_up = self.next_up, self.next_up + 1
         message = b"\x80" if confirmed else b"\x40"
-        message += little(self.dev_addr, 4) + bytes([ack << 5 | len(f_opts)])
+        message += little(self.dev_addr, 4) + bytes([asks << 6 | ack << 5 | len(f_opts)])
         message += little(counter & 0xFFFF, 2) + f_opts
         if port is not None:
             key = self.keys[1] if port else self.keys[0]

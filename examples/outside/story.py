@@ -8,14 +8,14 @@ from .gateway import read_order
 WIDTH = 100
 # a page shows at most so many lines in a row, else the first and the last of them
 MOST_SHOWN, HALF_SHOWN = 40, 8
-# a word that is longer is shown by its ends
-LONGEST_WORD, ENDS = 24, 8
+# a word that is longer is shown by its ends, in lines and in notes
+LONGEST_WORD, LONGEST_NOTED, ENDS = 24, 48, 8
 
 
-def shortened(line):
+def shortened(line, longest=LONGEST_WORD):
     """A line with its long words cut in the middle."""
     words = (
-        word if len(word) <= LONGEST_WORD else f"{word[:ENDS]}..{word[-ENDS:]}"
+        word if len(word) <= longest else f"{word[:ENDS]}..{word[-ENDS:]}"
         for word in line.split(" ")
     )
     return " ".join(words)
@@ -120,10 +120,13 @@ class Story:
     def downlink(self, line, take):
         """The gateway and the device read what the network sent; it is told behind the lines."""
         order = read_order(line)
-        self.notes += [
-            f"    The gateway sends it {order.words()}.",
-            f"    The device reads: {take(order.frame)}.",
-        ]
+        for words in (
+            f"The gateway sends it {order.words()}.",
+            f"The device reads: {take(order.frame)}.",
+        ):
+            noted = shortened(words, LONGEST_NOTED)
+            indents = {"initial_indent": " " * 4, "subsequent_indent": " " * 8}
+            self.notes += textwrap.wrap(noted, WIDTH, break_on_hyphens=False, **indents)
 
     def files(self):
         """The contents of the script, of its output and of its page, by their names."""
