@@ -146,9 +146,10 @@ def ports(it, device, network):
     it.say(
         "An empty payload on port 5 is told as `-`. Port 224 and an uplink without a port aren't "
         "told. Of the commands on port 0 LinkADRAns and DevStatusAns are told, and DeviceTimeReq "
-        "(0D) isn't, nor is it answered. Commands in FOpts and on port 0 at once are refused (11). "
-        "In FOpts of the next one, `0DFF0307`, nothing is read behind FF, which is no identifier, so "
-        "only its payload is told. The last one has ADRACKReq, and is answered by an empty downlink."
+        "(0D) isn't, nor is it answered. Commands in FOpts and on port 0 at once are refused "
+        "(11). In FOpts of the next one, `0DFF0307`, nothing is read behind FF, which is no "
+        "identifier, so only its payload is told. The last one has ADRACKReq, and is answered by "
+        "an empty downlink."
     )
 
 
@@ -173,9 +174,9 @@ def items(it, device, network):
     it.downlink(first, device.take_downlink)
     it.downlink(second, device.take_downlink)
     it.say(
-        "At data rate 5 the first one leaves, in RX1 alone, since its MACPayload has more than 59 bytes; "
-        "FPending says that more waits. At data rate 0 the item of 51 bytes leaves. No line "
-        "tells either."
+        "At data rate 5 the first one leaves, in RX1 alone, since its MACPayload has more than "
+        "59 bytes; FPending says that more waits. At data rate 0 the item of 51 bytes leaves. No "
+        "line tells either."
     )
     it.asks("mac", f"{METER} {(LINK_ADR_REQ * 3).hex().upper()}")
     it.asks("queue", f"{METER} 3 9 c CC")
