@@ -32,9 +32,8 @@ def told(line):
 
 def up(counter, port, payload, copies, best, join_nonce=1):
     """The line by which the application is told a payload."""
-    return told(
-        f"up {METER} {join_nonce} {counter} {port} {payload.hex().upper()} {copies} {best.heard()}"
-    )
+    text = payload.hex().upper() or "-"
+    return told(f"up {METER} {join_nonce} {counter} {port} {text} {copies} {best.heard()}")
 
 
 def listed(granted, last_up, next_down, items, seq, join_nonce=1):
