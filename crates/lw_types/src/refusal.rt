@@ -14,7 +14,7 @@ pub enum Refusal {
     NotServed,
     /// An uplink's address is that of no session.
     UnknownDevAddr,
-    /// A Join-Request's MIC isn't its device's; or an uplink's counter is near enough in a session
+    /// A Join-Request's MIC isn't its device's; or an uplink's counter isn't too far in a session
     /// that has its address, and its MIC is right in none.
     BadMic,
     /// An uplink's counter is too far above the last one in each session that has its address.
