@@ -1,0 +1,1 @@
+"""A device, and what a network has to answer it, apart from the network server."""

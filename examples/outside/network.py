@@ -1,0 +1,56 @@
+"""What a network has to answer, computed by the standards and docs/FORMATS.md alone.
+
+It has no table and no store: a story says what is due, and these functions make the bytes of it.
+"""
+
+from .frames import (
+    DOWN,
+    crypted,
+    data_mic,
+    little,
+    sealed_accept,
+    session_keys,
+)
+
+NET_ID = 0x2A
+
+
+def address(slot, join_nonce):
+    """The DevAddr of a session."""
+    return (NET_ID % 64 << 25) + slot * 8192 + join_nonce % 8192
+
+
+def wire(copy, data_rate, delay, second, frame):
+    """The line of `lns-sim` for a downlink to the gateway of a copy."""
+    content = b"\x11" + bytes.fromhex(copy.gateway) + copy.stamp.to_bytes(4, "big")
+    content += copy.frequency.to_bytes(4, "big") + bytes([data_rate, delay, second]) + frame
+    return f"gw {copy.gateway} {(len(content).to_bytes(2, 'big') + content).hex().upper()}"
+
+
+class Session:
+    """The network's end of a session: its address, its keys, and the frames that are due."""
+
+    def __init__(self, slot, app_key, join_nonce, dev_nonce, offset=0, delay=1):
+        self.app_key = bytes.fromhex(app_key)
+        self.address = address(slot, join_nonce)
+        self.keys = session_keys(self.app_key, join_nonce, NET_ID, dev_nonce)
+        self.offset, self.delay = offset, delay
+        self.fields = little(join_nonce, 3) + little(NET_ID, 3) + little(self.address, 4)
+        self.fields += bytes([offset << 4, delay])
+
+    def accept(self, copy):
+        """The line of the Join-Accept, to the gateway of the best copy."""
+        return wire(copy, copy.data_rate, 5, 6, sealed_accept(self.app_key, self.fields))
+
+    def downlink(self, copy, counter, item=None, f_opts=b"", ack=False, pending=False):
+        """The line of a downlink, to the gateway of the best copy."""
+        port, payload, confirmed = item or (None, b"", False)
+        message = b"\xA0" if confirmed else b"\x60"
+        message += little(self.address, 4) + bytes([ack << 5 | pending << 4 | len(f_opts)])
+        message += little(counter & 0xFFFF, 2) + f_opts
+        if item:
+            message += bytes([port]) + crypted(self.keys[1], DOWN, self.address, counter, payload)
+        frame = message + data_mic(self.keys[0], DOWN, self.address, counter, message)
+        second = self.delay + 1 if len(frame) <= 64 else 0
+        rate = max(0, copy.data_rate - self.offset)
+        return wire(copy, rate, self.delay, second, frame)

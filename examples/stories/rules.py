@@ -1,0 +1,276 @@
+"""The rules of docs/FORMATS.md, tried one by one."""
+
+from dataclasses import replace
+
+from outside.story import Copy, Story
+
+from .people import APP_KEY, B1, JOIN_EUI, METER, meter, provision, session, told, up
+
+NEAR = Copy(B1)
+READING = bytes.fromhex("04D2")
+LINK_ADR_REQ = bytes.fromhex("0350070001")
+
+
+class Rules(Story):
+    """A story whose turns are told by how many decisions each event makes."""
+
+    def __init__(self, *words):
+        super().__init__(*words)
+        self.made, self.moment = 0, 0
+
+    def event(self, script, decisions=0, refused=None):
+        """An event, and its turn."""
+        before, self.made = self.made, self.made + decisions
+        because = f" refused {refused}" if refused else ""
+        self.line(script, f"turn {before} {self.made}{because}")
+
+    def heard(self, frame, decisions, copy=NEAR):
+        """A frame is heard, and its window is closed a second later."""
+        self.moment += 1000
+        hex_text = frame.hex().upper() or "-"
+        self.event(f"hear {self.moment} {copy.heard()} {copy.stamp} {hex_text}")
+        self.event(f"tick {self.moment + 200}", decisions)
+
+    def asks(self, name, words, decisions=1, refused=None):
+        """The application asks for something."""
+        self.event(f"{name} {self.moment} 3 {words}", decisions, refused)
+
+
+def words(it):
+    """The ranges of words."""
+    it.part("Words and their ranges")
+    it.line("format 00002A 1", f"formatted {32 + 2 * (30 + 4305 + 1_048_576)}")
+    gateway = f"hear 0 {B1}"
+    for line in (
+        f"{gateway} 868100000 256 0 0 0 00",
+        f"{gateway} 4294967296 5 0 0 0 00",
+        f"{gateway} 868100000 5 32768 0 0 00",
+        f"{gateway} 868100000 5 -0 0 0 00",
+        f"{gateway} 868100000 5 0 0 4294967296 00",
+        f"{gateway} 868100000 5 0 0 0 0a",
+        f"{gateway} 868100000 5 0 0 0 {'00' * 256}",
+        "tick 9223372036854775808",
+        "tick 01",
+        "tick  1",
+        "take 0",
+        "take 65",
+        f"provision 0 16 {METER} {JOIN_EUI} {APP_KEY} 0 1",
+        f"provision 0 3 {METER} {JOIN_EUI} {APP_KEY} 6 1",
+        f"provision 0 3 {METER} {JOIN_EUI} {APP_KEY} 0 16",
+        f"queue 0 3 {METER} 4294967296 1 u 00",
+        f"queue 0 3 {METER} 1 256 u 00",
+        f"queue 0 3 {METER} 1 1 x 00",
+        "crash",
+    ):
+        it.line(line, "bad line")
+    it.say("A word out of its range makes a line that is no step, and nothing changes.")
+    it.event(f"{gateway} 868100000 6 0 0 0 00", refused=24)
+    it.event(f"{gateway} 867100000 5 0 0 0 00", refused=24)
+    it.event(f"{gateway} 868100000 5 -32768 -32768 4294967295 00")
+    for line in ("take 64", "call", "release", "emit"):
+        it.line(line, "idle")
+    it.say(
+        "A data rate above 5 and a frequency that is no channel are words in their range, and "
+        "the copy is refused (24). There is nothing to take, call, release or emit."
+    )
+
+
+def requests(it):
+    """The refusals of requests, in order."""
+    it.part("What an application may ask")
+    it.event(provision(0), 1)
+    it.event(provision(0), refused=16)
+    it.event(provision(0).replace(METER, "00000000000000FF"), refused=17)
+    it.asks("queue", f"00000000000000FF 1 0 u {'00' * 243}", 0, 7)
+    it.asks("queue", f"{METER} 1 0 u {'00' * 243}", 0, 14)
+    it.asks("queue", f"{METER} 1 0 u 00", 0, 15)
+    it.asks("queue", f"{METER} 1 224 u -", 0, 15)
+    it.asks("mac", "00000000000000FF 02", 0, 7)
+    for bytes_text in ("-", "02", "0350", "0605", "04"):
+        it.asks("mac", f"{METER} {bytes_text}", 0, 18)
+    it.asks("mac", f"{METER} {'06' * 65}", 0, 13)
+    it.say(
+        "The device is brought, and of two reasons for a refusal the first in order is told: a "
+        "device that isn't there (7) before a payload that is too long (14), and that before its "
+        "port (15). MAC commands have to be whole ones of 03, 04 and 06 (18), and 64 bytes of "
+        "them wait at most (13)."
+    )
+
+
+def joins(it, device):
+    """The device joins."""
+    it.part("Frames that are refused")
+    wrong = bytearray(device.join_request())
+    wrong[-1] ^= 1
+    for frame in ("", "E0", "E1", "20" + "00" * 16, "600000005400000001020304", "4000"):
+        it.heard(bytes.fromhex(frame), 0)
+    it.heard(bytes(wrong), 0)
+    it.say(
+        "No bytes, a proprietary frame, one of another major version, a Join-Accept, a downlink, "
+        "an uplink that is cut, and a Join-Request with a wrong MIC: none is decided, and nobody "
+        "is told."
+    )
+    # its DevNonce wasn't used up by that
+    device.dev_nonce = 0
+    request = device.join_request()
+    it.moment += 1000
+    told_frame = f"868100000 0 -40 -99 7 {request.hex().upper()}"
+    for number in range(32, 0, -1):
+        it.event(f"hear {it.moment} {number:016X} {told_frame}")
+    it.event(f"hear {it.moment} {33:016X} {told_frame}", refused=22)
+    it.event(f"tick {it.moment + 200}", 1)
+    best = Copy("0000000000000001", data_rate=0, snr=-40, rssi=-99, stamp=7)
+    line = session(1, 1).accept(best)
+    it.commit(2, [told(f"provisioned {METER} 0"), line])
+    it.downlink(line, device.take_accept)
+    it.say(
+        "32 gateways hear the Join-Request equally well, and the one of the smallest EUI gets "
+        "the accept. A 33rd copy is refused (22)."
+    )
+
+
+def ports(it, device, network):
+    """Which payloads are told."""
+    it.part("Ports, and who is told")
+    it.heard(device.uplink(5, b""), 1)
+    it.heard(device.uplink(224, READING), 1)
+    it.heard(device.uplink(None, b""), 1)
+    it.heard(device.uplink(0, bytes.fromhex("0307" "0D" "06FF05")), 1)
+    it.heard(device.uplink(0, b"\x0D", f_opts=b"\x0D"), 0)
+    it.heard(device.uplink(9, READING, f_opts=bytes.fromhex("0D" "FF" "0307")), 1)
+    line = network.downlink(NEAR, 0)
+    it.heard(device.uplink(None, b"", asks=True), 1)
+    empty = up(0, 5, b"", 1, NEAR)
+    it.commit(6, [empty, told(f"mac {METER} 1 030706FF05"), up(5, 9, READING, 1, NEAR), line])
+    it.downlink(line, device.take_downlink)
+    it.say(
+        "An empty payload on port 5 is told as `-`. Port 224 and an uplink without a port aren't "
+        "told. Of the commands on port 0 LinkADRAns and DevStatusAns are told, and DeviceTimeReq "
+        "(0D) isn't, nor is it answered. Commands in FOpts and on port 0 at once are refused "
+        "(11). In FOpts of the next one, `0DFF0307`, nothing is read behind FF, which is no "
+        "identifier, so only its payload is told. The last one has ADRACKReq, and is answered by "
+        "an empty downlink."
+    )
+
+
+def items(it, device, network):
+    """Which items leave, and with what."""
+    it.part("Which items leave")
+    slow = replace(NEAR, data_rate=0)
+    it.asks("queue", f"{METER} 1 9 u {'AA' * 52}")
+    it.asks("queue", f"{METER} 2 9 u {'BB' * 51}")
+    it.heard(device.uplink(7, READING), 1, slow)
+    it.say(
+        "At data rate 0 an item of 52 bytes doesn't fit, since 7 + 0 + 1 + 52 is above 59, and "
+        "the one behind it waits. Nothing else is due, so no downlink is sent."
+    )
+    it.heard(device.uplink(7, READING), 1)
+    first = network.downlink(NEAR, 1, (9, b"\xAA" * 52, False), pending=True)
+    it.heard(device.uplink(7, READING), 1, slow)
+    second = network.downlink(slow, 2, (9, b"\xBB" * 51, False))
+    queued = [told(f"queued {METER} 1"), told(f"queued {METER} 2")]
+    ups = [up(7, 7, READING, 1, slow), up(8, 7, READING, 1, NEAR), up(9, 7, READING, 1, slow)]
+    it.commit(5, [*queued, ups[0], ups[1], first, ups[2], second])
+    it.downlink(first, device.take_downlink)
+    it.downlink(second, device.take_downlink)
+    it.say(
+        "At data rate 5 the first one leaves, in RX1 alone, since its MACPayload has more than "
+        "59 bytes; FPending says that more waits. At data rate 0 the item of 51 bytes leaves. No "
+        "line tells either."
+    )
+    it.asks("mac", f"{METER} {(LINK_ADR_REQ * 3).hex().upper()}")
+    it.asks("queue", f"{METER} 3 9 c CC")
+    it.heard(device.uplink(None, b"", f_opts=b"\x02"), 1)
+    options = bytes([0x02, (-20 + 30) // 4, 1]) + LINK_ADR_REQ * 2
+    line = network.downlink(NEAR, 3, (9, b"\xCC", True), options, pending=True)
+    it.commit(
+        3,
+        [
+            told(f"macqueued {METER} {(LINK_ADR_REQ * 3).hex().upper()}"),
+            told(f"queued {METER} 3"),
+            line,
+        ],
+    )
+    it.downlink(line, device.take_downlink)
+    it.say(
+        "LinkCheckAns (3 bytes) and two LinkADRReq (10) fit into FOpts; a third would make 18 "
+        "bytes and waits. The item leaves behind them."
+    )
+
+
+def counters(it, device):
+    """How far a counter may be, and a new session."""
+    it.part("Counters, and a new session")
+    last = device.next_up - 1
+    device.next_up = last + 16_385
+    it.heard(device.uplink(7, READING, ack=True), 0)
+    it.say(f"The last uplink had counter {last}. A counter 16,385 above it is refused (5).")
+    request = device.join_request()
+    it.heard(request, 1)
+    again = session(2, 2)
+    line = again.accept(NEAR)
+    it.commit(1, [line])
+    it.downlink(line, device.take_accept)
+    device.next_up = 16_384
+    it.heard(device.uplink(7, READING, ack=True), 0)
+    device.next_up = 16_383
+    it.heard(device.uplink(7, READING, ack=True), 1)
+    line = again.downlink(NEAR, 0, f_opts=LINK_ADR_REQ)
+    it.commit(1, [told(f"lost {METER} 3"), up(16_383, 7, READING, 1, NEAR, 2), line])
+    it.downlink(line, device.take_downlink)
+    it.say(
+        "The device joins again. The first counter of a session is at most 16,383. With it the "
+        "new session is in use: the item of tag 3, which was sent in the old one, is lost, "
+        "although the uplink has ACK. The LinkADRReq that waited leaves in the new session, "
+        "under its counter 0."
+    )
+
+
+def failing_disk(it):
+    """What a failing disk does."""
+    it.part("A disk that fails")
+    durable = it.made
+    it.asks("queue", f"{METER} 4 9 u DD")
+    it.line("fail", "armed")
+    it.take(1)
+    for line, answer in (
+        ("take 64", "idle"),
+        ("call", "refused 40"),
+        ("call", "idle"),
+        ("take 64", "refused 41"),
+        ("checkpoint", "refused 41"),
+        ("release", "idle"),
+        ("fail", "armed"),
+        ("crash new", "refused 40"),
+        ("list", "idle"),
+        ("tick 0", "idle"),
+        ("crash new", f"opened 1 {durable}"),
+        ("take 64", "idle"),
+    ):
+        it.line(line, answer)
+    it.line("list", f"0 {METER} 2 2 16383 1 0", f"devices 1 seq {durable}")
+    it.say(
+        "A call of the disk fails (40), and after that the store takes nothing (41) until it is "
+        "opened again. The first opening fails too, and all is idle; the second has what was "
+        "durable."
+    )
+
+
+def story():
+    """All of it."""
+    it = Rules(
+        "rules",
+        "The rules of FORMATS, tried one by one",
+        "For those who build a gateway or an application: what docs/FORMATS.md says of words, "
+        "requests, frames, ports, items, counters and a failing disk, one after another.",
+    )
+    device = meter()
+    words(it)
+    requests(it)
+    joins(it, device)
+    network = session(1, 1)
+    ports(it, device, network)
+    items(it, device, network)
+    counters(it, device)
+    failing_disk(it)
+    return it
