@@ -9,8 +9,6 @@ use std::alloc::Global;
 pub const JOINER: u64 = 0x1112_1314_1516_1718;
 
 /// Join-Requests of that device with the DevNonces from 0 on.
-pub const REQUESTS: [&str; 4] = [REQUEST_0, REQUEST_1, REQUEST_2, REQUEST_3];
-
 pub const REQUEST_0: &str = "0008070605040302011817161514131211000073A08275";
 
 pub const REQUEST_1: &str = "000807060504030201181716151413121101009E7419CE";
