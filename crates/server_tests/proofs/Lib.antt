@@ -1,5 +1,0 @@
-mod Closing
-pub mod Piecing
-pub mod Reading
-pub mod Refusing
-pub mod Turning

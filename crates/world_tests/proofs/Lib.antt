@@ -1,0 +1,4 @@
+pub mod Piecing
+pub mod Reading
+pub mod Refusing
+pub mod Turning

@@ -1,0 +1,35 @@
+//! Tests of worlds, beside a plain model whose contract is the definition, and of the public calls of
+//! `headline` and `scripts`. They stand above those crates, so that each of these is proved once.
+#![tactic(auto)]
+
+#[cfg(test)]
+mod answers;
+mod flight;
+#[cfg(test)]
+mod full_journal_tests;
+#[cfg(test)]
+mod gathering;
+#[cfg(test)]
+mod letters;
+#[cfg(test)]
+mod links;
+#[cfg(test)]
+mod many_tests;
+#[cfg(test)]
+mod model;
+#[cfg(test)]
+mod row_tests;
+#[cfg(test)]
+mod rows;
+#[cfg(test)]
+mod script_lines_tests;
+#[cfg(test)]
+mod stage_tests;
+#[cfg(test)]
+mod steps;
+#[cfg(test)]
+mod streams;
+#[cfg(test)]
+mod windows;
+#[cfg(test)]
+mod worlds;

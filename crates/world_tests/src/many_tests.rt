@@ -1,0 +1,113 @@
+// Many devices, whose decisions wait and are taken in more than one batch.
+use crate::letters::add_letters;
+use crate::steps::provision;
+use crate::worlds::{answers_to, first_difference, net_id, new_disk};
+use disk::Image;
+use lw_types::Refusal;
+use std::alloc::Global;
+use world::{Answer, Step};
+
+// So many devices, whose decisions are so many batches, each by its letters.
+#[derive(Clone, Copy)]
+struct Many {
+    devices: u64,
+    batches: u64,
+    batch: &'static str,
+}
+
+// In batches of two.
+const FIVE: Many = Many {
+    devices: 5,
+    batches: 3,
+    batch: "sccccr",
+};
+
+// In batches of 64.
+const HUNDRED: Many = Many {
+    devices: 100,
+    batches: 2,
+    batch: "Tccccr",
+};
+
+const WAITING: &[Many] = &[FIVE, HUNDRED];
+
+const MOST: Many = Many {
+    devices: 4096,
+    batches: 64,
+    batch: "Tccccr",
+};
+
+// The devices are brought, their batches are taken, committed and released, and their effects leave. Then there is a look
+// at the table, and a crash.
+fn steps_of(alloc: Global, many: &Many) -> Result<Vec<Step>, Refusal> {
+    let mut steps = Vec::new(alloc);
+    for dev_eui in 0..many.devices {
+        steps.push(provision(alloc, dev_eui)?)?;
+    }
+    for _ in 0..many.batches {
+        add_letters(alloc, &mut steps, 0, many.batch)?;
+    }
+    for _ in 0..many.devices {
+        steps.push(Step::Emit)?;
+    }
+    add_letters(alloc, &mut steps, 0, "lol")?;
+    Ok(steps)
+}
+
+fn differs(alloc: Global, many: &Many) -> Result<Option<usize>, Refusal> {
+    first_difference(alloc, many.devices, &steps_of(alloc, many)?)
+}
+
+// More than one decision waits, and more than one batch is taken.
+#[test]
+fn many_decisions_wait(rt: HostRuntime) {
+    for many in WAITING {
+        assert_eq!(rt; differs(rt.alloc(), many), Ok(None));
+    }
+}
+
+// Whether the answer opens a store with 4,096 devices.
+fn is_opening(answer: &Answer) -> bool {
+    matches!(
+        answer,
+        Answer::Opened {
+            devices: 4096,
+            seq: 4096
+        }
+    )
+}
+
+// How many answers do.
+fn openings(alloc: Global) -> Result<usize, Refusal> {
+    let answers = answers_to(alloc, MOST.devices, &steps_of(alloc, &MOST)?)?;
+    let mut opened: usize = 0;
+    for answer in &answers {
+        opened = opened.saturating_add(usize::from(is_opening(answer)));
+    }
+    Ok(opened)
+}
+
+// At its largest size a world stands beside no model, each of whose steps costs by all commands.
+#[test]
+fn a_store_of_4096_devices_is_opened(rt: HostRuntime) {
+    assert_eq!(rt; openings(rt.alloc()), Ok(1));
+}
+
+// Whether each step was answered, and the store that is opened after a crash has its five devices and its number.
+fn is_found_again(alloc: Global) -> Result<bool, Refusal> {
+    let steps = steps_of(alloc, &FIVE)?;
+    let (answers, store) = headline::crash_after(
+        alloc,
+        new_disk(alloc, 8)?,
+        net_id()?,
+        8,
+        &steps,
+        &Image::Old,
+    )?;
+    Ok((answers.len(), store.table().devices().len(), store.seq()) == (steps.len(), 5, 5))
+}
+
+#[test]
+fn what_was_released_is_found_again(rt: HostRuntime) {
+    assert_eq!(rt; is_found_again(rt.alloc()), Ok(true));
+}

@@ -1,0 +1,74 @@
+// What a world answers, and what its model does.
+ghost use Rattle.std.specs.Prelude.{IfOk};
+ghost use Rattle.disk.specs.MemDisk.{state_of};
+ghost use Rattle.world.specs.Sound.{IsSound};
+
+use crate::answers::same;
+use crate::model::Plain;
+use disk::MemDisk;
+use lw_types::{NetId, Refusal};
+use sessions::Slots;
+use std::alloc::Global;
+use world::{Answer, Step, World, run};
+
+/// The slots of most worlds here, which the devices of twelve scripts can fill.
+pub(crate) const SLOTS: u64 = 20;
+
+pub(crate) fn net_id() -> Result<NetId, Refusal> {
+    NetId::new(0x2A).ok_or(Refusal::Damaged)
+}
+
+fn slots_of(slots: u64) -> Result<Slots, Refusal> {
+    Slots::new(slots).ok_or(Refusal::Damaged)
+}
+
+/// A disk for so many devices, which isn't empty.
+pub(crate) fn new_disk(alloc: Global, slots: u64) -> Result<MemDisk, Refusal> {
+    let len = store::disk_len(slots_of(slots)?);
+    Ok(MemDisk::new(alloc, vec![in alloc; 0xA5; len as usize]?)?)
+}
+
+// A world with so many slots.
+fn new_world(alloc: Global, slots: u64) -> Result<World<MemDisk>, Refusal>
+    ensures { IfOk result (IsSound state_of) }
+{
+    World::format(alloc, new_disk(alloc, slots)?, net_id()?, slots)
+}
+
+/// What a new world answers to these steps.
+pub(crate) fn answers_to(
+    alloc: Global,
+    slots: u64,
+    steps: &[Step],
+) -> Result<Vec<Answer>, Refusal> {
+    let mut world = new_world(alloc, slots)?;
+    let answers = run(&mut world, alloc, steps);
+    let _ = world.close();
+    answers
+}
+
+// What a new model answers.
+fn answers_of_model(alloc: Global, slots: u64, steps: &[Step]) -> Result<Vec<Answer>, Refusal> {
+    let mut model = Plain::new(alloc, net_id()?, slots_of(slots)?);
+    let mut answers = Vec::new(alloc);
+    for step in steps {
+        answers.push(model.step(alloc, step)?)?;
+    }
+    Ok(answers)
+}
+
+/// The number of the first step that a new world and a new model answer otherwise.
+pub(crate) fn first_difference(
+    alloc: Global,
+    slots: u64,
+    steps: &[Step],
+) -> Result<Option<usize>, Refusal> {
+    let answers = answers_to(alloc, slots, steps)?;
+    let wanted = answers_of_model(alloc, slots, steps)?;
+    for (number, (answer, wanted)) in answers.iter().zip(&wanted).enumerate() {
+        if !same(answer, wanted) {
+            return Ok(Some(number));
+        }
+    }
+    Ok((answers.len() != wanted.len()).then_some(wanted.len()))
+}
