@@ -50,12 +50,16 @@ def end_with(main):
         stop(f"{error.filename or 'a file'}: {error.strerror or error}", 1)
 
 
-def libraries():
-    """Each crate of crates.txt with the repository's libraries that it names, in the file's order."""
+def lines():
+    """Each crate's line of crates.txt, in the file's order."""
     with open(f"{ROOT}/crates.txt", encoding="utf-8") as file:
-        lines = [it.partition(":") for it in file if ":" in it and not it.startswith("#")]
-    named = {head.split()[0]: tail.split() for head, _, tail in lines}
-    return {crate: [it for it in names if it in named] for crate, names in named.items()}
+        return {it.split(":")[0].split()[0]: it for it in file if ":" in it and it[0] != "#"}
+
+
+def libraries(of):
+    """The repository's libraries that each crate's line names."""
+    told = {crate: line.partition(":")[2].split() for crate, line in of.items()}
+    return {crate: [it for it in names if it in told] for crate, names in told.items()}
 
 
 def below(crate, named):
