@@ -1,4 +1,5 @@
-# What the commands of this folder share; each sets `root`, the top of the repository, before it reads this file.
+# What the commands of this folder share. Each sets `root`, the top of the repository, and its own
+# name, `command`, before it reads this file.
 # shellcheck shell=sh disable=SC2154
 
 # The crates that a program stands on, and itself, lowest first.
@@ -16,7 +17,8 @@ crates_of() {
     ' "$root/crates.txt"
 }
 
-# is_fresh FILE CRATE: whether what was made of a crate is there, and no source that it stands on has changed since.
+# is_fresh FILE CRATE: whether what was made of a crate is there, and no source that it stands on
+# has changed since.
 is_fresh() {
     [ -f "$1" ] || return 1
     # shellcheck disable=SC2046 # one word a folder
@@ -45,14 +47,17 @@ take_words() {
     [ $# -eq 0 ] || stop 2 "it takes no word, and not $1; $command --help tells more"
 }
 
+# stop STATUS TEXT..
 stop() {
-    echo "$command: $2" >&2
-    exit "$1"
+    status=$1
+    shift
+    echo "$command: $*" >&2
+    exit "$status"
 }
 
 # measure NAME: runs a program that measures, if it was proved and built.
 measure() {
-    is_built "$1" || stop 1 \
-        "it measures the proved program alone, which isn't built of these sources: run bin/build $command"
+    is_built "$1" || stop 1 "it measures the proved program alone, which isn't built of these" \
+        "sources: run bin/build $command"
     exec "$root/crates/$1/out/$1"
 }

@@ -1,4 +1,5 @@
-"""What the commands in Python share: their words and help, how they end, the crates, and how much may run at once."""
+"""What the commands in Python share: their words and help, how they end, the crates, and how
+much may run at once."""
 import argparse
 import os
 import re
@@ -14,7 +15,7 @@ MEMORY = 4 << 30
 
 
 class Words(argparse.ArgumentParser):
-    """The words of a command: --help and -h print the text, and a word too many is one line and status 2."""
+    """A command's words. --help and -h print the text; a wrong word is one line and status 2."""
 
     def __init__(self, text):
         super().__init__(prog=NAME, allow_abbrev=False)
@@ -38,7 +39,7 @@ def need_rt():
 
 
 def end_with(main):
-    """Ends with the status of `main`; an interrupt and a file that isn't there have no traceback."""
+    """Ends with the status of `main`, with no traceback of an interrupt or a missing file."""
     for it in (signal.SIGTERM, signal.SIGHUP):
         signal.signal(it, lambda number, _: sys.exit(128 + number))
     signal.signal(signal.SIGPIPE, signal.SIG_DFL)
@@ -60,6 +61,13 @@ def libraries(of):
     """The repository's libraries that each crate's line names."""
     told = {crate: line.partition(":")[2].split() for crate, line in of.items()}
     return {crate: [it for it in names if it in told] for crate, names in told.items()}
+
+
+def crate(name):
+    """A word that names a crate."""
+    if name not in lines():
+        stop(f"no crate {name} is in crates.txt")
+    return name
 
 
 def below(crate, named):
