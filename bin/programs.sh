@@ -1,4 +1,6 @@
-# What the commands of this folder share; each sets `root`, the top of the repository, before it reads this file.
+# What the commands of this folder share. Each sets `root`, the top of the repository, and its own
+# name, `command`, before it reads this file.
+# shellcheck shell=sh disable=SC2154
 
 # The crates that a program stands on, and itself, lowest first.
 crates_of() {
@@ -15,36 +17,47 @@ crates_of() {
     ' "$root/crates.txt"
 }
 
-# Whether a program was built, and no source that it stands on has changed since.
-is_built() {
-    program=$root/crates/$1/out/$1
-    [ -x "$program" ] || return 1
-    folders=$(crates_of "$1" | sed "s|.*|$root/crates/&|")
-    # shellcheck disable=SC2086 # one word a folder
-    changed=$(find "$root/crates.txt" $folders -name out -prune -o \
-        -type f \( -name '*.rt' -o -name '*.antt' -o -name crates.txt \) -newer "$program" -print)
+# is_fresh FILE CRATE: whether what was made of a crate is there, and no source that it stands on
+# has changed since.
+is_fresh() {
+    [ -f "$1" ] || return 1
+    # shellcheck disable=SC2046 # one word a folder
+    changed=$(cd "$root" && find crates.txt $(crates_of "$2" | sed 's|^|crates/|') \
+        \( -name out -o -name must-fail \) -prune -o \
+        \( -type d -path 'crates/*/*' -o -name '*.rt' -o -name '*.antt' -o -name crates.txt \) \
+        -newer "$1" -print)
     [ -z "$changed" ]
 }
 
-# Runs a program of the repository: the proved one where it is built, else its sources with no proof.
-play() {
-    name=$1
-    command=$2
-    shift 2
-    if is_built "$name"; then
-        exec "$root/crates/$name/out/$name" "$@"
-    fi
-    echo "$command: this run is of unproved sources; bin/build $command proves and builds them, in minutes" >&2
-    said=$(mktemp)
-    trap 'rm -f "$said"' EXIT
-    status=0
-    (cd "$root/crates/$name" && exec rt try --steps 1 -- "$@") 2>"$said" || status=$?
-    if grep -q '^run=ended status=.* proved=no$' "$said"; then
-        # what is left is the program's own
-        grep -vE '^(interpreter|checked): |^run=|^rt: ' "$said" >&2 || true
-    else
-        echo "$command: the unproved run gave no answer; the toolchain said:" >&2
-        grep -vE '^interpreter: |^$' "$said" | head -n 1 >&2
-    fi
+# Whether a program was proved and built of the sources as they are.
+is_built() {
+    [ -x "$root/crates/$1/out/$1" ] && is_fresh "$root/crates/$1/out/$1" "$1"
+}
+
+# take_words TEXT [WORD]..: a command's words: none, or -h or --help, which prints the text.
+take_words() {
+    text=$1
+    shift
+    case ${1-} in
+    -h | --help)
+        printf '%s\n' "$text"
+        exit 0
+        ;;
+    esac
+    [ $# -eq 0 ] || stop 2 "it takes no word, and not $1; $command --help tells more"
+}
+
+# stop STATUS TEXT..
+stop() {
+    status=$1
+    shift
+    echo "$command: $*" >&2
     exit "$status"
+}
+
+# measure NAME: runs a program that measures, if it was proved and built.
+measure() {
+    is_built "$1" || stop 1 "it measures the proved program alone, which isn't built of these" \
+        "sources: run bin/build $command"
+    exec "$root/crates/$1/out/$1"
 }
