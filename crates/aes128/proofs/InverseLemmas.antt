@@ -3,8 +3,8 @@ use Rattle.std.proofs.Common.{◌≡◌, ℕ, zero, suc, ◌<◌, ◌≤◌, ◌
 use Rattle.std.specs.Prelude.{All}
 use Rattle.aes128.specs.declared.substitution.TheConstants.{S_BOX, INVERSE_S_BOX}
 use Rattle.aes128.specs.Field.{word_product}
-use Rattle.aes128.specs.Cipher.{IsBlock, xor, column, byte_at, s_box, sub_bytes, shift_rows, mix_columns, round_key, rounds, encrypted}
-use Rattle.aes128.specs.InverseCipher.{inv_s_box, inv_sub_bytes, unshifted_column, inv_shift_rows, inv_mix_columns, inv_rounds, decrypted}
+use Rattle.aes128.specs.Cipher.{IsBlock, xor, column, byte_at, s_box, sub_bytes, shift_rows, mix_columns, round_key, rounds, ciphertext}
+use Rattle.aes128.specs.InverseCipher.{inv_s_box, inv_sub_bytes, unshifted_column, inv_shift_rows, inv_mix_columns, inv_rounds, plaintext}
 use Rattle.aes128.proofs.Below.{all_below, agree_below}
 use Rattle.aes128.proofs.LawLemmas.{IsByte, block_byte, column_bytes, word_bytes, four_words, product_bytes, xor_block, round_key-block, encrypted_one_to_one, encrypted-block}
 use Rattle.aes128.proofs.SBoxLemmas.{inverse-table, unaffine, unaffine-lt, inverse-lt, s_box-inverse}
@@ -78,8 +78,8 @@ module _ (key block : List ℕ) (is_key : IsBlock key) (is_block : IsBlock block
       let before = unshifted_block (inv_rounds key block r) (inv_rounds-block r) in
       inv_mix_block (xor (unshifted_state (inv_rounds key block r)) (round_key key (9 - r))) (xor_block (unshifted_state (inv_rounds key block r)) (round_key key (9 - r)) before (keys (9 - r)))
 
-  pub decrypted-block : IsBlock (decrypted key block)
-  unfolding decrypted
+  pub decrypted-block : IsBlock (plaintext key block)
+  unfolding plaintext
   decrypted-block = xor_block (unshifted_state (inv_rounds key block 9)) (round_key key 0) (unshifted_block (inv_rounds key block 9) (inv_rounds-block 9)) (keys 0)
 
   -- the state before the last r rounds are undone
@@ -99,8 +99,8 @@ module _ (key block : List ℕ) (is_key : IsBlock key) (is_block : IsBlock block
       ∙ ap (λ (s : List ℕ). xor s k) (mix-inv_mix sum (xor_block (left r) k (left-block r) (keys (9 - r))))
       ∙ key-twice (left r) k (left-block r) (keys (9 - r))
 
-  rounds-left : (k : ℕ) → k ≤ 9 → rounds key (decrypted key block) k ≡ left (9 - k)
-  unfolding rounds decrypted
+  rounds-left : (k : ℕ) → k ≤ 9 → rounds key (plaintext key block) k ≡ left (9 - k)
+  unfolding rounds plaintext
   rounds-left zero low = key-twice (left 9) (round_key key 0) (left-block 9) (keys 0)
   rounds-left (suc k) low =
       let r = 9 - suc k in
@@ -111,19 +111,19 @@ module _ (key block : List ℕ) (is_key : IsBlock key) (is_block : IsBlock block
       ∙ ap (state (left (suc r))) (sym same)
       ∙ round-left r
 
-  pub encrypted-decrypted : encrypted key (decrypted key block) ≡ block
-  unfolding encrypted inv_rounds
+  pub encrypted-decrypted : ciphertext key (plaintext key block) ≡ block
+  unfolding ciphertext inv_rounds
   encrypted-decrypted =
       let k = round_key key 10 in
       ap (λ (s : List ℕ). xor (shift_rows (sub_bytes s)) k) (rounds-left 9 (omega arith))
       ∙ ap (λ (s : List ℕ). xor s k) (shift-unshifted (inv_rounds key block 0) (inv_rounds-block 0))
       ∙ key-twice block k is_block (keys 10)
 
-pub decrypted-encrypted : (key block : List ℕ) → IsBlock key → IsBlock block → decrypted key (encrypted key block) ≡ block
+pub decrypted-encrypted : (key block : List ℕ) → IsBlock key → IsBlock block → plaintext key (ciphertext key block) ≡ block
 decrypted-encrypted key block is_key is_block =
-    let sealed = encrypted key block in
+    let sealed = ciphertext key block in
     let is_sealed = encrypted-block key block is_key in
-    encrypted_one_to_one key (decrypted key sealed) block is_key (decrypted-block key sealed is_key is_sealed) is_block (encrypted-decrypted key sealed is_key is_sealed)
+    encrypted_one_to_one key (plaintext key sealed) block is_key (decrypted-block key sealed is_key is_sealed) is_block (encrypted-decrypted key sealed is_key is_sealed)
 
 -- the inverse rounds, one after another
 pub inv_rounds-zero : (key block k : List ℕ) → k ≡ round_key key 10 → xor block k ≡ inv_rounds key block 0
@@ -138,6 +138,6 @@ inv_rounds-next key block s k r at is_key =
     ap (λ (s : List ℕ). inv_mix_columns (xor s k)) at
     ∙ (ap (λ (k : List ℕ). inv_mix_columns (xor (unshifted_state (inv_rounds key block r)) k)) is_key ∙ ap (inv_rounds key block) (sym plus))
 
-pub decrypted-last : (key block s : List ℕ) (r : ℕ) → r ≡ 9 → s ≡ unshifted_state (inv_rounds key block r) → xor s key ≡ decrypted key block
-unfolding decrypted round_key
+pub decrypted-last : (key block s : List ℕ) (r : ℕ) → r ≡ 9 → s ≡ unshifted_state (inv_rounds key block r) → xor s key ≡ plaintext key block
+unfolding plaintext round_key
 decrypted-last key block s r last at = ap (λ (s : List ℕ). xor s key) (at ∙ ap (λ n. unshifted_state (inv_rounds key block n)) last)

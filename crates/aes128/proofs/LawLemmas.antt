@@ -6,7 +6,7 @@ use Rattle.std.proofs.lemmas.List.{get_or_past}
 use Rattle.std.proofs.lemmas.List.Elements.{All-nil, All-cons, All-head, All-tail, All-append, All-get_or}
 use Rattle.aes128.specs.declared.substitution.TheConstants.{INVERSE_S_BOX}
 use Rattle.aes128.specs.Field.{◌⊕◌, power, word_product}
-use Rattle.aes128.specs.Cipher.{IsBlock, xor, column, byte_at, s_box, sub_bytes, shifted_column, shift_rows, mixed_column, mix_columns, rot_word, next_round_key, round_key, rounds, encrypted}
+use Rattle.aes128.specs.Cipher.{IsBlock, xor, column, byte_at, s_box, sub_bytes, shifted_column, shift_rows, mixed_column, mix_columns, rot_word, next_round_key, round_key, rounds, ciphertext}
 use Rattle.aes128.proofs.FieldLemmas.{xor_byte, product-lt}
 use Rattle.aes128.proofs.SBoxLemmas.{any_s_box-lt, s_box-lt, inverse-s_box}
 use Rattle.aes128.proofs.WordLemmas.{AreBytes, entry-lt, length-xor, xor-twice, state_columns, unmixing, unmixed-mixed}
@@ -126,8 +126,8 @@ any_sub_block s = (
         word_bytes (s_box (byte_at s 0 c)) (s_box (byte_at s 1 c)) (s_box (byte_at s 2 c)) (s_box (byte_at s 3 c))
         (record { first = any_s_box-lt _; second = any_s_box-lt _; third = any_s_box-lt _; fourth = any_s_box-lt _ })
 
-pub encrypted-block : (key block : List ℕ) → IsBlock key → IsBlock (encrypted key block)
-unfolding encrypted
+pub encrypted-block : (key block : List ℕ) → IsBlock key → IsBlock (ciphertext key block)
+unfolding ciphertext
 encrypted-block key block is_key =
     let s : List ℕ = rounds key block 9 in
     xor_block (shift_rows (sub_bytes s)) (round_key key 10) (shift_block (sub_bytes s) (any_sub_block s)) (round_key-block key is_key 10)
@@ -189,8 +189,8 @@ rounds_one_to_one key a b is_key is_a is_b (suc r) e =
     let shifted : s_shifted ≡ t_shifted = mix_one_to_one s_shifted t_shifted (shifted_block s is_s) (shifted_block t is_t) mixed in
     rounds_one_to_one key a b is_key is_a is_b r (shift_one_to_one s t is_s is_t shifted)
 
-pub encrypted_one_to_one : (key a b : List ℕ) → IsBlock key → IsBlock a → IsBlock b → encrypted key a ≡ encrypted key b → a ≡ b
-unfolding encrypted
+pub encrypted_one_to_one : (key a b : List ℕ) → IsBlock key → IsBlock a → IsBlock b → ciphertext key a ≡ ciphertext key b → a ≡ b
+unfolding ciphertext
 encrypted_one_to_one key a b is_key is_a is_b e =
     let s : List ℕ = rounds key a 9 in
     let t : List ℕ = rounds key b 9 in

@@ -1,7 +1,7 @@
 -- The rounds and the round keys, one after another.
 use Rattle.std.proofs.Common.{◌≡◌, ℕ, suc, ◌+◌, List, refl, sym, ap, ◌∙◌, add-one}
 use Rattle.aes128.specs.Field.{◌•◌, power}
-use Rattle.aes128.specs.Cipher.{xor, next_round_key, round_key, rounds, encrypted, sub_bytes, shift_rows, mix_columns}
+use Rattle.aes128.specs.Cipher.{xor, next_round_key, round_key, rounds, ciphertext, sub_bytes, shift_rows, mix_columns}
 
 pub power-next : (b r : ℕ) → power b (r + 1) ≡ b • power b r
 unfolding power
@@ -31,8 +31,8 @@ rounds-next key block s k r at is_key =
     let round = λ (s : List ℕ) (k : List ℕ). xor (mix_columns (shift_rows (sub_bytes s))) k in
     ap (λ (s : List ℕ). round s k) at ∙ ap (round (rounds key block r)) (is_key ∙ ap (round_key key) plus) ∙ ap (rounds key block) (sym plus)
 
-pub encrypted-last : (key block s k : List ℕ) → s ≡ rounds key block 9 → k ≡ round_key key 10 → xor (shift_rows (sub_bytes s)) k ≡ encrypted key block
-unfolding encrypted
+pub encrypted-last : (key block s k : List ℕ) → s ≡ rounds key block 9 → k ≡ round_key key 10 → xor (shift_rows (sub_bytes s)) k ≡ ciphertext key block
+unfolding ciphertext
 encrypted-last key block s k at is_key =
     let last = λ (s : List ℕ) (k : List ℕ). xor (shift_rows (sub_bytes s)) k in
     ap (λ (s : List ℕ). last s k) at ∙ ap (last (rounds key block 9)) is_key

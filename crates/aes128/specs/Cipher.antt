@@ -1,5 +1,7 @@
--- AES-128 (FIPS 197). A block, a state and a key are lists of 16 bytes, a word and a column are lists of 4.
-use Rattle.std.specs.Prelude.{◌≡◌, ℕ, zero, suc, ◌<◌, ◌+◌, ◌*◌, ◌%◌, ◌^◌, List, [], ◌∷◌, ◌++◌, length, map, take, drop, slice_index, slice_index_or, All}
+-- AES-128 (FIPS 197). A block, a state and a key are lists of 16 bytes, a word and a column are
+-- lists of 4.
+use Rattle.std.specs.Prelude.{◌≡◌, ℕ, zero, suc, ◌<◌, ◌+◌, ◌*◌, ◌%◌, ◌^◌, List, [], ◌∷◌, ◌++◌}
+use Rattle.std.specs.Prelude.{length, map, take, drop, slice_index, slice_index_or, All}
 use Rattle.std.specs.Int.{w8, w128, rotate_left, to_be_bytes}
 use Rattle.aes128.specs.Field.{◌⊕◌, power, inverse, word_product}
 
@@ -40,7 +42,9 @@ sub_bytes state = state_of (λ c. map s_box (column state c))
 
 -- column c of a state whose row r has moved left by r columns
 abbrev pub shifted_column : List ℕ → ℕ → List ℕ
-shifted_column s c = byte_at s 0 c ∷ byte_at s 1 ((c + 1) % 4) ∷ byte_at s 2 ((c + 2) % 4) ∷ byte_at s 3 ((c + 3) % 4) ∷ []
+shifted_column s c =
+    byte_at s 0 c ∷ byte_at s 1 ((c + 1) % 4) ∷ byte_at s 2 ((c + 2) % 4)
+    ∷ byte_at s 3 ((c + 3) % 4) ∷ []
 
 -- ShiftRows (§5.1.2)
 abbrev pub shift_rows : List ℕ → List ℕ
@@ -58,17 +62,19 @@ mix_columns state = state_of (λ c. mixed_column (column state c))
 abbrev pub rot_word : List ℕ → List ℕ
 rot_word word = drop 1 word ++ take 1 word
 
--- the next four words of the key schedule: each is the word four places before it plus the word before it,
--- which in the first place goes through RotWord, SubWord and a round constant (§5.2)
+-- the next four words of the key schedule: each is the word four places before it plus the word
+-- before it, which in the first place goes through RotWord, SubWord and a round constant (§5.2)
 abbrev pub next_round_key : ℕ → List ℕ → List ℕ
 next_round_key constant k =
-    let w0 = xor (column k 0) (xor (map s_box (rot_word (column k 3))) (constant ∷ 0 ∷ 0 ∷ 0 ∷ [])) in
+    let w0 =
+    xor (column k 0) (xor (map s_box (rot_word (column k 3))) (constant ∷ 0 ∷ 0 ∷ 0 ∷ [])) in
     let w1 = xor (column k 1) w0 in
     let w2 = xor (column k 2) w1 in
     let w3 = xor (column k 3) w2 in
     w0 ++ (w1 ++ (w2 ++ w3))
 
--- the key of round r: words 4 r to 4 r + 3 of the key schedule; the constant of round r + 1 is x^r (§5.2)
+-- the key of round r: words 4 r to 4 r + 3 of the key schedule; the constant of round r + 1 is x^r
+-- (§5.2)
 unfoldable pub round_key : List ℕ → ℕ → List ℕ
 round_key key zero = key
 round_key key (suc r) = next_round_key (power 2 r) (round_key key r)
@@ -81,8 +87,9 @@ pub record AreRoundKeys (keys : List (List ℕ)) : Type 0 where
 -- the state after AddRoundKey and r rounds (§5.1)
 unfoldable pub rounds : List ℕ → List ℕ → ℕ → List ℕ
 rounds key block zero = xor block (round_key key 0)
-rounds key block (suc r) = xor (mix_columns (shift_rows (sub_bytes (rounds key block r)))) (round_key key (suc r))
+rounds key block (suc r) =
+    xor (mix_columns (shift_rows (sub_bytes (rounds key block r)))) (round_key key (suc r))
 
 -- the encryption of a block: nine rounds, and one without MixColumns (§5.1)
-unfoldable pub encrypted : List ℕ → List ℕ → List ℕ
-encrypted key block = xor (shift_rows (sub_bytes (rounds key block 9))) (round_key key 10)
+unfoldable pub ciphertext : List ℕ → List ℕ → List ℕ
+ciphertext key block = xor (shift_rows (sub_bytes (rounds key block 9))) (round_key key 10)

@@ -1,5 +1,7 @@
--- The field GF(2^8) of FIPS 197 §4. A byte is an element: the polynomial in x whose coefficients are its bits.
-use Rattle.std.specs.Prelude.{ℕ, zero, suc, ◌*◌, ◌/◌, ◌%◌, ◌==◌, nat_lt, bit_xor, if◌then◌else◌, List, [], ◌∷◌, slice_index}
+-- The field GF(2^8) of FIPS 197 §4. A byte is an element: the polynomial in x whose coefficients
+-- are its bits.
+use Rattle.std.specs.Prelude.{ℕ, zero, suc, ◌*◌, ◌/◌, ◌%◌, ◌==◌, nat_lt, bit_xor, if◌then◌else◌}
+use Rattle.std.specs.Prelude.{List, [], ◌∷◌, slice_index}
 
 infixl 60 ◌⊕◌
 infixl 65 ◌•◌
@@ -34,7 +36,8 @@ unfoldable pub power : ℕ → ℕ → ℕ
 power b zero = 1
 power b (suc n) = b • power b n
 
--- the product of two words as polynomials a_3 y^3 + a_2 y^2 + a_1 y + a_0 over the field, modulo y^4 + 1 (§4.3)
+-- the product of two words as polynomials a_3 y^3 + a_2 y^2 + a_1 y + a_0 over the field, modulo
+-- y^4 + 1 (§4.3)
 abbrev pub word_product : List ℕ → List ℕ → List ℕ
 word_product a b =
     let a0 = slice_index a 0 in

@@ -4,9 +4,11 @@ use Rattle.std.specs.Int.{w8, rotate_left}
 use Rattle.aes128.specs.Field.{◌⊕◌, inverse, word_product}
 use Rattle.aes128.specs.Cipher.{xor, byte_at, column, state_of, round_key}
 
--- what undoes the substitution of one byte: the affine map is undone, and then the inverse is taken (§5.3.2)
+-- what undoes the substitution of one byte: the affine map is undone, and then the inverse is taken
+-- (§5.3.2)
 unfoldable pub inv_s_box : ℕ → ℕ
-inv_s_box byte = inverse (rotate_left w8 byte 1 ⊕ rotate_left w8 byte 3 ⊕ rotate_left w8 byte 6 ⊕ 0x05)
+inv_s_box byte =
+    inverse (rotate_left w8 byte 1 ⊕ rotate_left w8 byte 3 ⊕ rotate_left w8 byte 6 ⊕ 0x05)
 
 -- InvSubBytes (§5.3.2)
 abbrev pub inv_sub_bytes : List ℕ → List ℕ
@@ -14,7 +16,9 @@ inv_sub_bytes state = state_of (λ c. map inv_s_box (column state c))
 
 -- column c of a state whose row r has moved right by r columns
 abbrev pub unshifted_column : List ℕ → ℕ → List ℕ
-unshifted_column s c = byte_at s 0 c ∷ byte_at s 1 ((c + 3) % 4) ∷ byte_at s 2 ((c + 2) % 4) ∷ byte_at s 3 ((c + 1) % 4) ∷ []
+unshifted_column s c =
+    byte_at s 0 c ∷ byte_at s 1 ((c + 3) % 4) ∷ byte_at s 2 ((c + 2) % 4)
+    ∷ byte_at s 3 ((c + 1) % 4) ∷ []
 
 -- InvShiftRows (§5.3.1)
 abbrev pub inv_shift_rows : List ℕ → List ℕ
@@ -31,8 +35,11 @@ inv_mix_columns state = state_of (λ c. unmixed_column (column state c))
 -- the state after AddRoundKey with the last key and r inverse rounds (§5.3)
 unfoldable pub inv_rounds : List ℕ → List ℕ → ℕ → List ℕ
 inv_rounds key block zero = xor block (round_key key 10)
-inv_rounds key block (suc r) = inv_mix_columns (xor (inv_sub_bytes (inv_shift_rows (inv_rounds key block r))) (round_key key (9 - r)))
+inv_rounds key block (suc r) =
+    inv_mix_columns (xor (inv_sub_bytes (inv_shift_rows (inv_rounds key block r)))
+    (round_key key (9 - r)))
 
 -- the decryption of a block: nine inverse rounds, and one without InvMixColumns (§5.3)
-unfoldable pub decrypted : List ℕ → List ℕ → List ℕ
-decrypted key block = xor (inv_sub_bytes (inv_shift_rows (inv_rounds key block 9))) (round_key key 0)
+unfoldable pub plaintext : List ℕ → List ℕ → List ℕ
+plaintext key block =
+    xor (inv_sub_bytes (inv_shift_rows (inv_rounds key block 9))) (round_key key 0)

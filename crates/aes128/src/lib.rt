@@ -2,8 +2,8 @@
 #![tactic(auto)]
 
 ghost use Rattle.std.specs.Prelude.{◌≡◌};
-ghost use Rattle.aes128.specs.Cipher.{encrypted};
-ghost use Rattle.aes128.specs.InverseCipher.{decrypted};
+ghost use Rattle.aes128.specs.Cipher.{ciphertext};
+ghost use Rattle.aes128.specs.InverseCipher.{plaintext};
 
 mod columns;
 pub mod laws;
@@ -18,14 +18,14 @@ pub use sums::xor;
 
 /// Encrypts the block in place.
 pub fn encrypt(key: &Key, block: &mut [u8; 16])
-    ensures { block.new ≡ encrypted key.now.0 block.old }
+    ensures { block.new ≡ ciphertext key.now.0 block.old }
 {
     KeySchedule::new(key).encrypt(block);
 }
 
 /// Decrypts the block in place.
 pub fn decrypt(key: &Key, block: &mut [u8; 16])
-    ensures { block.new ≡ decrypted key.now.0 block.old }
+    ensures { block.new ≡ plaintext key.now.0 block.old }
 {
     KeySchedule::new(key).decrypt(block);
 }

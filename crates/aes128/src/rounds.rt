@@ -1,7 +1,9 @@
 // One round of the cipher, and what undoes it (FIPS 197 §5.1, §5.3).
 ghost use Rattle.std.specs.Prelude.{◌≡◌, ◌<◌, ◌+◌, ◌%◌, [], ◌∷◌, ◌++◌, map};
-ghost use Rattle.aes128.specs.Cipher.{xor, column, s_box, mixed_column, shifted_column, sub_bytes, shift_rows, mix_columns};
-ghost use Rattle.aes128.specs.InverseCipher.{inv_s_box, inv_sub_bytes, unshifted_column, inv_shift_rows, inv_mix_columns};
+ghost use Rattle.aes128.specs.Cipher.{xor, column, s_box, mixed_column, shifted_column, sub_bytes};
+ghost use Rattle.aes128.specs.Cipher.{shift_rows, mix_columns};
+ghost use Rattle.aes128.specs.InverseCipher.{inv_s_box, inv_sub_bytes, unshifted_column};
+ghost use Rattle.aes128.specs.InverseCipher.{inv_shift_rows, inv_mix_columns};
 
 use crate::columns::unmixed;
 use crate::substitution::{mixed_substituted, substituted, unsubstituted};
@@ -25,7 +27,8 @@ fn shifted_column(state: &[u8; 16], c: usize) -> [u8; 4]
 #[inline(always)]
 fn round_column(state: &[u8; 16], key: &[u8; 16], c: usize) -> [u8; 4]
     requires { c < 4 }
-    ensures { result ≡ xor (mixed_column (map s_box (shifted_column state.now c))) (column key.now c) }
+    ensures { result ≡ xor (mixed_column (map s_box (shifted_column state.now c)))
+        (column key.now c) }
 {
     mixed_substituted(
         state[4 * c],

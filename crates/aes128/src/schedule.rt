@@ -1,7 +1,7 @@
 // The key schedule (FIPS 197 §5.2), and the cipher over it (§5.1, §5.3).
 ghost use Rattle.std.specs.Prelude.{◌≡◌, List, ℕ, [], slice_index_or};
-ghost use Rattle.aes128.specs.Cipher.{xor, column, next_round_key, AreRoundKeys, encrypted};
-ghost use Rattle.aes128.specs.InverseCipher.{decrypted};
+ghost use Rattle.aes128.specs.Cipher.{xor, column, next_round_key, AreRoundKeys, ciphertext};
+ghost use Rattle.aes128.specs.InverseCipher.{plaintext};
 
 use crate::columns::doubled;
 use crate::rounds::{column_at, joined, last_round, round, undo_last_round, unround};
@@ -40,7 +40,7 @@ impl KeySchedule {
 
     /// Encrypts the block in place.
     pub fn encrypt(&self, block: &mut [u8; 16])
-        ensures { block.new ≡ encrypted self.now block.old }
+        ensures { block.new ≡ ciphertext self.now block.old }
     {
         xor(block, &self.round_keys[0]);
         for r in 0..9 {
@@ -51,7 +51,7 @@ impl KeySchedule {
 
     /// Decrypts the block in place.
     pub fn decrypt(&self, block: &mut [u8; 16])
-        ensures { block.new ≡ decrypted self.now block.old }
+        ensures { block.new ≡ plaintext self.now block.old }
     {
         undo_last_round(block, &self.round_keys[10]);
         for r in 0..9 {

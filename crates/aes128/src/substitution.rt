@@ -1,4 +1,5 @@
-// SubBytes and InvSubBytes of one byte (FIPS 197 §5.1.1, §5.3.2); SubBytes and MixColumns of a column.
+// SubBytes and InvSubBytes of one byte (FIPS 197 §5.1.1, §5.3.2); SubBytes and MixColumns of a
+// column.
 ghost use Rattle.std.specs.Prelude.{◌≡◌, [], ◌∷◌};
 ghost use Rattle.aes128.specs.Cipher.{mixed_column, s_box, xor};
 ghost use Rattle.aes128.specs.InverseCipher.{inv_s_box};
@@ -42,7 +43,8 @@ static INVERSE_S_BOX: [u8; 256] = [
     0x17, 0x2b, 0x04, 0x7e, 0xba, 0x77, 0xd6, 0x26, 0xe1, 0x69, 0x14, 0x63, 0x55, 0x21, 0x0c, 0x7d,
 ];
 
-// Of each byte, the column that MixColumns makes of its substitution in row 0, the first byte lowest.
+// Of each byte, the column that MixColumns makes of its substitution in row 0, the first byte
+// lowest.
 static MIXED_S_BOX: [u32; 256] = [
     0xa56363c6, 0x847c7cf8, 0x997777ee, 0x8d7b7bf6, 0x0df2f2ff, 0xbd6b6bd6, 0xb16f6fde, 0x54c5c591,
     0x50303060, 0x03010102, 0xa96767ce, 0x7d2b2b56, 0x19fefee7, 0x62d7d7b5, 0xe6abab4d, 0x9a7676ec,
@@ -95,7 +97,8 @@ pub fn unsubstituted(byte: u8) -> u8
 // The column that SubBytes, MixColumns and AddRoundKey make of these four bytes.
 #[inline(always)]
 pub fn mixed_substituted(a: u8, b: u8, c: u8, d: u8, key: u32) -> [u8; 4]
-    ensures { result ≡ xor (mixed_column (s_box a ∷ s_box b ∷ s_box c ∷ s_box d ∷ [])) (to_le_bytes w32 key) }
+    ensures { result ≡ xor (mixed_column (s_box a ∷ s_box b ∷ s_box c ∷ s_box d ∷ []))
+        (to_le_bytes w32 key) }
 {
     let first = MIXED_S_BOX[a as usize];
     let second = MIXED_S_BOX[b as usize].rotate_left(8);

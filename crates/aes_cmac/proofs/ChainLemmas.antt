@@ -6,8 +6,8 @@ use Rattle.std.proofs.lemmas.Bool.Decides.{eqb_tells}
 use Rattle.std.proofs.lemmas.List.{take-append-le, drop-append-le, drop_all, take_all, append-nil}
 use Rattle.std.specs.Int.Bits.{xor_assoc, xor_zero_r}
 use Rattle.aes128.specs.Field.{◌⊕◌}
-use Rattle.aes128.specs.Cipher.{xor, encrypted, rounds, round_key, shift_rows, sub_bytes}
-use Rattle.aes_cmac.specs.Cmac.{zero_block, first_subkey, second_subkey, blocks_before_last, after_blocks, chained, masked_last, filled, IsChained, cmac, doubled_number}
+use Rattle.aes128.specs.Cipher.{xor, ciphertext, rounds, round_key, shift_rows, sub_bytes}
+use Rattle.aes_cmac.specs.Cmac.{zero_block, first_subkey, second_subkey, blocks_before_last, after_blocks, chain_value, masked_last, zero_padded, IsChained, cmac, double_number}
 
 pub xor_assoc_lists : (as' bs cs : List ℕ) → xor (xor as' bs) cs ≡ xor as' (xor bs cs)
 xor_assoc_lists [] bs cs = refl
@@ -35,28 +35,28 @@ set-xor_filled (c ∷ chain) [] byte z room = ap (λ (n : ℕ). (n ⊕ byte) ∷
 set-xor_filled (c ∷ chain) (b ∷ bytes) byte z room = ap (λ (l : List ℕ). (c ⊕ b) ∷ l) (set-xor_filled chain bytes byte z (omega arith))
 
 -- what has come later does not change the chain
-pub chained-append : (key message more : List ℕ) (n : ℕ) → 16 * n ≤ length message → chained key (message ++ more) n ≡ chained key message n
-unfolding chained
+pub chained-append : (key message more : List ℕ) (n : ℕ) → 16 * n ≤ length message → chain_value key (message ++ more) n ≡ chain_value key message n
+unfolding chain_value
 chained-append key message more zero fits = refl
 chained-append key message more (suc n) fits =
     let rest : length (drop (16 * n) message) ≡ length message - 16 * n = length-drop (16 * n) message in
     let first : take 16 (drop (16 * n) (message ++ more)) ≡ take 16 (drop (16 * n) message) =
     rw (drop-append-le (16 * n) message more (omega arith)) (take-append-le 16 (drop (16 * n) message) more (omega arith)) in
-    ap (λ (chain : List ℕ). encrypted key (xor chain (take 16 (drop (16 * n) (message ++ more))))) (chained-append key message more n (omega arith))
-    ∙ ap (λ (block : List ℕ). encrypted key (xor (chained key message n) block)) first
+    ap (λ (chain : List ℕ). ciphertext key (xor chain (take 16 (drop (16 * n) (message ++ more))))) (chained-append key message more n (omega arith))
+    ∙ ap (λ (block : List ℕ). ciphertext key (xor (chain_value key message n) block)) first
 
 pub length-after : (n : ℕ) (message : List ℕ) → length (after_blocks n message) ≡ length message - 16 * n
 length-after n message = length-drop (16 * n) message
 
 -- a byte goes into a block that has room
 pub IsChained-byte : (key block message : List ℕ) (used n byte : ℕ) → IsChained key block message used n → used < 16 → length block ≡ 16
-    → set block used (get_or block used 0 ⊕ byte) ≡ xor (chained key message n) (after_blocks n message ++ byte ∷ replicate (15 - used) 0)
+    → set block used (get_or block used 0 ⊕ byte) ≡ xor (chain_value key message n) (after_blocks n message ++ byte ∷ replicate (15 - used) 0)
 IsChained-byte key block message used n byte held room size =
     let rest : length (after_blocks n message) ≡ used = length-after n message ∙ (let p = held.place in omega arith) in
     let left : 16 - used ≡ suc (15 - used) = omega arith in
-    let chain : List ℕ = chained key message n in
+    let chain : List ℕ = chain_value key message n in
     let bytes : List ℕ = after_blocks n message in
-    let long : length block ≤ length chain = rw held.added (length-xor_le chain (filled bytes)) in
+    let long : length block ≤ length chain = rw held.added (length-xor_le chain (zero_padded bytes)) in
     let is : block ≡ xor chain (bytes ++ replicate (suc (15 - used)) 0) = held.added ∙ ap (λ (k : ℕ). xor chain (bytes ++ replicate k 0)) (ap (λ (k : ℕ). 16 - k) rest ∙ left) in
     ap (λ (b : List ℕ). set b used (get_or b used 0 ⊕ byte)) is
     ∙ ap (λ (k : ℕ). set (xor chain (bytes ++ replicate (suc (15 - used)) 0)) k (get_or (xor chain (bytes ++ replicate (suc (15 - used)) 0)) k 0 ⊕ byte)) (sym rest)
@@ -71,8 +71,8 @@ IsChained-more key block message used byte held room size =
     let same : blocks_before_last (message ++ byte ∷ []) ≡ n = omega arith in
     let rest : length (after_blocks n message) ≡ used = length-after n message ∙ omega arith in
     let parts : after_blocks n (message ++ byte ∷ []) ≡ after_blocks n message ++ byte ∷ [] = drop-append-le (16 * n) message (byte ∷ []) (omega arith) in
-    let fill : filled (after_blocks n (message ++ byte ∷ [])) ≡ after_blocks n message ++ byte ∷ replicate (15 - used) 0 =
-    ap filled parts
+    let fill : zero_padded (after_blocks n (message ++ byte ∷ [])) ≡ after_blocks n message ++ byte ∷ replicate (15 - used) 0 =
+    ap zero_padded parts
     ∙ append_assoc (after_blocks n message) (byte ∷ []) (replicate (16 - length (after_blocks n message ++ byte ∷ [])) 0)
     ∙ ap (λ (k : ℕ). after_blocks n message ++ byte ∷ replicate k 0)
     (let grown : length (after_blocks n message ++ byte ∷ []) ≡ length (after_blocks n message) + 1 = length-append (after_blocks n message) (byte ∷ []) in omega arith) in
@@ -80,26 +80,26 @@ IsChained-more key block message used byte held room size =
       place = omega arith;
       added =
           IsChained-byte key block message used n byte held room size
-          ∙ ap (λ (l : List ℕ). xor (chained key message n) l) (sym fill)
-          ∙ ap (λ (l : List ℕ). xor l (filled (after_blocks n (message ++ byte ∷ [])))) (sym (chained-append key message (byte ∷ []) n (omega arith)));
+          ∙ ap (λ (l : List ℕ). xor (chain_value key message n) l) (sym fill)
+          ∙ ap (λ (l : List ℕ). xor l (zero_padded (after_blocks n (message ++ byte ∷ [])))) (sym (chained-append key message (byte ∷ []) n (omega arith)));
     })
 
 pub IsChained-none : (key : List ℕ) → IsChained key zero_block [] 0 0
-unfolding chained
+unfolding chain_value
 IsChained-none key = record { place = refl; added = refl }
 
-pub filled-whole : (bytes : List ℕ) → length bytes ≡ 16 → filled bytes ≡ bytes
+pub filled-whole : (bytes : List ℕ) → length bytes ≡ 16 → zero_padded bytes ≡ bytes
 filled-whole bytes whole = ap (λ (k : ℕ). bytes ++ replicate (16 - k) 0) whole ∙ append-nil bytes
 
 -- an encryption has no more bytes than a block
-pub length-encrypted : (key block : List ℕ) → length (encrypted key block) ≤ 16
-unfolding encrypted
+pub length-encrypted : (key block : List ℕ) → length (ciphertext key block) ≤ 16
+unfolding ciphertext
 length-encrypted key block = length-xor_le (shift_rows (sub_bytes (rounds key block 9))) (round_key key 10)
 
 -- a whole block goes into the chain
 pub IsChained-block : (key block next message : List ℕ) (used : ℕ) → IsChained key block message used (blocks_before_last message) → used ≡ 16
-    → next ≡ encrypted key block → IsChained key next message 0 (length message / 16)
-unfolding chained
+    → next ≡ ciphertext key block → IsChained key next message 0 (length message / 16)
+unfolding chain_value
 IsChained-block key block next message used held whole is_next =
     let size : length next ≤ 16 = rw is_next (length-encrypted key block) in
     let q : ℕ = blocks_before_last message in
@@ -107,12 +107,12 @@ IsChained-block key block next message used held whole is_next =
     let more : length message / 16 ≡ suc q = omega arith in
     let rest : length (after_blocks q message) ≡ 16 = length-after q message ∙ omega arith in
     let none : after_blocks (suc q) message ≡ [] = drop_all (16 * suc q) message (omega arith) in
-    let block_is : block ≡ xor (chained key message q) (take 16 (after_blocks q message)) =
-    held.added ∙ ap (xor (chained key message q)) (filled-whole (after_blocks q message) rest ∙ sym (take_all 16 (after_blocks q message) (omega arith))) in
-    let next_is : next ≡ chained key message (suc q) = is_next ∙ ap (encrypted key) block_is in
+    let block_is : block ≡ xor (chain_value key message q) (take 16 (after_blocks q message)) =
+    held.added ∙ ap (xor (chain_value key message q)) (filled-whole (after_blocks q message) rest ∙ sym (take_all 16 (after_blocks q message) (omega arith))) in
+    let next_is : next ≡ chain_value key message (suc q) = is_next ∙ ap (ciphertext key) block_is in
     rw more (record {
       place = omega arith;
-      added = sym (ap (λ (l : List ℕ). xor (chained key message (suc q)) (filled l)) none ∙ ap (λ (l : List ℕ). xor l zero_block) (sym next_is) ∙ xor_zeros next 16 (omega arith)) ∙ refl;
+      added = sym (ap (λ (l : List ℕ). xor (chain_value key message (suc q)) (zero_padded l)) none ∙ ap (λ (l : List ℕ). xor l zero_block) (sym next_is) ∙ xor_zeros next 16 (omega arith)) ∙ refl;
     })
 
 masked_whole : (key last : List ℕ) → length last ≡ 16 → masked_last key last ≡ xor last (first_subkey key)
@@ -127,20 +127,20 @@ masked_short key last short =
 
 -- the MAC of a message whose last block is whole, and of another
 pub cmac-whole : (key block message : List ℕ) (used : ℕ) → IsChained key block message used (blocks_before_last message) → used ≡ 16
-    → encrypted key (xor block (first_subkey key)) ≡ cmac key message
+    → ciphertext key (xor block (first_subkey key)) ≡ cmac key message
 unfolding cmac
 cmac-whole key block message used held whole =
     let q : ℕ = blocks_before_last message in
     let last : List ℕ = after_blocks q message in
     let place : 16 * q + used ≡ length message = held.place in
     let rest : length last ≡ 16 = length-after q message ∙ omega arith in
-    ap (encrypted key)
-    (ap (λ (b : List ℕ). xor b (first_subkey key)) (held.added ∙ ap (xor (chained key message q)) (filled-whole last rest))
-    ∙ xor_assoc_lists (chained key message q) last (first_subkey key)
-    ∙ ap (xor (chained key message q)) (sym (masked_whole key last rest)))
+    ap (ciphertext key)
+    (ap (λ (b : List ℕ). xor b (first_subkey key)) (held.added ∙ ap (xor (chain_value key message q)) (filled-whole last rest))
+    ∙ xor_assoc_lists (chain_value key message q) last (first_subkey key)
+    ∙ ap (xor (chain_value key message q)) (sym (masked_whole key last rest)))
 
 pub cmac-short : (key block message : List ℕ) (used : ℕ) → IsChained key block message used (blocks_before_last message) → used < 16 → length block ≡ 16
-    → encrypted key (xor (set block used (get_or block used 0 ⊕ 0x80)) (second_subkey key)) ≡ cmac key message
+    → ciphertext key (xor (set block used (get_or block used 0 ⊕ 0x80)) (second_subkey key)) ≡ cmac key message
 unfolding cmac
 cmac-short key block message used held short size =
     let q : ℕ = blocks_before_last message in
@@ -148,17 +148,17 @@ cmac-short key block message used held short size =
     let place : 16 * q + used ≡ length message = held.place in
     let rest : length last ≡ used = length-after q message ∙ omega arith in
     let padded : List ℕ = last ++ 0x80 ∷ replicate (15 - used) 0 in
-    ap (encrypted key)
+    ap (ciphertext key)
     (ap (λ (b : List ℕ). xor b (second_subkey key)) (IsChained-byte key block message used q 0x80 held short size)
-    ∙ xor_assoc_lists (chained key message q) padded (second_subkey key)
-    ∙ ap (xor (chained key message q)) (ap (λ (k : ℕ). xor (last ++ 0x80 ∷ replicate (15 - k) 0) (second_subkey key)) (sym rest) ∙ sym (masked_short key last (omega arith))))
+    ∙ xor_assoc_lists (chain_value key message q) padded (second_subkey key)
+    ∙ ap (xor (chain_value key message q)) (ap (λ (k : ℕ). xor (last ++ 0x80 ∷ replicate (15 - k) 0) (second_subkey key)) (sym rest) ∙ sym (masked_short key last (omega arith))))
 
-pub doubled_number-low : (n : ℕ) → n < 2 ^ 127 → n * 2 % 2 ^ 128 ≡ doubled_number n
-unfolding doubled_number
+pub doubled_number-low : (n : ℕ) → n < 2 ^ 127 → n * 2 % 2 ^ 128 ≡ double_number n
+unfolding double_number
 doubled_number-low n low = rw (lt-ltb n (2 ^ 127) low) (omega arith)
 
-pub doubled_number-high : (n : ℕ) → 2 ^ 127 ≤ n → n < 2 ^ 128 → (n * 2 % 2 ^ 128) ⊕ 0x87 ≡ doubled_number n
-unfolding doubled_number
+pub doubled_number-high : (n : ℕ) → 2 ^ 127 ≤ n → n < 2 ^ 128 → (n * 2 % 2 ^ 128) ⊕ 0x87 ≡ double_number n
+unfolding double_number
 doubled_number-high n high fits =
     let once : n * 2 % 2 ^ 128 ≡ 2 * n - 2 ^ 128 = omega arith in
     rw (le-ltb n (2 ^ 127) high) (ap (λ (k : ℕ). k ⊕ 0x87) once)

@@ -1,6 +1,6 @@
 // The chain of a message's blocks, byte by byte (RFC 4493 §2.4).
 ghost use Rattle.std.specs.Prelude.{◌≡◌, ◌+◌, ◌-◌, ◌/◌, ◌<◌, ◌≤◌, ℕ, List, [], ◌∷◌, ◌++◌, length};
-ghost use Rattle.aes_cmac.specs.Cmac.{IsChained, blocks_before_last, cmac, doubled};
+ghost use Rattle.aes_cmac.specs.Cmac.{IsChained, blocks_before_last, cmac, double};
 
 use aes128::{KeySchedule, xor};
 
@@ -26,7 +26,8 @@ impl Chain {
     pub fn absorb(&mut self, keys: &KeySchedule, piece: &[u8])
         ensures { (message : List ℕ)
             → IsChained keys.now self.old.block message self.old.used (blocks_before_last message)
-            → IsChained keys.now self.new.block (message ++ piece.now) self.new.used (blocks_before_last (message ++ piece.now)) }
+            → IsChained keys.now self.new.block (message ++ piece.now) self.new.used
+            (blocks_before_last (message ++ piece.now)) }
     {
         for byte in piece {
             self.absorb_byte(keys, *byte);
@@ -36,14 +37,16 @@ impl Chain {
     fn absorb_byte(&mut self, keys: &KeySchedule, byte: u8)
         ensures { (message : List ℕ)
             → IsChained keys.now self.old.block message self.old.used (blocks_before_last message)
-            → IsChained keys.now self.new.block (message ++ byte ∷ []) self.new.used (blocks_before_last (message ++ byte ∷ [])) }
+            → IsChained keys.now self.new.block (message ++ byte ∷ []) self.new.used
+            (blocks_before_last (message ++ byte ∷ [])) }
     {
         self.make_room(keys);
         self.block[self.used] ^= byte;
         self.used += 1;
     }
 
-    // A whole block is encrypted only once another byte comes, since the last block is masked first.
+    // A whole block is encrypted only once another byte comes, since the last block is masked
+    // first.
     fn make_room(&mut self, keys: &KeySchedule)
         ensures room { self.new.used < 16 }
         ensures chained { (message : List ℕ)
@@ -77,7 +80,7 @@ impl Chain {
 }
 
 fn doubled(block: [u8; 16]) -> [u8; 16]
-    ensures { result ≡ doubled block }
+    ensures { result ≡ double block }
 {
     let number = u128::from_be_bytes(block);
     if number < 1 << 127 {

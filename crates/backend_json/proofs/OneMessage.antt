@@ -12,7 +12,7 @@ use Rattle.backend_json.specs.declared.join_ans.Cause.{Cause}
 use Rattle.backend_json.specs.declared.join_ans.Cause.TheVariants.{UnknownDevEui, WrongJoinEui, BadMic, DevNonceUsed, JoinNonceSpent, BadMessage}
 use Rattle.backend_json.specs.declared.join_ans.JoinAns.{JoinAns}
 use Rattle.backend_json.specs.Messages.{IsAsk, join_req}
-use Rattle.backend_json.specs.Answers.{AreKeys, IsAns, aes_key, closing, description_of, join_ans, opening, outcome_of}
+use Rattle.backend_json.specs.Answers.{AreKeys, IsAns, aes_key, members_behind, description_of, join_ans, members_before, result_of}
 use Rattle.backend_json.proofs.Equal.{inside, behind, at_front, key_at_front, same_text, same_number}
 
 -- what is known of the texts of values
@@ -91,7 +91,7 @@ pub record SameEnds (a b : JoinAns) : Type 0 where
   pub transaction : a.transaction ≡ b.transaction
 
 same_ends : TextLaws → (a b : JoinAns) → IsAns a → IsAns b → (x y : Data)
-    → closing a.receiver x a.sender a.transaction ≡ closing b.receiver y b.sender b.transaction → SameEnds a b × (x ≡ y)
+    → members_behind a.receiver x a.sender a.transaction ≡ members_behind b.receiver y b.sender b.transaction → SameEnds a b × (x ≡ y)
 same_ends laws a b ia ib x y e =
     let r1 = behind refl e in
     let r2 = behind refl r1 in
@@ -122,7 +122,7 @@ same_key laws a b ia ib e = laws.keys a b ia ib (same_text (at_front refl (insid
 accepted_of : Key → Key → List ℕ → Accepted
 accepted_of app_skey nwk_skey accept = record { app_skey = app_skey; nwk_skey = nwk_skey; accept = accept }
 
-same_accepted : TextLaws → (x y : Accepted) → AreKeys x → AreKeys y → (m n : Members) → opening (Ok x) m ≡ opening (Ok y) n → (x ≡ y) × (m ≡ n)
+same_accepted : TextLaws → (x y : Accepted) → AreKeys x → AreKeys y → (m n : Members) → members_before (Ok x) m ≡ members_before (Ok y) n → (x ≡ y) × (m ≡ n)
 unfolding accepted_of
 same_accepted laws x y ix iy m n e =
     let r1 = behind refl e in
@@ -140,7 +140,7 @@ two_names e = search rules
 
 -- the members of an answer with this result
 members_of_ans : JoinAns → Result Accepted Cause → Members
-members_of_ans a result = opening result (closing a.receiver (outcome_of result) a.sender a.transaction)
+members_of_ans a result = members_before result (members_behind a.receiver (result_of result) a.sender a.transaction)
 
 by_results : TextLaws → (a b : JoinAns) → IsAns a → IsAns b → (x y : Result Accepted Cause) → a.result ≡ x → b.result ≡ y
     → IfOk x AreKeys → IfOk y AreKeys → members_of_ans a x ≡ members_of_ans b y → a ≡ b
@@ -150,7 +150,7 @@ by_results laws a b ia ib (Ok x) (Ok y) ax by ix iy e =
     let ends = same_ends laws a b ia ib _ _ parts.1 in
     with_same a b ends.0 (ax ∙ ap Ok parts.0 ∙ sym by)
 by_results laws a b ia ib (Err x) (Err y) ax by ix iy e =
-    let ends = same_ends laws a b ia ib (outcome_of (Err x)) (outcome_of (Err y)) (behind refl e) in
+    let ends = same_ends laws a b ia ib (result_of (Err x)) (result_of (Err y)) (behind refl e) in
     let description = same_text (at_front refl (inside ends.1)) in
     let cause : x ≡ y = sym (described-of x) ∙ ap described description ∙ described-of y in
     with_same a b ends.0 (ax ∙ ap Err cause ∙ sym by)

@@ -1,14 +1,18 @@
--- The answers of a join server, as the values that JSON texts are read as. The members stand in the byte order of their
--- names, and there are no others.
-use Rattle.std.specs.Prelude.{◌≡◌, ◌<◌, ◌^◌, ℕ, List, [], length, Some, codes, Result, Ok, Err, IfOk}
-use Rattle.serde_json.specs.Data.{Data, Members, number, string, object, member, no_members, unsigned}
+-- The answers of a join server, as the values that JSON texts are read as. The members stand in the
+-- byte order of their names, and there are no others.
+use Rattle.std.specs.Prelude.{◌≡◌, ◌<◌, ◌^◌, ℕ, List, [], length, Some, codes, Result, Ok, Err}
+use Rattle.std.specs.Prelude.{IfOk}
+use Rattle.serde_json.specs.Data.{Data, Members, number, string, object, member, no_members}
+use Rattle.serde_json.specs.Data.{unsigned}
 use Rattle.serde_json.specs.Read.{read}
 use Rattle.lw_types.specs.Hex.{IsBytes, eui_text, hex_text, key_text, net_id_text}
 use Rattle.lw_types.specs.declared.key.Key.{Key}
 use Rattle.lw_types.specs.declared.identifiers.Eui.{Eui}
 use Rattle.backend_json.specs.declared.join_ans.Accepted.{Accepted}
 use Rattle.backend_json.specs.declared.join_ans.Cause.{Cause}
-use Rattle.backend_json.specs.declared.join_ans.Cause.TheVariants.{UnknownDevEui, WrongJoinEui, BadMic, DevNonceUsed, JoinNonceSpent, BadMessage}
+use Rattle.backend_json.specs.declared.join_ans.Cause.TheVariants.{UnknownDevEui, WrongJoinEui}
+use Rattle.backend_json.specs.declared.join_ans.Cause.TheVariants.{BadMic, DevNonceUsed}
+use Rattle.backend_json.specs.declared.join_ans.Cause.TheVariants.{JoinNonceSpent, BadMessage}
 use Rattle.backend_json.specs.declared.join_ans.JoinAns.{JoinAns}
 
 -- a key stands in an object of its own
@@ -32,16 +36,18 @@ description_of DevNonceUsed = codes "dev nonce used"
 description_of JoinNonceSpent = codes "join nonce spent"
 description_of BadMessage = codes "bad message"
 
-abbrev pub outcome : List ℕ → List ℕ → Data
-outcome code description = object (member (codes "Description") (string description) (member (codes "ResultCode") (string code) no_members))
+abbrev pub result_object : List ℕ → List ℕ → Data
+result_object code description =
+    object (member (codes "Description") (string description)
+    (member (codes "ResultCode") (string code) no_members))
 
-abbrev pub outcome_of : Result Accepted Cause → Data
-outcome_of (Ok accepted) = outcome (codes "Success") []
-outcome_of (Err cause) = outcome (code_of cause) (description_of cause)
+abbrev pub result_of : Result Accepted Cause → Data
+result_of (Ok accepted) = result_object (codes "Success") []
+result_of (Err cause) = result_object (code_of cause) (description_of cause)
 
 -- the members of every answer from ProtocolVersion on
-abbrev pub closing : ℕ → Data → Eui → ℕ → Members
-closing receiver result sender transaction =
+abbrev pub members_behind : ℕ → Data → Eui → ℕ → Members
+members_behind receiver result sender transaction =
     member (codes "ProtocolVersion") (string (codes "1.0"))
     (member (codes "ReceiverID") (string (net_id_text receiver))
     (member (codes "Result") result
@@ -50,18 +56,20 @@ closing receiver result sender transaction =
     no_members))))
 
 -- and those before: a join that is granted has the two keys and the accept besides
-abbrev pub opening : Result Accepted Cause → Members → Members
-opening (Ok accepted) rest =
+abbrev pub members_before : Result Accepted Cause → Members → Members
+members_before (Ok accepted) rest =
     member (codes "AppSKey") (aes_key accepted.app_skey)
     (member (codes "MessageType") (string (codes "JoinAns"))
     (member (codes "NwkSKey") (aes_key accepted.nwk_skey)
     (member (codes "PHYPayload") (string (hex_text accepted.accept))
     rest)))
-opening (Err cause) rest = member (codes "MessageType") (string (codes "JoinAns")) rest
+members_before (Err cause) rest = member (codes "MessageType") (string (codes "JoinAns")) rest
 
 -- a JoinAns
 abbrev pub join_ans : JoinAns → Data
-join_ans ans = object (opening ans.result (closing ans.receiver (outcome_of ans.result) ans.sender ans.transaction))
+join_ans ans =
+    object (members_before ans.result
+    (members_behind ans.receiver (result_of ans.result) ans.sender ans.transaction))
 
 -- a text is such an answer if it is read as it
 abbrev pub IsJoinAns : List ℕ → JoinAns → Type 0

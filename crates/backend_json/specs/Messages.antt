@@ -1,7 +1,8 @@
--- The messages between a network and its join server, as the values that JSON texts are read as. The members stand in
--- the byte order of their names, and there are no others.
+-- The messages between a network and its join server, as the values that JSON texts are read as.
+-- The members stand in the byte order of their names, and there are no others.
 use Rattle.std.specs.Prelude.{◌≡◌, ◌<◌, ◌≤◌, ◌^◌, ℕ, List, [], ◌∷◌, Some, codes}
-use Rattle.serde_json.specs.Data.{Data, Members, number, string, object, member, no_members, unsigned}
+use Rattle.serde_json.specs.Data.{Data, Members, number, string, object, member, no_members}
+use Rattle.serde_json.specs.Data.{unsigned}
 use Rattle.serde_json.specs.Read.{read}
 use Rattle.lw_types.specs.Hex.{IsBytes, dev_addr_text, eui_text, hex_text, net_id_text}
 use Rattle.lw_types.specs.declared.identifiers.DevAddr.{DevAddr}
@@ -13,8 +14,8 @@ abbrev pub eui : ℕ → Eui
 eui n = record { 0 = n }
 
 -- the members of a question up to MessageType
-abbrev pub device : ℕ → DevAddr → Eui → Members → Members
-device dl_settings dev_addr dev_eui rest =
+abbrev pub device_members : ℕ → DevAddr → Eui → Members → Members
+device_members dl_settings dev_addr dev_eui rest =
     member (codes "DLSettings") (string (hex_text (dl_settings ∷ [])))
     (member (codes "DevAddr") (string (dev_addr_text dev_addr))
     (member (codes "DevEUI") (string (eui_text dev_eui))
@@ -23,8 +24,8 @@ device dl_settings dev_addr dev_eui rest =
     rest))))
 
 -- and from RxDelay on
-abbrev pub network : ℕ → ℕ → ℕ → Members
-network rx_delay net_id transaction =
+abbrev pub network_members : ℕ → ℕ → ℕ → Members
+network_members rx_delay net_id transaction =
     member (codes "RxDelay") (number (unsigned rx_delay))
     (member (codes "SenderID") (string (net_id_text net_id))
     (member (codes "TransactionID") (number (unsigned transaction))
@@ -34,11 +35,11 @@ network rx_delay net_id transaction =
 abbrev pub join_req : JoinAsk → Data
 join_req ask =
     object
-    (device ask.dl_settings ask.dev_addr (eui (dev_eui_of ask.request))
+    (device_members ask.dl_settings ask.dev_addr (eui (dev_eui_of ask.request))
     (member (codes "PHYPayload") (string (hex_text ask.request))
     (member (codes "ProtocolVersion") (string (codes "1.0"))
     (member (codes "ReceiverID") (string (eui_text (eui (join_eui_of ask.request))))
-    (network ask.rx_delay ask.net_id ask.transaction)))))
+    (network_members ask.rx_delay ask.net_id ask.transaction)))))
 
 -- a text is such a message if it is read as it
 abbrev pub IsJoinReq : List ℕ → JoinAsk → Type 0

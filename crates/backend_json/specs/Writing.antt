@@ -5,5 +5,5 @@ use Rattle.serde_json.specs.View.{members_view}
 use Rattle.backend_json.specs.declared.json.Object.{Object}
 
 -- what its members are, where there was memory for all of them
-abbrev pub Holds : Object → Members → Type 0
-Holds written members = IfOk written.members (λ map. members_view map.entries ≡ members)
+abbrev pub HoldsMembers : Object → Members → Type 0
+HoldsMembers written members = IfOk written.members (λ map. members_view map.entries ≡ members)

@@ -4,16 +4,17 @@ ghost use Rattle.serde_json.specs.Written.{compact_text};
 ghost use Rattle.lw_types.specs.declared.refusal.Refusal.TheVariants.{OutOfMemory};
 ghost use Rattle.backend_json.specs.declared.join_ans.JoinAns.{JoinAns};
 ghost use Rattle.backend_json.specs.Answers.{IsAns, IsJoinAns, join_ans};
-ghost use Rattle.backend_json.specs.Replies.{IsReply, ans_to, cause_of, no_question, reply};
+ghost use Rattle.backend_json.specs.Replies.{IsReply, ans_to, cause_of, bad_message_reply, reply};
 
 use crate::{Accepted, Cause, JoinAns, join_ans_text, read_join_req};
 use join_server::{JoinAsk, JoinState, answer};
 use lw_types::{NetId, Refusal};
 use std::alloc::Global;
 
-/// Answers a text that a network sends, for the device of the state: the text of the answer, and the device's state after
-/// a join that is granted. Every text is answered, with the first cause that there is: that it is no question, that
-/// the device is another one, and then those of [`answer`]. Refused with `OutOfMemory` alone.
+/// Answers a text that a network sends, for the device of the state: the text of the answer, and
+/// the device's state after a join that is granted. Every text is answered, with the first cause
+/// that there is: that it is no question, that the device is another one, and then those of
+/// [`answer`]. Refused with `OutOfMemory` alone.
 pub fn answer_text(
     alloc: Global,
     state: &JoinState,
@@ -21,7 +22,8 @@ pub fn answer_text(
 ) -> Result<(String, Option<JoinState>), Refusal>
     ensures { MatchResult result
         (λ found. (ans : JoinAns) × IsAns ans × IsReply state.now text.now (ans, found.1)
-        × (string_bytes found.0 ≡ compact_text (join_ans ans)) × IsJoinAns (string_bytes found.0) ans)
+        × (string_bytes found.0 ≡ compact_text (join_ans ans))
+        × IsJoinAns (string_bytes found.0) ans)
         (λ e. e ≡ OutOfMemory) }
 {
     let (ans, after) = reply_to(alloc, state, text)?;
@@ -91,7 +93,7 @@ fn cause_of(refusal: Refusal) -> Cause
 }
 
 fn no_question(state: &JoinState) -> (JoinAns, Option<JoinState>)
-    ensures { result ≡ no_question state.now }
+    ensures { result ≡ bad_message_reply state.now }
 {
     let ans = JoinAns {
         receiver: NetId::zero(),

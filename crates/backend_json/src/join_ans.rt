@@ -44,7 +44,7 @@ impl Cause {
         }
     }
 
-    /// The Description, by which each cause is told from the others.
+    /// The Description, by which each cause is known from the others.
     pub fn description(self) -> &'static str
         ensures { result.now ≡ description_of self }
     {
@@ -61,7 +61,8 @@ impl Cause {
     /// The cause of this Description.
     pub(crate) fn described(description: &str) -> Option<Self>
         ensures found { IfSome result (λ cause. description.now ≡ description_of cause) }
-        ensures only { (cause : Cause) → description.now ≡ description_of cause → result ≡ Some cause }
+        ensures only { (cause : Cause) → description.now ≡ description_of cause
+            → result ≡ Some cause }
     {
         match description {
             "unknown device" => Some(Cause::UnknownDevEui),

@@ -1,5 +1,7 @@
 // The question of a network: whether a device may join.
-ghost use Rattle.std.specs.Prelude.{◌≡◌, ◌≢◌, ◌⊎◌, ◌↔◌, ◌<◌, ◌≤◌, ◌^◌, ℕ, codes, string_bytes, [], ◌∷◌, IfOk, IfErr, IfSome, Some, IsTrue, MatchOption, MatchResult};
+ghost use Rattle.std.specs.Prelude.{◌≡◌, ◌≢◌, ◌⊎◌, ◌↔◌, ◌<◌, ◌≤◌, ◌^◌, ℕ, codes, string_bytes, []};
+ghost use Rattle.std.specs.Prelude.{◌∷◌, IfOk, IfErr, IfSome, Some, IsTrue, MatchOption};
+ghost use Rattle.std.specs.Prelude.{MatchResult};
 ghost use Rattle.serde_json.specs.Data.{Members, string, number, unsigned};
 ghost use Rattle.serde_json.specs.View.{members_view, view};
 ghost use Rattle.serde_json.specs.Written.{compact_text};
@@ -9,7 +11,8 @@ ghost use Rattle.lw_types.specs.declared.identifiers.DevAddr.{DevAddr};
 ghost use Rattle.lw_types.specs.declared.identifiers.Eui.{Eui};
 ghost use Rattle.join_server.specs.declared.ask.JoinAsk.{JoinAsk};
 ghost use Rattle.join_server.specs.Request.{dev_eui_of, join_eui_of};
-ghost use Rattle.backend_json.specs.Messages.{IsAsk, IsJoinReq, device, eui, join_req, network};
+ghost use Rattle.backend_json.specs.Messages.{IsAsk, IsJoinReq, device_members, eui, join_req};
+ghost use Rattle.backend_json.specs.Messages.{network_members};
 
 use crate::json::{Object, read_value};
 use crate::members::Rest;
@@ -21,15 +24,17 @@ use std::alloc::{AllocError, Global};
 /// The text of a question: compact JSON, its members in the byte order of their names.
 pub fn join_req_text(alloc: Global, ask: &JoinAsk) -> Result<String, Refusal>
     ensures { MatchResult result
-        (λ text. (string_bytes text ≡ compact_text (join_req ask.now)) × IsJoinReq (string_bytes text) ask.now)
+        (λ text. (string_bytes text ≡ compact_text (join_req ask.now))
+        × IsJoinReq (string_bytes text) ask.now)
         (λ e. e ≡ OutOfMemory) }
 {
     Ok(value_of(alloc, ask)?.to_string(alloc)?)
 }
 
-/// The question that a text is. Any other text is refused as `BadMessage`: white space and the order of the members are
-/// free, as JSON has them, and of a member that comes twice the last counts, but there are no others, numbers are whole,
-/// hex is in upper case, and the PHYPayload is a Join-Request of this DevEUI and JoinEUI.
+/// The question that a text is. Any other text is refused as `BadMessage`: white space and the
+/// order of the members are free, as JSON has them, and of a member that comes twice the last
+/// counts, but there are no others, numbers are whole, hex is in upper case, and the PHYPayload is
+/// a Join-Request of this DevEUI and JoinEUI.
 pub fn read_join_req(alloc: Global, text: &str) -> Result<JoinAsk, Refusal>
     ensures found { IfOk result (λ ask. IsAsk ask × IsJoinReq text.now ask) }
     ensures refused { IfErr result (λ e. (e ≡ OutOfMemory)
@@ -84,10 +89,13 @@ fn ask_of(value: &Value) -> Option<JoinAsk>
 
 // The members from DLSettings to MessageType.
 fn device_of(rest: &mut Rest<'_>) -> Option<(u8, DevAddr, Eui)>
-    ensures found { IfSome result (λ p. members_view rest.old.members ≡ device p.0 p.1 p.2 (members_view rest.new.members)) }
+    ensures found { IfSome result
+        (λ p. members_view rest.old.members
+        ≡ device_members p.0 p.1 p.2 (members_view rest.new.members)) }
     ensures only { (dl_settings : ℕ) (dev_addr : DevAddr) (dev_eui : Eui) (others : Members)
         → dl_settings < 2 ^ 8 → dev_addr.0 < 2 ^ 32 → dev_eui.0 < 2 ^ 64
-        → members_view rest.old.members ≡ device dl_settings dev_addr dev_eui others → result ≡ Some (dl_settings, dev_addr, dev_eui) }
+        → members_view rest.old.members ≡ device_members dl_settings dev_addr dev_eui others
+        → result ≡ Some (dl_settings, dev_addr, dev_eui) }
 {
     let HexArray([dl_settings]): HexArray<1> = rest.value("DLSettings")?;
     let dev_addr = rest.value("DevAddr")?;
@@ -99,9 +107,12 @@ fn device_of(rest: &mut Rest<'_>) -> Option<(u8, DevAddr, Eui)>
 
 // The members from RxDelay on, and that no other follows.
 fn network_of(rest: &mut Rest<'_>) -> Option<(RxDelay, NetId, u32)>
-    ensures found { IfSome result (λ p. members_view rest.old.members ≡ network p.0 p.1 p.2) }
-    ensures only { (rx_delay net_id transaction : ℕ) → (1 ≤ rx_delay) × (rx_delay ≤ 15) → net_id < 64 → transaction < 2 ^ 32
-        → members_view rest.old.members ≡ network rx_delay net_id transaction → result ≡ Some (rx_delay, net_id, transaction) }
+    ensures found { IfSome result
+        (λ p. members_view rest.old.members ≡ network_members p.0 p.1 p.2) }
+    ensures only { (rx_delay net_id transaction : ℕ) → (1 ≤ rx_delay) × (rx_delay ≤ 15)
+        → net_id < 64 → transaction < 2 ^ 32
+        → members_view rest.old.members ≡ network_members rx_delay net_id transaction
+        → result ≡ Some (rx_delay, net_id, transaction) }
 {
     let rx_delay = RxDelay::new(rest.number("RxDelay")?)?;
     let (net_id, transaction) = rest.sender()?;
@@ -110,7 +121,8 @@ fn network_of(rest: &mut Rest<'_>) -> Option<(RxDelay, NetId, u32)>
 
 // Whether the device asks this join server.
 fn is_between(request: &JoinRequest, dev_eui: Eui, join_eui: Eui) -> bool
-    ensures { IsTrue result ↔ ((dev_eui.0 ≡ dev_eui_of request.now) × (join_eui.0 ≡ join_eui_of request.now)) }
+    ensures { IsTrue result ↔ ((dev_eui.0 ≡ dev_eui_of request.now)
+        × (join_eui.0 ≡ join_eui_of request.now)) }
 {
     request.dev_eui() == dev_eui && request.join_eui() == join_eui
 }

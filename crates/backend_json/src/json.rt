@@ -1,6 +1,7 @@
 // Texts and the values that they are read as, and objects that are written.
 ghost use Rattle.std.specs.Prelude.{◌≡◌, ◌⊎◌, ℕ, List, IfOk, MatchResult, Some, None};
-ghost use Rattle.serde_json.specs.Data.{Data, Members, string, number, unsigned, put as with_member};
+ghost use Rattle.serde_json.specs.Data.{Data, Members, string, number, unsigned};
+ghost use Rattle.serde_json.specs.Data.{put as with_member};
 ghost use Rattle.serde_json.specs.Read.{read};
 ghost use Rattle.serde_json.specs.View.{members_view, view};
 ghost use Rattle.lw_types.specs.declared.refusal.Refusal.TheVariants.{OutOfMemory, BadMessage};
@@ -22,8 +23,8 @@ pub(crate) fn read_value(alloc: Global, text: &str) -> Result<Value, Refusal>
     }
 }
 
-/// An object that is written member by member. Where there is no memory for one of them, none is left: that is told once,
-/// when the object is whole.
+/// An object that is written member by member. Where there is no memory for one of them, none is
+/// left: that is answered once, when the object is whole.
 #[derive(Drop)]
 pub(crate) struct Object {
     alloc: Global,
@@ -33,10 +34,10 @@ pub(crate) struct Object {
 impl Object {
     ghost use Rattle.std.specs.Prelude.{IfOk, List, ℕ};
     ghost use Rattle.serde_json.specs.Data.{Data, Members, no_members, object};
-    ghost use Rattle.backend_json.specs.Writing.{Holds};
+    ghost use Rattle.backend_json.specs.Writing.{HoldsMembers};
 
     pub(crate) fn new(alloc: Global) -> Self
-        ensures { Holds result no_members }
+        ensures { HoldsMembers result no_members }
     {
         Object {
             alloc,
@@ -46,8 +47,9 @@ impl Object {
 
     /// Puts a value under a name.
     fn value(self, name: &str, value: Result<Value, AllocError>) -> Self
-        ensures { (members : Members) (d : Data) → Holds self members → IfOk value (λ v. view v ≡ d)
-            → Holds result (with_member name.now d members) }
+        ensures { (members : Members) (d : Data) → HoldsMembers self members
+            → IfOk value (λ v. view v ≡ d)
+            → HoldsMembers result (with_member name.now d members) }
     {
         let alloc = self.alloc;
         Object {
@@ -58,8 +60,9 @@ impl Object {
 
     /// Puts the text of a value under a name.
     pub(crate) fn text<T: fmt::Display + Copy>(self, name: &str, value: T) -> Self
-        ensures { (members : Members) (text : List ℕ) → Holds self members → T.output value ≡ Some text
-            → Holds result (with_member name.now (string text) members) }
+        ensures { (members : Members) (text : List ℕ) → HoldsMembers self members
+            → T.output value ≡ Some text
+            → HoldsMembers result (with_member name.now (string text) members) }
     {
         let text = text_value(self.alloc, value);
         self.value(name, text)
@@ -67,23 +70,24 @@ impl Object {
 
     /// Puts a number under a name.
     pub(crate) fn number(self, name: &str, value: u64) -> Self
-        ensures { (members : Members) (n : ℕ) → Holds self members → value ≡ n
-            → Holds result (with_member name.now (number (unsigned n)) members) }
+        ensures { (members : Members) (n : ℕ) → HoldsMembers self members → value ≡ n
+            → HoldsMembers result (with_member name.now (number (unsigned n)) members) }
     {
         self.value(name, Ok(Value::from(value)))
     }
 
     /// Puts an object under a name.
     pub(crate) fn object(self, name: &str, inner: Object) -> Self
-        ensures { (members inside : Members) → Holds self members → Holds inner inside
-            → Holds result (with_member name.now (object inside) members) }
+        ensures { (members inside : Members) → HoldsMembers self members → HoldsMembers inner inside
+            → HoldsMembers result (with_member name.now (object inside) members) }
     {
         self.value(name, inner.whole())
     }
 
     /// The whole object.
     pub(crate) fn whole(self) -> Result<Value, AllocError>
-        ensures { (members : Members) → Holds self members → IfOk result (λ value. view value ≡ object members) }
+        ensures { (members : Members) → HoldsMembers self members
+            → IfOk result (λ value. view value ≡ object members) }
     {
         Ok(Value::Object(self.members?))
     }
@@ -95,8 +99,10 @@ fn put_value(
     name: &str,
     value: Result<Value, AllocError>,
 ) -> Result<Map<String, Value>, AllocError>
-    ensures { (before : Members) (d : Data) → IfOk members (λ map. members_view map.entries ≡ before)
-        → IfOk value (λ v. view v ≡ d) → IfOk result (λ map. members_view map.entries ≡ with_member name.now d before) }
+    ensures { (before : Members) (d : Data)
+        → IfOk members (λ map. members_view map.entries ≡ before)
+        → IfOk value (λ v. view v ≡ d)
+        → IfOk result (λ map. members_view map.entries ≡ with_member name.now d before) }
 {
     let mut members = members?;
     put(&mut members, alloc, name, value?)?;
@@ -104,7 +110,8 @@ fn put_value(
 }
 
 fn text_value<T: fmt::Display + Copy>(alloc: Global, value: T) -> Result<Value, AllocError>
-    ensures { (text : List ℕ) → T.output value ≡ Some text → IfOk result (λ v. view v ≡ string text) }
+    ensures { (text : List ℕ) → T.output value ≡ Some text
+        → IfOk result (λ v. view v ≡ string text) }
 {
     Ok(Value::String(value.to_string(alloc)?))
 }

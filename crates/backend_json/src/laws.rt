@@ -5,10 +5,13 @@ ghost use Rattle.backend_json.specs.declared.join_ans.JoinAns.{JoinAns};
 ghost use Rattle.backend_json.specs.Answers.{IsAns, IsJoinAns};
 ghost use Rattle.backend_json.specs.Messages.{IsAsk, IsJoinReq};
 
-/// No text is of two questions, and none of two answers: what is read of a text that was written is what was written.
+/// No text is of two questions, and none of two answers: what is read of a text that was written is
+/// what was written.
 pub fn each_text_is_of_one_message()
-    ensures questions { (text : List ℕ) (a b : JoinAsk) → IsAsk a → IsAsk b → IsJoinReq text a → IsJoinReq text b → a ≡ b }
-    ensures answers { (text : List ℕ) (a b : JoinAns) → IsAns a → IsAns b → IsJoinAns text a → IsJoinAns text b → a ≡ b }
+    ensures questions { (text : List ℕ) (a b : JoinAsk) → IsAsk a → IsAsk b → IsJoinReq text a
+        → IsJoinReq text b → a ≡ b }
+    ensures answers { (text : List ℕ) (a b : JoinAns) → IsAns a → IsAns b → IsJoinAns text a
+        → IsJoinAns text b → a ≡ b }
 {
     lw_types::laws::each_text_is_of_one_value();
 }

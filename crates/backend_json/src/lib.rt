@@ -1,4 +1,5 @@
-//! The texts between a network and its join server: compact JSON, a profile modelled on LoRaWAN Backend Interfaces 1.0.
+//! The texts between a network and its join server: compact JSON, a profile modelled on LoRaWAN
+//! Backend Interfaces 1.0.
 #![tactic(auto)]
 
 mod answer;

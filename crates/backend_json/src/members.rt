@@ -1,6 +1,7 @@
 // The members of an object, taken one after another in the byte order of their names.
 ghost use Rattle.std.specs.Prelude.{◌≡◌, ◌≢◌, ◌<◌, ◌^◌, ℕ, List, IfSome, MatchOption, Some, codes};
-ghost use Rattle.serde_json.specs.Data.{Data, Members, member, no_members, number, string, object, unsigned};
+ghost use Rattle.serde_json.specs.Data.{Data, Members, member, no_members, number, string, object};
+ghost use Rattle.serde_json.specs.Data.{unsigned};
 ghost use Rattle.serde_json.specs.View.{members_view, view};
 
 use lw_types::FromText;
@@ -28,8 +29,10 @@ impl<'a> Rest<'a> {
     /// The next member, where it has this name.
     fn next(&mut self, name: &str) -> Option<&'a Value>
         ensures { MatchOption result
-            ((value : Data) (others : Members) → members_view self.old.members ≢ member name.now value others)
-            (λ value. members_view self.old.members ≡ member name.now (view value.now) (members_view self.new.members)) }
+            ((value : Data) (others : Members)
+            → members_view self.old.members ≢ member name.now value others)
+            (λ value. members_view self.old.members
+            ≡ member name.now (view value.now) (members_view self.new.members)) }
     {
         let (found, value) = self.members.next()?;
         if found.as_str() == name {
@@ -45,7 +48,8 @@ impl<'a> Rest<'a> {
         ensures found { IfSome result (λ value. members_view self.old.members
             ≡ member name.now (string (T.text_of value)) (members_view self.new.members)) }
         ensures only { (value : T) (others : Members) → T.is_value value
-            → members_view self.old.members ≡ member name.now (string (T.text_of value)) others → result ≡ Some value }
+            → members_view self.old.members ≡ member name.now (string (T.text_of value)) others
+            → result ≡ Some value }
     {
         T::from_text(self.any_text(name)?)
     }
@@ -53,8 +57,10 @@ impl<'a> Rest<'a> {
     /// The text of the next member, where it has this name and is a text.
     pub(crate) fn any_text(&mut self, name: &str) -> Option<&'a str>
         ensures { MatchOption result
-            ((text : List ℕ) (others : Members) → members_view self.old.members ≢ member name.now (string text) others)
-            (λ text. members_view self.old.members ≡ member name.now (string text.now) (members_view self.new.members)) }
+            ((text : List ℕ) (others : Members)
+            → members_view self.old.members ≢ member name.now (string text) others)
+            (λ text. members_view self.old.members
+            ≡ member name.now (string text.now) (members_view self.new.members)) }
     {
         self.next(name)?.as_str()
     }
@@ -62,8 +68,10 @@ impl<'a> Rest<'a> {
     /// The next member, where it has this name and this text.
     pub(crate) fn text(&mut self, name: &str, text: &str) -> Option<()>
         ensures { MatchOption result
-            ((others : Members) → members_view self.old.members ≢ member name.now (string text.now) others)
-            (λ _. members_view self.old.members ≡ member name.now (string text.now) (members_view self.new.members)) }
+            ((others : Members) → members_view self.old.members
+            ≢ member name.now (string text.now) others)
+            (λ _. members_view self.old.members
+            ≡ member name.now (string text.now) (members_view self.new.members)) }
     {
         if self.any_text(name)? == text {
             Some(())
@@ -75,8 +83,10 @@ impl<'a> Rest<'a> {
     /// The next member, where it has this name and is a whole number below 2^64.
     pub(crate) fn number(&mut self, name: &str) -> Option<u64>
         ensures { MatchOption result
-            ((value : ℕ) (others : Members) → members_view self.old.members ≢ member name.now (number (unsigned value)) others)
-            (λ value. members_view self.old.members ≡ member name.now (number (unsigned value)) (members_view self.new.members)) }
+            ((value : ℕ) (others : Members)
+            → members_view self.old.members ≢ member name.now (number (unsigned value)) others)
+            (λ value. members_view self.old.members
+            ≡ member name.now (number (unsigned value)) (members_view self.new.members)) }
     {
         self.next(name)?.as_u64()
     }
@@ -84,8 +94,11 @@ impl<'a> Rest<'a> {
     /// The members of the next one, where it has this name and is an object.
     pub(crate) fn object(&mut self, name: &str) -> Option<Self>
         ensures { MatchOption result
-            ((value others : Members) → members_view self.old.members ≢ member name.now (object value) others)
-            (λ inner. members_view self.old.members ≡ member name.now (object (members_view inner.members)) (members_view self.new.members)) }
+            ((value others : Members) → members_view self.old.members
+            ≢ member name.now (object value) others)
+            (λ inner. members_view self.old.members
+            ≡ member name.now (object (members_view inner.members))
+            (members_view self.new.members)) }
     {
         Rest::of(self.next(name)?)
     }
@@ -96,7 +109,8 @@ impl<'a> Rest<'a> {
         ensures found { IfSome result (λ p. members_view self.old.members
             ≡ member (codes "SenderID") (string (T.text_of p.0))
             (member (codes "TransactionID") (number (unsigned p.1)) no_members)) }
-        ensures only { (sender : T) (transaction : ℕ) → T.is_value sender → transaction < 2 ^ 32 → members_view self.old.members
+        ensures only { (sender : T) (transaction : ℕ) → T.is_value sender → transaction < 2 ^ 32
+            → members_view self.old.members
             ≡ member (codes "SenderID") (string (T.text_of sender))
             (member (codes "TransactionID") (number (unsigned transaction)) no_members) → result ≡ Some (sender, transaction) }
     {
@@ -108,7 +122,8 @@ impl<'a> Rest<'a> {
 
     /// That no member is left.
     pub(crate) fn end(&mut self) -> Option<()>
-        ensures { MatchOption result (members_view self.old.members ≢ no_members) (λ _. members_view self.old.members ≡ no_members) }
+        ensures { MatchOption result (members_view self.old.members ≢ no_members)
+            (λ _. members_view self.old.members ≡ no_members) }
     {
         match self.members.next() {
             None => Some(()),

@@ -1,5 +1,6 @@
 // Reading of answers.
-ghost use Rattle.std.specs.Prelude.{◌≡◌, ◌≢◌, ◌⊎◌, ◌<◌, ◌^◌, ℕ, List, codes, [], Ok, Err, Some, IfOk, IfErr, IfSome, MatchOption};
+ghost use Rattle.std.specs.Prelude.{◌≡◌, ◌≢◌, ◌⊎◌, ◌<◌, ◌^◌, ℕ, List, codes, [], Ok, Err, Some};
+ghost use Rattle.std.specs.Prelude.{IfOk, IfErr, IfSome, MatchOption};
 ghost use Rattle.serde_json.specs.Data.{Members, member, no_members, number, string, unsigned};
 ghost use Rattle.serde_json.specs.View.{members_view, view};
 ghost use Rattle.lw_types.specs.Hex.{eui_text, hex_text, net_id_text};
@@ -9,7 +10,8 @@ ghost use Rattle.lw_types.specs.declared.refusal.Refusal.TheVariants.{OutOfMemor
 ghost use Rattle.backend_json.specs.declared.join_ans.Accepted.{Accepted};
 ghost use Rattle.backend_json.specs.declared.join_ans.Cause.{Cause};
 ghost use Rattle.backend_json.specs.declared.join_ans.JoinAns.{JoinAns};
-ghost use Rattle.backend_json.specs.Answers.{IsAns, IsJoinAns, IsKey, IsSealed, aes_key, code_of, description_of, join_ans, outcome};
+ghost use Rattle.backend_json.specs.Answers.{IsAns, IsJoinAns, IsKey, IsSealed, aes_key, code_of};
+ghost use Rattle.backend_json.specs.Answers.{description_of, join_ans, result_object};
 
 use crate::json::read_value;
 use crate::members::Rest;
@@ -19,7 +21,8 @@ use lw_types::{Eui, HexArray, Key, NetId, Refusal};
 use serde_json::Value;
 use std::alloc::Global;
 
-/// The answer that a text is. Any other text is refused as `BadMessage`, as [`crate::read_join_req`] does.
+/// The answer that a text is. Any other text is refused as `BadMessage`, as
+/// [`crate::read_join_req`] does.
 pub fn read_join_ans(alloc: Global, text: &str) -> Result<JoinAns, Refusal>
     ensures found { IfOk result (λ ans. IsAns ans × IsJoinAns text.now ans) }
     ensures refused { IfErr result (λ e. (e ≡ OutOfMemory)
@@ -41,7 +44,8 @@ fn ans_of(value: &Value) -> Option<JoinAns>
 // The answer that the value is, where that grants a session.
 fn granted_of(value: &Value) -> Option<JoinAns>
     ensures { MatchOption result
-        ((ans : JoinAns) (accepted : Accepted) → IsAns ans → ans.result ≡ Ok accepted → view value.now ≢ join_ans ans)
+        ((ans : JoinAns) (accepted : Accepted) → IsAns ans → ans.result ≡ Ok accepted
+        → view value.now ≢ join_ans ans)
         (λ ans. IsAns ans × (view value.now ≡ join_ans ans)) }
 {
     let mut rest = Rest::of(value)?;
@@ -68,7 +72,8 @@ fn granted_of(value: &Value) -> Option<JoinAns>
 // The answer that the value is, where that refuses a join.
 fn refused_of(value: &Value) -> Option<JoinAns>
     ensures { MatchOption result
-        ((ans : JoinAns) (cause : Cause) → IsAns ans → ans.result ≡ Err cause → view value.now ≢ join_ans ans)
+        ((ans : JoinAns) (cause : Cause) → IsAns ans → ans.result ≡ Err cause
+        → view value.now ≢ join_ans ans)
         (λ ans. IsAns ans × (view value.now ≡ join_ans ans)) }
 {
     let mut rest = Rest::of(value)?;
@@ -87,7 +92,8 @@ fn refused_of(value: &Value) -> Option<JoinAns>
 // The key in the next member, where it has this name.
 fn key_of(rest: &mut Rest<'_>, name: &str) -> Option<Key>
     ensures found { IfSome result (λ key. IsKey key
-        × (members_view rest.old.members ≡ member name.now (aes_key key) (members_view rest.new.members))) }
+        × (members_view rest.old.members
+        ≡ member name.now (aes_key key) (members_view rest.new.members))) }
     ensures only { (key : Key) (others : Members) → IsKey key
         → members_view rest.old.members ≡ member name.now (aes_key key) others → result ≡ Some key }
 {
@@ -101,7 +107,8 @@ fn key_of(rest: &mut Rest<'_>, name: &str) -> Option<Key>
 fn accept_of(rest: &mut Rest<'_>) -> Option<SealedAccept>
     ensures found { IfSome result (λ accept. IsSealed accept × (members_view rest.old.members
         ≡ member (codes "PHYPayload") (string (hex_text accept)) (members_view rest.new.members))) }
-    ensures only { (accept : List ℕ) (others : Members) → IsSealed accept → members_view rest.old.members
+    ensures only { (accept : List ℕ) (others : Members) → IsSealed accept
+        → members_view rest.old.members
         ≡ member (codes "PHYPayload") (string (hex_text accept)) others → result ≡ Some accept }
 {
     let HexArray(accept): HexArray<17> = rest.value("PHYPayload")?;
@@ -124,9 +131,9 @@ fn receiver_of(rest: &mut Rest<'_>) -> Option<NetId>
 // That the Result is Success.
 fn success_of(rest: &mut Rest<'_>) -> Option<()>
     ensures { MatchOption result
-        ((others : Members) → members_view rest.old.members ≢ member (codes "Result") (outcome (codes "Success") []) others)
+        ((others : Members) → members_view rest.old.members ≢ member (codes "Result") (result_object (codes "Success") []) others)
         (λ _. members_view rest.old.members
-        ≡ member (codes "Result") (outcome (codes "Success") []) (members_view rest.new.members)) }
+        ≡ member (codes "Result") (result_object (codes "Success") []) (members_view rest.new.members)) }
 {
     let mut inner = rest.object("Result")?;
     inner.text("Description", "")?;
@@ -138,9 +145,9 @@ fn success_of(rest: &mut Rest<'_>) -> Option<()>
 fn cause_of(rest: &mut Rest<'_>) -> Option<Cause>
     ensures { MatchOption result
         ((cause : Cause) (others : Members) → members_view rest.old.members
-        ≢ member (codes "Result") (outcome (code_of cause) (description_of cause)) others)
+        ≢ member (codes "Result") (result_object (code_of cause) (description_of cause)) others)
         (λ cause. members_view rest.old.members
-        ≡ member (codes "Result") (outcome (code_of cause) (description_of cause)) (members_view rest.new.members)) }
+        ≡ member (codes "Result") (result_object (code_of cause) (description_of cause)) (members_view rest.new.members)) }
 {
     let mut inner = rest.object("Result")?;
     let cause = Cause::described(inner.any_text("Description")?)?;

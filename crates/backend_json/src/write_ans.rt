@@ -1,12 +1,13 @@
 // Writing of answers.
 ghost use Rattle.std.specs.Prelude.{◌≡◌, codes, string_bytes, IfOk, Ok, MatchResult};
-ghost use Rattle.serde_json.specs.Data.{Members, string, number, object as object_value, member, no_members, unsigned, put as with_member};
+ghost use Rattle.serde_json.specs.Data.{Members, string, number, object as object_value, member};
+ghost use Rattle.serde_json.specs.Data.{no_members, unsigned, put as with_member};
 ghost use Rattle.serde_json.specs.Written.{compact_text};
 ghost use Rattle.serde_json.specs.View.{view};
 ghost use Rattle.lw_types.specs.Hex.{eui_text, key_text, net_id_text};
 ghost use Rattle.lw_types.specs.declared.refusal.Refusal.TheVariants.{OutOfMemory};
-ghost use Rattle.backend_json.specs.Answers.{IsJoinAns, join_ans, opening};
-ghost use Rattle.backend_json.specs.Writing.{Holds};
+ghost use Rattle.backend_json.specs.Answers.{IsJoinAns, join_ans, members_before};
+ghost use Rattle.backend_json.specs.Writing.{HoldsMembers};
 
 use crate::json::Object;
 use crate::{Accepted, JoinAns};
@@ -17,7 +18,8 @@ use std::alloc::{AllocError, Global};
 /// The text of an answer: compact JSON, its members in the byte order of their names.
 pub fn join_ans_text(alloc: Global, ans: &JoinAns) -> Result<String, Refusal>
     ensures { MatchResult result
-        (λ text. (string_bytes text ≡ compact_text (join_ans ans.now)) × IsJoinAns (string_bytes text) ans.now)
+        (λ text. (string_bytes text ≡ compact_text (join_ans ans.now))
+        × IsJoinAns (string_bytes text) ans.now)
         (λ e. e ≡ OutOfMemory) }
 {
     Ok(value_of(alloc, ans)?.to_string(alloc)?)
@@ -43,7 +45,7 @@ fn value_of(alloc: Global, ans: &JoinAns) -> Result<Value, AllocError>
 
 // The members before ProtocolVersion of an answer that grants a session.
 fn opening_of(alloc: Global, accepted: &Accepted) -> Object
-    ensures { Holds result (opening (Ok accepted.now) no_members) }
+    ensures { HoldsMembers result (members_before (Ok accepted.now) no_members) }
 {
     Object::new(alloc)
         .object("AppSKey", key_object(alloc, accepted.app_skey))
@@ -53,14 +55,14 @@ fn opening_of(alloc: Global, accepted: &Accepted) -> Object
 }
 
 fn key_object(alloc: Global, key: Key) -> Object
-    ensures { Holds result (member (codes "AESKey") (string (key_text key)) no_members) }
+    ensures { HoldsMembers result (member (codes "AESKey") (string (key_text key)) no_members) }
 {
     Object::new(alloc).text("AESKey", HexArray(key.0))
 }
 
 // The Result.
 fn outcome(alloc: Global, code: &str, description: &str) -> Object
-    ensures { Holds result (member (codes "Description") (string description.now)
+    ensures { HoldsMembers result (member (codes "Description") (string description.now)
         (member (codes "ResultCode") (string code.now) no_members)) }
 {
     Object::new(alloc)
@@ -70,7 +72,8 @@ fn outcome(alloc: Global, code: &str, description: &str) -> Object
 
 // Puts the members from ProtocolVersion on, the Result as it is given.
 fn closed(object: Object, ans: &JoinAns, outcome: Object) -> Object
-    ensures { (members result_members : Members) → Holds object members → Holds outcome result_members → Holds result
+    ensures { (members result_members : Members) → HoldsMembers object members
+        → HoldsMembers outcome result_members → HoldsMembers result
         (with_member (codes "TransactionID") (number (unsigned ans.now.transaction))
         (with_member (codes "SenderID") (string (eui_text ans.now.sender))
         (with_member (codes "Result") (object_value result_members)

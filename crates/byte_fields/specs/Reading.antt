@@ -1,5 +1,6 @@
 -- Reading bytes from left to right, field by field.
-use Rattle.std.specs.Prelude.{◌≡◌, ℕ, zero, suc, Bool, false, true, ◌&&◌, List, [], ◌∷◌, length, take, drop, nat_le, nat_lt, ◌==◌, if◌then◌else◌, Option, Some, None}
+use Rattle.std.specs.Prelude.{◌≡◌, ℕ, zero, suc, Bool, false, true, ◌&&◌, List, [], ◌∷◌, length}
+use Rattle.std.specs.Prelude.{take, drop, nat_le, nat_lt, ◌==◌, if◌then◌else◌, Option, Some, None}
 use Rattle.std.specs.Int.{Width, w32, w64, byte_len, from_be_bytes, from_le_bytes}
 use Rattle.lw_types.specs.declared.identifiers.Eui.{Eui}
 use Rattle.lw_types.specs.declared.key.Key.{Key}
@@ -62,8 +63,8 @@ abbrev pub be_at : Width → Reader ℕ
 be_at w = seen_as (from_be_bytes w) (front_at (byte_len w))
 
 -- a number of three bytes, the highest first
-abbrev pub three_bytes_at : Reader ℕ
-three_bytes_at = seen_as (λ bytes. from_be_bytes w32 (0 ∷ bytes)) (front_at 3)
+abbrev pub three_be_bytes_at : Reader ℕ
+three_be_bytes_at = seen_as (λ bytes. from_be_bytes w32 (0 ∷ bytes)) (front_at 3)
 
 -- a byte of a range
 abbrev pub ranged_at : ℕ → ℕ → Reader ℕ

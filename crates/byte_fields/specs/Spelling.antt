@@ -8,12 +8,12 @@ flag false = 0 ∷ []
 flag true = 1 ∷ []
 
 -- a number of three bytes, the highest first
-abbrev pub three_bytes : ℕ → List ℕ
-three_bytes n = bytes_high_first 3 n
+abbrev pub three_be_bytes : ℕ → List ℕ
+three_be_bytes n = bytes_high_first 3 n
 
 -- a byte of length, and that many bytes
-abbrev pub counted : List ℕ → List ℕ
-counted bytes = length bytes ∷ bytes
+abbrev pub counted_bytes : List ℕ → List ℕ
+counted_bytes bytes = length bytes ∷ bytes
 
 -- a flag, and behind a 1 the field
 abbrev pub optional : {X : Type 0} → (X → List ℕ) → Option X → List ℕ

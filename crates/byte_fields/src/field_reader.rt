@@ -1,12 +1,14 @@
 // The reader of fields.
 ghost use Rattle.std.specs.Prelude.{◌≡◌, ◌+◌, OnSome, length};
 ghost use Rattle.std.specs.Int.{w16, w32, w64};
-ghost use Rattle.byte_fields.specs.Reading.{Gives, GivesSeen, be_at, be_eui_at, byte_at, counted_at, flag_at, front_at, key_at, le_at, le_eui_at, ranged_at, three_bytes_at};
+ghost use Rattle.byte_fields.specs.Reading.{Gives, GivesSeen, be_at, be_eui_at, byte_at};
+ghost use Rattle.byte_fields.specs.Reading.{counted_at, flag_at, front_at, key_at, le_at};
+ghost use Rattle.byte_fields.specs.Reading.{le_eui_at, ranged_at, three_be_bytes_at};
 
 use lw_types::{Eui, Key, Ranged};
 
-/// The bytes that are left to read. Each call reads the field at their front and passes it, or answers
-/// `None` where no such field stands there.
+/// The bytes that are left to read. Each call reads the field at their front and passes it, or
+/// answers `None` where no such field stands there.
 #[derive(Clone, Copy)]
 pub struct FieldReader<'a> {
     pub rest: &'a [u8],
@@ -65,7 +67,7 @@ impl<'a> FieldReader<'a> {
 
     /// A number of three bytes, the highest first.
     pub fn u24_be(&mut self) -> Option<u32>
-        ensures { Gives result self.new.rest.now (three_bytes_at self.old.rest.now) }
+        ensures { Gives result self.new.rest.now (three_be_bytes_at self.old.rest.now) }
     {
         let [high, middle, low] = self.array::<3>()?;
         Some(u32::from_be_bytes([0, high, middle, low]))
@@ -120,7 +122,8 @@ impl<'a> FieldReader<'a> {
     /// A byte of length, and that many bytes.
     #[tactic(auto, unfolding(crate::specs::Reading::counted_at))]
     pub fn counted(&mut self) -> Option<&'a [u8]>
-        ensures { GivesSeen (λ bytes. bytes.now) result self.new.rest.now (counted_at self.old.rest.now) }
+        ensures { GivesSeen (λ bytes. bytes.now) result self.new.rest.now
+            (counted_at self.old.rest.now) }
     {
         let len = self.byte()?;
         let (front, rest) = self.rest.split_at_checked(usize::from(len))?;

@@ -171,7 +171,8 @@ fn sixteen_items_wait_and_leave_in_order(rt: HostRuntime) {
     assert!(rt; pushed_wait(rt.alloc()) == Some(true));
 }
 
-// What was granted last, and sessions of these JoinNonces, in use and not in use yet: the activation of them, if they are in order.
+// What was granted last, and sessions of these JoinNonces, in use and not in use yet: the
+// activation of them, if they are in order.
 fn activation(
     granted: u32,
     in_use: Option<u32>,
@@ -286,7 +287,8 @@ fn addresses_have_network_slot_and_join(rt: HostRuntime) {
     assert!(rt; slot_at(DevAddr(0x49BE_7DF1)) == 3571);
 }
 
-// Whether a new device has its name and empty queues, is as its copy, and isn't as one with another tag.
+// Whether a new device has its name and empty queues, is as its copy, and isn't as one with another
+// tag.
 fn is_copied_whole(alloc: Global) -> Option<bool> {
     let device = brought(alloc, DEVICE)?;
     let are_empty = device.items.as_slice().is_empty() && device.mac_queue.as_slice().is_empty();

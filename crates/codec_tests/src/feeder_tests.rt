@@ -52,7 +52,8 @@ fn heard(alloc: Global, stream: &[u8], is_whole: bool) -> Option<(Fed, Option<Re
     }
 }
 
-// Whether a text with so many of 41 behind it says so many messages and this fault, and ends so, however it comes.
+// Whether a text with so many of 41 behind it says so many messages and this fault, and ends so,
+// however it comes.
 fn says(
     alloc: Global,
     (hex, filled, count): (&str, usize, usize),

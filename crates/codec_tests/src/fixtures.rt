@@ -1,7 +1,7 @@
 // Values that several tests are about.
 use devices::{
     Application, CurrentSession, Device, Downlink, Item, NextDown, Payload, Port, Provisioning,
-    Rx1Offset, RxDelay, Session, SessionName, Tag, Windows,
+    ReceiveWindows, Rx1Offset, RxDelay, Session, SessionName, Tag,
 };
 use lw_types::{Eui, JoinNonce, Key, PhyPayload, read_hex, write_hex};
 use std::alloc::Global;
@@ -83,7 +83,7 @@ pub fn empty_downlink(alloc: Global) -> Option<Downlink> {
         frequency: 868_500_000,
         data_rate: 2,
         delay,
-        windows: Windows::Rx1OrRx2,
+        windows: ReceiveWindows::Rx1OrRx2,
         frame: PhyPayload::empty(alloc),
     })
 }

@@ -4,7 +4,7 @@ use crate::fixtures::{
 };
 use devices::{
     Activation, Application, AskedBytes, Command, Copies, Device, Downlink, Effect, ItemQueue,
-    MacQueueing, Mark, Payload, Port, Queueing, Report, Rx1Offset, RxDelay, Tag, Windows,
+    MacQueueing, Mark, Payload, Port, Queueing, ReceiveWindows, Report, Rx1Offset, RxDelay, Tag,
 };
 use gateway_wire::{
     Emission, Request, app_line, gateway_bytes, list_text, next_ranged, next_value, read_line,
@@ -25,7 +25,7 @@ fn payload(alloc: Global, bytes: &[u8]) -> Option<Payload> {
 fn downlink(
     alloc: Global,
     data_rate: u8,
-    windows: Windows,
+    windows: ReceiveWindows,
     (hex, count): (&str, usize),
 ) -> Option<Effect> {
     let (session, delay) = (name(1)?, RxDelay::new(1)?);
@@ -68,9 +68,10 @@ fn forward(alloc: Global, bytes: &[u8]) -> Option<Effect> {
     })
 }
 
-// What leaves: a frame of these bytes and so many of A5 behind them, an accept, a payload, and the reports.
+// What leaves: a frame of these bytes and so many of A5 behind them, an accept, a payload, and the
+// reports.
 enum Leaving {
-    Down(u8, Windows, &'static str, usize),
+    Down(u8, ReceiveWindows, &'static str, usize),
     Accept,
     Up(&'static [u8]),
     Spent,
@@ -122,30 +123,30 @@ fn report(alloc: Global, leaving: &Leaving) -> Option<Report> {
 // The longest payload.
 const LONG: &[u8] = &[0xA5; 242];
 
-// What leaves, and as what: a text, so many of A5 in hex, and a text. A gateway is sent these bytes, and the application of
-// number 3 is told this line.
+// What leaves, and as what: a text, so many of A5 in hex, and a text. A gateway is sent these
+// bytes, and the application of number 3 is told this line.
 const EFFECTS: &[(Leaving, &str, usize, &str)] = &[
     // The shortest downlink, a long one, and the longest.
     (
-        Leaving::Down(0, Windows::Rx1OrRx2, "6001000054300000AABBCCDD", 0),
+        Leaving::Down(0, ReceiveWindows::Rx1OrRx2, "6001000054300000AABBCCDD", 0),
         "00201100000000000000B10000C35033BE27A00001026001000054300000AABBCCDD",
         0,
         "",
     ),
     (
-        Leaving::Down(5, Windows::Rx1, "600100005400010007", 104),
+        Leaving::Down(5, ReceiveWindows::Rx1, "600100005400010007", 104),
         "00851100000000000000B10000C35033BE27A0050100600100005400010007",
         104,
         "",
     ),
     (
-        Leaving::Down(0, Windows::Rx1OrRx2, "", 255),
+        Leaving::Down(0, ReceiveWindows::Rx1OrRx2, "", 255),
         "01131100000000000000B10000C35033BE27A0000102",
         255,
         "",
     ),
     (
-        Leaving::Down(5, Windows::Rx1OrRx2, "", 25),
+        Leaving::Down(5, ReceiveWindows::Rx1OrRx2, "", 25),
         "002D1100000000000000B10000C35033BE27A0050102",
         25,
         "",
@@ -223,7 +224,8 @@ fn is_emission(alloc: Global, emission: &Emission, wanted: &str) -> bool {
     }
 }
 
-// Whether the effect leaves as these bytes for its gateway, and as nothing for an application, or the other way round.
+// Whether the effect leaves as these bytes for its gateway, and as nothing for an application, or
+// the other way round.
 fn is_alone(alloc: Global, effect: &Effect, wanted: &str) -> bool {
     match (gateway_bytes(alloc, effect), app_line(alloc, effect)) {
         (Ok(Some(frame)), Ok(None)) => has_hex(alloc, frame.as_slice(), wanted),
@@ -394,7 +396,8 @@ fn is_asked(alloc: Global, front: &str, count: usize, asks: &Asks) -> Option<boo
     }
 }
 
-// Lines, each with so many of A5 in hex behind it, and what they ask for; the fourth item is too long for any data rate.
+// Lines, each with so many of A5 in hex behind it, and what they ask for; the fourth item is too
+// long for any data rate.
 const REQUESTS: &[(&str, usize, Asks)] = &[
     (
         "queue 1112131415161718 9 7 u AA",

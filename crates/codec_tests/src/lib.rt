@@ -1,5 +1,5 @@
-//! Tests of the public calls of devices, their records, and what links carry of them, a file a crate.
-//! They stand above those crates, so that each of these is proved once.
+//! Tests of the public calls of devices, their records, and what links carry of them, a file a
+//! crate. They stand above those crates, so that each of these is proved once.
 #![tactic(auto)]
 
 #[cfg(test)]

@@ -28,7 +28,8 @@ fn both_sessions() -> Option<Activation> {
 enum Has {
     /// A pending session.
     Pending,
-    /// Both sessions, a tag awaited, a DevNonce of 0, these MAC commands, and so many items of this length.
+    /// Both sessions, a tag awaited, a DevNonce of 0, these MAC commands, and so many items of this
+    /// length.
     All(&'static [u8], u32, usize),
 }
 
@@ -123,7 +124,8 @@ fn devices_are_read_back(rt: HostRuntime) {
     }
 }
 
-// A place of a new device's record behind which a 0 stands, another byte there, and how many bytes are read.
+// A place of a new device's record behind which a 0 stands, another byte there, and how many bytes
+// are read.
 const FAULTS: &[(usize, u8, usize, &str)] = &[
     (32, 16, 50, "application"),
     (33, 6, 50, "RX1DROffset"),

@@ -1,4 +1,5 @@
--- The 32-bit counter of an uplink, of which the frame carries the low 16 bits (TS001-1.0.4 §4.3.1.5).
+-- The 32-bit counter of an uplink, of which the frame carries the low 16 bits (TS001-1.0.4
+-- §4.3.1.5).
 use Rattle.std.specs.Prelude.{◌≡◌, ◌<◌, ◌≤◌, ◌+◌, ◌-◌, ◌%◌, ◌^◌, ℕ, Option, Some, None, IfSome}
 
 -- the low bits are those of the last counter

@@ -1,5 +1,6 @@
 -- The counter that the low bits of a frame stand for, computed (TS001-1.0.4 §4.3.1.5).
-use Rattle.std.specs.Prelude.{◌==◌, ◌+◌, ◌-◌, ◌%◌, ◌^◌, ◌&&◌, ℕ, nat_lt, if◌then◌else◌, Option, Some, None}
+use Rattle.std.specs.Prelude.{◌==◌, ◌+◌, ◌-◌, ◌%◌, ◌^◌, ◌&&◌, ℕ, nat_lt, if◌then◌else◌, Option}
+use Rattle.std.specs.Prelude.{Some, None}
 use Rattle.counters.specs.declared.Rebuilt.{Rebuilt}
 use Rattle.counters.specs.declared.TheConstants.{MAX_GAP}
 use Rattle.counters.specs.declared.Rebuilt.TheVariants.{New, Repeat, Gap}
@@ -13,6 +14,7 @@ abbrev pub if_near : ℕ → ℕ → Rebuilt
 if_near first n = if nat_lt n (first + MAX_GAP) && nat_lt n (2 ^ 32) then New n else Gap
 
 -- the counter of a frame with these low bits, after the last one that was accepted, if one was
-abbrev pub rebuilt : Option ℕ → ℕ → Rebuilt
-rebuilt None low = if_near 0 (least_from 0 low)
-rebuilt (Some last) low = if last % 2 ^ 16 == low then Repeat else if_near (last + 1) (least_from (last + 1) low)
+abbrev pub rebuilt_counter : Option ℕ → ℕ → Rebuilt
+rebuilt_counter None low = if_near 0 (least_from 0 low)
+rebuilt_counter (Some last) low =
+    if last % 2 ^ 16 == low then Repeat else if_near (last + 1) (least_from (last + 1) low)

@@ -1,14 +1,14 @@
 //! Laws of the counters that frames stand for. Each stands on a function that does nothing.
 ghost use Rattle.std.specs.Prelude.{◌≡◌, ◌<◌, ◌^◌, ℕ, Option, Some};
 ghost use Rattle.counters.specs.declared.Rebuilt.TheVariants.{New};
-ghost use Rattle.counters.specs.Rebuilt.{rebuilt};
+ghost use Rattle.counters.specs.Rebuilt.{rebuilt_counter};
 
 /// A new counter is above the last one.
 pub fn new_counters_grow()
-    ensures { (last low n : ℕ) → rebuilt (Some last) low ≡ New n → last < n }
+    ensures { (last low n : ℕ) → rebuilt_counter (Some last) low ≡ New n → last < n }
 {}
 
 /// A new counter has 32 bits.
 pub fn new_counters_have_32_bits()
-    ensures { (last : Option ℕ) (low n : ℕ) → rebuilt last low ≡ New n → n < 2 ^ 32 }
+    ensures { (last : Option ℕ) (low n : ℕ) → rebuilt_counter last low ≡ New n → n < 2 ^ 32 }
 {}

@@ -4,7 +4,7 @@
 ghost use Rattle.std.specs.Prelude.{◌≡◌, ◌↔◌, ◌<◌, ◌≤◌, ℕ, ◌%◌, ◌^◌};
 ghost use Rattle.counters.specs.Counter.{IsRepeat, IsLeast, distance};
 ghost use Rattle.counters.specs.FirstFrom.{FirstFrom};
-ghost use Rattle.counters.specs.Rebuilt.{if_near, least_from, rebuilt};
+ghost use Rattle.counters.specs.Rebuilt.{if_near, least_from, rebuilt_counter};
 
 pub mod laws;
 
@@ -22,16 +22,16 @@ pub enum Rebuilt {
 /// How far above the last counter a new one may be.
 pub const MAX_GAP: u64 = 16_384;
 
-/// The counter of a frame with these low bits, after the last one that was accepted: the least counter
-/// above it with these bits, where that is at most [`MAX_GAP`] above it. Before the first frame the last
-/// one counts as -1. Takes no memory.
+/// The counter of a frame with these low bits, after the last one that was accepted: the least
+/// counter above it with these bits, where that is at most [`MAX_GAP`] above it. Before the first
+/// frame the last one counts as -1. Takes no memory.
 pub fn rebuild(last: Option<u32>, low: u16) -> Rebuilt
     ensures repeat { (result ≡ Rebuilt.Repeat) ↔ IsRepeat last low }
     ensures new { (n : ℕ) → (result ≡ Rebuilt.New n)
         ↔ (¬ IsRepeat last low × IsLeast last low n × (distance last n ≤ MAX_GAP)) }
     ensures gap { (result ≡ Rebuilt.Gap)
         ↔ (¬ IsRepeat last low × ((n : ℕ) → IsLeast last low n → MAX_GAP < distance last n)) }
-    ensures value { result ≡ rebuilt last low }
+    ensures value { result ≡ rebuilt_counter last low }
 {
     match last {
         Some(last) if low_bits(last) == low => Rebuilt::Repeat,

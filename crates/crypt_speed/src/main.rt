@@ -1,5 +1,5 @@
-//! `crypt-speed`: how fast the cryptography of frames is on one processor here. What was measured goes to standard
-//! error, since it is never the same twice; standard output stays empty.
+//! `crypt-speed`: how fast the cryptography of frames is on one processor here. What was measured
+//! goes to standard error, since it is never the same twice; standard output stays empty.
 #![tactic(auto)]
 
 use aes128::KeySchedule;

@@ -6,7 +6,7 @@ use Rattle.lw_types.specs.Answer.{Answers}
 use Rattle.lw_types.specs.declared.frame_copy.FrameCopy.{FrameCopy}
 use Rattle.lw_types.specs.declared.refusal.Refusal.{Refusal}
 use Rattle.devices.specs.declared.heard.Heard.{Heard}
-use Rattle.dedup.specs.Windows.{Window, added, is_due, IsCurrent, IsOldestDue, NoneDue}
+use Rattle.dedup.specs.Windows.{Window, windows_with, is_due, IsCurrent, IsOldestDue, NoneDue}
 
 pub rest_opened : (now : ℕ) (ws rest : List Window) (heard : Heard) → IsOldestDue now ws heard rest → All (λ w. w.opened ≤ now) ws → All (λ w. w.opened ≤ now) rest
 rest_opened now ws rest heard o all = All-rest (λ w. w.opened ≤ now) o.window rest ws o.oldest all
@@ -18,11 +18,11 @@ pub none_left : (now : ℕ) (ws after : List Window) → after ≡ ws → NoneDu
 none_left now ws after same none all = All-same (λ w. (w.opened ≤ now) × (is_due now w ≡ false)) after ws same (λ k d lt. (all k d lt, none k d lt))
 
 -- where a copy that is taken makes no window due, each opened at this moment or before
-pub taken_opened : (now : ℕ) (ws after : List Window) (copy : FrameCopy) → ((xs ys : List Window) (n : ℕ) (c : FrameCopy) → IsCurrent n xs → added xs n c ≡ Ok ys → IsCurrent n ys)
-    → IsCurrent now ws → Answers {B = Unit {0}} (added ws now copy) (λ xs _. after ≡ xs) (Ok (tt {0})) → All (λ w. w.opened ≤ now) after
-taken_opened now ws after copy law current = by (added ws now copy) refl
+pub taken_opened : (now : ℕ) (ws after : List Window) (copy : FrameCopy) → ((xs ys : List Window) (n : ℕ) (c : FrameCopy) → IsCurrent n xs → windows_with xs n c ≡ Ok ys → IsCurrent n ys)
+    → IsCurrent now ws → Answers {B = Unit {0}} (windows_with ws now copy) (λ xs _. after ≡ xs) (Ok (tt {0})) → All (λ w. w.opened ≤ now) after
+taken_opened now ws after copy law current = by (windows_with ws now copy) refl
   where
-    by : (r : Result (List Window) Refusal) → added ws now copy ≡ r → Answers {B = Unit {0}} r (λ xs _. after ≡ xs) (Ok (tt {0})) → All (λ w. w.opened ≤ now) after
+    by : (r : Result (List Window) Refusal) → windows_with ws now copy ≡ r → Answers {B = Unit {0}} r (λ xs _. after ≡ xs) (Ok (tt {0})) → All (λ w. w.opened ≤ now) after
     by (Ok xs) is same = All-weaker (λ w. (w.opened ≤ now) × (is_due now w ≡ false)) (λ w. w.opened ≤ now) (λ w h. h.0) after
         (All-same (λ w. (w.opened ≤ now) × (is_due now w ≡ false)) after xs same (law ws xs now copy current is))
     by (Err e) is same = absurd (cc)

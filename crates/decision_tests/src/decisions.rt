@@ -1,5 +1,6 @@
-// Tests of what tables decide: uplinks and downlinks, joins, and queues. What leaves is compared as it leaves, as lines
-// for the application and frames for the gateway, and the record is compared whole.
+// Tests of what tables decide: uplinks and downlinks, joins, and queues. What leaves is compared as
+// it leaves, as lines for the application and frames for the gateway, and the record is compared
+// whole.
 mod fcnt;
 mod joins;
 mod loads;
@@ -17,7 +18,8 @@ use crate::network::{Asked, Comes, Items, Refused, Row, State};
 use lw_types::Refusal;
 use std::alloc::Global;
 
-// The tables of rows. (A test that names them all has each of their rows in its proof; one that calls this has none.)
+// The tables of rows. (A test that names them all has each of their rows in its proof; one that
+// calls this has none.)
 fn rows_of(table: u8) -> &'static [Row] {
     match table {
         0 => payloads::MAC_COMMANDS,
@@ -67,7 +69,8 @@ fn a_command_is_refused_for_its_first_cause(rt: HostRuntime) {
     }
 }
 
-// Whether the acknowledgement of an uplink at a data rate leaves for RX1 at another, where the device has this offset.
+// Whether the acknowledgement of an uplink at a data rate leaves for RX1 at another, where the
+// device has this offset.
 fn lowers(alloc: Global, rx1_offset: u64, data_rate: u8, rx1: usize) -> Result<bool, Refusal> {
     let row = Row {
         before: State {

@@ -36,11 +36,11 @@ pub(crate) struct State {
     pub last_dev_nonce: Option<u16>,
     /// The last JoinNonce granted; 0 where none was.
     pub join_nonce: u32,
-    /// The session in use, and its counters.
+    /// The current session, and its counters.
     pub in_use: Option<Grant>,
     pub last_up: u32,
     pub next_down: u64,
-    /// The session that waits for its first uplink.
+    /// The pending session, which had no uplink yet.
     pub waiting: Option<Grant>,
     pub awaited: Option<u32>,
     pub mac_queue: Option<&'static str>,
@@ -63,8 +63,8 @@ pub(crate) const FRESH: State = State {
     items: Items::Ports(0),
 };
 
-/// How a gateway heard a frame: its number above B0, the data rate, SNR and RSSI. No two of B0 to B2 have one channel, and
-/// no two gateways one stamp.
+/// How a gateway heard a frame: its number above B0, the data rate, SNR and RSSI. No two of B0 to
+/// B2 have one channel, and no two gateways one stamp.
 pub(crate) type HeardBy = (u8, u8, i16, i16);
 
 /// An item that an application asks for, of so many bytes 6.
@@ -97,8 +97,8 @@ pub(crate) enum Comes {
     Mac(u64, u64, &'static str),
 }
 
-/// A record, what comes, what leaves then, and the record after it. What leaves is lines for the application 3 and frames
-/// for gateways in hexadecimal digits, one below the other.
+/// A record, what comes, what leaves then, and the record after it. What leaves is lines for the
+/// application 3 and frames for gateways in hexadecimal digits, one below the other.
 #[derive(Clone, Copy)]
 pub(crate) struct Row {
     pub before: State,

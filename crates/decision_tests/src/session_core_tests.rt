@@ -7,7 +7,8 @@ mod windows;
 use crate::session_core_tests::core_script::{Step, is_seen};
 use session_core::Moment;
 
-// The scripts. (A test that names them all has each of their steps in its proof; one that calls this has none.)
+// The scripts. (A test that names them all has each of their steps in its proof; one that calls
+// this has none.)
 fn script(number: u8) -> &'static [Step] {
     match number {
         0 => commands::TURNS,

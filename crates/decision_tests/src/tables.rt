@@ -13,8 +13,8 @@ pub(crate) fn new_table(alloc: Global, slots: u64) -> Result<Table, Refusal> {
     }
 }
 
-// Decides a command under the number after `seq`, puts its record on the table, and adds the decision to a batch. (Whoever
-// has a decision of its own pays for its drop in its proof.)
+// Decides a command under the number after `seq`, puts its record on the table, and adds the
+// decision to a batch. (Whoever has a decision of its own pays for its drop in its proof.)
 fn carry_out(
     alloc: Global,
     table: &mut Table,
@@ -46,7 +46,7 @@ pub(crate) fn alone(
     Ok(batch)
 }
 
-// A device is brought.
+// A device is provisioned.
 fn bring(
     alloc: Global,
     table: &mut Table,
@@ -77,8 +77,8 @@ pub(crate) fn filled(alloc: Global, slots: u64, devices: u64) -> Result<Table, R
     }
 }
 
-/// Provisionings of so many devices on a table whose last decision has the number 0, and which has their records then. The
-/// DevEUIs are counted down from 2000.
+/// Provisionings of so many devices on a table whose last decision has the number 0, and which has
+/// their records then. The DevEUIs are counted down from 2000.
 pub(crate) fn batch(alloc: Global, table: &mut Table, count: u64) -> Result<Batch, Refusal> {
     let mut batch = Batch::new(alloc)?;
     for seq in 0..count {

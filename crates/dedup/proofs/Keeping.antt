@@ -16,7 +16,7 @@ use Rattle.devices.specs.declared.heard.Hearing.{Hearing}
 use Rattle.devices.specs.Heard.{with_hearing}
 use Rattle.dedup.specs.declared.TheConstants.{WAIT, MOST_WINDOWS}
 use Rattle.dedup.specs.declared.windows.Gathering.{Gathering}
-use Rattle.dedup.specs.Windows.{heard_now, Window, hearing_of, is_due, is_of, with_hearings, result_map, joined, added, NoneDue, IsOldestDue}
+use Rattle.dedup.specs.Windows.{heard_now, Window, hearing_of, is_due, is_of, with_hearings, result_map, joined_windows, windows_with, NoneDue, IsOldestDue}
 use Rattle.dedup.specs.Kept.{window_of, joined_at, opened_too, AreKept}
 
 abbrev pub Entries : Type 0
@@ -105,7 +105,7 @@ any_is_lookup (e ∷ es) bytes = by (bytes_eq bytes e.0) (any_is_lookup es bytes
     by false rest = rest
 
 joined_first : (es : Entries) (i : ℕ) (copy : FrameCopy) → position_or_len (bytes_eq copy.phy_payload) (keys_of es) ≡ i → i < length es
-    → joined (map window_of es) copy ≡ joined_at (map window_of es) i (hearing_of copy)
+    → joined_windows (map window_of es) copy ≡ joined_at (map window_of es) i (hearing_of copy)
 joined_first [] i copy p lt = absurd (omega arith)
 joined_first (e ∷ es) zero copy p lt = by (bytes_eq copy.phy_payload e.0) p
   where
@@ -116,22 +116,22 @@ joined_first (e ∷ es) zero copy p lt = by (bytes_eq copy.phy_payload e.0) p
     there = result_map (λ hs. with_hearings (window_of e) hs ∷ map window_of es) (with_hearing e.1.hearings (hearing_of copy))
 
     by : (b : Bool) → cond (not b) (1 + position_or_len (bytes_eq copy.phy_payload) (keys_of es)) 0 ≡ 0
-        → cond b (result_map (λ hs. with_hearings (window_of e) hs ∷ map window_of es) (with_hearing e.1.hearings (hearing_of copy))) (result_map (λ rest. window_of e ∷ rest) (joined (map window_of es) copy))
+        → cond b (result_map (λ hs. with_hearings (window_of e) hs ∷ map window_of es) (with_hearing e.1.hearings (hearing_of copy))) (result_map (λ rest. window_of e ∷ rest) (joined_windows (map window_of es) copy))
         ≡ result_map (λ hs. with_hearings (window_of e) hs ∷ map window_of es) (with_hearing e.1.hearings (hearing_of copy))
     by true p = refl
     by false p = absurd (omega arith)
 joined_first (e ∷ es) (suc i) copy p lt = by (bytes_eq copy.phy_payload e.0) p (λ q. joined_first es i copy q (omega arith))
   where
     by : (b : Bool) → cond (not b) (1 + position_or_len (bytes_eq copy.phy_payload) (keys_of es)) 0 ≡ suc i
-        → (position_or_len (bytes_eq copy.phy_payload) (keys_of es) ≡ i → joined (map window_of es) copy ≡ joined_at (map window_of es) i (hearing_of copy))
-        → cond b (result_map (λ hs. with_hearings (window_of e) hs ∷ map window_of es) (with_hearing e.1.hearings (hearing_of copy))) (result_map (λ rest. window_of e ∷ rest) (joined (map window_of es) copy))
+        → (position_or_len (bytes_eq copy.phy_payload) (keys_of es) ≡ i → joined_windows (map window_of es) copy ≡ joined_at (map window_of es) i (hearing_of copy))
+        → cond b (result_map (λ hs. with_hearings (window_of e) hs ∷ map window_of es) (with_hearing e.1.hearings (hearing_of copy))) (result_map (λ rest. window_of e ∷ rest) (joined_windows (map window_of es) copy))
         ≡ result_map (λ rest. window_of e ∷ rest) (joined_at (map window_of es) i (hearing_of copy))
     by true p rest = absurd (omega arith)
     by false p rest = ap (result_map (λ xs. window_of e ∷ xs)) (rest (omega arith))
 
 -- where the map has the bytes, their window takes the copy
 pub added_joins : (es : Entries) (now : ℕ) (copy : FrameCopy) (i : ℕ) → position (bytes_eq copy.phy_payload) (keys_of es) ≡ Some i
-    → added (map window_of es) now copy ≡ joined_at (map window_of es) i (hearing_of copy)
+    → windows_with (map window_of es) now copy ≡ joined_at (map window_of es) i (hearing_of copy)
 added_joins es now copy i p =
     let t = bytes_eq copy.phy_payload in
     let there : list_any (is_of copy.phy_payload) (map window_of es) ≡ true = any_is_lookup es copy.phy_payload ∙ sym (some_index t es) ∙ ap is_some p in
@@ -143,7 +143,7 @@ none_there es bytes p = any_is_lookup es bytes ∙ sym (some_index (bytes_eq byt
 
 -- where it has not, a window opens
 pub added_opens : (ws : List Window) (now : ℕ) (copy : FrameCopy) → list_any (is_of copy.phy_payload) ws ≡ false
-    → added ws now copy ≡ opened_too ws now copy.phy_payload (hearing_of copy)
+    → windows_with ws now copy ≡ opened_too ws now copy.phy_payload (hearing_of copy)
 added_opens ws now copy none = rw none refl
 
 none_from_is_some : {A : Type 0} (o : Option A) → is_some o ≡ false → o ≡ None

@@ -13,8 +13,8 @@ use Rattle.lw_types.specs.declared.refusal.Refusal.{Refusal}
 use Rattle.lw_types.specs.declared.refusal.Refusal.TheVariants.{WindowsFull}
 use Rattle.devices.specs.Heard.{with_hearing}
 use Rattle.dedup.specs.declared.TheConstants.{WAIT, MOST_WINDOWS}
-use Rattle.dedup.specs.Groups.{Arrival, joins, first_groups, groups}
-use Rattle.dedup.specs.Windows.{Window, gathered, hearing_of, is_due, is_of, opened_by, waiting, with_hearings, result_map, joined, added, NoneDue, IsCurrent, StandFor}
+use Rattle.dedup.specs.Groups.{Arrival, is_in_group, first_groups, groups}
+use Rattle.dedup.specs.Windows.{Window, window_of_group, hearing_of, is_due, is_of, opened_by, open_windows, with_hearings, result_map, joined_windows, windows_with, NoneDue, IsCurrent, StandFor}
 use Rattle.dedup.proofs.Standing.{filter_all, filter_none}
 
 -- the windows begin so far apart where they have the same bytes
@@ -22,17 +22,17 @@ abbrev Apart : List Window → Type 0
 Apart ws = AllPairs (λ v w. v.phy_payload ≡ w.phy_payload → v.opened + WAIT ≤ w.opened) ws
 
 -- what holds of each copy holds of each group's first
-firsts : (Q : ℕ → List ℕ → Type 0) (n : ℕ) (arrivals : List Arrival) → All (λ a. Q a.at a.copy.phy_payload) arrivals → All (λ w. Q w.opened w.phy_payload) (map gathered (first_groups n arrivals))
+firsts : (Q : ℕ → List ℕ → Type 0) (n : ℕ) (arrivals : List Arrival) → All (λ a. Q a.at a.copy.phy_payload) arrivals → All (λ w. Q w.opened w.phy_payload) (map window_of_group (first_groups n arrivals))
 firsts Q zero arrivals all = All-nil (λ w. Q w.opened w.phy_payload)
 firsts Q (suc n) [] all = All-nil (λ w. Q w.opened w.phy_payload)
 firsts Q (suc n) (first ∷ rest) all =
     let P : Arrival → Type 0 = λ a. Q a.at a.copy.phy_payload in
-    let others = filter (λ a. not (joins first a)) rest in
-    All-cons (λ w. Q w.opened w.phy_payload) (gathered (first ∷ filter (joins first) rest)) (map gathered (first_groups n others)) (All-head P first rest all)
-    (firsts Q n others (All-filter (λ a. not (joins first a)) P rest (All-tail P first rest all)))
+    let others = filter (λ a. not (is_in_group first a)) rest in
+    All-cons (λ w. Q w.opened w.phy_payload) (window_of_group (first ∷ filter (is_in_group first) rest)) (map window_of_group (first_groups n others)) (All-head P first rest all)
+    (firsts Q n others (All-filter (λ a. not (is_in_group first a)) P rest (All-tail P first rest all)))
 
 -- a copy that doesn't join has other bytes, or is later
-too_late : (first a : Arrival) → not (joins first a) ≡ true → first.copy.phy_payload ≡ a.copy.phy_payload → first.at + WAIT ≤ a.at
+too_late : (first a : Arrival) → not (is_in_group first a) ≡ true → first.copy.phy_payload ≡ a.copy.phy_payload → first.at + WAIT ≤ a.at
 too_late first a e same =
     by (nat_lt a.at (first.at + WAIT)) refl ((bytes_decides a.copy.phy_payload first.copy.phy_payload).1 (sym same)) e
   where
@@ -41,16 +41,16 @@ too_late first a e same =
     by true is equal e = absurd (true≢false (sym e ∙ ap not equal))
     by false is equal e = grind (arith, nat_tests)
 
-apart_from : (n : ℕ) (arrivals : List Arrival) → Apart (map gathered (first_groups n arrivals))
+apart_from : (n : ℕ) (arrivals : List Arrival) → Apart (map window_of_group (first_groups n arrivals))
 apart_from zero arrivals = λ i j d lt within. absurd (omega arith)
 apart_from (suc n) [] = λ i j d lt within. absurd (omega arith)
 apart_from (suc n) (first ∷ rest) =
-    let others = filter (λ a. not (joins first a)) rest in
+    let others = filter (λ a. not (is_in_group first a)) rest in
     let later = firsts (λ at' bytes. first.copy.phy_payload ≡ bytes → first.at + WAIT ≤ at') n others
-    (All-weaker (λ a. not (joins first a) ≡ true) (λ a. first.copy.phy_payload ≡ a.copy.phy_payload → first.at + WAIT ≤ a.at) (too_late first) others (filter_passes (λ a. not (joins first a)) rest)) in
-    AllPairs-cons (λ v w. v.phy_payload ≡ w.phy_payload → v.opened + WAIT ≤ w.opened) (gathered (first ∷ filter (joins first) rest)) (map gathered (first_groups n others)) later (apart_from n others)
+    (All-weaker (λ a. not (is_in_group first a) ≡ true) (λ a. first.copy.phy_payload ≡ a.copy.phy_payload → first.at + WAIT ≤ a.at) (too_late first) others (filter_passes (λ a. not (is_in_group first a)) rest)) in
+    AllPairs-cons (λ v w. v.phy_payload ≡ w.phy_payload → v.opened + WAIT ≤ w.opened) (window_of_group (first ∷ filter (is_in_group first) rest)) (map window_of_group (first_groups n others)) later (apart_from n others)
 
-pub groups_apart : (arrivals : List Arrival) → Apart (map gathered (groups arrivals))
+pub groups_apart : (arrivals : List Arrival) → Apart (map window_of_group (groups arrivals))
 groups_apart arrivals = apart_from (length arrivals) arrivals
 
 apart_tail : (w : Window) (ws : List Window) → Apart (w ∷ ws) → Apart ws
@@ -61,9 +61,9 @@ apart_behind zero ws apart = apart
 apart_behind (suc k) [] apart = apart
 apart_behind (suc k) (w ∷ ws) apart = apart_behind k ws (apart_tail w ws apart)
 
-pub they_wait : (ws : List Window) (arrivals : List Arrival) (closed now : ℕ) → StandFor ws arrivals closed now → NoneDue now ws → ws ≡ waiting now arrivals
+pub they_wait : (ws : List Window) (arrivals : List Arrival) (closed now : ℕ) → StandFor ws arrivals closed now → NoneDue now ws → ws ≡ open_windows now arrivals
 they_wait ws arrivals closed now h none =
-    let W = map gathered (groups arrivals) in
+    let W = map window_of_group (groups arrivals) in
     let waits : Window → Bool = λ w. not (is_due now w) in
     let gone : filter waits (take closed W) ≡ [] = filter_none waits (take closed W) (All-weaker (λ w. is_due now w ≡ true) (λ w. waits w ≡ false) (λ w e. ap not e) (take closed W) h.due) in
     let left : filter waits (drop closed W) ≡ ws = ap (filter waits) (sym h.windows) ∙ filter_all waits ws (All-weaker (λ w. is_due now w ≡ false) (λ w. waits w ≡ true) (λ w e. ap not e) ws none) in
@@ -83,7 +83,7 @@ differ now v w early le apart same = let later : v.opened + WAIT ≤ w.opened = 
 
 -- the window of the copy's bytes refuses it or not
 joined_by : (ws : List Window) (now : ℕ) (copy : FrameCopy) (k : ℕ) (d : Window) → All (Current now) ws → Apart ws → k < length ws → (get_or ws k d).phy_payload ≡ copy.phy_payload
-    → (list_any (is_of copy.phy_payload) ws ≡ true) × (result_err (joined ws copy) ≡ result_err (with_hearing (get_or ws k d).hearings (hearing_of copy)))
+    → (list_any (is_of copy.phy_payload) ws ≡ true) × (result_err (joined_windows ws copy) ≡ result_err (with_hearing (get_or ws k d).hearings (hearing_of copy)))
 joined_by [] now copy k d current apart lt same = absurd (omega arith)
 joined_by (v ∷ ws) now copy zero d current apart lt same =
     let here : is_of copy.phy_payload v ≡ true = (bytes_decides copy.phy_payload v.phy_payload).1 (sym same) in
@@ -95,19 +95,19 @@ joined_by (v ∷ ws) now copy (suc k) d current apart lt same =
     w = get_or ws k d
 
     by : (b : Bool) → is_of copy.phy_payload v ≡ b
-        → (list_any (is_of copy.phy_payload) ws ≡ true) × (result_err (joined ws copy) ≡ result_err (with_hearing (get_or ws k d).hearings (hearing_of copy)))
+        → (list_any (is_of copy.phy_payload) ws ≡ true) × (result_err (joined_windows ws copy) ≡ result_err (with_hearing (get_or ws k d).hearings (hearing_of copy)))
         → ((b || list_any (is_of copy.phy_payload) ws) ≡ true)
-        × (result_err (cond b (result_map (λ hs. with_hearings v hs ∷ ws) (with_hearing v.hearings (hearing_of copy))) (result_map (λ rest. v ∷ rest) (joined ws copy))) ≡ result_err (with_hearing (get_or ws k d).hearings (hearing_of copy)))
+        × (result_err (cond b (result_map (λ hs. with_hearings v hs ∷ ws) (with_hearing v.hearings (hearing_of copy))) (result_map (λ rest. v ∷ rest) (joined_windows ws copy))) ≡ result_err (with_hearing (get_or ws k d).hearings (hearing_of copy)))
     by true is rest = absurd (differ now v (get_or ws k d) (All-head (Current now) v ws current).1 (All-tail (Current now) v ws current k d (omega arith)).0
         (apart 0 (suc k) d (omega arith) lt) (sym ((bytes_decides copy.phy_payload v.phy_payload).0 is) ∙ sym same))
-    by false is rest = (rest.0, refused_too (λ xs. v ∷ xs) (joined ws copy) ∙ rest.1)
+    by false is rest = (rest.0, refused_too (λ xs. v ∷ xs) (joined_windows ws copy) ∙ rest.1)
 
 pub refused_by_group : (ws : List Window) (arrivals : List Arrival) (closed now : ℕ) (copy : FrameCopy) (w : Window) → StandFor ws arrivals closed now → IsCurrent now ws
-    → Contains (waiting now arrivals) w → w.phy_payload ≡ copy.phy_payload → result_err (added ws now copy) ≡ result_err (with_hearing w.hearings (hearing_of copy))
+    → Contains (open_windows now arrivals) w → w.phy_payload ≡ copy.phy_payload → result_err (windows_with ws now copy) ≡ result_err (with_hearing w.hearings (hearing_of copy))
 refused_by_group ws arrivals closed now copy w h current one same =
-    let waits : ws ≡ waiting now arrivals = they_wait ws arrivals closed now h (All-weaker (Current now) (λ x. is_due now x ≡ false) (λ x c. c.1) ws current) in
+    let waits : ws ≡ open_windows now arrivals = they_wait ws arrivals closed now h (All-weaker (Current now) (λ x. is_due now x ≡ false) (λ x c. c.1) ws current) in
     let there : Contains ws w = subst (λ xs. Contains xs w) (sym waits) one in
-    let apart : Apart ws = subst Apart (sym h.windows) (apart_behind closed (map gathered (groups arrivals)) (groups_apart arrivals)) in
+    let apart : Apart ws = subst Apart (sym h.windows) (apart_behind closed (map window_of_group (groups arrivals)) (groups_apart arrivals)) in
     let j = joined_by ws now copy there.0 w current apart there.1 (ap (λ x. x.phy_payload) there.2 ∙ same) in
     rw j.0 (j.1 ∙ ap (λ x. result_err (with_hearing x.hearings (hearing_of copy))) there.2)
 
@@ -121,11 +121,11 @@ none_of (w ∷ ws) bytes none =
     by false is rest = rest
 
 pub refused_with_none : (ws : List Window) (arrivals : List Arrival) (closed now : ℕ) (copy : FrameCopy) → StandFor ws arrivals closed now → IsCurrent now ws
-    → All (λ w. w.phy_payload ≡ copy.phy_payload → ⊥) (waiting now arrivals)
-    → result_err (added ws now copy) ≡ cond (nat_le MOST_WINDOWS (length (waiting now arrivals))) (Some WindowsFull) None
+    → All (λ w. w.phy_payload ≡ copy.phy_payload → ⊥) (open_windows now arrivals)
+    → result_err (windows_with ws now copy) ≡ cond (nat_le MOST_WINDOWS (length (open_windows now arrivals))) (Some WindowsFull) None
 refused_with_none ws arrivals closed now copy h current none =
-    let waits : ws ≡ waiting now arrivals = they_wait ws arrivals closed now h (All-weaker (Current now) (λ x. is_due now x ≡ false) (λ x c. c.1) ws current) in
-    let nobody : list_any (is_of copy.phy_payload) ws ≡ false = none_of ws copy.phy_payload (All-same (λ w. w.phy_payload ≡ copy.phy_payload → ⊥) ws (waiting now arrivals) waits none) in
+    let waits : ws ≡ open_windows now arrivals = they_wait ws arrivals closed now h (All-weaker (Current now) (λ x. is_due now x ≡ false) (λ x c. c.1) ws current) in
+    let nobody : list_any (is_of copy.phy_payload) ws ≡ false = none_of ws copy.phy_payload (All-same (λ w. w.phy_payload ≡ copy.phy_payload → ⊥) ws (open_windows now arrivals) waits none) in
     rw nobody (subst (λ xs. result_err (cond (nat_le MOST_WINDOWS (length ws)) (Err WindowsFull) (Ok (ws ++ opened_by now copy ∷ []))) ≡ cond (nat_le MOST_WINDOWS (length xs)) (Some WindowsFull) None) waits (by (nat_le MOST_WINDOWS (length ws))))
   where
     by : (b : Bool) → result_err (cond b (Err WindowsFull) (Ok (ws ++ opened_by now copy ∷ []))) ≡ cond b (Some WindowsFull) None

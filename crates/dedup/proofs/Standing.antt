@@ -13,7 +13,7 @@ use Rattle.devices.specs.Heard.{with_hearing, has_gateway, gateway_of}
 use Rattle.devices.specs.declared.heard.TheConstants.Hearings.{MOST}
 use Rattle.dedup.specs.declared.TheConstants.{WAIT, MOST_WINDOWS}
 use Rattle.dedup.specs.Groups.{Arrival, arrival, groups}
-use Rattle.dedup.specs.Windows.{Window, gathered, hearing_of, is_due, is_of, opened_by, with_hearings, result_map, joined, added, NoneDue, IsCurrent, StandFor}
+use Rattle.dedup.specs.Windows.{Window, window_of_group, hearing_of, is_due, is_of, opened_by, with_hearings, result_map, joined_windows, windows_with, NoneDue, IsCurrent, StandFor}
 use Rattle.dedup.proofs.GroupLemmas.{takes, with_arrival, one_more_arrival}
 
 due_takes_none : (w : Window) (a : Arrival) → is_due a.at w ≡ true → nat_lt a.at (w.opened + WAIT) ≡ false
@@ -71,7 +71,7 @@ mapped f (Err x) value e = absurd (cc)
 
 -- where a window has the copy's bytes, it takes the copy
 joined_takes : (ws : List Window) (now : ℕ) (copy : FrameCopy) (after : List Window) → IsCurrent now ws → list_any (is_of copy.phy_payload) ws ≡ true
-    → joined ws copy ≡ Ok after → with_arrival ws (arrival now copy) ≡ after
+    → joined_windows ws copy ≡ Ok after → with_arrival ws (arrival now copy) ≡ after
 joined_takes [] now copy after current there e = absurd (cc)
 joined_takes (w ∷ ws) now copy after current there e =
     by (is_of copy.phy_payload w) refl (joined_takes ws now copy) there e
@@ -80,15 +80,15 @@ joined_takes (w ∷ ws) now copy after current there e =
     still = not_due_is_open w now (All-head (λ x. (x.opened ≤ now) × (is_due now x ≡ false)) w ws current).1
 
     by : (b : Bool) → is_of copy.phy_payload w ≡ b
-        → ((rest : List Window) → IsCurrent now ws → list_any (is_of copy.phy_payload) ws ≡ true → joined ws copy ≡ Ok rest → with_arrival ws (arrival now copy) ≡ rest)
+        → ((rest : List Window) → IsCurrent now ws → list_any (is_of copy.phy_payload) ws ≡ true → joined_windows ws copy ≡ Ok rest → with_arrival ws (arrival now copy) ≡ rest)
         → (b || list_any (is_of copy.phy_payload) ws) ≡ true
-        → cond b (result_map (λ hearings. with_hearings w hearings ∷ ws) (with_hearing w.hearings (hearing_of copy))) (result_map (λ rest. w ∷ rest) (joined ws copy)) ≡ Ok after
+        → cond b (result_map (λ hearings. with_hearings w hearings ∷ ws) (with_hearing w.hearings (hearing_of copy))) (result_map (λ rest. w ∷ rest) (joined_windows ws copy)) ≡ Ok after
         → with_arrival (w ∷ ws) (arrival now copy) ≡ after
     by true of_it taken any ok =
         let m = mapped (λ hearings. with_hearings w hearings ∷ ws) (with_hearing w.hearings (hearing_of copy)) after ok in
         rw (still, of_it) (sym (m.is ∙ ap (λ hearings. with_hearings w hearings ∷ ws) (took w.hearings (hearing_of copy) m.from m.was)))
     by false of_it taken any ok =
-        let m = mapped (λ rest. w ∷ rest) (joined ws copy) after ok in
+        let m = mapped (λ rest. w ∷ rest) (joined_windows ws copy) after ok in
         let tail = All-tail (λ x. (x.opened ≤ now) × (is_due now x ≡ false)) w ws current in
         rw (still, of_it) (ap (λ rest. w ∷ rest) (taken m.from tail any m.was) ∙ sym m.is)
 
@@ -111,10 +111,10 @@ opens_last (w ∷ ws) now copy current none = by (is_of copy.phy_payload w) refl
         rw (still, of_it) (ap (λ rest. w ∷ rest) (opens tail any))
 
 -- what is added is the arrival
-added_takes : (ws : List Window) (now : ℕ) (copy : FrameCopy) (after : List Window) → IsCurrent now ws → added ws now copy ≡ Ok after → with_arrival ws (arrival now copy) ≡ after
+added_takes : (ws : List Window) (now : ℕ) (copy : FrameCopy) (after : List Window) → IsCurrent now ws → windows_with ws now copy ≡ Ok after → with_arrival ws (arrival now copy) ≡ after
 added_takes ws now copy after current = by (list_any (is_of copy.phy_payload) ws) (nat_le MOST_WINDOWS (length ws)) refl
   where
-    by : (b c : Bool) → list_any (is_of copy.phy_payload) ws ≡ b → cond b (joined ws copy) (cond c (Err WindowsFull) (Ok (ws ++ opened_by now copy ∷ []))) ≡ Ok after
+    by : (b c : Bool) → list_any (is_of copy.phy_payload) ws ≡ b → cond b (joined_windows ws copy) (cond c (Err WindowsFull) (Ok (ws ++ opened_by now copy ∷ []))) ≡ Ok after
         → with_arrival ws (arrival now copy) ≡ after
     by true c there e = joined_takes ws now copy after current there e
     by false true there e = absurd (cc)
@@ -124,18 +124,18 @@ added_takes ws now copy after current = by (list_any (is_of copy.phy_payload) ws
 abbrev Open : ℕ → Window → Type 0
 Open now w = (w.opened ≤ now) × (is_due now w ≡ false)
 
-joined_stays : (ws : List Window) (now : ℕ) (copy : FrameCopy) (after : List Window) → All (Open now) ws → joined ws copy ≡ Ok after → All (Open now) after
+joined_stays : (ws : List Window) (now : ℕ) (copy : FrameCopy) (after : List Window) → All (Open now) ws → joined_windows ws copy ≡ Ok after → All (Open now) after
 joined_stays [] now copy after current ok = let empty : after ≡ [] = cc in All-same (Open now) after [] empty current
 joined_stays (w ∷ ws) now copy after current ok = by (is_of copy.phy_payload w) (joined_stays ws now copy) ok
   where
-    by : (b : Bool) → ((rest : List Window) → All (Open now) ws → joined ws copy ≡ Ok rest → All (Open now) rest)
-        → cond b (result_map (λ hearings. with_hearings w hearings ∷ ws) (with_hearing w.hearings (hearing_of copy))) (result_map (λ rest. w ∷ rest) (joined ws copy)) ≡ Ok after
+    by : (b : Bool) → ((rest : List Window) → All (Open now) ws → joined_windows ws copy ≡ Ok rest → All (Open now) rest)
+        → cond b (result_map (λ hearings. with_hearings w hearings ∷ ws) (with_hearing w.hearings (hearing_of copy))) (result_map (λ rest. w ∷ rest) (joined_windows ws copy)) ≡ Ok after
         → All (Open now) after
     by true stays ok =
         let m = mapped (λ hearings. with_hearings w hearings ∷ ws) (with_hearing w.hearings (hearing_of copy)) after ok in
         All-same (Open now) after (with_hearings w m.from ∷ ws) m.is (All-cons (Open now) (with_hearings w m.from) ws (All-head (Open now) w ws current) (All-tail (Open now) w ws current))
     by false stays ok =
-        let m = mapped (λ rest. w ∷ rest) (joined ws copy) after ok in
+        let m = mapped (λ rest. w ∷ rest) (joined_windows ws copy) after ok in
         let tail = stays m.from (All-tail (Open now) w ws current) m.was in
         All-same (Open now) after (w ∷ m.from) m.is (All-cons (Open now) w m.from (All-head (Open now) w ws current) tail)
 
@@ -143,10 +143,10 @@ just_opened : (now : ℕ) (copy : FrameCopy) → Open now (opened_by now copy)
 just_opened now copy = (omega arith, grind (arith, nat_tests))
 
 -- after a copy was taken, each window is open still
-pub added_stays : (ws : List Window) (now : ℕ) (copy : FrameCopy) (after : List Window) → IsCurrent now ws → added ws now copy ≡ Ok after → IsCurrent now after
+pub added_stays : (ws : List Window) (now : ℕ) (copy : FrameCopy) (after : List Window) → IsCurrent now ws → windows_with ws now copy ≡ Ok after → IsCurrent now after
 added_stays ws now copy after current = by (list_any (is_of copy.phy_payload) ws) (nat_le MOST_WINDOWS (length ws))
   where
-    by : (b c : Bool) → cond b (joined ws copy) (cond c (Err WindowsFull) (Ok (ws ++ opened_by now copy ∷ []))) ≡ Ok after → IsCurrent now after
+    by : (b c : Bool) → cond b (joined_windows ws copy) (cond c (Err WindowsFull) (Ok (ws ++ opened_by now copy ∷ []))) ≡ Ok after → IsCurrent now after
     by true c e = joined_stays ws now copy after current e
     by false true e = absurd (cc)
     by false false e =
@@ -179,27 +179,27 @@ pub none_stand : (now : ℕ) → StandFor [] [] 0 now
 none_stand now = record { windows = refl; within = omega arith; due = λ k d lt. absurd (omega arith) }
 
 pub stand_with_one_more : (ws after : List Window) (arrivals : List Arrival) (closed now : ℕ) (copy : FrameCopy) → StandFor ws arrivals closed now → IsCurrent now ws
-    → added ws now copy ≡ Ok after → StandFor after (arrivals ++ arrival now copy ∷ []) closed now
+    → windows_with ws now copy ≡ Ok after → StandFor after (arrivals ++ arrival now copy ∷ []) closed now
 stand_with_one_more ws after arrivals closed now copy h current ok =
     let a = arrival now copy in
-    let W = map gathered (groups arrivals) in
-    let more : map gathered (groups (arrivals ++ a ∷ [])) ≡ with_arrival W a = one_more_arrival arrivals a in
-    let few : closed ≤ length W = omega (arith, length-map (groups arrivals) gathered, h.within) in
+    let W = map window_of_group (groups arrivals) in
+    let more : map window_of_group (groups (arrivals ++ a ∷ [])) ≡ with_arrival W a = one_more_arrival arrivals a in
+    let few : closed ≤ length W = omega (arith, length-map (groups arrivals) window_of_group, h.within) in
     let k = kept W closed a few h.due in
     record {
       windows = sym (ap (drop closed) more ∙ k.behind ∙ ap (λ xs. with_arrival xs a) (sym h.windows) ∙ added_takes ws now copy after current ok);
-      within = omega (arith, length-map (groups (arrivals ++ a ∷ [])) gathered, ap length more, longer W a);
+      within = omega (arith, length-map (groups (arrivals ++ a ∷ [])) window_of_group, ap length more, longer W a);
       due = All-same (λ w. is_due now w ≡ true) _ _ (ap (take closed) more ∙ k.front) h.due;
     }
 
 closed_one : (w : Window) (ws : List Window) (arrivals : List Arrival) (closed now : ℕ) → StandFor (w ∷ ws) arrivals closed now → is_due now w ≡ true
     → StandFor ws arrivals (suc closed) now
 closed_one w ws arrivals closed now h due =
-    let W = map gathered (groups arrivals) in
+    let W = map window_of_group (groups arrivals) in
     let s = split W closed w ws h.windows in
     record {
       windows = sym s.behind;
-      within = omega (arith, length-map (groups arrivals) gathered, s.within);
+      within = omega (arith, length-map (groups arrivals) window_of_group, s.within);
       due = All-same (λ x. is_due now x ≡ true) _ _ s.front (All-push (λ x. is_due now x ≡ true) (take closed W) w h.due due);
     }
 
@@ -214,13 +214,13 @@ pub stand_later : (ws : List Window) (arrivals : List Arrival) (closed now later
 stand_later ws arrivals closed now later h le = record {
   windows = h.windows;
   within = h.within;
-  due = All-weaker (λ w. is_due now w ≡ true) (λ w. is_due later w ≡ true) (due_later now later le) (take closed (map gathered (groups arrivals))) h.due;
+  due = All-weaker (λ w. is_due now w ≡ true) (λ w. is_due later w ≡ true) (due_later now later le) (take closed (map window_of_group (groups arrivals))) h.due;
 }
 
 pub all_closed : (ws : List Window) (arrivals : List Arrival) (closed now : ℕ) → StandFor ws arrivals closed now → NoneDue now ws
-    → take closed (map gathered (groups arrivals)) ≡ filter (is_due now) (map gathered (groups arrivals))
+    → take closed (map window_of_group (groups arrivals)) ≡ filter (is_due now) (map window_of_group (groups arrivals))
 all_closed ws arrivals closed now h none =
-    let W = map gathered (groups arrivals) in
+    let W = map window_of_group (groups arrivals) in
     let behind : filter (is_due now) (drop closed W) ≡ [] = ap (filter (is_due now)) (sym h.windows) ∙ filter_none (is_due now) ws none in
     let whole : take closed W ++ drop closed W ≡ W = take-append-drop closed W in
     sym (ap (filter (is_due now)) (sym whole) ∙ filter-append (is_due now) (take closed W) (drop closed W) ∙ ap (λ xs. filter (is_due now) (take closed W) ++ xs) behind ∙ append-nil _ ∙ filter_all (is_due now) (take closed W) h.due)

@@ -1,5 +1,7 @@
 -- The windows that are open.
-use Rattle.std.specs.Prelude.{◌≡◌, ℕ, ◌+◌, ◌≤◌, Bool, true, false, not, nat_le, if◌then◌else◌, List, [], ◌∷◌, ◌++◌, Result, Ok, Err, length, filter, map, take, drop, All, bytes_eq}
+use Rattle.std.specs.Prelude.{◌≡◌, ℕ, ◌+◌, ◌≤◌, Bool, true, false, not, nat_le, if◌then◌else◌, List}
+use Rattle.std.specs.Prelude.{[], ◌∷◌, ◌++◌, Result, Ok, Err, length, filter, map, take, drop, All}
+use Rattle.std.specs.Prelude.{bytes_eq}
 use Rattle.std.specs.List.{list_any}
 use Rattle.lw_types.specs.declared.frame_copy.FrameCopy.{FrameCopy}
 use Rattle.lw_types.specs.declared.refusal.Refusal.{Refusal}
@@ -24,9 +26,9 @@ abbrev pub hearing_of : FrameCopy → Hearing
 hearing_of copy = record { reception = copy.reception; stamp = copy.stamp }
 
 -- the window in which a group's copies are (of no copies at all: anything)
-abbrev pub gathered : List Arrival → Window
-gathered [] = record { opened = 0; phy_payload = []; hearings = [] }
-gathered (first ∷ rest) = record {
+abbrev pub window_of_group : List Arrival → Window
+window_of_group [] = record { opened = 0; phy_payload = []; hearings = [] }
+window_of_group (first ∷ rest) = record {
   opened = first.at;
   phy_payload = first.copy.phy_payload;
   hearings = map (λ a. hearing_of a.copy) (first ∷ rest);
@@ -49,22 +51,26 @@ abbrev pub is_of : List ℕ → Window → Bool
 is_of bytes window = bytes_eq bytes window.phy_payload
 
 abbrev pub opened_by : ℕ → FrameCopy → Window
-opened_by now copy = record { opened = now; phy_payload = copy.phy_payload; hearings = hearing_of copy ∷ [] }
+opened_by now copy =
+    record { opened = now; phy_payload = copy.phy_payload; hearings = hearing_of copy ∷ [] }
 
 abbrev pub with_hearings : Window → List Hearing → Window
-with_hearings window hearings = record { opened = window.opened; phy_payload = window.phy_payload; hearings = hearings }
+with_hearings window hearings =
+    record { opened = window.opened; phy_payload = window.phy_payload; hearings = hearings }
 
 -- the window of the copy's bytes takes the copy, or refuses it
-abbrev pub joined : List Window → FrameCopy → Result (List Window) Refusal
-joined [] copy = Ok []
-joined (w ∷ ws) copy =
-    if is_of copy.phy_payload w then result_map (λ hearings. with_hearings w hearings ∷ ws) (with_hearing w.hearings (hearing_of copy))
-    else result_map (λ rest. w ∷ rest) (joined ws copy)
+abbrev pub joined_windows : List Window → FrameCopy → Result (List Window) Refusal
+joined_windows [] copy = Ok []
+joined_windows (w ∷ ws) copy =
+    if is_of copy.phy_payload w then result_map (λ hearings. with_hearings w hearings ∷ ws)
+    (with_hearing w.hearings (hearing_of copy))
+    else result_map (λ rest. w ∷ rest) (joined_windows ws copy)
 
--- a copy is taken by the window of its bytes; where there is none, a new one opens at the end, of which 1,024 are open at most
-abbrev pub added : List Window → ℕ → FrameCopy → Result (List Window) Refusal
-added ws now copy =
-    if list_any (is_of copy.phy_payload) ws then joined ws copy
+-- a copy is taken by the window of its bytes; where there is none, a new one opens at the end, of
+-- which 1,024 are open at most
+abbrev pub windows_with : List Window → ℕ → FrameCopy → Result (List Window) Refusal
+windows_with ws now copy =
+    if list_any (is_of copy.phy_payload) ws then joined_windows ws copy
     else if nat_le MOST_WINDOWS (length ws) then Err WindowsFull
     else Ok (ws ++ opened_by now copy ∷ [])
 
@@ -76,18 +82,19 @@ abbrev pub IsCurrent : ℕ → List Window → Type 0
 IsCurrent now ws = All (λ w. (w.opened ≤ now) × (is_due now w ≡ false)) ws
 
 -- the groups that aren't due
-abbrev pub waiting : ℕ → List Arrival → List Window
-waiting now arrivals = filter (λ w. not (is_due now w)) (map gathered (groups arrivals))
+abbrev pub open_windows : ℕ → List Arrival → List Window
+open_windows now arrivals = filter (λ w. not (is_due now w)) (map window_of_group (groups arrivals))
 
 -- the oldest window is due: what was heard in it, and the other windows
-pub record IsOldestDue (now : ℕ) (ws : List Window) (heard : Heard) (rest : List Window) : Type 0 where
+pub record IsOldestDue (now : ℕ) (ws : List Window) (heard : Heard)
+    (rest : List Window) : Type 0 where
   pub window : Window
   pub oldest : ws ≡ window ∷ rest
   pub due : is_due now window ≡ true
   pub heard_in_it : heard ≡ heard_in window
 
--- the windows are those of these arrivals' groups but for the first so many, which are closed: each of them is due
+-- the windows are those of these arrivals' groups behind the first `closed`, each of which is due
 pub record StandFor (ws : List Window) (arrivals : List Arrival) (closed now : ℕ) : Type 0 where
-  pub windows : ws ≡ drop closed (map gathered (groups arrivals))
+  pub windows : ws ≡ drop closed (map window_of_group (groups arrivals))
   pub within : closed ≤ length (groups arrivals)
-  pub due : All (λ w. is_due now w ≡ true) (take closed (map gathered (groups arrivals)))
+  pub due : All (λ w. is_due now w ≡ true) (take closed (map window_of_group (groups arrivals)))

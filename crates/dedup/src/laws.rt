@@ -1,11 +1,14 @@
 //! What the windows stand for: the groups of all copies that were accepted.
-ghost use Rattle.std.specs.Prelude.{◌≡◌, ◌≢◌, ◌≤◌, ◌+◌, ℕ, List, [], ◌∷◌, ◌++◌, None, Ok, Some, true, filter, if◌then◌else◌, length, map, nat_le, take, All, AllPairs, Contains};
+ghost use Rattle.std.specs.Prelude.{◌≡◌, ◌≢◌, ◌≤◌, ◌+◌, ℕ, List, [], ◌∷◌, ◌++◌, None, Ok, Some};
+ghost use Rattle.std.specs.Prelude.{true, filter, if◌then◌else◌, length, map, nat_le, take, All};
+ghost use Rattle.std.specs.Prelude.{AllPairs, Contains};
 ghost use Rattle.std.specs.Result.{result_err};
 ghost use Rattle.lw_types.specs.declared.frame_copy.FrameCopy.{FrameCopy};
 ghost use Rattle.lw_types.specs.declared.refusal.Refusal.TheVariants.{WindowsFull};
 ghost use Rattle.devices.specs.Heard.{with_hearing};
 ghost use Rattle.dedup.specs.Groups.{arrival, groups, Arrival};
-ghost use Rattle.dedup.specs.Windows.{added, gathered, hearing_of, is_due, waiting, IsCurrent, NoneDue, StandFor, Window};
+ghost use Rattle.dedup.specs.Windows.{windows_with, window_of_group, hearing_of, is_due};
+ghost use Rattle.dedup.specs.Windows.{open_windows, IsCurrent, NoneDue, StandFor, Window};
 
 use crate::{MOST_WINDOWS, WAIT};
 
@@ -16,15 +19,17 @@ pub fn no_copies_no_windows()
 
 /// Each copy that is accepted goes into its group, and no group that is closed changes.
 pub fn a_copy_goes_into_its_group()
-    ensures { (ws after : List Window) (arrivals : List Arrival) (closed now : ℕ) (copy : FrameCopy) →
-        StandFor ws arrivals closed now → IsCurrent now ws → added ws now copy ≡ Ok after →
+    ensures { (ws after : List Window) (arrivals : List Arrival) (closed now : ℕ)
+        (copy : FrameCopy) →
+        StandFor ws arrivals closed now → IsCurrent now ws → windows_with ws now copy ≡ Ok after →
         StandFor after (arrivals ++ arrival now copy ∷ []) closed now }
 {}
 
 /// The windows are closed group by group.
 pub fn windows_close_in_order()
     ensures { (w : Window) (ws : List Window) (arrivals : List Arrival) (closed now : ℕ) →
-        StandFor (w ∷ ws) arrivals closed now → is_due now w ≡ true → StandFor ws arrivals (closed + 1) now }
+        StandFor (w ∷ ws) arrivals closed now → is_due now w ≡ true
+        → StandFor ws arrivals (closed + 1) now }
 {}
 
 /// Time alone changes nothing.
@@ -37,39 +42,46 @@ pub fn windows_stand_later_too()
 pub fn all_due_groups_are_closed()
     ensures { (ws : List Window) (arrivals : List Arrival) (closed now : ℕ) →
         StandFor ws arrivals closed now → NoneDue now ws →
-        take closed (map gathered (groups arrivals)) ≡ filter (is_due now) (map gathered (groups arrivals)) }
+        take closed (map window_of_group (groups arrivals))
+        ≡ filter (is_due now) (map window_of_group (groups arrivals)) }
 {}
 
 /// The windows are the groups that aren't due.
 pub fn windows_are_the_groups_that_wait()
     ensures { (ws : List Window) (arrivals : List Arrival) (closed now : ℕ) →
-        StandFor ws arrivals closed now → NoneDue now ws → ws ≡ waiting now arrivals }
+        StandFor ws arrivals closed now → NoneDue now ws → ws ≡ open_windows now arrivals }
 {}
 
-/// A copy is refused by the group that waits and has its bytes, as `SameGateway` or `CopiesFull`; where there is none,
-/// as `WindowsFull` where 1,024 groups wait.
+/// A copy is refused by the group that waits and has its bytes, as `SameGateway` or `CopiesFull`;
+/// where there is none, as `WindowsFull` where 1,024 groups wait.
 pub fn groups_that_wait_refuse()
-    ensures by_its_group { (ws : List Window) (arrivals : List Arrival) (closed now : ℕ) (copy : FrameCopy) (w : Window) →
+    ensures by_its_group { (ws : List Window) (arrivals : List Arrival) (closed now : ℕ)
+        (copy : FrameCopy) (w : Window) →
         StandFor ws arrivals closed now → IsCurrent now ws →
-        Contains (waiting now arrivals) w → w.phy_payload ≡ copy.phy_payload →
-        result_err (added ws now copy) ≡ result_err (with_hearing w.hearings (hearing_of copy)) }
-    ensures with_no_group { (ws : List Window) (arrivals : List Arrival) (closed now : ℕ) (copy : FrameCopy) →
+        Contains (open_windows now arrivals) w → w.phy_payload ≡ copy.phy_payload →
+        result_err (windows_with ws now copy)
+        ≡ result_err (with_hearing w.hearings (hearing_of copy)) }
+    ensures with_no_group { (ws : List Window) (arrivals : List Arrival) (closed now : ℕ)
+        (copy : FrameCopy) →
         StandFor ws arrivals closed now → IsCurrent now ws →
-        All (λ w. w.phy_payload ≢ copy.phy_payload) (waiting now arrivals) →
-        result_err (added ws now copy) ≡ (if nat_le MOST_WINDOWS (length (waiting now arrivals)) then Some WindowsFull else None) }
+        All (λ w. w.phy_payload ≢ copy.phy_payload) (open_windows now arrivals) →
+        result_err (windows_with ws now copy)
+        ≡ (if nat_le MOST_WINDOWS (length (open_windows now arrivals)) then Some
+        WindowsFull else None) }
 {}
 
 /// Two groups of the same bytes begin 200 ms apart at least.
 pub fn groups_of_the_same_bytes_are_apart()
     ensures { (arrivals : List Arrival) → AllPairs
         (λ v w. v.phy_payload ≡ w.phy_payload → v.opened + WAIT ≤ w.opened)
-        (map gathered (groups arrivals)) }
+        (map window_of_group (groups arrivals)) }
 {}
 
-/// After a copy was taken no window is due, and each opened at this moment or before, where it was so.
+/// After a copy was taken no window is due, and each opened at this moment or before, where it was
+/// so.
 pub fn a_copy_makes_no_window_due()
     ensures { (ws after : List Window) (now : ℕ) (copy : FrameCopy) →
-        IsCurrent now ws → added ws now copy ≡ Ok after → IsCurrent now after }
+        IsCurrent now ws → windows_with ws now copy ≡ Ok after → IsCurrent now after }
 {}
 
 /// How long a window waits, in milliseconds, and how many are open at most.

@@ -1,9 +1,11 @@
 // The windows that are open, the oldest first.
-ghost use Rattle.std.specs.Prelude.{◌≡◌, ◌<◌, ◌↔◌, [], drop, false, length, IsTrue, MatchOption, OnErr};
+ghost use Rattle.std.specs.Prelude.{◌≡◌, ◌<◌, ◌↔◌, [], drop, false, length, IsTrue, MatchOption};
+ghost use Rattle.std.specs.Prelude.{OnErr};
 ghost use Rattle.std.specs.List.{list_any};
 ghost use Rattle.lw_types.specs.Answer.{Answers};
 ghost use Rattle.devices.specs.Heard.{IsReceivable};
-ghost use Rattle.dedup.specs.Windows.{added, heard_now, is_of, IsCurrent, IsOldestDue, NoneDue};
+ghost use Rattle.dedup.specs.Windows.{windows_with, heard_now, is_of, IsCurrent, IsOldestDue};
+ghost use Rattle.dedup.specs.Windows.{NoneDue};
 ghost use Rattle.dedup.specs.Kept.{joined_at, opened_too};
 
 use crate::{MOST_WINDOWS, WAIT};
@@ -20,8 +22,8 @@ struct Gathering {
     hearings: Hearings,
 }
 
-/// The windows that are open: at most 1,024, each of another frame. In contracts it is the list of them, in the order
-/// in which they opened.
+/// The windows that are open: at most 1,024, each of another frame. In contracts it is the list of
+/// them, in the order in which they opened.
 pub struct Windows {
     gatherings: IndexMap<PhyPayload, Gathering>,
 }
@@ -55,14 +57,15 @@ impl Windows {
         }
     }
 
-    /// Puts a copy that came at the moment `now` into the window of its bytes, or opens one. Refused as `WindowsFull`
-    /// where 1,024 windows are open and none has these bytes, as `SameGateway` where the window has a copy of this
-    /// gateway, as `CopiesFull` where it has 32 copies, each whether or not there is memory; then want of memory as
-    /// `OutOfMemory`. After an `Err` the windows are as before.
+    /// Puts a copy that came at the moment `now` into the window of its bytes, or opens one.
+    /// Refused as `WindowsFull` where 1,024 windows are open and none has these bytes, as
+    /// `SameGateway` where the window has a copy of this gateway, as `CopiesFull` where it has 32
+    /// copies, each whether or not there is memory; then want of memory as `OutOfMemory`. After an
+    /// `Err` the windows are as before.
     pub fn add(&mut self, now: u64, copy: FrameCopy) -> Result<(), Refusal>
         requires receivable { IsReceivable copy.reception }
         requires current { IsCurrent now self.old }
-        ensures added { Answers (added self.old now copy) (λ ws _. self.new ≡ ws) result }
+        ensures added { Answers (windows_with self.old now copy) (λ ws _. self.new ≡ ws) result }
         ensures same { OnErr result (self.new ≡ self.old) }
     {
         let FrameCopy {
@@ -77,8 +80,8 @@ impl Windows {
         }
     }
 
-    /// The oldest window where it is due: the frame's bytes, and how it was heard. `None` where no window is due. Takes
-    /// no memory.
+    /// The oldest window where it is due: the frame's bytes, and how it was heard. `None` where no
+    /// window is due. Takes no memory.
     pub fn due(&self, now: u64) -> Option<(&PhyPayload, &Hearings)>
         ensures { MatchOption result (NoneDue now self.now)
             (λ r. IsOldestDue now self.now (heard_now r.0.now r.1.now) (drop 1 self.now)) }
@@ -90,8 +93,8 @@ impl Windows {
         Some((phy_payload, &gathering.hearings))
     }
 
-    /// Takes the oldest window out where it is due, and gives what was heard in it. `None`, and nothing is changed,
-    /// where no window is due. Takes no memory.
+    /// Takes the oldest window out where it is due, and gives what was heard in it. `None`, and
+    /// nothing is changed, where no window is due. Takes no memory.
     pub fn close(&mut self, now: u64) -> Option<Heard>
         ensures { MatchOption result ((self.new ≡ self.old) × NoneDue now self.old)
             (λ heard. IsOldestDue now self.old heard self.new) }
@@ -144,7 +147,8 @@ impl Windows {
         requires receivable { IsReceivable hearing.reception }
         requires current { IsCurrent now self.old }
         requires none { list_any (is_of phy_payload) self.old ≡ false }
-        ensures opened { Answers (opened_too self.old now phy_payload hearing) (λ ws _. self.new ≡ ws) result }
+        ensures opened { Answers (opened_too self.old now phy_payload hearing)
+            (λ ws _. self.new ≡ ws) result }
         ensures same { OnErr result (self.new ≡ self.old) }
     {
         if self.gatherings.len() >= MOST_WINDOWS {

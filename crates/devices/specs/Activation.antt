@@ -3,13 +3,13 @@ use Rattle.std.specs.Prelude.{◌≤◌, ◌<◌, ◌+◌, ℕ, Option, Some, No
 use Rattle.devices.specs.declared.activation.Session.{Session}
 use Rattle.devices.specs.declared.activation.CurrentSession.{CurrentSession}
 
--- the last JoinNonce granted, the session in use, and the one that waits for its first uplink
+-- the last JoinNonce granted, the current session, and the pending one, which had no uplink yet
 pub record Grants : Type 0 where
   pub granted : Option ℕ
   pub current : Option CurrentSession
   pub pending : Option Session
 
--- the JoinNonce of the session in use, 0 where there is none
+-- the JoinNonce of the current session, 0 where there is none
 abbrev pub current_nonce : Option CurrentSession → ℕ
 current_nonce None = 0
 current_nonce (Some c) = c.session.join_nonce
@@ -25,20 +25,26 @@ abbrev pub no_grants : Grants
 no_grants = record { granted = None; current = None; pending = None }
 
 abbrev pub grants_of : Option ℕ → Option CurrentSession → Option Session → Grants
-grants_of granted current pending = record { granted = granted; current = current; pending = pending }
+grants_of granted current pending =
+    record { granted = granted; current = current; pending = pending }
 
--- a session is granted: it waits for its first uplink, in the place of one that waited, and the one in use stays
+-- a session is granted: it is the pending one from now on, and the current one stays
 abbrev pub with_grant : Grants → Session → Grants
 with_grant g s = record g { granted = Some s.join_nonce; pending = Some s }
 
--- the session that waited is in use since the uplink with this counter, and its downlinks count from 0
-abbrev pub begun : Grants → Session → ℕ → Grants
-begun g s up = record g { current = Some (record { session = s; last_up = up; next_down = 0 }); pending = None }
+-- the pending session is the current one since the uplink with this counter, and its downlinks
+-- count from 0
+abbrev pub with_current : Grants → Session → ℕ → Grants
+with_current g s up =
+    record g {
+      current = Some (record { session = s; last_up = up; next_down = 0 });
+      pending = None;
+    }
 
--- the session in use had an uplink with this counter
-abbrev pub advanced : Grants → CurrentSession → ℕ → Grants
-advanced g c up = record g { current = Some (record c { last_up = up }) }
+-- the current session had an uplink with this counter
+abbrev pub with_last_up : Grants → CurrentSession → ℕ → Grants
+with_last_up g c up = record g { current = Some (record c { last_up = up }) }
 
--- the session in use had a downlink
-abbrev pub used_down : Grants → CurrentSession → Grants
-used_down g c = record g { current = Some (record c { next_down = c.next_down + 1 }) }
+-- the current session had a downlink
+abbrev pub with_down_used : Grants → CurrentSession → Grants
+with_down_used g c = record g { current = Some (record c { next_down = c.next_down + 1 }) }

@@ -2,8 +2,8 @@
 use Rattle.std.specs.Prelude.{ℕ, ◌+◌, ◌*◌, ◌/◌, ◌%◌, ◌^◌}
 use Rattle.lw_types.specs.declared.identifiers.DevAddr.{DevAddr}
 
--- the part of an address by which a network tells its devices apart: the slot, and 13 bits of the JoinNonce, so that a
--- device has another address after each join
+-- the part of an address by which a network tells its devices apart: the slot, and 13 bits of the
+-- JoinNonce, so that a device has another address after each join
 abbrev pub nwk_addr : ℕ → ℕ → ℕ
 nwk_addr slot join_nonce = slot * 8192 + join_nonce % 8192
 

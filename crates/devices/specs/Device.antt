@@ -5,8 +5,8 @@ use Rattle.devices.specs.declared.device.Device.{Device}
 use Rattle.devices.specs.Activation.{no_grants}
 
 -- the record of a device that was just brought: nothing granted, nothing awaited, nothing queued
-abbrev pub provisioned : Provisioning → Device
-provisioned p =
+abbrev pub new_device : Provisioning → Device
+new_device p =
     record {
       dev_eui = p.dev_eui;
       join_eui = p.join_eui;

@@ -1,5 +1,7 @@
 -- A frame with all the copies of it.
-use Rattle.std.specs.Prelude.{◌≡◌, ◌≢◌, ◌≤◌, ◌<◌, ◌<ℤ◌, ◌⊎◌, ℕ, Bool, true, false, ◌==◌, nat_le, nat_lt, int_lt, if◌then◌else◌, List, [], ◌∷◌, ◌++◌, Option, Some, None, Result, Ok, Err, length, All, AllPairs, Contains}
+use Rattle.std.specs.Prelude.{◌≡◌, ◌≢◌, ◌≤◌, ◌<◌, ◌<ℤ◌, ◌⊎◌, ℕ, Bool, true, false, ◌==◌, nat_le}
+use Rattle.std.specs.Prelude.{nat_lt, int_lt, if◌then◌else◌, List, [], ◌∷◌, ◌++◌, Option, Some}
+use Rattle.std.specs.Prelude.{None, Result, Ok, Err, length, All, AllPairs, Contains}
 use Rattle.std.specs.List.{list_any}
 use Rattle.lw_types.specs.declared.frame_copy.Reception.{Reception}
 use Rattle.lw_types.specs.declared.refusal.Refusal.{Refusal}
@@ -37,7 +39,8 @@ with_hearing hearings hearing =
     else if nat_le MOST (length hearings) then Err CopiesFull
     else Ok (hearings ++ hearing ∷ [])
 
--- whether a copy was heard better than another: with a greater SNR, else with a greater RSSI, else by a smaller gateway
+-- whether a copy was heard better than another: with a greater SNR, else with a greater RSSI, else
+-- by a smaller gateway
 abbrev pub is_better : Hearing → Hearing → Bool
 is_better a b =
     if int_lt b.reception.snr a.reception.snr then true
@@ -60,8 +63,8 @@ abbrev pub best_of : List Hearing → Option Hearing
 best_of [] = None
 best_of (h ∷ hs) = Some (best_with h hs)
 
--- a copy was heard better than another: with a greater SNR, with the same and a greater RSSI, or with both the same and by
--- a smaller gateway
+-- a copy was heard better than another: with a greater SNR, with the same and a greater RSSI, or
+-- with both the same and by a smaller gateway
 abbrev pub IsBetter : Hearing → Hearing → Type 0
 IsBetter a b =
     (b.reception.snr <ℤ a.reception.snr)

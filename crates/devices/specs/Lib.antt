@@ -4,4 +4,4 @@ pub mod Mark
 pub mod Heard
 pub mod MacQueue
 pub mod Address
-pub mod Outcome
+pub mod DeviceStep

@@ -14,7 +14,7 @@ pub struct Session {
     pub app_skey: Key,
 }
 
-/// The session in use, with the counter of its last uplink and of its next downlink.
+/// The current session, with the counter of its last uplink and of its next downlink.
 #[derive(Clone, Copy, PartialEq, Eq)]
 pub struct CurrentSession {
     pub session: Session,
@@ -38,14 +38,16 @@ impl Model for Activation {
 
     ghost view = { λ a. record { granted = a.granted; current = a.current; pending = a.pending } };
 
-    ghost invariant = { λ a. AreInOrder (record { granted = a.granted; current = a.current; pending = a.pending }) };
+    ghost invariant = { λ a. AreInOrder
+        (record { granted = a.granted; current = a.current; pending = a.pending }) };
 
     ghost inverse = { λ g. record { granted = g.granted; current = g.current; pending = g.pending } };
 }
 
 impl Activation {
     ghost use Rattle.std.specs.Prelude.{◌≡◌, ◌^◌, Some, SomeIff};
-    ghost use Rattle.devices.specs.Activation.{advanced, begun, grants_of, no_grants, used_down, with_grant, AreInOrder};
+    ghost use Rattle.devices.specs.Activation.{with_last_up, with_current, grants_of, no_grants};
+    ghost use Rattle.devices.specs.Activation.{with_down_used, with_grant, AreInOrder};
 
     /// Nothing granted yet.
     pub fn none() -> Self
@@ -88,15 +90,15 @@ impl Activation {
         self.granted
     }
 
-    /// The session in use.
+    /// The current session.
     pub fn current(&self) -> Option<CurrentSession>
         ensures { result ≡ self.now.current }
     {
         self.current
     }
 
-    /// Grants a session, under a JoinNonce above the last one. It waits for its first uplink, in the place of one that
-    /// waited, and the session in use stays.
+    /// Grants a session, under a JoinNonce above the last one. It waits for its first uplink, in
+    /// the place of one that waited, and the current session stays.
     pub fn grant(&mut self, session: Session)
         requires { unwrap_or self.old.granted 0 < session.join_nonce }
         ensures { self.new ≡ with_grant self.old session }
@@ -105,10 +107,11 @@ impl Activation {
         self.pending = Some(session);
     }
 
-    /// The session that waited is in use from its first uplink on, which has this counter. Its downlinks count from 0.
+    /// The pending session is the current one from its first uplink on, which has this counter. Its
+    /// downlinks count from 0.
     pub fn begin(&mut self, session: Session, up: u32)
         requires { self.old.pending ≡ Some session }
-        ensures { self.new ≡ begun self.old session up }
+        ensures { self.new ≡ with_current self.old session up }
     {
         self.current = Some(CurrentSession {
             session,
@@ -118,10 +121,10 @@ impl Activation {
         self.pending = None;
     }
 
-    /// The session in use had an uplink with this counter.
+    /// The current session had an uplink with this counter.
     pub fn advance(&mut self, current: CurrentSession, up: u32)
         requires { self.old.current ≡ Some current }
-        ensures { self.new ≡ advanced self.old current up }
+        ensures { self.new ≡ with_last_up self.old current up }
     {
         self.current = Some(CurrentSession {
             last_up: up,
@@ -129,11 +132,11 @@ impl Activation {
         });
     }
 
-    /// The session in use had a downlink, which used its next counter up.
+    /// The current session had a downlink, which used its next counter up.
     pub fn use_down(&mut self, current: CurrentSession)
         requires in_use { self.old.current ≡ Some current }
         requires is_left { current.next_down < 2 ^ 32 }
-        ensures { self.new ≡ used_down self.old current }
+        ensures { self.new ≡ with_down_used self.old current }
     {
         let next_down = NextDown::new(current.next_down.get() + 1).unwrap();
         self.current = Some(CurrentSession {
@@ -142,7 +145,7 @@ impl Activation {
         });
     }
 
-    /// The session that waits for its first uplink.
+    /// The pending session, which had no uplink yet.
     pub fn pending(&self) -> Option<Session>
         ensures { result ≡ self.now.pending }
     {
@@ -160,7 +163,7 @@ fn granted_nonce(granted: &Option<JoinNonce>) -> u32
     }
 }
 
-// The JoinNonce of the session in use, 0 where there is none.
+// The JoinNonce of the current session, 0 where there is none.
 fn current_nonce(current: &Option<CurrentSession>) -> u32
     ensures { result ≡ current_nonce current.now }
 {
@@ -170,7 +173,8 @@ fn current_nonce(current: &Option<CurrentSession>) -> u32
     }
 }
 
-// Whether the session that waits, if one does, is above the one in use and not above the last grant.
+// Whether the pending session, if there is one, is above the current one and not above the last
+// grant.
 fn is_between(pending: &Option<Session>, used: u32, last: u32) -> bool
     ensures { IsTrue result ↔ (IfSome pending.now (λ s. s.join_nonce ≤ last)
         × IfSome pending.now (λ s. used < s.join_nonce)) }

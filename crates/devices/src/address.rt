@@ -4,8 +4,8 @@ ghost use Rattle.devices.specs.Address.{dev_addr, slot_at};
 
 use lw_types::{DevAddr, NetId};
 
-/// The address of the session that a device at a slot has from the join of this JoinNonce: the low six bits of the
-/// NetID, the slot, and the 13 low bits of the JoinNonce.
+/// The address of the session that a device at a slot has from the join of this JoinNonce: the low
+/// six bits of the NetID, the slot, and the 13 low bits of the JoinNonce.
 pub fn dev_addr(net_id: NetId, slot: u16, join_nonce: u32) -> DevAddr
     ensures { result ≡ dev_addr net_id slot join_nonce }
 {

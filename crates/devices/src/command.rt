@@ -2,7 +2,7 @@
 use crate::{Application, AskedBytes, Heard, Rx1Offset, RxDelay, Tag};
 use lw_types::{Eui, Key};
 
-/// What an application says of a device that it brings.
+/// What an application says of a device that it provisions.
 #[derive(Clone, Copy, PartialEq, Eq)]
 pub struct Provisioning {
     pub application: Application,
@@ -35,7 +35,7 @@ pub struct MacQueueing {
 /// What a device, or the network for it, is asked to do.
 #[derive(Clone, PartialEq, Eq, Drop)]
 pub enum Command {
-    /// A new device is brought.
+    /// A new device is provisioned.
     Provision(Provisioning),
     /// Gateways heard a frame.
     Heard(Heard),

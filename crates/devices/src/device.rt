@@ -26,11 +26,11 @@ pub struct Device {
 }
 
 impl Device {
-    ghost use Rattle.devices.specs.Device.{provisioned};
+    ghost use Rattle.devices.specs.Device.{new_device};
 
     /// The record of a device that was just brought. Takes no memory.
     pub fn provisioned(alloc: Global, provisioning: &Provisioning) -> Self
-        ensures { result ≡ provisioned provisioning.now }
+        ensures { result ≡ new_device provisioning.now }
     {
         Device {
             dev_eui: provisioning.dev_eui,

@@ -4,7 +4,7 @@ use lw_types::{Eui, JoinNonce, PhyPayload, Reception};
 
 /// In which receive windows of the device a gateway may send (TS001-1.0.4 §3.3).
 #[derive(Clone, Copy, PartialEq, Eq)]
-pub enum Windows {
+pub enum ReceiveWindows {
     /// In RX1 alone.
     Rx1,
     /// In RX1, or one second later in RX2.
@@ -23,11 +23,11 @@ pub struct Downlink {
     pub data_rate: u8,
     /// Of RX1 after the uplink.
     pub delay: RxDelay,
-    pub windows: Windows,
+    pub windows: ReceiveWindows,
     pub frame: PhyPayload,
 }
 
-/// What an application is told of its device.
+/// What is reported to an application of its device.
 #[derive(PartialEq, Eq, Drop)]
 pub enum Report {
     /// The device was brought, and has this slot.
@@ -61,8 +61,8 @@ pub enum Report {
     },
 }
 
-/// What leaves the network, once its decision is durable. What may leave but once names its mark: the session, and
-/// the counter that is used up. It isn't `Clone`, since each effect leaves once.
+/// What leaves the network, once its decision is durable. What may leave but once names its mark:
+/// the session, and the counter that is used up. It isn't `Clone`, since each effect leaves once.
 #[derive(PartialEq, Eq, Drop)]
 pub enum Effect {
     /// A device's payload, for its application.

@@ -1,6 +1,6 @@
 // The effects of one decision.
 ghost use Rattle.std.specs.Prelude.{◌≡◌, ◌≤◌, ◌<◌, [], ◌∷◌, ◌++◌, length, OnOk, OnErr};
-ghost use Rattle.devices.specs.Outcome.{told};
+ghost use Rattle.devices.specs.DeviceStep.{report_effects};
 
 use crate::{Device, Effect, Report};
 use std::alloc::{AllocError, Global};
@@ -53,10 +53,10 @@ impl Effects {
         Ok(())
     }
 
-    /// The device's application is told something of it. After an `Err` the list is as before.
+    /// Something is reported to the device's application. After an `Err` the list is as before.
     pub fn tell(&mut self, device: &Device, report: Report) -> Result<(), AllocError>
         requires { length self.old < Self.MOST }
-        ensures ok { OnOk result (self.new ≡ self.old ++ told device.now report) }
+        ensures ok { OnOk result (self.new ≡ self.old ++ report_effects device.now report) }
         ensures err { OnErr result (self.new ≡ self.old) }
     {
         self.push(Effect::Report {

@@ -1,8 +1,10 @@
 // A frame with all the copies of it.
-ghost use Rattle.std.specs.Prelude.{◌≡◌, ◌≤◌, ◌<◌, ◌↔◌, [], ◌∷◌, All, AllPairs, Any, IsTrue, MatchOption, MatchResult, OnErr, Some, length};
+ghost use Rattle.std.specs.Prelude.{◌≡◌, ◌≤◌, ◌<◌, ◌↔◌, [], ◌∷◌, All, AllPairs, Any, IsTrue};
+ghost use Rattle.std.specs.Prelude.{MatchOption, MatchResult, OnErr, Some, length};
 ghost use Rattle.lw_types.specs.Answer.{Answers};
 ghost use Rattle.lw_types.specs.declared.refusal.Refusal.TheVariants.{OutOfMemory};
-ghost use Rattle.devices.specs.Heard.{best_of, gateway_of, has_gateway, is_better, with_hearing, AreApart, AreHearings, IsReceivable};
+ghost use Rattle.devices.specs.Heard.{best_of, gateway_of, has_gateway, is_better, with_hearing};
+ghost use Rattle.devices.specs.Heard.{AreApart, AreHearings, IsReceivable};
 
 use crate::Copies;
 use lw_types::{Eui, PhyPayload, Reception, Refusal};
@@ -17,8 +19,8 @@ pub struct Hearing {
     pub stamp: u32,
 }
 
-/// How 1 to 32 gateways heard one frame: no two copies are from one gateway, and each is on a channel at a data rate from 0
-/// to 5. In contracts it is the list of them.
+/// How 1 to 32 gateways heard one frame: no two copies are from one gateway, and each is on a
+/// channel at a data rate from 0 to 5. In contracts it is the list of them.
 pub struct Hearings {
     items: Vec<Hearing>,
 }
@@ -53,10 +55,11 @@ impl Hearings {
     /// The most gateways of which a copy is kept.
     pub const MOST: usize = 32;
 
-    /// These copies, in the order in which they came; `None` where they are none or more than 32, two are of one
-    /// gateway, or one is not on a channel at a data rate from 0 to 5.
+    /// These copies, in the order in which they came; `None` where they are none or more than 32,
+    /// two are of one gateway, or one is not on a channel at a data rate from 0 to 5.
     pub fn new(items: Vec<Hearing>) -> Option<Self>
-        ensures { MatchOption result (¬ (AreHearings items.items)) (λ h. AreHearings items.items × (h ≡ items.items)) }
+        ensures { MatchOption result (¬ (AreHearings items.items))
+            (λ h. AreHearings items.items × (h ≡ items.items)) }
     {
         if are_hearings(items.as_slice()) {
             Some(Hearings { items })
@@ -75,11 +78,13 @@ impl Hearings {
         Ok(Hearings { items })
     }
 
-    /// Adds a copy at the end. Refused as `SameGateway` where a copy of its gateway is there, then as `CopiesFull` where there
-    /// are 32, both whether or not there is memory; then want of memory as `OutOfMemory`. After an `Err` the copies are as before.
+    /// Adds a copy at the end. Refused as `SameGateway` where a copy of its gateway is there, then
+    /// as `CopiesFull` where there are 32, both whether or not there is memory; then want of memory
+    /// as `OutOfMemory`. After an `Err` the copies are as before.
     pub fn add(&mut self, hearing: Hearing) -> Result<(), Refusal>
         requires { IsReceivable hearing.reception }
-        ensures added { Answers (with_hearing self.old hearing) (λ hearings _. self.new ≡ hearings) result }
+        ensures added { Answers (with_hearing self.old hearing)
+            (λ hearings _. self.new ≡ hearings) result }
         ensures same { OnErr result (self.new ≡ self.old) }
     {
         if has_gateway(self.items.as_slice(), hearing.reception.gateway) {
@@ -107,8 +112,8 @@ impl Hearings {
         Copies::new(self.items.len() as u64).unwrap()
     }
 
-    /// The copy that was heard best: of the greatest SNR, of these of the greatest RSSI, and of these of the least
-    /// gateway.
+    /// The copy that was heard best: of the greatest SNR, of these of the greatest RSSI, and of
+    /// these of the least gateway.
     #[tactic(auto, using(crate::proofs::Best::best_receivable))]
     pub fn best(&self) -> Hearing
         ensures best { Some result ≡ best_of self.now }

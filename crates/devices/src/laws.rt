@@ -1,6 +1,7 @@
-//! The ranges of the types: each is what its name says, and no neighbour is let in or left out. Which copy of a frame is the
-//! best one, and that addresses lead to their devices.
-ghost use Rattle.std.specs.Prelude.{◌≡◌, ◌≤◌, ◌<◌, ◌^◌, ◌↔◌, ℕ, IsTrue, List, [], MatchOption, Some, SomeIff};
+//! The ranges of the types: each is what its name says, and no neighbour is let in or left out.
+//! Which copy of a frame is the best one, and that addresses lead to their devices.
+ghost use Rattle.std.specs.Prelude.{◌≡◌, ◌≤◌, ◌<◌, ◌^◌, ◌↔◌, ℕ, IsTrue, List, [], MatchOption};
+ghost use Rattle.std.specs.Prelude.{Some, SomeIff};
 ghost use Rattle.devices.specs.declared.heard.Hearing.{Hearing};
 ghost use Rattle.devices.specs.Address.{dev_addr, slot_at};
 ghost use Rattle.devices.specs.Heard.{best_of, is_better, AreApart, IsBest, IsBetter};
@@ -58,8 +59,8 @@ pub fn limits_are_these()
     ensures effects { Effects.MOST ≡ 4 }
 {}
 
-/// The best of the copies of a frame: one of them, unless there are none, such that no other was heard better. Where no
-/// two copies are of one gateway, it is the only such copy.
+/// The best of the copies of a frame: one of them, unless there are none, such that no other was
+/// heard better. Where no two copies are of one gateway, it is the only such copy.
 pub fn the_best_copy_is_heard_best()
     ensures better { (a b : Hearing) → IsTrue (is_better a b) ↔ IsBetter a b }
     ensures best { (hearings : List Hearing) →
@@ -70,5 +71,6 @@ pub fn the_best_copy_is_heard_best()
 
 /// An address leads to the slot of its device: slots are below 4,096.
 pub fn addresses_lead_to_their_slots()
-    ensures { (net_id slot join_nonce : ℕ) → slot < 4096 → slot_at (dev_addr net_id slot join_nonce).0 ≡ slot }
+    ensures { (net_id slot join_nonce : ℕ) → slot < 4096
+        → slot_at (dev_addr net_id slot join_nonce).0 ≡ slot }
 {}

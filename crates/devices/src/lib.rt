@@ -20,10 +20,10 @@ pub use activation::{Activation, CurrentSession, Session};
 pub use address::{dev_addr, slot_at};
 pub use command::{Command, MacQueueing, Provisioning, Queueing};
 pub use device::Device;
-pub use effect::{Downlink, Effect, Report, Windows};
+pub use effect::{Downlink, Effect, ReceiveWindows, Report};
 pub use effects::Effects;
 pub use heard::{Heard, Hearing, Hearings, is_receivable};
-pub use lw_types::{Bytes, Payload, Ranged};
+pub use lw_types::{Bytes, Payload, Ranged, RxDelay};
 pub use mac_queue::MacQueue;
 pub use mark::{Mark, SessionName};
 pub use queue::{Item, ItemQueue};
@@ -34,14 +34,11 @@ pub type Application = Ranged<0, 15>;
 /// RX1DROffset: how many data rates RX1 is below the uplink, from 0 to 5 (TS001-1.0.4 §6.2.7).
 pub type Rx1Offset = Ranged<0, 5>;
 
-/// The delay of RX1 after an uplink, from 1 to 15 s (TS001-1.0.4 §6.2.7).
-pub type RxDelay = Ranged<1, 15>;
-
 /// An application's port, from 1 to 223 (TS001-1.0.4 §4.3.2).
 pub type Port = Ranged<1, 223>;
 
-/// The counter that a session's next downlink uses up, from 0 to 2^32, where 2^32 means that none is
-/// left.
+/// The counter that a session's next downlink uses up, from 0 to 2^32, where 2^32 means that none
+/// is left.
 pub type NextDown = Ranged<0, 4_294_967_296>;
 
 /// The bytes that an application hands in, of any number.

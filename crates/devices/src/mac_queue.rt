@@ -1,10 +1,11 @@
 // The MAC commands that wait for a device's next downlink.
-ghost use Rattle.std.specs.Prelude.{◌≡◌, ◌≢◌, ◌≤◌, ◌<◌, ◌+◌, ◌++◌, ◌↔◌, true, List, [], ℕ, IsTrue, drop, length, IfOk, MatchResult, OnErr, OnOk, Some, nat_eq};
+ghost use Rattle.std.specs.Prelude.{◌≡◌, ◌≢◌, ◌≤◌, ◌<◌, ◌+◌, ◌++◌, ◌↔◌, true, List, [], ℕ, IsTrue};
+ghost use Rattle.std.specs.Prelude.{drop, length, IfOk, MatchResult, OnErr, OnOk, Some, nat_eq};
 ghost use Rattle.std.specs.Cmp.{partial_equiv_from_equiv};
 ghost use Rattle.std.specs.Cmp.Lexicographic.{pointwise, nat_list_eq_equiv};
 ghost use Rattle.std.specs.Fmt.{debug_list, decimal};
 ghost use Rattle.mac_commands.specs.Queueable.{AreQueueable};
-ghost use Rattle.mac_commands.specs.Reading.{fitting};
+ghost use Rattle.mac_commands.specs.Reading.{fitting_len};
 ghost use Rattle.devices.specs.MacQueue.{may_queue};
 
 use mac_commands::{are_queueable, fit15};
@@ -12,7 +13,8 @@ use std::alloc::{AllocError, Global};
 use std::marker::Model;
 
 /// Whole MAC commands that an application may queue, LinkADRReq, DutyCycleReq and DevStatusReq
-/// (TS001-1.0.4 §5), one after another in at most 64 bytes. In contracts it is the list of the bytes.
+/// (TS001-1.0.4 §5), one after another in at most 64 bytes. In contracts it is the list of the
+/// bytes.
 pub struct MacQueue {
     bytes: Vec<u8>,
 }
@@ -54,7 +56,8 @@ impl MacQueue {
     pub fn new(bytes: Vec<u8>) -> Result<Self, Vec<u8>>
         ensures { MatchResult result
             (λ q. (q ≡ bytes.items) × (length bytes.items ≤ Self.MOST) × AreQueueable bytes.items)
-            (λ v. (v.items ≡ bytes.items) × ¬ ((length bytes.items ≤ Self.MOST) × AreQueueable bytes.items)) }
+            (λ v. (v.items ≡ bytes.items)
+            × ¬ ((length bytes.items ≤ Self.MOST) × AreQueueable bytes.items)) }
     {
         if bytes.len() <= Self::MOST && are_queueable(bytes.as_slice()) {
             Ok(MacQueue { bytes })
@@ -95,10 +98,10 @@ impl MacQueue {
         Ok(())
     }
 
-    /// How many bytes from the front, in whole commands, fit the room that is left of a downlink's FOpts: as many as
-    /// possible. Takes no memory.
+    /// How many bytes from the front, in whole commands, fit the room that is left of a downlink's
+    /// FOpts: as many as possible. Takes no memory.
     pub fn fitting(&self, room: u8) -> usize
-        ensures value { result ≡ fitting self.now room }
+        ensures value { result ≡ fitting_len self.now room }
         ensures within { result ≤ length self.now }
         ensures fits { result ≤ room }
     {
@@ -107,7 +110,7 @@ impl MacQueue {
 
     /// The commands that fit the room leave the front. Takes no memory.
     pub fn leave(&mut self, room: u8)
-        ensures { self.new ≡ drop (fitting self.old room) self.old }
+        ensures { self.new ≡ drop (fitting_len self.old room) self.old }
     {
         mac_commands::laws::what_fits_leaves_a_queue();
         let fits = fit15(self.bytes.as_slice(), room);

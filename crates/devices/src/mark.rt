@@ -24,7 +24,7 @@ pub enum Mark {
 }
 
 impl Effect {
-    /// The mark that the effect uses up; `None` of a report, which may be told again.
+    /// The mark that the effect uses up; `None` of a report, which may be reported again.
     pub fn mark(&self) -> Option<Mark>
         ensures { result ≡ mark_of self.now }
     {

@@ -1,5 +1,6 @@
 // The items that applications queued for a device.
-ghost use Rattle.std.specs.Prelude.{◌≡◌, ◌≤◌, ◌<◌, ◌∷◌, ◌++◌, ◌↔◌, [], IsTrue, drop, length, MatchOption, MatchResult, OnErr, OnOk};
+ghost use Rattle.std.specs.Prelude.{◌≡◌, ◌≤◌, ◌<◌, ◌∷◌, ◌++◌, ◌↔◌, [], IsTrue, drop, length};
+ghost use Rattle.std.specs.Prelude.{MatchOption, MatchResult, OnErr, OnOk};
 
 use crate::{Payload, Port, Tag};
 use std::alloc::{AllocError, Global};
@@ -76,7 +77,8 @@ impl ItemQueue {
 
     /// The oldest item, where one waits.
     pub fn first(&self) -> Option<&Item>
-        ensures { MatchOption result (self.now ≡ []) (λ item. self.now ≡ item.now ∷ drop 1 self.now) }
+        ensures { MatchOption result (self.now ≡ [])
+            (λ item. self.now ≡ item.now ∷ drop 1 self.now) }
     {
         self.items.first()
     }

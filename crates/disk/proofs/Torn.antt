@@ -2,7 +2,7 @@
 use Rattle.std.proofs.Common.{◌≡◌, ◌⊎◌, inl, inr, ◌<◌, ◌≤◌, ℕ, ◌+◌, ◌-◌, false, List, ◌++◌, length, get_or, take, drop, sym, ◌∙◌, ap, arith, length-append, length-take, length-drop}
 use Rattle.std.proofs.lemmas.List.{get_or-take, get_or-drop, take_at, drop_at, drop-drop}
 use Rattle.std.proofs.lemmas.Grind.{common_steps}
-use Rattle.disk.specs.State.{State, IsPermitted, Opens, IsTorn}
+use Rattle.disk.specs.State.{State, IsPermitted, IsWrite, IsTorn}
 
 -- lists with one front, or one rest, have the same elements there
 earlier : (xs ys : List ℕ) (at i : ℕ) → take at xs ≡ take at ys → i < at → get_or xs i 0 ≡ get_or ys i 0
@@ -17,7 +17,7 @@ later xs ys at i same above =
     ∙ get_or-drop at ys (i - at) 0
     ∙ ap (λ (k : ℕ). get_or ys k 0) is
 
-module _ (at n : ℕ) (before after : State) (within : at + n ≤ length before.content) (opens : Opens at n before after) (image : List ℕ) (permitted : IsPermitted after image) where
+module _ (at n : ℕ) (before after : State) (within : at + n ≤ length before.content) (opens : IsWrite at n before after) (image : List ℕ) (permitted : IsPermitted after image) where
   abbrev middle : List ℕ
   middle = take n (drop at before.content)
 

@@ -13,7 +13,8 @@ open_byte (Bytes bytes) state i = slice_index_or bytes.items i (slice_index stat
 
 -- the byte of an image at any position
 abbrev pub crashed_byte : Image → State → ℕ → ℕ
-crashed_byte image state i = if state.is_open i then open_byte image state i else slice_index state.content i
+crashed_byte image state i =
+    if state.is_open i then open_byte image state i else slice_index state.content i
 
 -- the bytes are those of the image, and no others
 pub record IsCrashed (image : Image) (state : State) (bytes : List ℕ) : Type 0 where

@@ -7,7 +7,7 @@ pub data Outlook : Type 0 where
   Unknown : Outlook
   -- they succeed
   AllSucceed : Outlook
-  -- so many succeed, the next one fails, and then they succeed
+  -- this many succeed, the next one fails, and then they succeed
   FailsAfter : ℕ → Outlook
 
 -- one call, whether it succeeded, and what is known after it

@@ -1,5 +1,6 @@
 -- What a disk holds, what its calls do to that, and what a crash may leave.
-use Rattle.std.specs.Prelude.{◌≡◌, ◌⊎◌, ◌<◌, ◌≤◌, ℕ, ◌+◌, Bool, true, false, List, ◌++◌, length, take, drop, slice_index}
+use Rattle.std.specs.Prelude.{◌≡◌, ◌⊎◌, ◌<◌, ◌≤◌, ℕ, ◌+◌, Bool, true, false, List, ◌++◌, length}
+use Rattle.std.specs.Prelude.{take, drop, slice_index}
 
 pub record State : Type 0 where
   -- the bytes that a read gives
@@ -22,8 +23,8 @@ abbrev pub EveryImage : State → (List ℕ → Type 0) → Type 0
 EveryImage state P = (image : List ℕ) → IsPermitted state image → P image
 
 -- the old bytes with these written over them from a position on
-abbrev pub written : List ℕ → ℕ → List ℕ → List ℕ
-written old at bytes = take at old ++ bytes ++ drop (at + length bytes) old
+abbrev pub bytes_after_write : List ℕ → ℕ → List ℕ → List ℕ
+bytes_after_write old at bytes = take at old ++ bytes ++ drop (at + length bytes) old
 
 -- any bytes at n positions from `at` on, and the old ones elsewhere
 pub record IsTorn (at n : ℕ) (old new : List ℕ) : Type 0 where
@@ -32,7 +33,7 @@ pub record IsTorn (at n : ℕ) (old new : List ℕ) : Type 0 where
   pub after : drop (at + n) new ≡ drop (at + n) old
 
 -- a write of n bytes, whether it succeeded or not
-pub record Opens (at n : ℕ) (old new : State) : Type 0 where
+pub record IsWrite (at n : ℕ) (old new : State) : Type 0 where
   pub torn : IsTorn at n old.content new.content
   pub synced : new.synced ≡ old.synced
   pub opened : (i : ℕ) → at ≤ i → i < at + n → new.is_open i ≡ true

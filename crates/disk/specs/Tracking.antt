@@ -1,5 +1,6 @@
 -- How a disk in memory keeps track of what was written since the last sync.
-use Rattle.std.specs.Prelude.{◌≡◌, ◌⊎◌, ◌<◌, ◌≤◌, ℕ, Bool, false, List, length, slice_index, slice_index_or}
+use Rattle.std.specs.Prelude.{◌≡◌, ◌⊎◌, ◌<◌, ◌≤◌, ℕ, Bool, false, List, length, slice_index}
+use Rattle.std.specs.Prelude.{slice_index_or}
 use Rattle.disk.specs.State.{State}
 
 -- the mark of a position
@@ -8,7 +9,8 @@ mark_at marks i = slice_index_or marks i false
 
 -- the state that the bytes, the synced bytes and the marks stand for
 abbrev pub state_from : List ℕ → List ℕ → List Bool → State
-state_from content synced marks = record { content = content; synced = synced; is_open = mark_at marks }
+state_from content synced marks =
+    record { content = content; synced = synced; is_open = mark_at marks }
 
 -- each byte has a mark and a synced byte, and outside of low..high nothing was written
 pub record IsTracked (content synced : List ℕ) (marks : List Bool) (low high : ℕ) : Type 0 where

@@ -1,6 +1,6 @@
 // A disk, and what its calls promise.
 ghost use Rattle.std.specs.Prelude.{◌≡◌, ℕ, ◌+◌, ◌≤◌, length, take, drop, OnOk, OnErr, is_ok};
-ghost use Rattle.disk.specs.State.{State, Opens, IsSettledAt, written};
+ghost use Rattle.disk.specs.State.{State, IsWrite, IsSettledAt, bytes_after_write};
 ghost use Rattle.disk.specs.Outlook.{Outlook, IsForeseen, HasCause};
 
 use std::error::Error;
@@ -24,8 +24,8 @@ impl Error for DeviceFailed {}
 
 /// A disk of a fixed length, in bytes. Nobody else writes to it.
 ///
-/// A write opens its positions, also where it fails, and a sync that succeeds closes all. A crash leaves any bytes
-/// at the open positions and the content at all others.
+/// A write opens its positions, also where it fails, and a sync that succeeds closes all. A crash
+/// leaves any bytes at the open positions and the content at all others.
 pub trait Disk {
     /// What the disk holds, and which of its positions are open.
     ghost state: { Self → State };
@@ -47,18 +47,21 @@ pub trait Disk {
     fn read_at(&mut self, at: u64, buffer: &mut [u8]) -> Result<(), DeviceFailed>
         requires { at + length buffer.old ≤ length (state self.old).content }
         ensures bytes { honest
-            → OnOk result (buffer.new ≡ take (length buffer.old) (drop at (state self.old).content)) }
+            → OnOk result (buffer.new ≡ take (length buffer.old)
+            (drop at (state self.old).content)) }
         ensures same { honest → state self.new ≡ state self.old }
         ensures same_length { length (state self.new).content ≡ length (state self.old).content }
         ensures cause { HasCause (failures self.old) (failures self.new) result }
         ensures foreseen { IsForeseen (outlook self.old) (is_ok result) (outlook self.new) };
 
-    /// Writes the bytes from a position on, and opens their positions. After an error any bytes may stand there.
+    /// Writes the bytes from a position on, and opens their positions. After an error any bytes may
+    /// stand there.
     fn write_at(&mut self, at: u64, bytes: &[u8]) -> Result<(), DeviceFailed>
         requires { at + length bytes.now ≤ length (state self.old).content }
         ensures written { honest
-            → OnOk result ((state self.new).content ≡ written (state self.old).content at bytes.now) }
-        ensures opens { honest → Opens at (length bytes.now) (state self.old) (state self.new) }
+            → OnOk result ((state self.new).content
+            ≡ bytes_after_write (state self.old).content at bytes.now) }
+        ensures opens { honest → IsWrite at (length bytes.now) (state self.old) (state self.new) }
         ensures same_length { length (state self.new).content ≡ length (state self.old).content }
         ensures cause { HasCause (failures self.old) (failures self.new) result }
         ensures foreseen { IsForeseen (outlook self.old) (is_ok result) (outlook self.new) };

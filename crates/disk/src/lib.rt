@@ -1,5 +1,6 @@
-//! A disk as a store sees it: bytes of a fixed length, of which a crash may change those written since the last
-//! sync, and calls that may fail. `MemDisk` is such a disk in memory, with crashes and failures on demand.
+//! A disk as a store sees it: bytes of a fixed length, of which a crash may change those written
+//! since the last sync, and calls that may fail. `MemDisk` is such a disk in memory, with crashes
+//! and failures on demand.
 #![tactic(auto)]
 
 mod disk;

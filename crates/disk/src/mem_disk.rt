@@ -1,7 +1,8 @@
 // A disk in memory, which fails and crashes on demand.
-ghost use Rattle.std.specs.Prelude.{◌≡◌, ◌≢◌, ◌<◌, ◌≤◌, ◌+◌, ◌-◌, ◌^◌, ℕ, length, take, drop, IfOk, OnOk, OnErr, is_ok};
+ghost use Rattle.std.specs.Prelude.{◌≡◌, ◌≢◌, ◌<◌, ◌≤◌, ◌+◌, ◌-◌, ◌^◌, ℕ, length, take, drop, IfOk};
+ghost use Rattle.std.specs.Prelude.{OnOk, OnErr, is_ok};
 ghost use Rattle.disk.specs.Tracking.{IsTracked};
-ghost use Rattle.disk.specs.State.{Opens, IsSettledAt, IsPermitted, written};
+ghost use Rattle.disk.specs.State.{IsWrite, IsSettledAt, IsPermitted, bytes_after_write};
 ghost use Rattle.disk.specs.Crash.{IsCrashed};
 ghost use Rattle.disk.specs.Outlook.{IsForeseen, HasCause};
 ghost use Rattle.disk.specs.Outlook.Outlook.{AllSucceed, FailsAfter};
@@ -10,8 +11,9 @@ use crate::fuse::Fuse;
 use crate::{DeviceFailed, Disk, Image, Sim, span};
 use std::alloc::{AllocError, Global};
 
-/// A disk in memory. Each call but `new` costs what it touches, and takes no memory; a sync and a crash touch the
-/// bytes between the lowest and the highest position written since the last of them.
+/// A disk in memory. Each call but `new` costs what it touches, and takes no memory; a sync and a
+/// crash touch the bytes between the lowest and the highest position written since the last of
+/// them.
 #[derive(Drop)]
 pub struct MemDisk {
     content: Vec<u8>,
@@ -57,7 +59,7 @@ impl MemDisk {
     fn open(&mut self, from: usize, to: usize)
         requires order { from ≤ to }
         requires within { to ≤ length (state_of self.old).content }
-        ensures opens { Opens from (to - from) (state_of self.old) (state_of self.new) }
+        ensures opens { IsWrite from (to - from) (state_of self.old) (state_of self.new) }
         ensures content { (state_of self.new).content ≡ (state_of self.old).content }
         ensures covers_from { self.new.low ≤ from }
         ensures covers_to { to ≤ self.new.high }
@@ -110,14 +112,19 @@ impl Disk for MemDisk {
 
     fn write_at(&mut self, at: u64, bytes: &[u8]) -> Result<(), DeviceFailed>
         requires { at + length bytes.now ≤ length (state_of self.old).content }
-        ensures written { OnOk result ((state_of self.new).content ≡ written (state_of self.old).content at bytes.now) }
-        ensures opens { Opens at (length bytes.now) (state_of self.old) (state_of self.new) }
+        ensures written { OnOk result
+            ((state_of self.new).content
+            ≡ bytes_after_write (state_of self.old).content at bytes.now) }
+        ensures opens { IsWrite at (length bytes.now) (state_of self.old) (state_of self.new) }
 
         // A write that fails leaves the bytes as they were.
-        ensures unwritten { OnErr result ((state_of self.new).content ≡ (state_of self.old).content) }
-        ensures same_length { length (state_of self.new).content ≡ length (state_of self.old).content }
+        ensures unwritten { OnErr result
+            ((state_of self.new).content ≡ (state_of self.old).content) }
+        ensures same_length { length (state_of self.new).content
+            ≡ length (state_of self.old).content }
         ensures cause { HasCause (disk_failures self.old) (disk_failures self.new) result }
-        ensures foreseen { IsForeseen (disk_outlook self.old) (is_ok result) (disk_outlook self.new) }
+        ensures foreseen { IsForeseen (disk_outlook self.old) (is_ok result)
+            (disk_outlook self.new) }
     {
         let from = at as usize;
         self.open(from, from + bytes.len());

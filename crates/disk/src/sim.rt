@@ -22,8 +22,8 @@ pub enum Image {
 
 /// A disk that fails and crashes on demand. Without a failure that was armed its calls succeed.
 pub trait Sim: Disk {
-    /// Makes the nth call from now fail, reads included, and no other: an earlier arming is forgotten. A crash is
-    /// no call. Where the disk has failed 2^64 - 1 times, it fails no more.
+    /// Makes the nth call from now fail, reads included, and no other: an earlier arming is
+    /// forgotten. A crash is no call. Where the disk has failed 2^64 - 1 times, it fails no more.
     fn arm(&mut self, n: u64)
         requires { 0 < n }
         ensures armed { Self.failures self.old + 1 < 2 ^ 64

@@ -1,6 +1,7 @@
 // Writes to a part of a slice.
-ghost use Rattle.std.specs.Prelude.{◌≡◌, ◌⊎◌, ◌<◌, ◌≤◌, ◌+◌, ℕ, length, take, drop, slice_index, slice_index_or, false};
-ghost use Rattle.disk.specs.State.{written};
+ghost use Rattle.std.specs.Prelude.{◌≡◌, ◌⊎◌, ◌<◌, ◌≤◌, ◌+◌, ℕ, length, take, drop, slice_index};
+ghost use Rattle.std.specs.Prelude.{slice_index_or, false};
+ghost use Rattle.disk.specs.State.{bytes_after_write};
 ghost use Rattle.disk.specs.Crash.{crashed_byte};
 ghost use Rattle.disk.specs.Tracking.{state_from};
 
@@ -17,7 +18,7 @@ pub fn read(source: &[u8], at: usize, buffer: &mut [u8])
 /// Writes the bytes from a position on.
 pub fn put(target: &mut [u8], at: usize, bytes: &[u8])
     requires { at + length bytes.now ≤ length target.old }
-    ensures { target.new ≡ written target.old at bytes.now }
+    ensures { target.new ≡ bytes_after_write target.old at bytes.now }
 {
     target[at..at + bytes.len()].copy_from_slice(bytes);
 }
@@ -60,7 +61,8 @@ pub fn crash(
     requires synced { length synced.now ≡ length content.old }
     requires marks { length marks.now ≡ length content.old }
     ensures inside { (i : ℕ) → from ≤ i → i < to
-        → slice_index content.new i ≡ crashed_byte image.now (state_from content.old synced.now marks.now) i }
+        → slice_index content.new i
+        ≡ crashed_byte image.now (state_from content.old synced.now marks.now) i }
     ensures outside { (i : ℕ) → (i < from) ⊎ (to ≤ i)
         → slice_index content.new i ≡ slice_index content.old i }
 {

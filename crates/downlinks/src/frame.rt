@@ -9,12 +9,12 @@ ghost use Rattle.downlinks.specs.Load.{item_len};
 use devices::{CurrentSession, Item};
 use frame_crypt::{crypt_payload, data_mic};
 use lw_types::{DevAddr, Direction, LONGEST_PAYLOAD, Payload, PhyPayload, Refusal};
-use phy_payload::{Contents, Control, DataFrame, FOpts, Message, Mic, encode_message};
+use phy_payload::{Contents, Control, DataFrame, FOpts, Mic, PortPayload, encode_mic_input};
 use std::alloc::Global;
 
 /// What a downlink says besides its counter.
 #[derive(Drop)]
-pub(crate) struct Letter {
+pub(crate) struct DownlinkFields {
     pub(crate) f_opts: FOpts,
     pub(crate) item: Option<Item>,
     /// The uplink was confirmed.
@@ -23,9 +23,9 @@ pub(crate) struct Letter {
     pub(crate) f_pending: bool,
 }
 
-impl Letter {
-    /// The frame of the letter, under the session's keys and its next counter. For want of memory it is refused as
-    /// `OutOfMemory`.
+impl DownlinkFields {
+    /// The frame of these fields, under the session's keys and its next counter. For want of memory
+    /// it is refused as `OutOfMemory`.
     #[tactic(auto, unfolding(crate::specs::Frame::frame_of, phy_payload::specs::Frame::spelling))]
     pub(crate) fn into_phy_payload(
         self,
@@ -42,7 +42,7 @@ impl Letter {
         let counter = next_counter(current);
         let frame = self.into_frame(addr, current);
         let mut bytes = Vec::new(alloc);
-        encode_message(alloc, &frame, &mut bytes)?;
+        encode_mic_input(alloc, &frame, &mut bytes)?;
         let key = current.session.nwk_skey;
         let mic = data_mic(&key, Direction::Down, addr, counter, bytes.as_slice());
         bytes.extend_from_slice(&mic)?;
@@ -55,7 +55,7 @@ impl Letter {
         requires short { length self.f_opts + item_len self.item ≤ LONGEST_PAYLOAD }
         ensures { result ≡ frame_with (record { 0 = 0 ∷ 0 ∷ 0 ∷ 0 ∷ [] }) addr current.now self }
     {
-        let Letter {
+        let DownlinkFields {
             f_opts,
             item,
             ack,
@@ -101,7 +101,7 @@ fn is_confirmed(item: &Option<Item>) -> bool
 }
 
 // FPort, and the item's payload, encrypted in place.
-fn message_of(addr: DevAddr, current: &CurrentSession, item: Item) -> Message
+fn message_of(addr: DevAddr, current: &CurrentSession, item: Item) -> PortPayload
     requires { current.now.next_down < 2 ^ 32 }
     ensures message { Some result ≡ message_of addr current.now (Some item) }
     ensures length { length result.frm_payload ≡ length item.payload }
@@ -112,7 +112,7 @@ fn message_of(addr: DevAddr, current: &CurrentSession, item: Item) -> Message
     let counter = next_counter(current);
     let mut payload = item.payload.into_vec();
     crypt_payload(&key, Direction::Down, addr, counter, payload.as_mut_slice());
-    Message {
+    PortPayload {
         f_port,
         frm_payload: Payload::new(payload).unwrap(),
     }

@@ -1,9 +1,10 @@
-//! Downlinks: what the network sends a class A device in the receive windows of an uplink (TS001-1.0.4 §3.3, §4.3).
+//! Downlinks: what the network sends a class A device in the receive windows of an uplink
+//! (TS001-1.0.4 §3.3, §4.3).
 #![tactic(auto)]
 
 mod frame;
 mod load;
 mod reply;
 
-pub use load::Asked;
+pub use load::Demand;
 pub use reply::{acknowledge, answer};

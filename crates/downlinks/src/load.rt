@@ -1,13 +1,15 @@
 // What goes into a downlink (TS001-1.0.4 §4.3.1.6, §5.2).
-ghost use Rattle.std.specs.Prelude.{◌≡◌, ◌≤◌, ◌+◌, ◌-◌, length, is_some, slice_get, None, IfOk, MatchBool, MatchResult};
+ghost use Rattle.std.specs.Prelude.{◌≡◌, ◌≤◌, ◌+◌, ◌-◌, length, is_some, slice_get, None, IfOk};
+ghost use Rattle.std.specs.Prelude.{MatchBool, MatchResult};
 ghost use Rattle.lw_types.specs.declared.refusal.Refusal.TheVariants.{OutOfMemory};
 ghost use Rattle.devices.specs.Heard.{IsReceivable};
-ghost use Rattle.downlinks.specs.Load.{answers, f_opts_of, is_due, item_len, item_of, link_check_ans, rx1_data_rate, unloaded};
+ghost use Rattle.downlinks.specs.Load.{own_answers, f_opts_of, is_due, item_len, item_of};
+ghost use Rattle.downlinks.specs.Load.{link_check_ans, rx1_data_rate, without_load};
 
 use devices::{Copies, Device, Hearing, Item};
 use lw_types::{LONGEST_PAYLOAD, Reception, Refusal};
 use phy_payload::FOpts;
-use region_eu868::{Window, margin, max_mac, rx1};
+use region_eu868::{ReceiveWindow, margin, max_mac, rx1};
 use std::alloc::{AllocError, Global};
 
 // LinkCheckAns (TS001-1.0.4 §5.2).
@@ -15,7 +17,7 @@ const LINK_CHECK_ANS: u8 = 0x02;
 
 /// What a new uplink asks of the network, and how it was heard.
 #[derive(Clone, Copy)]
-pub struct Asked {
+pub struct Demand {
     /// The uplink is confirmed.
     pub confirmed: bool,
     /// The device wants to know whether it is still heard (TS001-1.0.4 §4.3.1.1).
@@ -37,14 +39,15 @@ pub(crate) struct Load {
 
 impl Load {
     /// Takes out of a device's queues what goes. For want of memory it is refused as `OutOfMemory`.
-    pub(crate) fn take(alloc: Global, device: &mut Device, asked: &Asked) -> Result<Self, Refusal>
+    pub(crate) fn take(alloc: Global, device: &mut Device, asked: &Demand) -> Result<Self, Refusal>
         requires { IsReceivable asked.now.best.reception }
         ensures load { MatchResult result
             (λ load. (load.f_opts ≡ f_opts_of device.old asked.now)
             × (load.item ≡ item_of device.old asked.now)
-            × (device.new ≡ unloaded device.old asked.now))
+            × (device.new ≡ without_load device.old asked.now))
             (λ e. e ≡ OutOfMemory) }
-        ensures short { IfOk result (λ load. length load.f_opts + item_len load.item ≤ LONGEST_PAYLOAD) }
+        ensures short { IfOk result
+            (λ load. length load.f_opts + item_len load.item ≤ LONGEST_PAYLOAD) }
     {
         let goes = first_item_goes(device, asked);
         let f_opts = f_opts(alloc, device, asked)?;
@@ -54,8 +57,9 @@ impl Load {
     }
 }
 
-/// Whether a downlink is due: the uplink asks for one, MAC commands wait, or an item fits. Takes no memory.
-pub(crate) fn is_due(device: &Device, asked: &Asked) -> bool
+/// Whether a downlink is due: the uplink asks for one, MAC commands wait, or an item fits. Takes no
+/// memory.
+pub(crate) fn is_due(device: &Device, asked: &Demand) -> bool
     requires { IsReceivable asked.now.best.reception }
     ensures { result ≡ is_due device.now asked.now }
 {
@@ -66,10 +70,10 @@ pub(crate) fn is_due(device: &Device, asked: &Asked) -> bool
         || first_item_goes(device, asked)
 }
 
-impl Asked {
+impl Demand {
     // How many bytes of FOpts the network's own answers leave for MAC commands.
     fn room(&self) -> u8
-        ensures { result ≡ 15 - length (answers self.now) }
+        ensures { result ≡ 15 - length (own_answers self.now) }
     {
         if self.link_check { 12 } else { 15 }
     }
@@ -77,7 +81,7 @@ impl Asked {
     // The network's own answers.
     fn answers(&self, alloc: Global) -> Result<Vec<u8>, AllocError>
         requires { IsReceivable self.now.best.reception }
-        ensures { IfOk result (λ bytes. bytes.items ≡ answers self.now) }
+        ensures { IfOk result (λ bytes. bytes.items ≡ own_answers self.now) }
     {
         if self.link_check {
             Vec::from_slice(alloc, &self.link_check_ans())
@@ -102,7 +106,7 @@ impl Asked {
 }
 
 // FOpts: the network's answers, and MAC commands behind them.
-fn f_opts(alloc: Global, device: &Device, asked: &Asked) -> Result<FOpts, AllocError>
+fn f_opts(alloc: Global, device: &Device, asked: &Demand) -> Result<FOpts, AllocError>
     requires { IsReceivable asked.now.best.reception }
     ensures { IfOk result (λ f_opts. f_opts ≡ f_opts_of device.now asked.now) }
 {
@@ -113,7 +117,7 @@ fn f_opts(alloc: Global, device: &Device, asked: &Asked) -> Result<FOpts, AllocE
 }
 
 // The length of FOpts, at most 15.
-fn f_opts_len(device: &Device, asked: &Asked) -> usize
+fn f_opts_len(device: &Device, asked: &Demand) -> usize
     ensures length { result ≡ length (f_opts_of device.now asked.now) }
     ensures few { result ≤ 15 }
 {
@@ -121,15 +125,16 @@ fn f_opts_len(device: &Device, asked: &Asked) -> usize
     usize::from(15 - room) + device.mac_queue.fitting(room)
 }
 
-// Whether the oldest item goes: DevAddr, FCtrl and FCnt, which are 7 bytes, FOpts, FPort and the payload are within the
-// largest MACPayload of RX1.
-fn first_item_goes(device: &Device, asked: &Asked) -> bool
+// Whether the oldest item goes: DevAddr, FCtrl and FCnt, which are 7 bytes, FOpts, FPort and the
+// payload are within the largest MACPayload of RX1.
+fn first_item_goes(device: &Device, asked: &Demand) -> bool
     requires { IsReceivable asked.now.best.reception }
     ensures goes { result ≡ is_some (item_of device.now asked.now) }
     ensures which { MatchBool result
         (item_of device.now asked.now ≡ slice_get device.now.items 0)
         (item_of device.now asked.now ≡ None) }
-    ensures short { length (f_opts_of device.now asked.now) + item_len (item_of device.now asked.now) ≤ LONGEST_PAYLOAD }
+    ensures short { length (f_opts_of device.now asked.now)
+        + item_len (item_of device.now asked.now) ≤ LONGEST_PAYLOAD }
 {
     region_eu868::laws::payloads_are_short();
     let f_opts_len = f_opts_len(device, asked);
@@ -143,7 +148,7 @@ fn first_item_goes(device: &Device, asked: &Asked) -> bool
 }
 
 /// RX1 of the uplink that was heard so.
-pub(crate) fn rx1_of(device: &Device, best: &Hearing) -> Window
+pub(crate) fn rx1_of(device: &Device, best: &Hearing) -> ReceiveWindow
     requires { IsReceivable best.now.reception }
     ensures frequency { result.frequency ≡ best.now.reception.frequency }
     ensures data_rate { result.data_rate ≡ rx1_data_rate device.now best.now }

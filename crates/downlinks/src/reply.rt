@@ -2,27 +2,30 @@
 ghost use Rattle.std.specs.Prelude.{◌≡◌, ◌≤◌, ◌<◌, ◌+◌, ◌^◌, ◌==◌, ◌++◌, length, Some, MatchResult};
 ghost use Rattle.lw_types.specs.declared.refusal.Refusal.TheVariants.{OutOfMemory};
 ghost use Rattle.devices.specs.Heard.{IsReceivable};
-ghost use Rattle.devices.specs.Outcome.{told};
+ghost use Rattle.devices.specs.DeviceStep.{report_effects};
 ghost use Rattle.devices.specs.declared.effect.Report.{Report};
-ghost use Rattle.downlinks.specs.Load.{item_len, waits};
-ghost use Rattle.downlinks.specs.Reply.{acknowledged, address, answered, awaited_by, downlink, more_waits, name_of, sent, windows_for};
+ghost use Rattle.downlinks.specs.Load.{item_len, has_any};
+ghost use Rattle.downlinks.specs.Reply.{acknowledgement_step, address, answer_step, awaited_by};
+ghost use Rattle.downlinks.specs.Reply.{downlink, more_waits, name_of, sending_step, windows_for};
 
-use crate::frame::{Letter, next_counter};
-use crate::load::{Asked, Load, is_due, rx1_of};
+use crate::frame::{DownlinkFields, next_counter};
+use crate::load::{Demand, Load, is_due, rx1_of};
 use devices::{
-    CurrentSession, Device, Downlink, Effect, Effects, Hearing, Item, Report, SessionName, Tag,
-    Windows, dev_addr,
+    CurrentSession, Device, Downlink, Effect, Effects, Hearing, Item, ReceiveWindows, Report,
+    SessionName, Tag, dev_addr,
 };
 use lw_types::{DevAddr, LONGEST_PAYLOAD, NetId, PhyPayload, Refusal};
 use phy_payload::FOpts;
 use region_eu868::{max_mac, rx2};
 use std::alloc::Global;
 
-/// A new uplink in this session is answered, where a downlink is due (TS001-1.0.4 §3.3, §4.3.1). What fits goes out of the
-/// device's queues, the counter of the session's downlinks is used up, and the frame is one more effect. Where the session
-/// has no counter left, its application is told, and the record stays as it is.
+/// A new uplink in this session is answered, where a downlink is due (TS001-1.0.4 §3.3, §4.3.1).
+/// What fits goes out of the device's queues, the counter of the session's downlinks is used up,
+/// and the frame is one more effect. Where the session has no counter left, that is reported, and
+/// the record stays as it is.
 ///
-/// For want of memory it is refused as `OutOfMemory`, and then the record may have lost what was to go.
+/// For want of memory it is refused as `OutOfMemory`, and then the record may have lost what was to
+/// go.
 pub fn answer(
     alloc: Global,
     net_id: NetId,
@@ -30,13 +33,13 @@ pub fn answer(
     device: &mut Device,
     effects: &mut Effects,
     current: CurrentSession,
-    asked: &Asked,
+    asked: &Demand,
 ) -> Result<(), Refusal>
     requires current { device.old.activation.current ≡ Some current }
     requires heard { IsReceivable asked.now.best.reception }
     requires room { length effects.old < Effects.MOST }
     ensures { MatchResult result
-        (λ _. let reply = answered net_id slot device.old current asked.now in
+        (λ _. let reply = answer_step net_id slot device.old current asked.now in
         (device.new ≡ reply.device) × (effects.new ≡ effects.old ++ reply.effects))
         (λ e. e ≡ OutOfMemory) }
 {
@@ -48,19 +51,20 @@ pub fn answer(
     }
     let Load { f_opts, item } = Load::take(alloc, device, asked)?;
     let f_pending = more_waits(device);
-    let letter = Letter {
+    let fields = DownlinkFields {
         f_opts,
         item,
         ack: asked.confirmed,
         f_pending,
     };
     let addr = address(net_id, slot, &current);
-    send(alloc, addr, device, effects, current, &asked.best, letter)
+    send(alloc, addr, device, effects, current, &asked.best, fields)
 }
 
-/// A confirmed uplink that comes again is acknowledged, and nothing else is sent (TS001-1.0.4 §4.3.1.2): the counter of the
-/// session's downlinks is used up, and the frame is one more effect. Where the session has no counter left, its application
-/// is told, and the record stays as it is.
+/// A confirmed uplink that comes again is acknowledged, and nothing else is sent (TS001-1.0.4
+/// §4.3.1.2): the counter of the session's downlinks is used up, and the frame is one more effect.
+/// Where the session has no counter left, its application is reported, and the record stays as it
+/// is.
 ///
 /// For want of memory it is refused as `OutOfMemory`.
 pub fn acknowledge(
@@ -76,21 +80,21 @@ pub fn acknowledge(
     requires heard { IsReceivable best.now.reception }
     requires room { length effects.old < Effects.MOST }
     ensures { MatchResult result
-        (λ _. let reply = acknowledged net_id slot device.old current best.now in
+        (λ _. let reply = acknowledgement_step net_id slot device.old current best.now in
         (device.new ≡ reply.device) × (effects.new ≡ effects.old ++ reply.effects))
         (λ e. e ≡ OutOfMemory) }
 {
     if is_spent(&current) {
         return tell_spent(device, effects, &current);
     }
-    let letter = Letter {
+    let fields = DownlinkFields {
         f_opts: FOpts::empty(alloc),
         item: None,
         ack: true,
         f_pending: more_waits(device),
     };
     let addr = address(net_id, slot, &current);
-    send(alloc, addr, device, effects, current, best, letter)
+    send(alloc, addr, device, effects, current, best, fields)
 }
 
 // Whether the session has no counter left for a downlink.
@@ -101,7 +105,7 @@ fn is_spent(current: &CurrentSession) -> bool
     current.next_down.get() == 1 << 32
 }
 
-// The application is told that the session has no counter left.
+// It is reported that the session has no counter left.
 fn tell_spent(
     device: &Device,
     effects: &mut Effects,
@@ -109,7 +113,8 @@ fn tell_spent(
 ) -> Result<(), Refusal>
     requires { length effects.old < Effects.MOST }
     ensures { MatchResult result
-        (λ _. effects.new ≡ effects.old ++ told device.now (Report.Spent current.now.session.join_nonce))
+        (λ _. effects.new ≡ effects.old
+        ++ report_effects device.now (Report.Spent current.now.session.join_nonce))
         (λ e. e ≡ OutOfMemory) }
 {
     effects.push(Effect::Report {
@@ -122,7 +127,7 @@ fn tell_spent(
     Ok(())
 }
 
-// The letter is sent, and uses up the session's next counter.
+// The downlink is sent, and uses up the session's next counter.
 fn send(
     alloc: Global,
     addr: DevAddr,
@@ -130,20 +135,20 @@ fn send(
     effects: &mut Effects,
     current: CurrentSession,
     best: &Hearing,
-    letter: Letter,
+    fields: DownlinkFields,
 ) -> Result<(), Refusal>
     requires current { device.old.activation.current ≡ Some current }
     requires left { current.next_down < 2 ^ 32 }
     requires heard { IsReceivable best.now.reception }
     requires room { length effects.old < Effects.MOST }
-    requires short { length letter.f_opts + item_len letter.item ≤ LONGEST_PAYLOAD }
+    requires short { length fields.f_opts + item_len fields.item ≤ LONGEST_PAYLOAD }
     ensures { MatchResult result
-        (λ _. let reply = sent addr device.old current best.now letter in
+        (λ _. let reply = sending_step addr device.old current best.now fields in
         (device.new ≡ reply.device) × (effects.new ≡ effects.old ++ reply.effects))
         (λ e. e ≡ OutOfMemory) }
 {
-    let awaited = awaited_by(&letter.item, device.awaited);
-    let downlink = downlink(alloc, addr, device, &current, best, letter)?;
+    let awaited = awaited_by(&fields.item, device.awaited);
+    let downlink = downlink(alloc, addr, device, &current, best, fields)?;
     effects.push(Effect::Down {
         session: name_of(device, &current),
         counter: next_counter(&current),
@@ -161,16 +166,16 @@ fn downlink(
     device: &Device,
     current: &CurrentSession,
     best: &Hearing,
-    letter: Letter,
+    fields: DownlinkFields,
 ) -> Result<Downlink, Refusal>
     requires left { current.now.next_down < 2 ^ 32 }
     requires heard { IsReceivable best.now.reception }
-    requires short { length letter.f_opts + item_len letter.item ≤ LONGEST_PAYLOAD }
+    requires short { length fields.f_opts + item_len fields.item ≤ LONGEST_PAYLOAD }
     ensures { MatchResult result
-        (λ found. found ≡ downlink addr device.now current.now best.now letter)
+        (λ found. found ≡ downlink addr device.now current.now best.now fields)
         (λ e. e ≡ OutOfMemory) }
 {
-    let frame = letter.into_phy_payload(alloc, addr, current)?;
+    let frame = fields.into_phy_payload(alloc, addr, current)?;
     let window = rx1_of(device, best);
     Ok(Downlink {
         gateway: best.reception.gateway,
@@ -184,14 +189,14 @@ fn downlink(
 }
 
 // The windows that the frame may be sent in. A MACPayload is five bytes shorter than its frame.
-fn windows_for(frame: &PhyPayload) -> Windows
+fn windows_for(frame: &PhyPayload) -> ReceiveWindows
     ensures { result ≡ windows_for frame.now }
 {
     let longest = usize::from(max_mac(rx2().data_rate));
     if frame.len() <= 5 + longest {
-        Windows::Rx1OrRx2
+        ReceiveWindows::Rx1OrRx2
     } else {
-        Windows::Rx1
+        ReceiveWindows::Rx1
     }
 }
 

@@ -10,10 +10,10 @@ use Rattle.sessions.specs.declared.decision.Decision.{Decision}
 use Rattle.store.specs.declared.areas.TheConstants.{LAST_GENERATION}
 use Rattle.store.specs.Image.{HoldsTable}
 use Rattle.store.specs.declared.store.Store.{Store}
-use Rattle.store.specs.State.{IsOneCall, IsSettled, StoreState, disk_of, seen}
+use Rattle.store.specs.State.{IsOneCall, IsSettled, StoreState, disk_of, store_state}
 use Rattle.flusher.proofs.Holding.{held_along, with_or_without_along}
 use Rattle.flusher.specs.Cycle.{HoldsWithOrWithout, IsUncommitted}
-use Rattle.flusher.specs.Calls.{AreCalls, IsUntouched, LastFailed, NoneFailed}
+use Rattle.flusher.specs.Calls.{AreStoreCalls, IsUntouched, LastFailed, NoneFailed}
 
 pub none_untouched : {D : Type 0} {g : _} (state : D → State) (failures : D → ℕ) (outlook : D → Outlook) (old new : Store D g)
     → IsUntouched state old new → NoneFailed failures outlook old new
@@ -44,8 +44,8 @@ none_then failures outlook old mid new first next = record {
 }
 
 -- a store that has failed stays untouched
-pub untouched_then : {D : Type 0} {g : _} (state : D → State) (old mid new : Store D g) → (seen state old).failed ≡ true → IsUntouched state old mid
-    → ((seen state mid).failed ≡ true → IsUntouched state mid new) → IsUntouched state old new
+pub untouched_then : {D : Type 0} {g : _} (state : D → State) (old mid new : Store D g) → (store_state state old).failed ≡ true → IsUntouched state old mid
+    → ((store_state state mid).failed ≡ true → IsUntouched state mid new) → IsUntouched state old new
 untouched_then state old mid new is first next =
     let then = next (ap (λ s. s.failed) first.0 ∙ is) in
     (then.0 ∙ first.0, then.1 ∙ first.1)
@@ -56,7 +56,7 @@ none_yet failures outlook s = record { count = refl; unarmed = λ all. all; fail
 
 -- one call
 pub one_call : {D T : Type 0} {g : _} (failures : D → ℕ) (outlook : D → Outlook) (old new : Store D g) (r : Result T Refusal)
-    → IsOneCall failures outlook old new r → AreCalls failures outlook old new r
+    → IsOneCall failures outlook old new r → AreStoreCalls failures outlook old new r
 one_call failures outlook old new (Ok x) is = record {
   count = is.cause;
   unarmed = λ all. (subst (λ o. IsForeseen o true (outlook (disk_of new))) all is.foreseen).1;
@@ -73,7 +73,7 @@ one_call failures outlook old new (Err e) is = (
 
 -- calls that succeeded, and others
 pub calls_then : {D T : Type 0} {g : _} (failures : D → ℕ) (outlook : D → Outlook) (old mid new : Store D g) (r : Result T Refusal)
-    → NoneFailed failures outlook old mid → AreCalls failures outlook mid new r → AreCalls failures outlook old new r
+    → NoneFailed failures outlook old mid → AreStoreCalls failures outlook mid new r → AreStoreCalls failures outlook old new r
 calls_then failures outlook old mid new (Ok x) first next = none_then failures outlook old mid new first next
 calls_then failures outlook old mid new (Err e) first (is, last) =
     (is, record { count = last.count ∙ ap (λ n. n + 1) first.count; armed = λ all. last.armed (first.unarmed all); failed = last.failed })
@@ -82,7 +82,7 @@ calls_then failures outlook old mid new (Err e) first (is, last) =
 pub settled_still : {D : Type 0} {g : _} (state : D → State) (failures : D → ℕ) (outlook : D → Outlook) (old mid new : Store D g) (e : Refusal)
     → NoneFailed failures outlook old mid
     → IsUntouched state mid new ⊎ ((e ≡ DeviceFailed) × LastFailed failures outlook mid new)
-    → IsSettled (seen state mid) → NoneFailed failures outlook old new → IsSettled (seen state new)
+    → IsSettled (store_state state mid) → NoneFailed failures outlook old new → IsSettled (store_state state new)
 settled_still state failures outlook old mid new e first (inl same) settled none = subst IsSettled (sym same.0) settled
 settled_still state failures outlook old mid new e first (inr (is, last)) settled none =
     absurd (omega (arith, none.count, first.count, last.count))
@@ -91,15 +91,15 @@ settled_still state failures outlook old mid new e first (inr (is, last)) settle
 pub refused_images : {D : Type 0} {g : _} (state : D → State) (failures : D → ℕ) (outlook : D → Outlook) (mid new : Store D g) (e : Refusal)
     (s : StoreState) (batch : List Decision)
     → ((s : StoreState) → IsSettled s → EveryImage s.log.disk (HoldsTable s.table s.seq))
-    → (seen state mid).table ≡ s.table → (seen state mid).seq ≡ s.seq → IsSettled (seen state mid)
+    → (store_state state mid).table ≡ s.table → (store_state state mid).seq ≡ s.seq → IsSettled (store_state state mid)
     → IsUntouched state mid new ⊎ ((e ≡ DeviceFailed) × LastFailed failures outlook mid new)
-    → EveryImage (state (disk_of new)) (HoldsWithOrWithout (seen state mid) batch)
+    → EveryImage (state (disk_of new)) (HoldsWithOrWithout (store_state state mid) batch)
     → EveryImage (state (disk_of new)) (HoldsTable s.table s.seq)
     ⊎ ((e ≡ DeviceFailed) × EveryImage (state (disk_of new)) (HoldsWithOrWithout s batch))
 refused_images state failures outlook mid new e s batch law table seq settled (inl same) images =
-    inl (λ image p. held_along s (seen state mid) image table seq (law (seen state mid) settled image (subst (λ d. IsPermitted (state d) image) same.1 p)))
+    inl (λ image p. held_along s (store_state state mid) image table seq (law (store_state state mid) settled image (subst (λ d. IsPermitted (state d) image) same.1 p)))
 refused_images state failures outlook mid new e s batch law table seq settled (inr (is, last)) images =
-    inr (is, λ image p. with_or_without_along s (seen state mid) batch image table seq (images image p))
+    inr (is, λ image p. with_or_without_along s (store_state state mid) batch image table seq (images image p))
 
 -- ---- why a batch wasn't committed
 
@@ -121,15 +121,15 @@ why_not false table seq ds X Y e step (inr (legal, inr (is, x))) = inr (legal, i
 -- the same holds of the store before calls that succeeded and left its table and number
 pub uncommitted_along : {D : Type 0} {g : _} (state : D → State) (failures : D → ℕ) (outlook : D → Outlook) (old mid new : Store D g) (ds : List Decision)
     (e : Refusal) → NoneFailed failures outlook old mid
-    → (seen state mid).table ≡ (seen state old).table → (seen state mid).seq ≡ (seen state old).seq
-    → IsUncommitted (seen state mid) ds (LastFailed failures outlook mid new) e
-    → IsUncommitted (seen state old) ds (LastFailed failures outlook old new) e
+    → (store_state state mid).table ≡ (store_state state old).table → (store_state state mid).seq ≡ (store_state state old).seq
+    → IsUncommitted (store_state state mid) ds (LastFailed failures outlook mid new) e
+    → IsUncommitted (store_state state old) ds (LastFailed failures outlook old new) e
 uncommitted_along state failures outlook old mid new ds e first table seq is =
     let X = LastFailed failures outlook mid new in
-    let a : WhyNot old.failed (seen state mid).table (seen state mid).seq ds X e = subst (λ f. WhyNot f (seen state mid).table (seen state mid).seq ds X e) first.failed is in
-    let b : WhyNot old.failed (seen state old).table (seen state mid).seq ds X e = subst (λ (t : TableState). WhyNot old.failed t (seen state mid).seq ds X e) table a in
-    let d : WhyNot old.failed (seen state old).table (seen state old).seq ds X e = subst (λ n. WhyNot old.failed (seen state old).table n ds X e) seq b in
-    why_not old.failed (seen state old).table (seen state old).seq ds X (LastFailed failures outlook old new) e
+    let a : WhyNot old.failed (store_state state mid).table (store_state state mid).seq ds X e = subst (λ f. WhyNot f (store_state state mid).table (store_state state mid).seq ds X e) first.failed is in
+    let b : WhyNot old.failed (store_state state old).table (store_state state mid).seq ds X e = subst (λ (t : TableState). WhyNot old.failed t (store_state state mid).seq ds X e) table a in
+    let d : WhyNot old.failed (store_state state old).table (store_state state old).seq ds X e = subst (λ n. WhyNot old.failed (store_state state old).table n ds X e) seq b in
+    why_not old.failed (store_state state old).table (store_state state old).seq ds X (LastFailed failures outlook old new) e
     (λ last. record { count = last.count ∙ ap (λ n. n + 1) first.count; armed = λ all. last.armed (first.unarmed all); failed = last.failed })
     d
 

@@ -2,9 +2,9 @@
 use Rattle.std.proofs.Common.{◌≡◌, ◌≢◌, ◌==◌, ◌∙◌, ◌+◌, inl, inr, Bool, true, false, ℕ, List, length, Result, Ok, Err, MatchBool, MatchResult, IfOk, IsErrAnd, ap, subst, sym}
 use Rattle.std.proofs.lemmas.Bool.Decides.{eqb_tells}
 use Rattle.lw_types.specs.declared.refusal.Refusal.{Refusal}
-use Rattle.sessions.specs.Decision.{ContinueAll, FitAll, applied_all, commands_of}
+use Rattle.sessions.specs.Decision.{ContinueAll, FitAll, with_decisions, commands_of}
 use Rattle.sessions.specs.declared.decision.Decision.{Decision}
-use Rattle.sessions.specs.Table.{TableState, folded}
+use Rattle.sessions.specs.Table.{TableState, fold_of}
 use Rattle.store.specs.Commit.{Change, MayFollow, table_after, tip_of}
 use Rattle.store.specs.Image.{HoldsTable}
 use Rattle.store.specs.Phases.{HoldsEither}
@@ -48,33 +48,33 @@ pub either_along : (s s' : StoreState) (change change' : Change) (image : List �
 either_along s s' change change' image table seq same (inl h) = inl (held_along s s' image table seq h)
 either_along s s' change change' image table seq same (inr h) =
     inr (subst (λ k. HoldsTable (table_after s k) k.seq image) same
-    (subst (λ t. HoldsTable (applied_all t change'.decisions) change'.seq image) table h))
+    (subst (λ t. HoldsTable (with_decisions t change'.decisions) change'.seq image) table h))
 
 pub with_or_without_along : (s s' : StoreState) (batch : List Decision) (image : List ℕ) → s'.table ≡ s.table → s'.seq ≡ s.seq
     → HoldsWithOrWithout s' batch image → HoldsWithOrWithout s batch image
 with_or_without_along s s' batch image table seq (inl h) = inl (held_along s s' image table seq h)
 with_or_without_along s s' batch image table seq (inr h) =
-    inr (subst (λ t. HoldsTable (folded t (commands_of batch)) (s.seq + length batch) image) table
-    (subst (λ n. HoldsTable (folded s'.table (commands_of batch)) (n + length batch) image) seq h))
+    inr (subst (λ t. HoldsTable (fold_of t (commands_of batch)) (s.seq + length batch) image) table
+    (subst (λ n. HoldsTable (fold_of s'.table (commands_of batch)) (n + length batch) image) seq h))
 
 pub commits_along : (s s' new : StoreState) (batch : List Decision) → s'.table ≡ s.table → s'.seq ≡ s.seq → Commits s' new batch → Commits s new batch
 commits_along s s' new batch table seq c = record {
   continues = subst (λ t. ContinueAll t s.seq batch) table (subst (λ n. ContinueAll s'.table n batch) seq c.continues);
-  table = c.table ∙ ap (λ t. folded t (commands_of batch)) table;
+  table = c.table ∙ ap (λ t. fold_of t (commands_of batch)) table;
   seq = c.seq ∙ ap (λ n. n + length batch) seq;
 }
 
 -- decisions that continue a table leave the fold of their commands
 abbrev pub AreFolded : Type 0
-AreFolded = (t : TableState) (ds : List Decision) → FitAll t ds → folded t (commands_of ds) ≡ applied_all t ds
+AreFolded = (t : TableState) (ds : List Decision) → FitAll t ds → fold_of t (commands_of ds) ≡ with_decisions t ds
 
 module _ (law : AreFolded) (s : StoreState) (change : Change) (size : ℕ) (batch : List Decision) (is : change.decisions ≡ batch)
     (may : MayFollow (tip_of s) change size) where
   continues : ContinueAll s.table s.seq batch
   continues = subst (ContinueAll s.table s.seq) is may.legal.continues
 
-  table_is : table_after s change ≡ folded s.table (commands_of batch)
-  table_is = ap (applied_all s.table) is ∙ sym (law s.table batch continues.fit)
+  table_is : table_after s change ≡ fold_of s.table (commands_of batch)
+  table_is = ap (with_decisions s.table) is ∙ sym (law s.table batch continues.fit)
 
   seq_is : change.seq ≡ s.seq + length batch
   seq_is = may.seq ∙ ap (λ (ds : List Decision). s.seq + length ds) is

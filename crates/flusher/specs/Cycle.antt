@@ -1,24 +1,27 @@
--- What one round of a flusher does, and why it is refused.
+-- What one cycle of a flusher does, and why it is refused.
 use Rattle.std.specs.Prelude.{◌≡◌, ◌⊎◌, ◌<◌, ◌≤◌, ◌+◌, ℕ, false, List, length, MatchBool}
 use Rattle.lw_types.specs.declared.refusal.Refusal.{Refusal}
-use Rattle.lw_types.specs.declared.refusal.Refusal.TheVariants.{Damaged, DeviceFailed, Failed, OutOfMemory, OutOfStep}
+use Rattle.lw_types.specs.declared.refusal.Refusal.TheVariants.{Damaged, DeviceFailed, Failed}
+use Rattle.lw_types.specs.declared.refusal.Refusal.TheVariants.{OutOfMemory, OutOfStep}
 use Rattle.sessions.specs.Decision.{ContinueAll, IsLegalContinuation, commands_of}
-use Rattle.sessions.specs.Table.{folded}
+use Rattle.sessions.specs.Table.{fold_of}
 use Rattle.sessions.specs.declared.decision.Decision.{Decision}
 use Rattle.store.specs.declared.areas.TheConstants.{LAST_GENERATION}
 use Rattle.store.specs.Image.{HoldsTable}
 use Rattle.store.specs.State.{StoreState, IsRoomy}
 
--- a store committed these decisions, which may be none: they continue what it had, and it has the fold of their commands
+-- a store committed these decisions, which may be none: they continue what it had, and it has the
+-- fold of their commands
 pub record Commits (old new : StoreState) (ds : List Decision) : Type 0 where
   pub continues : ContinueAll old.table old.seq ds
-  pub table : new.table ≡ folded old.table (commands_of ds)
+  pub table : new.table ≡ fold_of old.table (commands_of ds)
   pub seq : new.seq ≡ old.seq + length ds
 
 -- an image holds what the store had, or that with these decisions
 abbrev pub HoldsWithOrWithout : StoreState → List Decision → List ℕ → Type 0
 HoldsWithOrWithout s ds image =
-    HoldsTable s.table s.seq image ⊎ HoldsTable (folded s.table (commands_of ds)) (s.seq + length ds) image
+    HoldsTable s.table s.seq image
+    ⊎ HoldsTable (fold_of s.table (commands_of ds)) (s.seq + length ds) image
 
 -- why a store wrote no checkpoint; `failure` is what is known where a call of the disk failed
 abbrev pub IsUnchecked : StoreState → Type 0 → Refusal → Type 0
@@ -28,7 +31,8 @@ IsUnchecked s failure e =
     (((e ≡ Damaged) × (LAST_GENERATION ≤ s.log.generation))
     ⊎ ((s.log.generation < LAST_GENERATION) × ((e ≡ OutOfMemory) ⊎ ((e ≡ DeviceFailed) × failure))))
 
--- why a batch wasn't asked for: no memory for its effects, or no room in the journal and no checkpoint
+-- why a batch wasn't asked for: no memory for its effects, or no room in the journal and no
+-- checkpoint
 abbrev pub IsUnready : StoreState → Type 0 → Refusal → Type 0
 IsUnready s failure e = (e ≡ OutOfMemory) ⊎ ((¬ (IsRoomy s)) × IsUnchecked s failure e)
 

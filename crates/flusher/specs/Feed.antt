@@ -9,7 +9,10 @@ use Rattle.flusher.specs.declared.feed.StoredBatches.{StoredBatches}
 abbrev pub stored_in : StoredBatches → List (List Decision)
 stored_in stored = stored.batches.items
 
--- the first batch comes and the others stay; where there is none, an empty one comes, or memory is out
-abbrev pub GivesStored : List (List Decision) → Result (List Decision) Refusal → List (List Decision) → Type 0
-GivesStored [] answer left = MatchResult answer (λ batch. batch ≡ []) (λ e. e ≡ OutOfMemory) × (left ≡ [])
+-- the first batch comes and the others stay; where there is none, an empty one comes, or memory is
+-- out
+abbrev pub GivesStored : List (List Decision) → Result (List Decision) Refusal
+    → List (List Decision) → Type 0
+GivesStored [] answer left =
+    MatchResult answer (λ batch. batch ≡ []) (λ e. e ≡ OutOfMemory) × (left ≡ [])
 GivesStored (batch ∷ batches) answer left = (answer ≡ Ok batch) × (left ≡ batches)

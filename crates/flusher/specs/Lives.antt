@@ -1,17 +1,17 @@
--- What leaves over all lives of a store: rounds of flushers, crashes and openings.
+-- What leaves over all lives of a store: cycles of flushers, crashes and openings.
 use Rattle.std.specs.Prelude.{Bool, true, false, List, [], ◌∷◌, ◌++◌}
 use Rattle.devices.specs.declared.command.Command.{Command}
 use Rattle.devices.specs.declared.effect.Effect.{Effect}
-use Rattle.sessions.specs.Table.{TableState, effects_of, folded}
+use Rattle.sessions.specs.Table.{TableState, effects_of, fold_of}
 
--- what changes a store, its disk or what has left; any other round changes none of these
-pub data Event : Type 0 where
-  -- a round with this batch, whose effects left
-  Released : List Command → Event
-  -- a round in which the disk failed: a crash may leave the batch or not, and no effect leaves
-  Torn : List Command → Event
+-- what changes a store, its disk or what has left; any other cycle changes none of these
+pub data LifeEvent : Type 0 where
+  -- a cycle with this batch, whose effects left
+  Released : List Command → LifeEvent
+  -- a cycle in which the disk failed: a crash may leave the batch or not, and no effect leaves
+  Torn : List Command → LifeEvent
   -- an opening, after a crash or without one, which finds the torn batch or doesn't
-  Opened : Bool → Event
+  Opened : Bool → LifeEvent
 
 pub record Lives : Type 0 where
   -- the commands whose fold is the store's table
@@ -26,17 +26,21 @@ abbrev pub beginning : Lives
 beginning = record { durable = []; torn = []; left = [] }
 
 -- the lives of a store that began with this table, after one event more
-abbrev pub after : TableState → Lives → Event → Lives
-after t lives (Released commands) =
-    record lives { durable = lives.durable ++ commands; left = lives.left ++ effects_of (folded t lives.durable) commands }
-after t lives (Torn commands) = record lives { torn = commands }
-after t lives (Opened true) = record lives { durable = lives.durable ++ lives.torn; torn = [] }
-after t lives (Opened false) = record lives { torn = [] }
+abbrev pub lives_after : TableState → Lives → LifeEvent → Lives
+lives_after t lives (Released commands) =
+    record lives {
+      durable = lives.durable ++ commands;
+      left = lives.left ++ effects_of (fold_of t lives.durable) commands;
+    }
+lives_after t lives (Torn commands) = record lives { torn = commands }
+lives_after t lives (Opened true) =
+    record lives { durable = lives.durable ++ lives.torn; torn = [] }
+lives_after t lives (Opened false) = record lives { torn = [] }
 
-abbrev pub after_all : TableState → Lives → List Event → Lives
-after_all t lives [] = lives
-after_all t lives (event ∷ events) = after_all t (after t lives event) events
+abbrev pub lives_after_all : TableState → Lives → List LifeEvent → Lives
+lives_after_all t lives [] = lives
+lives_after_all t lives (event ∷ events) = lives_after_all t (lives_after t lives event) events
 
 -- the lives that these events make of a store with this table
-abbrev pub lives_of : TableState → List Event → Lives
-lives_of t events = after_all t beginning events
+abbrev pub lives_of : TableState → List LifeEvent → Lives
+lives_of t events = lives_after_all t beginning events

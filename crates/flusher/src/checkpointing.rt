@@ -1,12 +1,12 @@
 // Whole checkpoints.
 ghost use Rattle.std.specs.Prelude.{◌≡◌, ◌⊎◌, true, false, IfOk, IfErr, OnOk, MatchResult};
 ghost use Rattle.disk.specs.State.{EveryImage};
-ghost use Rattle.flusher.specs.Calls.{AreCalls, IsUntouched, LastFailed, NoneFailed};
+ghost use Rattle.flusher.specs.Calls.{AreStoreCalls, IsUntouched, LastFailed, NoneFailed};
 ghost use Rattle.flusher.specs.Cycle.{IsReady, IsUnready};
 ghost use Rattle.lw_types.specs.declared.refusal.Refusal.TheVariants.{DeviceFailed};
 ghost use Rattle.store.specs.Checkpointing.{FitsOther, IsCheckpointOn, checkpoint_size};
 ghost use Rattle.store.specs.Image.{HoldsTable};
-ghost use Rattle.store.specs.State.{seen, disk_of, IsRoomy, IsSettled};
+ghost use Rattle.store.specs.State.{store_state, disk_of, IsRoomy, IsSettled};
 
 use disk::Disk;
 use lw_types::Refusal;
@@ -17,19 +17,20 @@ use store::{Checkpoint, Store};
 pub(crate) fn make_room<D: Disk>(alloc: Global, store: &mut Store<D>) -> Result<(), Refusal>
     ensures calls { MatchResult result
         (λ _. NoneFailed D.failures D.outlook store.old store.new)
-        (λ e. IsUnready (seen D.state store.old) (LastFailed D.failures D.outlook store.old store.new) e) }
-    ensures ready { OnOk result (IsReady (seen D.state store.old)) }
-    ensures roomy { OnOk result (IsRoomy (seen D.state store.new)) }
-    ensures images { D.honest → IsSettled (seen D.state store.old) → MatchResult result
-        (λ _. IsSettled (seen D.state store.new))
+        (λ e. IsUnready (store_state D.state store.old)
+        (LastFailed D.failures D.outlook store.old store.new) e) }
+    ensures ready { OnOk result (IsReady (store_state D.state store.old)) }
+    ensures roomy { OnOk result (IsRoomy (store_state D.state store.new)) }
+    ensures images { D.honest → IsSettled (store_state D.state store.old) → MatchResult result
+        (λ _. IsSettled (store_state D.state store.new))
         (λ _. EveryImage (D.state (disk_of store.new))
-        (HoldsTable (seen D.state store.old).table (seen D.state store.old).seq)) }
+        (HoldsTable (store_state D.state store.old).table (store_state D.state store.old).seq)) }
     ensures refused { IfErr result (λ e. IsUntouched D.state store.old store.new
         ⊎ ((e ≡ DeviceFailed) × LastFailed D.failures D.outlook store.old store.new)) }
-    ensures closed { (seen D.state store.old).failed ≡ true
+    ensures closed { (store_state D.state store.old).failed ≡ true
         → IsUntouched D.state store.old store.new }
-    ensures table { (seen D.state store.new).table ≡ (seen D.state store.old).table }
-    ensures seq { (seen D.state store.new).seq ≡ (seen D.state store.old).seq }
+    ensures table { (store_state D.state store.new).table ≡ (store_state D.state store.old).table }
+    ensures seq { (store_state D.state store.new).seq ≡ (store_state D.state store.old).seq }
 {
     store::laws::a_settled_store_is_on_its_disk();
     if store.roomy() {
@@ -41,15 +42,16 @@ pub(crate) fn make_room<D: Disk>(alloc: Global, store: &mut Store<D>) -> Result<
 
 // Writes a checkpoint by four calls of the disk, or six where the other area's gate is open.
 fn publish<D: Disk>(store: &mut Store<D>, checkpoint: Checkpoint) -> Result<(), Refusal>
-    requires { FitsOther (seen D.state store.old) (checkpoint_size checkpoint) }
-    ensures calls { AreCalls D.failures D.outlook store.old store.new result }
-    ensures roomy { OnOk result (IsRoomy (seen D.state store.new)) }
-    ensures images { D.honest → IsCheckpointOn (seen D.state store.old) checkpoint → MatchResult result
-        (λ _. IsSettled (seen D.state store.new))
+    requires { FitsOther (store_state D.state store.old) (checkpoint_size checkpoint) }
+    ensures calls { AreStoreCalls D.failures D.outlook store.old store.new result }
+    ensures roomy { OnOk result (IsRoomy (store_state D.state store.new)) }
+    ensures images { D.honest → IsCheckpointOn (store_state D.state store.old) checkpoint
+        → MatchResult result
+        (λ _. IsSettled (store_state D.state store.new))
         (λ _. EveryImage (D.state (disk_of store.new))
-        (HoldsTable (seen D.state store.old).table (seen D.state store.old).seq)) }
-    ensures table { (seen D.state store.new).table ≡ (seen D.state store.old).table }
-    ensures seq { (seen D.state store.new).seq ≡ (seen D.state store.old).seq }
+        (HoldsTable (store_state D.state store.old).table (store_state D.state store.old).seq)) }
+    ensures table { (store_state D.state store.new).table ≡ (store_state D.state store.old).table }
+    ensures seq { (store_state D.state store.new).seq ≡ (store_state D.state store.old).seq }
 {
     let checkpoint = close_gate(store, checkpoint)?;
     let written = checkpoint.write(store)?;
@@ -60,16 +62,18 @@ fn publish<D: Disk>(store: &mut Store<D>, checkpoint: Checkpoint) -> Result<(), 
 
 // Closes the other area's gate, where it is open.
 fn close_gate<D: Disk>(store: &mut Store<D>, checkpoint: Checkpoint) -> Result<Checkpoint, Refusal>
-    requires { FitsOther (seen D.state store.old) (checkpoint_size checkpoint) }
-    ensures calls { AreCalls D.failures D.outlook store.old store.new result }
-    ensures closed { OnOk result ((seen D.state store.new).log.other_open ≡ false) }
-    ensures fits { IfOk result (λ phase. FitsOther (seen D.state store.new) (checkpoint_size phase)) }
-    ensures images { D.honest → IsCheckpointOn (seen D.state store.old) checkpoint → MatchResult result
-        (IsCheckpointOn (seen D.state store.new))
+    requires { FitsOther (store_state D.state store.old) (checkpoint_size checkpoint) }
+    ensures calls { AreStoreCalls D.failures D.outlook store.old store.new result }
+    ensures closed { OnOk result ((store_state D.state store.new).log.other_open ≡ false) }
+    ensures fits { IfOk result (λ phase. FitsOther (store_state D.state store.new)
+        (checkpoint_size phase)) }
+    ensures images { D.honest → IsCheckpointOn (store_state D.state store.old) checkpoint
+        → MatchResult result
+        (IsCheckpointOn (store_state D.state store.new))
         (λ _. EveryImage (D.state (disk_of store.new))
-        (HoldsTable (seen D.state store.old).table (seen D.state store.old).seq)) }
-    ensures table { (seen D.state store.new).table ≡ (seen D.state store.old).table }
-    ensures seq { (seen D.state store.new).seq ≡ (seen D.state store.old).seq }
+        (HoldsTable (store_state D.state store.old).table (store_state D.state store.old).seq)) }
+    ensures table { (store_state D.state store.new).table ≡ (store_state D.state store.old).table }
+    ensures seq { (store_state D.state store.new).seq ≡ (store_state D.state store.old).seq }
 {
     if store.must_retire() {
         let retiring = checkpoint.retire(store)?;

@@ -8,8 +8,8 @@ use crate::{MOST_EFFECTS, Released, Room};
 use devices::Effects;
 use sessions::{Batch, Decision};
 
-/// A batch that every crash leaves, and room for its effects. It must be spent: its effects leave by
-/// `release`, and at a crash they are lost.
+/// A batch that every crash leaves, and room for its effects. It must be spent: its effects leave
+/// by `release`, and at a crash they are lost.
 pub struct Durable {
     batch: Batch,
     room: Room,
@@ -49,7 +49,8 @@ impl Durable {
 // Adds the effects of one decision.
 fn release_one(decision: Decision, out: &mut Vec<Released>)
     requires { length out.old.items + Effects.MOST ≤ vec_capacity out.old }
-    ensures effects { effects_of_all out.new.items ≡ effects_of_all out.old.items ++ decision.effects }
+    ensures effects { effects_of_all out.new.items
+        ≡ effects_of_all out.old.items ++ decision.effects }
     ensures few { length out.new.items ≤ length out.old.items + Effects.MOST }
     ensures room { vec_capacity out.old ≤ vec_capacity out.new }
 {

@@ -1,14 +1,8 @@
 // Where batches come from.
-use lw_types::{Ranged, Refusal};
-use sessions::Batch;
+use lw_types::Refusal;
+use sessions::{Batch, Most};
 use std::alloc::Global;
 use std::collections::VecDeque;
-
-/// The decisions of the largest batch.
-const LARGEST: u64 = Batch::MOST as u64;
-
-/// How many decisions are asked for at most, from 1 to 64.
-pub type Most = Ranged<1, LARGEST>;
 
 /// Where the batches of a flusher come from. Each kind of feed says what it gives.
 pub trait Feed {
@@ -16,11 +10,11 @@ pub trait Feed {
     ghost use Rattle.lw_types.specs.declared.refusal.Refusal.{Refusal};
     ghost use Rattle.sessions.specs.declared.decision.Decision.{Decision};
 
-    /// The feed as it was, how many decisions were asked for at most, the answer, and the feed as it
-    /// is then.
+    /// The feed as it was, how many decisions were asked for at most, the answer, and the feed as
+    /// it is then.
     ghost gives: { Self → ℕ → Result (List Decision) Refusal → Self → Type 0 };
 
-    /// The next decisions that are to be committed together, at most so many. Where none wait, the
+    /// The next decisions that are to be committed together, `most` at most. Where none wait, the
     /// batch is empty.
     fn next(&mut self, most: Most) -> Result<Batch, Refusal>
         ensures { gives self.old most result self.new };

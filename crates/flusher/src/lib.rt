@@ -1,18 +1,20 @@
-//! What leaves the network, and when: an effect is seen outside only as a [`Released`], which is made of
-//! a durable batch alone. [`cycle`] is one round: a batch is taken, committed and released.
+//! What leaves the network, and when: an effect is seen outside only as a [`Released`], which is
+//! made of a durable batch alone. [`cycle`] is one of its cycles: a batch is taken, committed and
+//! released.
 #![tactic(auto)]
 
 mod checkpointing;
 mod committing;
+mod cycles;
 mod durable;
 mod feed;
 pub mod laws;
 mod released;
 mod room;
-mod rounds;
 
+pub use cycles::cycle;
 pub use durable::Durable;
-pub use feed::{Feed, Most, StoredBatches};
+pub use feed::{Feed, StoredBatches};
 pub use released::Released;
 pub use room::{MOST_EFFECTS, Room};
-pub use rounds::cycle;
+pub use sessions::Most;

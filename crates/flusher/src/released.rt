@@ -3,8 +3,8 @@ ghost use Rattle.std.specs.Prelude.{◌≡◌};
 
 use devices::Effect;
 
-/// An effect of a durable decision. It is made where a durable batch is released and nowhere else, so
-/// whoever has one may let the effect out.
+/// An effect of a durable decision. It is made where a durable batch is released and nowhere else,
+/// so whoever has one may let the effect out.
 pub struct Released {
     effect: Effect,
 }

@@ -12,8 +12,8 @@ use std::alloc::Global;
 /// How many effects the largest batch has.
 pub const MOST_EFFECTS: usize = Batch::MOST * Effects::MOST;
 
-/// Room for the effects of the largest batch. It is got before the batch is taken, so that releasing
-/// takes no memory.
+/// Room for the effects of the largest batch. It is got before the batch is taken, so that
+/// releasing takes no memory.
 #[derive(Drop)]
 pub struct Room {
     pub(crate) effects: Vec<Released>,

@@ -6,10 +6,10 @@ use Rattle.std.proofs.lemmas.List.{append-nil, length-take-le, drop-drop, drop_a
 use Rattle.std.proofs.lemmas.List.Elements.{All-append, All-take, All-drop}
 use Rattle.std.proofs.lemmas.Slice.{take-put_mid, drop-put_mid}
 use borrow.Rule.Slice.PartMut.{put_mid}
-use Rattle.aes128.specs.Cipher.{IsBlock, encrypted, xor}
-use Rattle.aes128.specs.InverseCipher.{decrypted}
-use Rattle.aes_cmac.specs.Cmac.{after_blocks, blocks_before_last, chained, cmac, masked_last}
-use Rattle.frame_crypt.specs.Joins.{IsAccept, IsAcceptSize, each_block, join_mic, opened, sealed, through, with_mic}
+use Rattle.aes128.specs.Cipher.{IsBlock, ciphertext, xor}
+use Rattle.aes128.specs.InverseCipher.{plaintext}
+use Rattle.aes_cmac.specs.Cmac.{after_blocks, blocks_before_last, chain_value, cmac, masked_last}
+use Rattle.frame_crypt.specs.Joins.{IsAccept, IsAcceptSize, each_block, join_mic, opened_accept, sealed_accept, through, with_mic}
 
 abbrev pub IsByte : ℕ → Type 0
 IsByte byte = byte < 256
@@ -104,17 +104,17 @@ through-through f g undoes frame accept =
 
 -- the laws of the cipher that this file stands on
 pub record CipherLaws : Type 0 where
-  pub encrypted_block : (key block : List ℕ) → IsBlock key → IsBlock (encrypted key block)
-  pub decrypted_block : (key block : List ℕ) → IsBlock key → IsBlock block → IsBlock (decrypted key block)
-  pub back : (key block : List ℕ) → IsBlock key → IsBlock block → decrypted key (encrypted key block) ≡ block
-  pub forth : (key block : List ℕ) → IsBlock key → IsBlock block → encrypted key (decrypted key block) ≡ block
+  pub encrypted_block : (key block : List ℕ) → IsBlock key → IsBlock (ciphertext key block)
+  pub decrypted_block : (key block : List ℕ) → IsBlock key → IsBlock block → IsBlock (plaintext key block)
+  pub back : (key block : List ℕ) → IsBlock key → IsBlock block → plaintext key (ciphertext key block) ≡ block
+  pub forth : (key block : List ℕ) → IsBlock key → IsBlock block → ciphertext key (plaintext key block) ≡ block
 
 mic_bytes : CipherLaws → (key message : List ℕ) → IsBlock key → (length (join_mic key message) ≡ 4) × All IsByte (join_mic key message)
 unfolding join_mic cmac
 mic_bytes laws key message is_key =
     let n = blocks_before_last message in
-    let block = laws.encrypted_block key (xor (chained key message n) (masked_last key (after_blocks n message))) is_key in
-    (length-take-le 4 (encrypted key (xor (chained key message n) (masked_last key (after_blocks n message)))) (omega (arith, block.0)), All-take IsByte 4 _ block.1)
+    let block = laws.encrypted_block key (xor (chain_value key message n) (masked_last key (after_blocks n message))) is_key in
+    (length-take-le 4 (ciphertext key (xor (chain_value key message n) (masked_last key (after_blocks n message)))) (omega (arith, block.0)), All-take IsByte 4 _ block.1)
 
 with_mic-accept : CipherLaws → (key frame : List ℕ) → IsBlock key → IsAccept frame → IsAccept (with_mic key frame)
 with_mic-accept laws key frame is_key accept =
@@ -127,13 +127,13 @@ with_mic-accept laws key frame is_key accept =
     let same : length (fields ++ join_mic key fields) ≡ length frame = length-append fields (join_mic key fields) ∙ (let four = mic.0 in omega arith) in
     (subst IsAcceptSize (sym same) accept.0, All-append IsByte fields (join_mic key fields) (All-take IsByte n frame accept.1) mic.1)
 
-pub opened-sealed : CipherLaws → (key frame : List ℕ) → IsBlock key → IsAccept frame → opened key (sealed key frame) ≡ with_mic key frame
+pub opened-sealed : CipherLaws → (key frame : List ℕ) → IsBlock key → IsAccept frame → opened_accept key (sealed_accept key frame) ≡ with_mic key frame
 opened-sealed laws key frame is_key accept =
-    through-through (decrypted key) (encrypted key)
+    through-through (plaintext key) (ciphertext key)
     (record { block = λ x is. laws.decrypted_block key x is_key is; undone = λ x is. laws.forth key x is_key is }) (with_mic key frame) (with_mic-accept laws key frame is_key accept)
 
-pub sealed-only : CipherLaws → (key frame other : List ℕ) → IsBlock key → IsAccept other → opened key other ≡ with_mic key frame → other ≡ sealed key frame
+pub sealed-only : CipherLaws → (key frame other : List ℕ) → IsBlock key → IsAccept other → opened_accept key other ≡ with_mic key frame → other ≡ sealed_accept key frame
 sealed-only laws key frame other is_key accept same =
-    sym (through-through (encrypted key) (decrypted key)
+    sym (through-through (ciphertext key) (plaintext key)
     (record { block = λ x is. laws.encrypted_block key x is_key; undone = λ x is. laws.back key x is_key is }) other accept)
-    ∙ ap (through (decrypted key)) same
+    ∙ ap (through (plaintext key)) same

@@ -10,9 +10,9 @@ use Rattle.std.specs.Int.Bits.{bit_xor, xor_assoc, xor_self, xor_zero_r}
 use Rattle.aes128.specs.Field.{◌⊕◌, power}
 use Rattle.std.specs.Prelude.{All}
 use Rattle.std.proofs.lemmas.List.Elements.{All-nil, All-cons, All-head, All-tail, All-append}
-use Rattle.aes128.specs.Cipher.{IsBlock, xor, encrypted, rounds, round_key, next_round_key, shift_rows, sub_bytes}
+use Rattle.aes128.specs.Cipher.{IsBlock, xor, ciphertext, rounds, round_key, next_round_key, shift_rows, sub_bytes}
 use Rattle.lw_types.specs.declared.direction.Direction.{Direction}
-use Rattle.frame_crypt.specs.Frames.{frame_block, keystream, crypted}
+use Rattle.frame_crypt.specs.Frames.{frame_block, keystream, crypted_payload}
 
 pub length-xor : (xs ys : List ℕ) → length xs ≤ length ys → length (xor xs ys) ≡ length xs
 length-xor [] ys fits = refl
@@ -43,20 +43,20 @@ length-round_key key r = length-next (power 2 r) (round_key key r)
 length-last : (s k : List ℕ) → length k ≡ 16 → length (xor (shift_rows s) k) ≡ 16
 length-last s k sixteen = length-xor (shift_rows s) k (omega arith)
 
-pub length-encrypted : (key block : List ℕ) → length (encrypted key block) ≡ 16
-unfolding encrypted
+pub length-encrypted : (key block : List ℕ) → length (ciphertext key block) ≡ 16
+unfolding ciphertext
 length-encrypted key block = length-last (sub_bytes (rounds key block 9)) (round_key key 10) (length-round_key key 9)
 
 pub length-keystream : (key : List ℕ) (dir : Direction) (addr counter n : ℕ) → length (keystream key dir addr counter n) ≡ 16 * n
 unfolding keystream
 length-keystream key dir addr counter zero = refl
 length-keystream key dir addr counter (suc n) =
-    length-append (keystream key dir addr counter n) (encrypted key (frame_block 0x01 dir addr counter (suc n)))
+    length-append (keystream key dir addr counter n) (ciphertext key (frame_block 0x01 dir addr counter (suc n)))
     ∙ (let before = length-keystream key dir addr counter n in
     let block = length-encrypted key (frame_block 0x01 dir addr counter (suc n)) in omega arith)
 
-pub crypted-twice : (key : List ℕ) (dir : Direction) (addr counter : ℕ) (payload : List ℕ) → crypted key dir addr counter (crypted key dir addr counter payload) ≡ payload
-unfolding crypted
+pub crypted-twice : (key : List ℕ) (dir : Direction) (addr counter : ℕ) (payload : List ℕ) → crypted_payload key dir addr counter (crypted_payload key dir addr counter payload) ≡ payload
+unfolding crypted_payload
 crypted-twice key dir addr counter payload =
     let n : ℕ = (length payload + 15) / 16 in
     let stream : List ℕ = keystream key dir addr counter n in
@@ -65,8 +65,8 @@ crypted-twice key dir addr counter payload =
     let same : length (xor payload stream) ≡ length payload = length-xor payload stream fits in
     ap (λ (k : ℕ). xor (xor payload stream) (keystream key dir addr counter ((k + 15) / 16))) same ∙ xor-twice payload stream fits
 
-pub length-crypted : (key : List ℕ) (dir : Direction) (addr counter : ℕ) (payload : List ℕ) → length (crypted key dir addr counter payload) ≡ length payload
-unfolding crypted
+pub length-crypted : (key : List ℕ) (dir : Direction) (addr counter : ℕ) (payload : List ℕ) → length (crypted_payload key dir addr counter payload) ≡ length payload
+unfolding crypted_payload
 length-crypted key dir addr counter payload =
     let n : ℕ = (length payload + 15) / 16 in
     let long : length (keystream key dir addr counter n) ≡ 16 * n = length-keystream key dir addr counter n in
@@ -81,17 +81,17 @@ xor_bytes (x ∷ xs) [] p q = All-nil IsByte
 xor_bytes (x ∷ xs) (y ∷ ys) p q =
     All-cons IsByte (x ⊕ y) (xor xs ys) (xor_lt 8 x y (All-head IsByte x xs p) (All-head IsByte y ys q)) (xor_bytes xs ys (All-tail IsByte x xs p) (All-tail IsByte y ys q))
 
-keystream-bytes : ((key block : List ℕ) → IsBlock key → IsBlock (encrypted key block)) → (key : List ℕ) (dir : Direction) (addr counter n : ℕ) → IsBlock key
+keystream-bytes : ((key block : List ℕ) → IsBlock key → IsBlock (ciphertext key block)) → (key : List ℕ) (dir : Direction) (addr counter n : ℕ) → IsBlock key
     → All IsByte (keystream key dir addr counter n)
 unfolding keystream
 keystream-bytes gives key dir addr counter zero is_key = All-nil IsByte
 keystream-bytes gives key dir addr counter (suc n) is_key =
     let block = frame_block 0x01 dir addr counter (suc n) in
-    All-append IsByte (keystream key dir addr counter n) (encrypted key block) (keystream-bytes gives key dir addr counter n is_key) (gives key block is_key).1
+    All-append IsByte (keystream key dir addr counter n) (ciphertext key block) (keystream-bytes gives key dir addr counter n is_key) (gives key block is_key).1
 
-pub crypted-bytes : ((key block : List ℕ) → IsBlock key → IsBlock (encrypted key block)) → (key : List ℕ) (dir : Direction) (addr counter : ℕ) (payload : List ℕ) → IsBlock key
-    → All IsByte payload → All IsByte (crypted key dir addr counter payload)
-unfolding crypted
+pub crypted-bytes : ((key block : List ℕ) → IsBlock key → IsBlock (ciphertext key block)) → (key : List ℕ) (dir : Direction) (addr counter : ℕ) (payload : List ℕ) → IsBlock key
+    → All IsByte payload → All IsByte (crypted_payload key dir addr counter payload)
+unfolding crypted_payload
 crypted-bytes gives key dir addr counter payload is_key all =
     let n : ℕ = (length payload + 15) / 16 in
     xor_bytes payload (keystream key dir addr counter n) all (keystream-bytes gives key dir addr counter n is_key)
@@ -136,19 +136,19 @@ left_step old xs ys a k inside small long left =
     drop-put_mid a k xs ys (a + 16) (omega arith) inside long
     ∙ sym (drop-drop 16 a xs) ∙ ap (λ (l : List ℕ). drop 16 l) left ∙ drop-drop 16 a old
 
-pub keystream-more : (key : List ℕ) (dir : Direction) (addr counter n : ℕ) (s block : List ℕ) → s ≡ encrypted key block → block ≡ frame_block 0x01 dir addr counter (n + 1)
+pub keystream-more : (key : List ℕ) (dir : Direction) (addr counter n : ℕ) (s block : List ℕ) → s ≡ ciphertext key block → block ≡ frame_block 0x01 dir addr counter (n + 1)
     → keystream key dir addr counter n ++ s ≡ keystream key dir addr counter (n + 1)
 unfolding keystream
 keystream-more key dir addr counter n s block sealed is_block =
     let plus : n + 1 ≡ suc n = add-one n in
-    ap (λ (l : List ℕ). keystream key dir addr counter n ++ l) (sealed ∙ ap (encrypted key) is_block)
-    ∙ ap (λ (k : ℕ). keystream key dir addr counter n ++ encrypted key (frame_block 0x01 dir addr counter k)) plus
+    ap (λ (l : List ℕ). keystream key dir addr counter n ++ l) (sealed ∙ ap (ciphertext key) is_block)
+    ∙ ap (λ (k : ℕ). keystream key dir addr counter n ++ ciphertext key (frame_block 0x01 dir addr counter k)) plus
     ∙ ap (keystream key dir addr counter) (sym plus)
 
 -- the whole payload
 pub crypted_end : (key : List ℕ) (dir : Direction) (addr counter : ℕ) (old xs : List ℕ) (n : ℕ) → length xs ≡ length old → n ≡ (length old + 15) / 16
-    → take (16 * n) xs ≡ xor (take (16 * n) old) (keystream key dir addr counter n) → xs ≡ crypted key dir addr counter old
-unfolding crypted
+    → take (16 * n) xs ≡ xor (take (16 * n) old) (keystream key dir addr counter n) → xs ≡ crypted_payload key dir addr counter old
+unfolding crypted_payload
 crypted_end key dir addr counter old xs n same blocks done =
     sym (take_all (16 * n) xs (omega arith)) ∙ done
     ∙ ap (λ (l : List ℕ). xor l (keystream key dir addr counter n)) (take_all (16 * n) old (omega arith))

@@ -1,6 +1,6 @@
 // Data frames: the payload's encryption and the MIC (TS001-1.0.4 §4.3.3, §4.4).
 ghost use Rattle.std.specs.Prelude.{◌≡◌, ◌≤◌, length};
-ghost use Rattle.frame_crypt.specs.Frames.{crypted, data_mic, direction_byte, frame_block};
+ghost use Rattle.frame_crypt.specs.Frames.{crypted_payload, data_mic, direction_byte, frame_block};
 
 use crate::mac::first_four;
 use aes_cmac::cmac;
@@ -27,11 +27,11 @@ fn frame_block(first: u8, dir: Direction, addr: DevAddr, counter: u32, last: u8)
     ]
 }
 
-/// Encrypts the payload of a data frame in place, or decrypts it, which is the same: `key` is the NwkSKey on
-/// port 0, else the AppSKey, and `counter` the whole frame counter.
+/// Encrypts the payload of a data frame in place, or decrypts it, which is the same: `key` is the
+/// NwkSKey on port 0, else the AppSKey, and `counter` the whole frame counter.
 pub fn crypt_payload(key: &Key, dir: Direction, addr: DevAddr, counter: u32, payload: &mut [u8])
     requires { length payload.old ≤ 242 }
-    ensures { payload.new ≡ crypted key.now.0 dir addr.0 counter payload.old }
+    ensures { payload.new ≡ crypted_payload key.now.0 dir addr.0 counter payload.old }
 {
     let keys = KeySchedule::new(key);
     for i in 0..payload.len().div_ceil(16) {
@@ -43,8 +43,8 @@ pub fn crypt_payload(key: &Key, dir: Direction, addr: DevAddr, counter: u32, pay
     }
 }
 
-/// The MIC of a data frame under the NwkSKey: `message` is all of the frame before its MIC, and `counter` the
-/// whole frame counter.
+/// The MIC of a data frame under the NwkSKey: `message` is all of the frame before its MIC, and
+/// `counter` the whole frame counter.
 pub fn data_mic(key: &Key, dir: Direction, addr: DevAddr, counter: u32, message: &[u8]) -> [u8; 4]
     requires { length message.now ≤ 251 }
     ensures { result ≡ data_mic key.now.0 dir addr.0 counter message.now }

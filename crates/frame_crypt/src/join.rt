@@ -1,26 +1,26 @@
 // Joins: MICs, the sealed accept and the session keys (TS001-1.0.4 §6.2).
 ghost use Rattle.std.specs.Prelude.{◌≡◌, length};
-ghost use Rattle.aes128.specs.InverseCipher.{decrypted};
-ghost use Rattle.frame_crypt.specs.Joins.{IsAcceptSize, join_mic, sealed, session_key};
+ghost use Rattle.aes128.specs.InverseCipher.{plaintext};
+ghost use Rattle.frame_crypt.specs.Joins.{IsAcceptSize, join_mic, sealed_accept, session_key};
 
 use crate::mac::first_four;
 use aes_cmac::cmac;
 use aes128::KeySchedule;
 use lw_types::{JoinNonce, Key, NetId};
 
-/// The MIC of a Join-Request, or of a Join-Accept that is not sealed, under the AppKey: `message` is all of the
-/// frame before its MIC.
+/// The MIC of a Join-Request, or of a Join-Accept that is not sealed, under the AppKey: `message`
+/// is all of the frame before its MIC.
 pub fn join_mic(key: &Key, message: &[u8]) -> [u8; 4]
     ensures { result ≡ join_mic key.now.0 message.now }
 {
     first_four(cmac(key, &[message]))
 }
 
-/// Writes the MIC into the last four bytes of a Join-Accept, and seals all but its first byte under the AppKey. The
-/// device opens it by the encryption of each block.
+/// Writes the MIC into the last four bytes of a Join-Accept, and seals all but its first byte under
+/// the AppKey. The device opens it by the encryption of each block.
 pub fn seal_accept(key: &Key, frame: &mut [u8])
     requires { IsAcceptSize (length frame.old) }
-    ensures { frame.new ≡ sealed key.now.0 frame.old }
+    ensures { frame.new ≡ sealed_accept key.now.0 frame.old }
 {
     let size = frame.len() - 4;
     let mic = join_mic(key, &frame[..size]);
@@ -35,7 +35,7 @@ pub fn seal_accept(key: &Key, frame: &mut [u8])
 // Decrypts 16 bytes in place.
 fn seal_block(keys: &KeySchedule, bytes: &mut [u8])
     requires { length bytes.old ≡ 16 }
-    ensures { bytes.new ≡ decrypted keys.now bytes.old }
+    ensures { bytes.new ≡ plaintext keys.now bytes.old }
 {
     let mut block = [0; 16];
     block.copy_from_slice(bytes);

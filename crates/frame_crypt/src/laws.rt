@@ -2,15 +2,15 @@
 ghost use Rattle.std.specs.Prelude.{◌≡◌, ◌<◌, ◌^◌, ℕ, List, All, length};
 ghost use Rattle.aes128.specs.Cipher.{IsBlock};
 ghost use Rattle.lw_types.specs.declared.direction.Direction.{Direction};
-ghost use Rattle.frame_crypt.specs.Frames.{crypted};
-ghost use Rattle.frame_crypt.specs.Joins.{IsAccept, opened, sealed, with_mic};
+ghost use Rattle.frame_crypt.specs.Frames.{crypted_payload};
+ghost use Rattle.frame_crypt.specs.Joins.{IsAccept, opened_accept, sealed_accept, with_mic};
 
 /// The device opens a sealed Join-Accept, and it opens no other frame to the same.
 pub fn a_sealed_accept_is_opened()
     ensures opened { (key frame : List ℕ) → IsBlock key → IsAccept frame
-        → opened key (sealed key frame) ≡ with_mic key frame }
+        → opened_accept key (sealed_accept key frame) ≡ with_mic key frame }
     ensures only { (key frame other : List ℕ) → IsBlock key → IsAccept other
-        → opened key other ≡ with_mic key frame → other ≡ sealed key frame }
+        → opened_accept key other ≡ with_mic key frame → other ≡ sealed_accept key frame }
 {
     aes128::laws::encryption_gives_a_block();
     aes128::laws::decryption_gives_a_block();
@@ -20,14 +20,18 @@ pub fn a_sealed_accept_is_opened()
 /// A payload that is encrypted has as many bytes.
 pub fn a_crypted_payload_has_the_length()
     ensures length { (key : List ℕ) (dir : Direction) (addr counter : ℕ) (payload : List ℕ)
-        → length (crypted key dir addr counter payload) ≡ length payload }
-    ensures bytes { (key : List ℕ) (dir : Direction) (addr counter : ℕ) (payload : List ℕ) → IsBlock key
-        → All (λ byte. byte < 2 ^ 8) payload → All (λ byte. byte < 2 ^ 8) (crypted key dir addr counter payload) }
+        → length (crypted_payload key dir addr counter payload) ≡ length payload }
+    ensures bytes { (key : List ℕ) (dir : Direction) (addr counter : ℕ) (payload : List ℕ)
+        → IsBlock key
+        → All (λ byte. byte < 2 ^ 8) payload
+        → All (λ byte. byte < 2 ^ 8) (crypted_payload key dir addr counter payload) }
 {
     aes128::laws::encryption_gives_a_block();
 }
 
 /// To encrypt a payload twice gives it back, so decryption is encryption.
 pub fn crypting_twice_gives_the_payload()
-    ensures { (key : List ℕ) (dir : Direction) (addr counter : ℕ) (payload : List ℕ) → crypted key dir addr counter (crypted key dir addr counter payload) ≡ payload }
+    ensures { (key : List ℕ) (dir : Direction) (addr counter : ℕ) (payload : List ℕ)
+        → crypted_payload key dir addr counter (crypted_payload key dir addr counter payload)
+        ≡ payload }
 {}

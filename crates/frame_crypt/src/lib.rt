@@ -1,4 +1,5 @@
-//! The cryptography of LoRaWAN 1.0.4's frames: payloads, MICs, join accepts and session keys. No call takes memory.
+//! The cryptography of LoRaWAN 1.0.4's frames: payloads, MICs, join accepts and session keys. No
+//! call takes memory.
 #![tactic(auto)]
 
 mod data;

@@ -1,4 +1,5 @@
-// The texts of joins, byte for byte, and which texts are none. Frames, keys and MICs were made by Python's `cryptography`.
+// The texts of joins, byte for byte, and which texts are none. Frames, keys and MICs were made by
+// Python's `cryptography`.
 use backend_json::{answer_text, join_req_text, read_join_ans, read_join_req};
 use join_server::{JoinAsk, JoinRequest, JoinState, RxDelay};
 use lw_types::{DevAddr, Eui, JoinNonce, Key, NetId};
@@ -72,7 +73,8 @@ fn a_question_is_written_and_read(rt: HostRuntime) {
     assert!(rt; is_read(rt.alloc(), QUESTION));
 }
 
-// Whether the answer to a question is this text. It grants a session where the state is kept with a new DevNonce.
+// Whether the answer to a question is this text. It grants a session where the state is kept with a
+// new DevNonce.
 fn answers(alloc: Global, state: &JoinState, question: &str, answer: &str) -> bool {
     let Ok(read) = read_join_ans(alloc, answer) else {
         return false;

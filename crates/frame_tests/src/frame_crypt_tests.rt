@@ -1,4 +1,5 @@
-// An outside frame, and each call against the cipher and the CMAC of the blocks that the standard names.
+// An outside frame, and each call against the cipher and the CMAC of the blocks that the standard
+// names.
 ghost use Rattle.std.specs.Prelude.{◌≡◌, length};
 
 use aes_cmac::cmac;
@@ -101,8 +102,9 @@ fn an_accept_with_a_list_of_channels_is_opened_by_encryption(rt: HostRuntime) {
     assert!(rt; opened(&key, &frame[17..]) == last);
 }
 
-// What the Join-Accept of another implementation has before its MIC, as OpenSSL opens it: MHDR, JoinNonce E5063A, NetID
-// 000013, DevAddr 26012E43, DLSettings 03, RxDelay 01 and a list of channels.
+// What the Join-Accept of another implementation has before its MIC, as OpenSSL opens it: MHDR,
+// JoinNonce E5063A, NetID 000013, DevAddr 26012E43, DLSettings 03, RxDelay 01 and a list of
+// channels.
 const OPENED: [u8; 29] = [
     0x20, 0x3A, 0x06, 0xE5, 0x13, 0x00, 0x00, 0x43, 0x2E, 0x01, 0x26, 0x03, 0x01, 0x18, 0x4F, 0x84,
     0xE8, 0x56, 0x84, 0xB8, 0x5E, 0x84, 0x88, 0x66, 0x84, 0x58, 0x6E, 0x84, 0x00,

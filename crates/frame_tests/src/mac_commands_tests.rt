@@ -1,12 +1,12 @@
 use lw_types::{Direction, LONGEST_PAYLOAD, Refusal};
 use mac_commands::{
     Cid, Decoded, MacCommand, are_queueable, asks_link_check, decode_down, decode_up, encode_down,
-    fit15, read_told,
+    fit15, read_reported,
 };
 use std::alloc::Global;
 
-// A command of TS001-1.0.4 §5: its number, and its bytes in an uplink and in a downlink. The payloads are of bytes that are
-// identifiers too.
+// A command of TS001-1.0.4 §5: its number, and its bytes in an uplink and in a downlink. The
+// payloads are of bytes that are identifiers too.
 type Row = (u8, Cid, &'static [u8], &'static [u8]);
 
 const TABLE: &[Row] = &[
@@ -83,7 +83,8 @@ fn is_read(
     found.stop == stop && are_commands(&found.commands, wanted)
 }
 
-// Uplinks' commands, what is read of them, and where reading stops: at the end, and where no known command begins.
+// Uplinks' commands, what is read of them, and where reading stops: at the end, and where no known
+// command begins.
 const READ: &[(&[u8], &[(Cid, &[u8])], usize)] = &[
     (
         &[0x02, 0x03, 0x07, 0x0D],
@@ -114,7 +115,8 @@ fn is_whole(alloc: Global, direction: Direction, cid: Cid, bytes: &[u8]) -> bool
         && is_read(alloc, direction, cut, &[], 0)
 }
 
-// Whether a downlink's commands are read, so many of them and as far as there, and what was read is written behind AA as it was.
+// Whether a downlink's commands are read, so many of them and as far as there, and what was read is
+// written behind AA as it was.
 fn is_written(alloc: Global, bytes: &[u8], count: usize, stop: usize) -> bool {
     let (Ok(found), Ok(mut out)) = (decode_down(alloc, bytes), Vec::from_slice(alloc, &[0xAA]))
     else {
@@ -230,7 +232,8 @@ fn many_commands_are_read_and_written(rt: HostRuntime) {
     assert!(rt; checks(alloc) == Some((242, 242)));
 }
 
-// How much of so many requests and these bytes fits a wide room, and whether all of them may be queued.
+// How much of so many requests and these bytes fits a wide room, and whether all of them may be
+// queued.
 fn queued(alloc: Global, count: usize, rest: &[u8]) -> Option<(usize, bool)> {
     let bytes = requests(alloc, count, rest)?;
     Some((fit15(&bytes, 242), are_queueable(&bytes)))
@@ -253,7 +256,8 @@ fn queues_end_with_a_command(rt: HostRuntime) {
     }
 }
 
-// The commands in an uplink, those that its application is told, and whether a LinkCheckReq is among them.
+// The commands in an uplink, those that its application is told, and whether a LinkCheckReq is
+// among them.
 const UPLINKS: &[(&[u8], &[u8], bool)] = &[
     // None; one command; LinkCheckReq twice; DeviceTimeReq.
     (&[], &[], false),
@@ -280,7 +284,7 @@ fn is_told(alloc: Global, commands: &[u8], wanted: &[u8]) -> bool {
     if commands.len() > LONGEST_PAYLOAD {
         return false;
     }
-    let Ok(told) = read_told(alloc, commands) else {
+    let Ok(told) = read_reported(alloc, commands) else {
         return false;
     };
     told.as_slice() == wanted

@@ -1,8 +1,8 @@
 // Frames of others, the edges of each length, and each bit that has to be 0.
 use lw_types::{DevAddr, Eui, Refusal, read_hex};
 use phy_payload::{
-    Contents, Control, DataFrame, FOpts, FrmPayload, JoinAccept, JoinRequest, Message, Mic, Phy,
-    decode, encode, encode_message,
+    Contents, Control, DataFrame, FOpts, FrmPayload, JoinAccept, JoinRequest, Mic, Phy,
+    PortPayload, decode, encode, encode_mic_input,
 };
 use std::alloc::Global;
 
@@ -41,7 +41,7 @@ fn joined(f_opts: FOpts, port: Option<u8>, frm_payload: FrmPayload) -> Option<Co
     if f_opts.len() + frm_payload.len() > 242 {
         return None;
     }
-    let message = Message {
+    let message = PortPayload {
         f_port,
         frm_payload,
     };
@@ -101,7 +101,8 @@ fn joins(rt: HostRuntime) {
     }
 }
 
-// A data frame: its text, whether it is confirmed, DevAddr, FCtrl, FCnt, FOpts, FPort, FRMPayload and MIC.
+// A data frame: its text, whether it is confirmed, DevAddr, FCtrl, FCnt, FOpts, FPort, FRMPayload
+// and MIC.
 type Data = (
     &'static str,
     bool,
@@ -528,7 +529,7 @@ fn len_behind_7(alloc: Global, frame: &Phy) -> Option<usize> {
 
 fn message_len(alloc: Global, frame: &DataFrame) -> Option<usize> {
     let mut message = Vec::new(alloc);
-    match encode_message(alloc, frame, &mut message) {
+    match encode_mic_input(alloc, frame, &mut message) {
         Ok(()) => Some(message.len()),
         Err(_) => None,
     }

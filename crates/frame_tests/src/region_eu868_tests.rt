@@ -1,4 +1,4 @@
-use region_eu868::{Window, is_channel, margin, max_mac, rx1, rx2};
+use region_eu868::{ReceiveWindow, is_channel, margin, max_mac, rx1, rx2};
 
 // SNRs in quarter dB, data rates, and margins.
 const MARGINS: &[(i16, u8, u8)] = &[
@@ -64,13 +64,13 @@ fn the_channels_are_three(rt: HostRuntime) {
 
 #[test]
 fn the_windows_are_the_regions(rt: HostRuntime) {
-    let first = Window {
+    let first = ReceiveWindow {
         frequency: 868_100_000,
         data_rate: 0,
     };
     assert!(rt; rx1(868_100_000, 2, 3) == first);
     assert!(rt; rx1(868_500_000, 5, 2).data_rate == 3);
-    let second = Window {
+    let second = ReceiveWindow {
         frequency: 869_525_000,
         data_rate: 0,
     };

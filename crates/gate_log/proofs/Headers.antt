@@ -4,7 +4,7 @@ use Rattle.std.proofs.lemmas.List.{drop_more}
 use Rattle.gate_log.specs.declared.layout.Area.{Area}
 use Rattle.gate_log.specs.declared.layout.Header.{Header}
 use Rattle.gate_log.specs.declared.layout.TheConstants.{OPEN}
-use Rattle.gate_log.specs.Areas.{HasHeader, HoldsIn, IsClosedArea, IsOlder, IsOpenArea, IsShut, bytes_in}
+use Rattle.gate_log.specs.Areas.{HasHeader, HoldsIn, IsClosedArea, IsOlder, IsOpenArea, IsShutArea, bytes_in}
 use Rattle.gate_log.specs.Layout.{Journal, header_bytes, open_batches}
 use Rattle.gate_log.proofs.Slices.{gate_of, length-bytes_in}
 use Rattle.gate_log.proofs.Spelling.{length-header_bytes, same_front, same_header}
@@ -28,13 +28,13 @@ header_of area disk j held = record {
 pub gate_is_open : (area : Area) (disk : List ℕ) (h : Header) → area.start < area.end → HasHeader area h disk → IsOpenArea area disk
 gate_is_open area disk h order has = sym (gate_of area disk order) ∙ ap (λ (l : List ℕ). get_or l 0 0) has.bytes
 
-pub shut_is_older : (area : Area) (disk : List ℕ) (generation : ℕ) → IsShut area [] disk → IsOlder generation area disk
+pub shut_is_older : (area : Area) (disk : List ℕ) (generation : ℕ) → IsShutArea area [] disk → IsOlder generation area disk
 shut_is_older area disk generation shut h has = absurd (shut.closed (ap (λ (l : List ℕ). get_or l 0 0) (sym shut.bytes ∙ has.bytes)))
 
 pub closed_is_older : (area : Area) (disk : List ℕ) (generation : ℕ) → area.start < area.end → IsClosedArea area disk → IsOlder generation area disk
 closed_is_older area disk generation order closed h has = absurd (closed (gate_is_open area disk h order has))
 
-pub closed_is_shut : (area : Area) (disk : List ℕ) → area.start < area.end → area.end ≤ length disk → IsClosedArea area disk → IsShut area [] disk
+pub closed_is_shut : (area : Area) (disk : List ℕ) → area.start < area.end → area.end ≤ length disk → IsClosedArea area disk → IsShutArea area [] disk
 closed_is_shut area disk order within closed = record {
   gate = get_or (bytes_in area disk) 0 0;
   free = drop 1 (bytes_in area disk);
@@ -42,5 +42,5 @@ closed_is_shut area disk order within closed = record {
   closed = λ is. closed (sym (gate_of area disk order) ∙ is);
 }
 
-pub shut_is_closed : (area : Area) (disk : List ℕ) → area.start < area.end → IsShut area [] disk → IsClosedArea area disk
+pub shut_is_closed : (area : Area) (disk : List ℕ) → area.start < area.end → IsShutArea area [] disk → IsClosedArea area disk
 shut_is_closed area disk order shut is = shut.closed (sym (sym (gate_of area disk order) ∙ ap (λ (l : List ℕ). get_or l 0 0) shut.bytes) ∙ is)

@@ -2,11 +2,11 @@
 use Rattle.std.proofs.Common.{◌≡◌, ◌≢◌, ◌⊎◌, inl, inr, ◌<◌, ◌≤◌, ℕ, ◌+◌, min, max, List, [], ◌∷◌, ◌++◌, length, get_or, take, drop, refl, sym, ◌∙◌, ap, subst, arith, append_assoc}
 use Rattle.std.proofs.lemmas.Bool.{cases_lt}
 use Rattle.std.proofs.lemmas.List.{append-nil, drop_more}
-use Rattle.disk.specs.State.{IsTorn, written}
+use Rattle.disk.specs.State.{IsTorn, bytes_after_write}
 use Rattle.gate_log.specs.declared.layout.Areas.{Areas}
 use Rattle.gate_log.specs.declared.layout.Header.{Header}
 use Rattle.gate_log.specs.declared.layout.TheConstants.{OPEN}
-use Rattle.gate_log.specs.Areas.{AreLaidOut, Contents, HasHeader, Holds, HoldsEither, HoldsIn, IsOlder, IsOpenArea, IsShut, IsStaged, MayFollow, batched, bytes_in, front_len, published, swapped}
+use Rattle.gate_log.specs.Areas.{AreLaidOut, LogContents, HasHeader, Holds, HoldsOneOf, HoldsIn, IsOlder, IsOpenArea, IsShutArea, IsStaged, MayFollowContents, contents_with_batch, bytes_in, front_len, contents_with_checkpoint, exchanged_areas}
 use Rattle.gate_log.specs.Layout.{AreHeads, BatchValue, IsHead, IsJournal, Journal, body, head_of, header_bytes, open_batches, spelling, with_batch}
 use Rattle.gate_log.proofs.Gates.{gate_torn, gate_written, shut_torn, shut_written}
 use Rattle.gate_log.proofs.Headers.{header_of, one_header, shut_is_older}
@@ -47,7 +47,7 @@ in_order areas size are = elim (cases_lt areas.other.start areas.live.end) [
     ]
 
 -- they may change places
-pub turned : (areas : Areas) (size : ℕ) → AreLaidOut areas size → AreLaidOut (swapped areas) size
+pub turned : (areas : Areas) (size : ℕ) → AreLaidOut areas size → AreLaidOut (exchanged_areas areas) size
 turned areas size are = record {
   live_room = are.other_room;
   other_room = are.live_room;
@@ -57,7 +57,7 @@ turned areas size are = record {
 }
 
 -- the areas of a disk that holds contents
-module _ (c : Contents) (old : List ℕ) (h : Holds c old) where
+module _ (c : LogContents) (old : List ℕ) (h : Holds c old) where
   pub live_order : c.areas.live.start < c.areas.live.end
   live_order = omega (arith, h.layout.live_room)
 
@@ -128,13 +128,13 @@ module _ (c : Contents) (old : List ℕ) (h : Holds c old) where
     }
 
     -- the other area has a checkpoint that follows
-    pub with_checkpoint : (header : Header) (records : List ℕ) → MayFollow c header records → IsShut c.areas.other (OPEN ∷ (header_bytes header ++ records)) new → Holds (published c header records) new
+    pub with_checkpoint : (header : Header) (records : List ℕ) → MayFollowContents c header records → IsShutArea c.areas.other (OPEN ∷ (header_bytes header ++ records)) new → Holds (contents_with_checkpoint c header records) new
     with_checkpoint header records follows shut = record {
       layout = turned c.areas c.size h.layout;
       size = torn.same_length ∙ h.size;
       front = ap (λ (k : ℕ). take k new) same_len ∙ front_kept;
       live = record {
-        shut = subst (λ (l : List ℕ). IsShut c.areas.other l new) (ap (λ (l : List ℕ). OPEN ∷ (header_bytes header ++ l)) (sym (append-nil records))) shut;
+        shut = subst (λ (l : List ℕ). IsShutArea c.areas.other l new) (ap (λ (l : List ℕ). OPEN ∷ (header_bytes header ++ l)) (sym (append-nil records))) shut;
         in_range = record { header = follows.in_range; records = follows.len; batches = tt };
       };
       other =
@@ -147,29 +147,29 @@ module _ (c : Contents) (old : List ℕ) (h : Holds c old) where
         same_len = omega arith
 
 -- a batch's body is written, whole or torn or failed
-pub body_image : (c : Contents) (at n : ℕ) (old new : List ℕ) → Holds c old → at ≡ c.areas.live.start + (length (spelling c.journal) + 1) → IsTorn at n old new → at + n ≤ c.areas.live.end → Holds c new
+pub body_image : (c : LogContents) (at n : ℕ) (old new : List ℕ) → Holds c old → at ≡ c.areas.live.start + (length (spelling c.journal) + 1) → IsTorn at n old new → at + n ≤ c.areas.live.end → Holds c new
 body_image c at n old new h place torn fits =
     with_journal c old h at n new torn (omega (arith, place)) fits c.journal refl (record {
       shut = shut_torn c.areas.live (spelling c.journal) old (omega (arith, live_order c old h)) (live_within c old h) at n new h.live.shut place torn fits;
       in_range = h.live.in_range;
     })
 
-pub body_staged : (c : Contents) (at next : ℕ) (b : BatchValue) (bytes old new : List ℕ) → Holds c old → at ≡ c.areas.live.start + (length (spelling c.journal) + 1) → bytes ≡ body b ++ next ∷ [] → next ≢ OPEN → at + length bytes ≤ c.areas.live.end → new ≡ written old at bytes → IsStaged c.areas.live (spelling c.journal) (body b) new
+pub body_staged : (c : LogContents) (at next : ℕ) (b : BatchValue) (bytes old new : List ℕ) → Holds c old → at ≡ c.areas.live.start + (length (spelling c.journal) + 1) → bytes ≡ body b ++ next ∷ [] → next ≢ OPEN → at + length bytes ≤ c.areas.live.end → new ≡ bytes_after_write old at bytes → IsStaged c.areas.live (spelling c.journal) (body b) new
 body_staged c at next b bytes old new h place are closed fits is =
     shut_written c.areas.live (spelling c.journal) old (omega (arith, live_order c old h)) (live_within c old h) at next (body b) bytes new h.live.shut place are closed fits is
 
-module _ (c : Contents) (b : BatchValue) (head : IsHead (head_of b)) (old : List ℕ) (h : Holds c old) (staged : IsStaged c.areas.live (spelling c.journal) (body b) old) where
+module _ (c : LogContents) (b : BatchValue) (head : IsHead (head_of b)) (old : List ℕ) (h : Holds c old) (staged : IsStaged c.areas.live (spelling c.journal) (body b) old) where
   order : c.areas.live.start ≤ c.areas.live.end
   order = omega (arith, live_order c old h)
 
-  batch_in : (new : List ℕ) → IsShut c.areas.live (spelling c.journal ++ (OPEN ∷ body b)) new → HoldsIn c.areas.live (with_batch c.journal b) new
+  batch_in : (new : List ℕ) → IsShutArea c.areas.live (spelling c.journal ++ (OPEN ∷ body b)) new → HoldsIn c.areas.live (with_batch c.journal b) new
   batch_in new shut = record {
-    shut = subst (λ (l : List ℕ). IsShut c.areas.live l new) (spelling-with_batch b c.journal) shut;
+    shut = subst (λ (l : List ℕ). IsShutArea c.areas.live l new) (spelling-with_batch b c.journal) shut;
     in_range = with_batch_in_range b c.journal h.live.in_range head;
   }
 
   -- the batch's gate is written
-  pub gate_image : (at : ℕ) (new : List ℕ) → at ≡ c.areas.live.start + length (spelling c.journal) → at < c.areas.live.end → IsTorn at 1 old new → HoldsEither c (batched c b) new
+  pub gate_image : (at : ℕ) (new : List ℕ) → at ≡ c.areas.live.start + length (spelling c.journal) → at < c.areas.live.end → IsTorn at 1 old new → HoldsOneOf c (contents_with_batch c b) new
   gate_image at new place room torn =
       let above : c.areas.live.start ≤ at = omega (arith, place) in
       let below : at + 1 ≤ c.areas.live.end = omega (arith, room) in
@@ -178,14 +178,14 @@ module _ (c : Contents) (b : BatchValue) (head : IsHead (head_of b)) (old : List
         | inr shut ↦ inr (with_journal c old h at 1 new torn above below (with_batch c.journal b) refl (batch_in new shut))
       ]
 
-  pub gate_content : (at : ℕ) (new : List ℕ) → at ≡ c.areas.live.start + length (spelling c.journal) → at < c.areas.live.end → IsTorn at 1 old new → new ≡ written old at (OPEN ∷ []) → Holds (batched c b) new
+  pub gate_content : (at : ℕ) (new : List ℕ) → at ≡ c.areas.live.start + length (spelling c.journal) → at < c.areas.live.end → IsTorn at 1 old new → new ≡ bytes_after_write old at (OPEN ∷ []) → Holds (contents_with_batch c b) new
   gate_content at new place room torn is =
       with_journal c old h at 1 new torn (omega (arith, place)) (omega (arith, room)) (with_batch c.journal b) refl
       (batch_in new (gate_written c.areas.live (spelling c.journal) old order (live_within c old h) (body b) staged at new place is))
 
 -- the other area's gate, which was open, is written
 
-pub retired_image : (c : Contents) (old new : List ℕ) → Holds c old → IsOpenArea c.areas.other old → IsTorn c.areas.other.start 1 old new → Holds c new
+pub retired_image : (c : LogContents) (old new : List ℕ) → Holds c old → IsOpenArea c.areas.other old → IsTorn c.areas.other.start 1 old new → Holds c new
 retired_image c old new h is_open torn = with_other c old h c.areas.other.start 1 new torn (omega arith) (omega (arith, other_order c old h)) older
   where
     near : IsTorn 0 1 (bytes_in c.areas.other old) (bytes_in c.areas.other new)
@@ -207,22 +207,22 @@ retired_image c old new h is_open torn = with_other c old h c.areas.other.start 
     older k has = h.other k (was k has)
 
 -- a checkpoint is written behind the other area's closed gate, whole or torn or failed
-pub checkpoint_image : (c : Contents) (n : ℕ) (old new : List ℕ) → Holds c old → IsShut c.areas.other [] old → IsTorn (c.areas.other.start + 1) n old new → c.areas.other.start + 1 + n ≤ c.areas.other.end → Holds c new
+pub checkpoint_image : (c : LogContents) (n : ℕ) (old new : List ℕ) → Holds c old → IsShutArea c.areas.other [] old → IsTorn (c.areas.other.start + 1) n old new → c.areas.other.start + 1 + n ≤ c.areas.other.end → Holds c new
 checkpoint_image c n old new h shut torn fits =
     with_other c old h (c.areas.other.start + 1) n new torn (omega arith) fits
     (shut_is_older c.areas.other new c.journal.header.generation
     (shut_torn c.areas.other [] old (omega (arith, other_order c old h)) (other_within c old h) (c.areas.other.start + 1) n new shut refl torn fits))
 
-pub checkpoint_staged : (c : Contents) (next : ℕ) (staged bytes old new : List ℕ) → Holds c old → IsShut c.areas.other [] old → bytes ≡ staged ++ next ∷ [] → next ≢ OPEN → c.areas.other.start + 1 + length bytes ≤ c.areas.other.end → new ≡ written old (c.areas.other.start + 1) bytes → IsStaged c.areas.other [] staged new
+pub checkpoint_staged : (c : LogContents) (next : ℕ) (staged bytes old new : List ℕ) → Holds c old → IsShutArea c.areas.other [] old → bytes ≡ staged ++ next ∷ [] → next ≢ OPEN → c.areas.other.start + 1 + length bytes ≤ c.areas.other.end → new ≡ bytes_after_write old (c.areas.other.start + 1) bytes → IsStaged c.areas.other [] staged new
 checkpoint_staged c next staged bytes old new h shut are closed fits is =
     shut_written c.areas.other [] old (omega (arith, other_order c old h)) (other_within c old h) (c.areas.other.start + 1) next staged bytes new shut refl are closed fits is
 
-module _ (c : Contents) (header : Header) (records : List ℕ) (follows : MayFollow c header records) (old : List ℕ) (h : Holds c old) (staged : IsStaged c.areas.other [] (header_bytes header ++ records) old) where
+module _ (c : LogContents) (header : Header) (records : List ℕ) (follows : MayFollowContents c header records) (old : List ℕ) (h : Holds c old) (staged : IsStaged c.areas.other [] (header_bytes header ++ records) old) where
   other_ordered : c.areas.other.start ≤ c.areas.other.end
   other_ordered = omega (arith, other_order c old h)
 
   -- the checkpoint's gate is written
-  pub published_image : (new : List ℕ) → IsTorn c.areas.other.start 1 old new → HoldsEither c (published c header records) new
+  pub published_image : (new : List ℕ) → IsTorn c.areas.other.start 1 old new → HoldsOneOf c (contents_with_checkpoint c header records) new
   published_image new torn =
       let below : c.areas.other.start + 1 ≤ c.areas.other.end = omega (arith, other_order c old h) in
       elim (gate_torn c.areas.other [] old other_ordered (other_within c old h) (header_bytes header ++ records) staged c.areas.other.start new (omega arith) torn) [
@@ -230,7 +230,7 @@ module _ (c : Contents) (header : Header) (records : List ℕ) (follows : MayFol
         | inr shut ↦ inr (with_checkpoint c old h c.areas.other.start 1 new torn (omega arith) below header records follows shut)
       ]
 
-  pub published_content : (new : List ℕ) → IsTorn c.areas.other.start 1 old new → new ≡ written old c.areas.other.start (OPEN ∷ []) → Holds (published c header records) new
+  pub published_content : (new : List ℕ) → IsTorn c.areas.other.start 1 old new → new ≡ bytes_after_write old c.areas.other.start (OPEN ∷ []) → Holds (contents_with_checkpoint c header records) new
   published_content new torn is =
       with_checkpoint c old h c.areas.other.start 1 new torn (omega arith) (omega (arith, other_order c old h)) header records follows
       (gate_written c.areas.other [] old other_ordered (other_within c old h) (header_bytes header ++ records) staged c.areas.other.start new (omega arith) is)

@@ -2,7 +2,7 @@
 use Rattle.std.proofs.Common.{◌≡◌, ◌<◌, ◌≤◌, ℕ, ◌+◌, ◌-◌, List, [], ◌∷◌, ◌++◌, length, take, drop, sym, ◌∙◌, ap, arith, append_assoc, length-append, take-append-drop}
 use Rattle.std.proofs.Math.Seq.{take-append-add}
 use Rattle.std.proofs.lemmas.List.{append-nil, drop-drop, drop_at}
-use Rattle.disk.specs.State.{written}
+use Rattle.disk.specs.State.{bytes_after_write}
 use Rattle.gate_log.specs.declared.layout.Area.{Area}
 use Rattle.gate_log.specs.declared.layout.Header.{Header}
 use Rattle.gate_log.specs.declared.layout.TheConstants.{OPEN}
@@ -142,7 +142,7 @@ module _ (area : Area) (disk : List ℕ) (order : area.start + 31 ≤ area.end) 
           }
 
 -- a header without records and a closed gate in place of what stood there
-pub formatted : (area : Area) (disk new : List ℕ) (header : Header) → area.start + 31 ≤ area.end → area.end ≤ length disk → IsHeader header → header.records_len ≡ 0 → new ≡ written disk area.start (OPEN ∷ (header_bytes header ++ (0 ∷ []))) → HoldsIn area (checkpoint header []) new
+pub formatted : (area : Area) (disk new : List ℕ) (header : Header) → area.start + 31 ≤ area.end → area.end ≤ length disk → IsHeader header → header.records_len ≡ 0 → new ≡ bytes_after_write disk area.start (OPEN ∷ (header_bytes header ++ (0 ∷ []))) → HoldsIn area (checkpoint header []) new
 formatted area disk new header room within is_header none is =
     let bytes = OPEN ∷ (header_bytes header ++ (0 ∷ [])) in
     let rest = drop (0 + length bytes) (bytes_in area disk) in
@@ -152,7 +152,7 @@ formatted area disk new header room within is_header none is =
         gate = 0;
         free = rest;
         bytes =
-            ap (λ (l : List ℕ). bytes_in area l) (is ∙ ap (λ (at : ℕ). written disk at bytes) (omega arith))
+            ap (λ (l : List ℕ). bytes_in area l) (is ∙ ap (λ (at : ℕ). bytes_after_write disk at bytes) (omega arith))
             ∙ bytes_written area 0 disk bytes (omega (arith, size, room)) within
             ∙ ap (λ (l : List ℕ). OPEN ∷ l) (append_assoc (header_bytes header) (0 ∷ []) rest ∙ ap (λ (l : List ℕ). l ++ (0 ∷ rest)) (sym (append-nil (header_bytes header))));
         closed = λ same. omega (arith, same);

@@ -2,7 +2,7 @@
 use Rattle.std.proofs.Common.{◌≡◌, ◌⊎◌, inl, inr, ◌<◌, ◌≤◌, ℕ, ◌+◌, ◌-◌, List, [], ◌∷◌, ◌++◌, length, get_or, take, drop, sym, ◌∙◌, ap, arith, append_assoc, length-append, length-take, length-drop, take-append-drop}
 use Rattle.std.proofs.Math.Seq.{take-append-add, drop-append-add}
 use Rattle.std.proofs.lemmas.List.{drop-drop, drop-take, take-take, take-append-le, drop-append-le, take_at, drop_at, get_or-take, get_or-drop, length-take-le}
-use Rattle.disk.specs.State.{IsTorn, written}
+use Rattle.disk.specs.State.{IsTorn, bytes_after_write}
 use Rattle.gate_log.specs.declared.layout.Area.{Area}
 use Rattle.gate_log.specs.Areas.{bytes_in}
 
@@ -61,7 +61,7 @@ bytes_torn area k n old new torn within =
         ∙ ap (λ (r : List ℕ). take ((area.end - area.start) - (k + n)) r) (drop-drop (k + n) area.start l)
 
 -- a byte that is written stands there
-pub written_byte : (disk : List ℕ) (at byte : ℕ) → at ≤ length disk → get_or (written disk at (byte ∷ [])) at 0 ≡ byte
+pub written_byte : (disk : List ℕ) (at byte : ℕ) → at ≤ length disk → get_or (bytes_after_write disk at (byte ∷ [])) at 0 ≡ byte
 written_byte disk at byte within =
     let front : length (take at disk) ≡ at = length-take-le at disk within in
     let rest = drop (at + 1) disk in
@@ -80,7 +80,7 @@ parted area disk order =
 pub length-bytes_in : (area : Area) (disk : List ℕ) → area.start ≤ area.end → area.end ≤ length disk → length (bytes_in area disk) ≡ area.end - area.start
 length-bytes_in area disk order within = length-take-le (area.end - area.start) (drop area.start disk) (omega (arith, length-drop area.start disk, order, within))
 
-written_parts : (x y z bytes : List ℕ) (k : ℕ) → k + length bytes ≤ length y → written (x ++ (y ++ z)) (length x + k) bytes ≡ x ++ (written y k bytes ++ z)
+written_parts : (x y z bytes : List ℕ) (k : ℕ) → k + length bytes ≤ length y → bytes_after_write (x ++ (y ++ z)) (length x + k) bytes ≡ x ++ (bytes_after_write y k bytes ++ z)
 written_parts x y z bytes k within =
     let front : take (length x + k) (x ++ (y ++ z)) ≡ x ++ take k y = take-append-add x (y ++ z) k ∙ ap (λ (l : List ℕ). x ++ l) (take-append-le k y z (omega (arith, within))) in
     let back : drop ((length x + k) + length bytes) (x ++ (y ++ z)) ≡ drop (k + length bytes) y ++ z =
@@ -91,7 +91,7 @@ written_parts x y z bytes k within =
     ∙ ap (λ (l : List ℕ). x ++ l) (sym (append_assoc (take k y ++ bytes) (drop (k + length bytes) y) z))
 
 -- a write into an area is one into its bytes
-pub bytes_written : (area : Area) (k : ℕ) (disk bytes : List ℕ) → area.start + (k + length bytes) ≤ area.end → area.end ≤ length disk → bytes_in area (written disk (area.start + k) bytes) ≡ written (bytes_in area disk) k bytes
+pub bytes_written : (area : Area) (k : ℕ) (disk bytes : List ℕ) → area.start + (k + length bytes) ≤ area.end → area.end ≤ length disk → bytes_in area (bytes_after_write disk (area.start + k) bytes) ≡ bytes_after_write (bytes_in area disk) k bytes
 bytes_written area k disk bytes fits within =
     let m = area.end - area.start in
     let x = take area.start disk in
@@ -99,15 +99,15 @@ bytes_written area k disk bytes fits within =
     let z = drop area.end disk in
     let front : length x ≡ area.start = length-take-le area.start disk (omega (arith, fits, within)) in
     let middle : length y ≡ m = length-bytes_in area disk (omega (arith, fits)) within in
-    let new : length (written y k bytes) ≡ m =
+    let new : length (bytes_after_write y k bytes) ≡ m =
     omega (arith, middle, fits, length-append (take k y ++ bytes) (drop (k + length bytes) y), length-append (take k y) bytes, length-take k y, length-drop (k + length bytes) y) in
-    let whole : written disk (area.start + k) bytes ≡ x ++ (written y k bytes ++ z) =
-    ap (λ (l : List ℕ). written l (area.start + k) bytes) (parted area disk (omega (arith, fits)))
-    ∙ ap (λ (n : ℕ). written (x ++ (y ++ z)) (n + k) bytes) (sym front)
+    let whole : bytes_after_write disk (area.start + k) bytes ≡ x ++ (bytes_after_write y k bytes ++ z) =
+    ap (λ (l : List ℕ). bytes_after_write l (area.start + k) bytes) (parted area disk (omega (arith, fits)))
+    ∙ ap (λ (n : ℕ). bytes_after_write (x ++ (y ++ z)) (n + k) bytes) (sym front)
     ∙ written_parts x y z bytes k (omega (arith, fits, middle)) in
     ap (λ (l : List ℕ). take m (drop area.start l)) whole
-    ∙ ap (λ (l : List ℕ). take m l) (drop_at x (written y k bytes ++ z) area.start front)
-    ∙ take_at (written y k bytes) z m new
+    ∙ ap (λ (l : List ℕ). take m l) (drop_at x (bytes_after_write y k bytes ++ z) area.start front)
+    ∙ take_at (bytes_after_write y k bytes) z m new
 
 -- an area's gate is the first of its bytes
 pub gate_of : (area : Area) (disk : List ℕ) → area.start < area.end → get_or (bytes_in area disk) 0 0 ≡ get_or disk area.start 0

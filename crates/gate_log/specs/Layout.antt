@@ -23,14 +23,22 @@ unfoldable pub header_bytes : Header → List ℕ
 header_bytes h =
     h.version
     ∷ (to_be_bytes w64 h.generation
-    ++ (to_be_bytes w64 h.sequence ++ (to_be_bytes w32 h.record_count ++ to_be_bytes w64 h.records_len)))
+    ++ (to_be_bytes w64 h.sequence
+    ++ (to_be_bytes w32 h.record_count ++ to_be_bytes w64 h.records_len)))
 
 -- the fields of a batch's head, the highest byte of each first
 unfoldable pub head_bytes : BatchHead → List ℕ
-head_bytes h = to_be_bytes w32 h.entries_len ++ (to_be_bytes w64 h.last_sequence ++ to_be_bytes w16 h.entry_count)
+head_bytes h =
+    to_be_bytes w32 h.entries_len
+    ++ (to_be_bytes w64 h.last_sequence ++ to_be_bytes w16 h.entry_count)
 
 abbrev pub head_of : BatchValue → BatchHead
-head_of b = record { entries_len = length b.entries; last_sequence = b.last_sequence; entry_count = b.entry_count }
+head_of b =
+    record {
+      entries_len = length b.entries;
+      last_sequence = b.last_sequence;
+      entry_count = b.entry_count;
+    }
 
 -- what stands behind a batch's gate
 abbrev pub body : BatchValue → List ℕ
@@ -82,4 +90,5 @@ checkpoint header records = record { header = header; records = records; batches
 
 -- the header of an area that was never written before
 abbrev pub fresh_header : ℕ → Header
-fresh_header version = record { version = version; generation = 1; sequence = 0; record_count = 0; records_len = 0 }
+fresh_header version =
+    record { version = version; generation = 1; sequence = 0; record_count = 0; records_len = 0 }

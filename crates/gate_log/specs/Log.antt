@@ -5,7 +5,7 @@ use Rattle.disk.specs.Outlook.{Outlook, HasCause, IsForeseen}
 use Rattle.disk.specs.State.{State, NothingOpen}
 use Rattle.gate_log.specs.declared.layout.Areas.{Areas}
 use Rattle.gate_log.specs.declared.log.Log.{Log}
-use Rattle.gate_log.specs.Areas.{Contents, Holds, IsClosedArea, IsOpenArea}
+use Rattle.gate_log.specs.Areas.{LogContents, Holds, IsClosedArea, IsOpenArea}
 use Rattle.gate_log.specs.Layout.{spelling}
 
 abbrev pub disk_of : {D : Type 0} {g : _} → Log D g → D
@@ -22,32 +22,48 @@ pub record LogState : Type 0 where
   -- whether the other area's gate is open
   pub other_open : Bool
 
-abbrev pub seen : {D : Type 0} {g : _} → (D → State) → Log D g → LogState
-seen state log = record { disk = state log.disk; areas = log.areas; next = log.next; generation = log.generation; other_open = log.other_open }
+abbrev pub log_state : {D : Type 0} {g : _} → (D → State) → Log D g → LogState
+log_state state log =
+    record {
+      disk = state log.disk;
+      areas = log.areas;
+      next = log.next;
+      generation = log.generation;
+      other_open = log.other_open;
+    }
 
 -- nothing but the disk changes
 abbrev pub OnlyDiskChanges : LogState → LogState → Type 0
 OnlyDiskChanges old new =
-    new ≡ record { disk = new.disk; areas = old.areas; next = old.next; generation = old.generation; other_open = old.other_open }
+    new ≡ record {
+      disk = new.disk;
+      areas = old.areas;
+      next = old.next;
+      generation = old.generation;
+      other_open = old.other_open;
+    }
 
--- exactly one call of a log's disk: an error comes exactly where it failed, and it is the next of those foreseen
-pub record IsOneCall {D : Type 0} {g : _} {T : Type 0} (failures : D → ℕ) (outlook : D → Outlook)
+-- exactly one call of a log's disk: an error comes exactly where it failed, and it is the next of
+-- those foreseen
+pub record IsOneLogCall {D : Type 0} {g : _} {T : Type 0} (failures : D → ℕ) (outlook : D → Outlook)
     (old new : Log D g) (result : Result T DeviceFailed) : Type 0 where
   pub cause : HasCause (failures old.disk) (failures new.disk) result
   pub foreseen : IsForeseen (outlook old.disk) (is_ok result) (outlook new.disk)
 
 -- the log knows which area is live, of what generation, and where the next batch's gate stands
-pub record Knows (log : LogState) (c : Contents) : Type 0 where
+pub record Knows (log : LogState) (c : LogContents) : Type 0 where
   pub areas : log.areas ≡ c.areas
   pub generation : log.generation ≡ c.journal.header.generation
   pub next : log.next ≡ c.areas.live.start + length (spelling c.journal)
 
 -- whether the other area's gate is open, as the log has it, is so
-abbrev pub KnowsOther : LogState → Contents → Type 0
-KnowsOther log c = MatchBool log.other_open (IsOpenArea c.areas.other log.disk.content) (IsClosedArea c.areas.other log.disk.content)
+abbrev pub KnowsOther : LogState → LogContents → Type 0
+KnowsOther log c =
+    MatchBool log.other_open (IsOpenArea c.areas.other log.disk.content)
+    (IsClosedArea c.areas.other log.disk.content)
 
 -- nothing is under way: the disk holds these contents, and a crash changes nothing
-pub record IsAtRest (log : LogState) (c : Contents) : Type 0 where
+pub record IsAtRest (log : LogState) (c : LogContents) : Type 0 where
   pub settled : NothingOpen log.disk
   pub holds : Holds c log.disk.content
   pub knows : Knows log c

@@ -6,7 +6,7 @@ use Rattle.gate_log.specs.declared.phases.Begun.{Begun}
 use Rattle.gate_log.specs.declared.phases.BodySynced.{BodySynced}
 use Rattle.gate_log.specs.declared.phases.GateWritten.{GateWritten}
 use Rattle.gate_log.specs.declared.phases.Written.{Written}
-use Rattle.gate_log.specs.Areas.{Contents, Holds, HoldsEither, IsStaged, batched}
+use Rattle.gate_log.specs.Areas.{LogContents, Holds, HoldsOneOf, IsStaged, contents_with_batch}
 use Rattle.gate_log.specs.Layout.{BatchValue, IsHead, body, head_of, spelling}
 use Rattle.gate_log.specs.Log.{Knows, KnowsOther, LogState}
 
@@ -24,14 +24,15 @@ pub record IsBegun (begun : Begun) (b : BatchValue) : Type 0 where
 abbrev pub written_size : Written → ℕ
 written_size phase = phase.size
 
-abbrev pub synced_size : BodySynced → ℕ
-synced_size phase = phase.size
+abbrev pub body_synced_size : BodySynced → ℕ
+body_synced_size phase = phase.size
 
-abbrev pub opened_size : GateWritten → ℕ
-opened_size phase = phase.size
+abbrev pub gate_written_size : GateWritten → ℕ
+gate_written_size phase = phase.size
 
--- behind the closed gate of the next batch stands a whole batch of this size, and behind that a closed gate
-pub record StagesBatch (log : LogState) (c : Contents) (b : BatchValue) (size : ℕ) : Type 0 where
+-- behind the closed gate of the next batch stands a whole batch of this size, and behind that a
+-- closed gate
+pub record StagesBatch (log : LogState) (c : LogContents) (b : BatchValue) (size : ℕ) : Type 0 where
   pub staged : IsStaged c.areas.live (spelling c.journal) (body b) log.disk.content
   pub head : IsHead (head_of b)
   pub bytes : size ≡ length (body b) + 1
@@ -39,20 +40,22 @@ pub record StagesBatch (log : LogState) (c : Contents) (b : BatchValue) (size : 
   pub other_gate : KnowsOther log c
 
 -- the batch's body is written, and whatever a crash leaves holds the contents without the batch
-pub record IsWritten (log : LogState) (c : Contents) (b : BatchValue) (size : ℕ) : Type 0 where
+pub record IsWritten (log : LogState) (c : LogContents) (b : BatchValue) (size : ℕ) : Type 0 where
   pub stages : StagesBatch log c b size
   pub images : EveryImage log.disk (Holds c)
 
 -- the batch's body is on the disk, and a crash changes nothing
-pub record IsBodySynced (log : LogState) (c : Contents) (b : BatchValue) (size : ℕ) : Type 0 where
+pub record IsBodySynced (log : LogState) (c : LogContents) (b : BatchValue)
+    (size : ℕ) : Type 0 where
   pub stages : StagesBatch log c b size
   pub settled : NothingOpen log.disk
   pub holds : Holds c log.disk.content
 
 -- the gate is open, and whatever a crash leaves holds the contents with the batch or without it
-pub record IsGateWritten (log : LogState) (c : Contents) (b : BatchValue) (size : ℕ) : Type 0 where
-  pub holds : Holds (batched c b) log.disk.content
-  pub images : EveryImage log.disk (HoldsEither c (batched c b))
+pub record IsGateWritten (log : LogState) (c : LogContents) (b : BatchValue)
+    (size : ℕ) : Type 0 where
+  pub holds : Holds (contents_with_batch c b) log.disk.content
+  pub images : EveryImage log.disk (HoldsOneOf c (contents_with_batch c b))
   pub bytes : size ≡ length (body b) + 1
   pub knows : Knows log c
   pub other_gate : KnowsOther log c

@@ -1,5 +1,6 @@
 -- What the bytes of an area give when it is opened.
-use Rattle.std.specs.Prelude.{◌≡◌, ◌≢◌, ◌<◌, ◌≤◌, ℕ, ◌+◌, Bool, true, false, List, ◌∷◌, ◌++◌, length, drop, slice_index, MatchBool, Result, Ok, Err}
+use Rattle.std.specs.Prelude.{◌≡◌, ◌≢◌, ◌<◌, ◌≤◌, ℕ, ◌+◌, Bool, true, false, List, ◌∷◌, ◌++◌}
+use Rattle.std.specs.Prelude.{length, drop, slice_index, MatchBool, Result, Ok, Err}
 use Rattle.disk.specs.Outlook.{IsArmed, Outlook}
 use Rattle.disk.specs.Outlook.Outlook.{AllSucceed}
 use Rattle.disk.specs.State.{State}
@@ -7,16 +8,19 @@ use Rattle.gate_log.specs.declared.error.RecoverError.{RecoverError}
 use Rattle.gate_log.specs.declared.error.RecoverError.TheVariants.{Device, OutOfMemory, Damaged}
 use Rattle.gate_log.specs.declared.layout.Header.{Header}
 use Rattle.gate_log.specs.declared.layout.TheConstants.{ENTRIES_AT, OPEN, RECORDS_AT}
-use Rattle.gate_log.specs.Layout.{BatchValue, AreHeads, IsHead, IsHeader, body, head_of, header_bytes, open_batches}
+use Rattle.gate_log.specs.Layout.{BatchValue, AreHeads, IsHead, IsHeader, body, head_of}
+use Rattle.gate_log.specs.Layout.{header_bytes, open_batches}
 
 -- calls of a disk that only read, up to the first that failed, and whether one did
-pub record OnlyReads {D : Type 0} (honest : Type 0) (state : D → State) (failures : D → ℕ) (outlook : D → Outlook)
+pub record OnlyReads {D : Type 0} (honest : Type 0) (state : D → State) (failures : D → ℕ)
+    (outlook : D → Outlook)
     (old new : D) (failed : Bool) : Type 0 where
   pub same : honest → state new ≡ state old
   pub same_length : length (state new).content ≡ length (state old).content
   pub cause : MatchBool failed (failures new ≡ failures old + 1) (failures new ≡ failures old)
   pub unarmed : outlook old ≡ AllSucceed → (failed ≡ false) × (outlook new ≡ AllSucceed)
-  pub armed : IsArmed (outlook old) → MatchBool failed (outlook new ≡ AllSucceed) (IsArmed (outlook new))
+  pub armed : IsArmed (outlook old)
+      → MatchBool failed (outlook new ≡ AllSucceed) (IsArmed (outlook new))
 
 -- whether a device failed
 abbrev pub is_device_error : RecoverError → Bool
@@ -42,7 +46,8 @@ pub record IsBatchAt (disk : List ℕ) (end at : ℕ) (b : BatchValue) : Type 0 
 -- an open gate, and no batch that fits behind it
 pub record NoBatchAt (disk : List ℕ) (end at : ℕ) : Type 0 where
   pub opened : slice_index disk at ≡ OPEN
-  pub none : (b : BatchValue) (rest : List ℕ) → IsHead (head_of b) → drop at disk ≡ OPEN ∷ (body b ++ rest)
+  pub none : (b : BatchValue) (rest : List ℕ) → IsHead (head_of b)
+      → drop at disk ≡ OPEN ∷ (body b ++ rest)
       → end ≤ at + ENTRIES_AT + length b.entries
 
 -- batches from a position on, and behind them a closed gate before the end

@@ -3,7 +3,7 @@ use Rattle.std.specs.Prelude.{◌≡◌, ◌+◌, ℕ, List, length}
 use Rattle.gate_log.specs.declared.layout.Area.{Area}
 use Rattle.gate_log.specs.declared.layout.Areas.{Areas}
 use Rattle.gate_log.specs.declared.recover.Recovered.{Recovered}
-use Rattle.gate_log.specs.Areas.{Contents, Holds, HoldsIn, contents_in}
+use Rattle.gate_log.specs.Areas.{LogContents, Holds, HoldsIn, contents_in}
 use Rattle.gate_log.specs.Layout.{Journal, spelling}
 
 abbrev pub journal_of : Recovered → Journal
@@ -16,7 +16,7 @@ pub record IsRecoveredIn (area : Area) (disk : List ℕ) (r : Recovered) : Type 
   pub only : (j : Journal) → HoldsIn area j disk → j ≡ journal_of r
 
 -- the contents of a disk with what was recovered in the live area
-abbrev pub contents_of : Areas → List ℕ → Recovered → Contents
+abbrev pub contents_of : Areas → List ℕ → Recovered → LogContents
 contents_of areas disk r = contents_in areas disk (journal_of r)
 
 -- the disk holds what was recovered in the live one of these areas

@@ -1,6 +1,6 @@
 // Writes areas that are new.
 ghost use Rattle.std.specs.Prelude.{◌≡◌, ◌<◌, ◌≤◌, ◌+◌, ◌^◌, [], length, IfOk, OnOk, is_ok};
-ghost use Rattle.disk.specs.State.{Opens};
+ghost use Rattle.disk.specs.State.{IsWrite};
 ghost use Rattle.disk.specs.Outlook.{IsForeseen, HasCause};
 ghost use Rattle.gate_log.specs.Areas.{HoldsIn, IsClosedArea};
 ghost use Rattle.gate_log.specs.Layout.{checkpoint, fresh_header};
@@ -8,15 +8,17 @@ ghost use Rattle.gate_log.specs.Layout.{checkpoint, fresh_header};
 use crate::layout::{Area, CLOSED, EMPTY_AREA_LEN, Header, OPEN, RECORDS_AT};
 use disk::{DeviceFailed, Disk};
 
-/// Writes an area with an open gate, generation 1, sequence number 0, no records and no batches, and gives the
-/// place of the first batch's gate.
+/// Writes an area with an open gate, generation 1, sequence number 0, no records and no batches,
+/// and gives the place of the first batch's gate.
 pub fn format_area<D: Disk>(disk: &mut D, area: Area, version: u8) -> Result<u64, DeviceFailed>
     requires room { area.start + EMPTY_AREA_LEN ≤ area.end }
     requires within { area.end ≤ length (D.state disk.old).content }
     ensures formatted { D.honest
-        → OnOk result (HoldsIn area (checkpoint (fresh_header version) []) (D.state disk.new).content) }
+        → OnOk result (HoldsIn area (checkpoint (fresh_header version) [])
+        (D.state disk.new).content) }
     ensures next { IfOk result (λ next. next ≡ area.start + RECORDS_AT) }
-    ensures opens { D.honest → Opens area.start EMPTY_AREA_LEN (D.state disk.old) (D.state disk.new) }
+    ensures opens { D.honest → IsWrite area.start EMPTY_AREA_LEN (D.state disk.old)
+        (D.state disk.new) }
     ensures same_length { length (D.state disk.new).content ≡ length (D.state disk.old).content }
     ensures cause { HasCause (D.failures disk.old) (D.failures disk.new) result }
     ensures foreseen { IsForeseen (D.outlook disk.old) (is_ok result) (D.outlook disk.new) }
@@ -40,7 +42,7 @@ pub fn close_area<D: Disk>(disk: &mut D, area: Area) -> Result<(), DeviceFailed>
     requires room { area.start < area.end }
     requires within { area.end ≤ length (D.state disk.old).content }
     ensures closed { D.honest → OnOk result (IsClosedArea area (D.state disk.new).content) }
-    ensures opens { D.honest → Opens area.start 1 (D.state disk.old) (D.state disk.new) }
+    ensures opens { D.honest → IsWrite area.start 1 (D.state disk.old) (D.state disk.new) }
     ensures same_length { length (D.state disk.new).content ≡ length (D.state disk.old).content }
     ensures cause { HasCause (D.failures disk.old) (D.failures disk.new) result }
     ensures foreseen { IsForeseen (D.outlook disk.old) (is_ok result) (D.outlook disk.new) }

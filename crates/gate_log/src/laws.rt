@@ -3,31 +3,36 @@ ghost use Rattle.std.specs.Prelude.{◌≡◌, ◌<◌, List, ℕ};
 ghost use Rattle.gate_log.specs.declared.layout.Area.{Area};
 ghost use Rattle.gate_log.specs.declared.layout.Areas.{Areas};
 ghost use Rattle.gate_log.specs.declared.layout.Header.{Header};
-ghost use Rattle.gate_log.specs.Areas.{AreOf, Contents, Holds, HoldsIn, IsClosedArea, IsLive, IsOlder, NoneLive, bytes_in};
+ghost use Rattle.gate_log.specs.Areas.{AreOf, LogContents, Holds, HoldsIn, IsClosedArea};
+ghost use Rattle.gate_log.specs.Areas.{IsLiveArea, IsOlder, NoLiveArea, bytes_in};
 ghost use Rattle.gate_log.specs.Layout.{HasRoomFor, Journal};
 
 /// A disk holds one contents in two areas, if any.
 pub fn a_disk_holds_one_contents()
-    ensures { (a b : Area) (disk : List ℕ) (c d : Contents) → AreOf a b c.areas → AreOf a b d.areas
+    ensures { (a b : Area) (disk : List ℕ) (c d : LogContents) → AreOf a b c.areas
+        → AreOf a b d.areas
         → Holds c disk → Holds d disk → c ≡ d }
 {}
 
 /// The area with what a disk holds is the live one, and has room for its records.
 pub fn what_is_held_is_live()
-    ensures live { (disk : List ℕ) (c : Contents) → Holds c disk → IsLive c.areas c.journal.header disk }
-    ensures room { (disk : List ℕ) (c : Contents) → Holds c disk
+    ensures live { (disk : List ℕ) (c : LogContents) → Holds c disk
+        → IsLiveArea c.areas c.journal.header disk }
+    ensures room { (disk : List ℕ) (c : LogContents) → Holds c disk
         → HasRoomFor c.areas.live c.journal.header }
 {}
 
 /// One of two areas is live, with one header, if any.
 pub fn one_area_is_live()
-    ensures { (a b : Area) (disk : List ℕ) (areas others : Areas) (h k : Header) → AreOf a b areas → AreOf a b others
-        → IsLive areas h disk → IsLive others k disk → (areas ≡ others) × (h ≡ k) }
+    ensures { (a b : Area) (disk : List ℕ) (areas others : Areas) (h k : Header) → AreOf a b areas
+        → AreOf a b others
+        → IsLiveArea areas h disk → IsLiveArea others k disk → (areas ≡ others) × (h ≡ k) }
 {}
 
 /// Where none of two areas is live, a disk holds nothing in them.
 pub fn none_live_holds_nothing()
-    ensures { (a b : Area) (disk : List ℕ) (c : Contents) → NoneLive a b disk → AreOf a b c.areas
+    ensures { (a b : Area) (disk : List ℕ) (c : LogContents) → NoLiveArea a b disk
+        → AreOf a b c.areas
         → ¬ Holds c disk }
 {}
 
@@ -39,6 +44,7 @@ pub fn a_journal_stays_where_others_change()
 
 /// A closed area is older than any other.
 pub fn a_closed_area_is_older()
-    ensures { (area : Area) (disk : List ℕ) (generation : ℕ) → area.start < area.end → IsClosedArea area disk
+    ensures { (area : Area) (disk : List ℕ) (generation : ℕ) → area.start < area.end
+        → IsClosedArea area disk
         → IsOlder generation area disk }
 {}

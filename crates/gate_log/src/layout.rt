@@ -25,7 +25,8 @@ pub struct Area {
     pub end: u64,
 }
 
-/// The two areas of a disk: the live one has what the disk holds, and the other one is written by the next checkpoint.
+/// The two areas of a disk: the live one has what the disk holds, and the other one is written by
+/// the next checkpoint.
 #[derive(Clone, Copy, PartialEq, Eq)]
 pub struct Areas {
     pub live: Area,

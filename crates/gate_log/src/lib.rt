@@ -1,6 +1,7 @@
-//! A log of batches behind a checkpoint, on a disk with two areas of which one is live. Each batch and each checkpoint
-//! stands behind a gate: one byte that is opened only when all behind it is on the disk. Whatever a crash leaves, the
-//! disk holds a beginning of the batches that were begun, with every batch that became durable, or a checkpoint.
+//! A log of batches behind a checkpoint, on a disk with two areas of which one is live. Each batch
+//! and each checkpoint stands behind a gate: one byte that is opened only when all behind it is on
+//! the disk. Whatever a crash leaves, the disk holds a beginning of the batches that were begun,
+//! with every batch that became durable, or a checkpoint.
 #![tactic(auto)]
 
 mod batch;

@@ -1,7 +1,7 @@
 // Tells which of two areas is the live one.
 ghost use Rattle.std.specs.Prelude.{◌≡◌, ◌<◌, ◌≤◌, ◌+◌, ℕ, List, MatchOption};
 ghost use Rattle.gate_log.specs.declared.layout.TheConstants.{EMPTY_AREA_LEN};
-ghost use Rattle.gate_log.specs.Areas.{AreOf, HasHeader, IsClosedArea, NoneLive};
+ghost use Rattle.gate_log.specs.Areas.{AreOf, HasHeader, IsClosedArea, NoLiveArea};
 
 use crate::layout::{Area, Areas, Header};
 
@@ -16,8 +16,8 @@ pub struct Live {
 impl Live {
     ghost use Rattle.gate_log.specs.Live.{IsLiveAs};
 
-    /// Of two areas, with the headers of those that are open, the one that is live: the open one of the greater
-    /// generation. None is where both are closed, or both open with one generation.
+    /// Of two areas, with the headers of those that are open, the one that is live: the open one of
+    /// the greater generation. None is where both are closed, or both open with one generation.
     pub(crate) fn of(
         a: Area,
         header_a: Option<Header>,
@@ -29,7 +29,7 @@ impl Live {
         ensures live { (disk : List ℕ)
             → MatchOption header_a (IsClosedArea a disk) (λ h. HasHeader a h disk)
             → MatchOption header_b (IsClosedArea b disk) (λ h. HasHeader b h disk)
-            → MatchOption result (NoneLive a b disk) (λ live. IsLiveAs live disk) }
+            → MatchOption result (NoLiveArea a b disk) (λ live. IsLiveAs live disk) }
         ensures areas { MatchOption result (Unit {0}) (λ live. AreOf a b live.areas) }
     {
         let first = Areas { live: a, other: b };
@@ -53,7 +53,8 @@ impl Live {
     // The area with this header, of which the other one's gate is closed.
     fn beside_closed(area: Area, header: Header, closed: Area) -> Self
         requires { closed.start < closed.end }
-        ensures live { (disk : List ℕ) → HasHeader area header disk → IsClosedArea closed disk → IsLiveAs result disk }
+        ensures live { (disk : List ℕ) → HasHeader area header disk → IsClosedArea closed disk
+            → IsLiveAs result disk }
         ensures areas { result.areas ≡ record { live = area; other = closed } }
     {
         let areas = Areas {

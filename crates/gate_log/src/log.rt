@@ -6,8 +6,8 @@ ghost use Rattle.gate_log.specs.Areas.{AreLaidOut};
 use crate::layout::Areas;
 use disk::{Disk, Sim};
 
-/// The log of a disk with two areas: it knows which of them is live, of what generation that is, where the next
-/// batch's gate stands there, and whether the other one's gate is open.
+/// The log of a disk with two areas: it knows which of them is live, of what generation that is,
+/// where the next batch's gate stands there, and whether the other one's gate is open.
 #[derive(Drop)]
 pub struct Log<D: Disk> {
     pub(crate) disk: D,
@@ -21,14 +21,14 @@ pub struct Log<D: Disk> {
 }
 
 impl<D: Disk> Log<D> {
-    ghost use Rattle.gate_log.specs.Log.{seen, disk_of};
+    ghost use Rattle.gate_log.specs.Log.{log_state, disk_of};
 
-    /// The log of these areas of a disk, whose live one is of this generation and has its next batch's gate at this
-    /// place, and whose other one's gate is open or not.
+    /// The log of these areas of a disk, whose live one is of this generation and has its next
+    /// batch's gate at this place, and whose other one's gate is open or not.
     pub fn new(disk: D, areas: Areas, generation: u64, next: u64, other_open: bool) -> Self
         requires layout { AreLaidOut areas (length (D.state disk).content) }
         requires room { next < areas.live.end }
-        ensures log { seen D.state result ≡ record {
+        ensures log { log_state D.state result ≡ record {
           disk = D.state disk;
           areas = areas;
           next = next;
@@ -49,7 +49,8 @@ impl<D: Disk> Log<D> {
 
     /// The number of bytes from the next batch's gate to the live area's end: at least one.
     pub fn room(&self) -> u64
-        ensures room { (seen D.state self.now).next + result ≡ (seen D.state self.now).areas.live.end }
+        ensures room { (log_state D.state self.now).next + result
+            ≡ (log_state D.state self.now).areas.live.end }
         ensures some { 0 < result }
     {
         self.areas.live.end - self.next
@@ -57,21 +58,22 @@ impl<D: Disk> Log<D> {
 
     /// The generation of the live area.
     pub fn generation(&self) -> u64
-        ensures { result ≡ (seen D.state self.now).generation }
+        ensures { result ≡ (log_state D.state self.now).generation }
     {
         self.generation
     }
 
     /// Whether the other area's gate is open, so that it has to be retired before a checkpoint.
     pub fn is_other_open(&self) -> bool
-        ensures { result ≡ (seen D.state self.now).other_open }
+        ensures { result ≡ (log_state D.state self.now).other_open }
     {
         self.other_open
     }
 
     /// The length of the other area in bytes.
     pub fn other_len(&self) -> u64
-        ensures { (seen D.state self.now).areas.other.start + result ≡ (seen D.state self.now).areas.other.end }
+        ensures { (log_state D.state self.now).areas.other.start + result
+            ≡ (log_state D.state self.now).areas.other.end }
     {
         self.areas.other.end - self.areas.other.start
     }
@@ -85,14 +87,14 @@ impl<D: Disk> Log<D> {
 }
 
 impl<D: Sim> Log<D> {
-    ghost use Rattle.gate_log.specs.Log.{seen, disk_of};
+    ghost use Rattle.gate_log.specs.Log.{log_state, disk_of};
 
     /// Makes the nth call of the disk from now fail.
     pub fn arm(&mut self, n: u64)
         requires { 0 < n }
         ensures armed { D.failures (disk_of self.old) + 1 < 2 ^ 64
             → D.outlook (disk_of self.new) ≡ FailsAfter (n - 1) }
-        ensures same { seen D.state self.new ≡ seen D.state self.old }
+        ensures same { log_state D.state self.new ≡ log_state D.state self.old }
         ensures failures { D.failures (disk_of self.new) ≡ D.failures (disk_of self.old) }
     {
         self.disk.arm(n);

@@ -1,9 +1,11 @@
 // Opens the log of a disk.
-ghost use Rattle.std.specs.Prelude.{◌≡◌, ◌<◌, ◌≤◌, ◌+◌, Err, length, take, drop, IfOk, IfErr, OnOk, MatchOption, is_ok, is_err};
+ghost use Rattle.std.specs.Prelude.{◌≡◌, ◌<◌, ◌≤◌, ◌+◌, Err, length, take, drop, IfOk, IfErr, OnOk};
+ghost use Rattle.std.specs.Prelude.{MatchOption, is_ok, is_err};
 ghost use Rattle.disk.specs.State.{NothingOpen};
 ghost use Rattle.disk.specs.Outlook.{IsForeseen, HasCause};
 ghost use Rattle.gate_log.specs.declared.layout.Area.{Area};
-ghost use Rattle.gate_log.specs.Areas.{AreLaidOut, AreOf, Contents, Holds, IsLive, NoneLive};
+ghost use Rattle.gate_log.specs.Areas.{AreLaidOut, AreOf, LogContents, Holds, IsLiveArea};
+ghost use Rattle.gate_log.specs.Areas.{NoLiveArea};
 ghost use Rattle.gate_log.specs.Layout.{HasRoomFor, spelling};
 ghost use Rattle.gate_log.specs.Recover.{OnlyReads, has_device_error};
 
@@ -16,8 +18,8 @@ use crate::recover::{Recovered, recover_area};
 use disk::{DeviceFailed, Disk};
 use std::alloc::Global;
 
-/// A disk whose log is being opened. It was synced first, so none of its positions is open: opening again after a
-/// fault is like a crash that leaves the content.
+/// A disk whose log is being opened. It was synced first, so none of its positions is open: opening
+/// again after a fault is like a crash that leaves the content.
 #[derive(Drop)]
 pub struct Opening<D: Disk> {
     disk: D,
@@ -25,21 +27,23 @@ pub struct Opening<D: Disk> {
 }
 
 impl<D: Disk> Opening<D> {
-    ghost use Rattle.gate_log.specs.Log.{seen, disk_of, IsAtRest};
+    ghost use Rattle.gate_log.specs.Log.{log_state, disk_of, IsAtRest};
     ghost use Rattle.gate_log.specs.Live.{IsLiveAs};
-    ghost use Rattle.gate_log.specs.Opening.{opened, synced_disk};
+    ghost use Rattle.gate_log.specs.Opening.{disk_in_opening, synced_disk};
     ghost use Rattle.gate_log.specs.Recovered.{IsRecovered};
 
     /// Syncs the disk. Where that fails, the disk comes back.
     pub fn new(disk: D) -> Result<Self, (DeviceFailed, D)>
         ensures settled { D.honest
-            → IfOk result (λ opening. NothingOpen (D.state (opened opening))) }
+            → IfOk result (λ opening. NothingOpen (D.state (disk_in_opening opening))) }
         ensures content { D.honest
             → (D.state (synced_disk result)).content ≡ (D.state disk).content }
         ensures failed { D.honest → IfErr result (λ e. D.state e.1 ≡ D.state disk) }
-        ensures same_length { length (D.state (synced_disk result)).content ≡ length (D.state disk).content }
+        ensures same_length { length (D.state (synced_disk result)).content
+            ≡ length (D.state disk).content }
         ensures cause { HasCause (D.failures disk) (D.failures (synced_disk result)) result }
-        ensures foreseen { IsForeseen (D.outlook disk) (is_ok result) (D.outlook (synced_disk result)) }
+        ensures foreseen { IsForeseen (D.outlook disk) (is_ok result)
+            (D.outlook (synced_disk result)) }
     {
         let mut disk = disk;
         match disk.sync() {
@@ -50,7 +54,7 @@ impl<D: Disk> Opening<D> {
 
     /// The length of the disk in bytes.
     pub fn len(&self) -> u64
-        ensures { result ≡ length (D.state (opened self.now)).content }
+        ensures { result ≡ length (D.state (disk_in_opening self.now)).content }
     {
         self.disk.len()
     }
@@ -58,70 +62,78 @@ impl<D: Disk> Opening<D> {
     /// Fills the buffer with the bytes of the disk from a position on.
     #[tactic(auto, using(crate::proofs::ReadsOn::armed_call))]
     pub fn read_at(&mut self, at: u64, buffer: &mut [u8]) -> Result<(), DeviceFailed>
-        requires { at + length buffer.old ≤ length (D.state (opened self.old)).content }
+        requires { at + length buffer.old ≤ length (D.state (disk_in_opening self.old)).content }
         ensures bytes { D.honest
             → OnOk result (buffer.new
-            ≡ take (length buffer.old) (drop at (D.state (opened self.old)).content)) }
+            ≡ take (length buffer.old) (drop at (D.state (disk_in_opening self.old)).content)) }
         ensures reads { OnlyReads D.honest D.state D.failures D.outlook
-            (opened self.old) (opened self.new) (is_err result) }
+            (disk_in_opening self.old) (disk_in_opening self.new) (is_err result) }
     {
         self.disk.read_at(at, buffer)
     }
 
-    /// Which of two areas is the live one: of those whose gates are open that of the greater generation. None is
-    /// where both gates are closed, or both open with one generation. Both headers are read, and of the area that isn't
-    /// live no more.
+    /// Which of two areas is the live one: of those whose gates are open that of the greater
+    /// generation. None is where both gates are closed, or both open with one generation. Both
+    /// headers are read, and of the area that isn't live no more.
     pub fn live(&mut self, a: Area, b: Area) -> Result<Option<Live>, DeviceFailed>
-        requires layout { AreLaidOut (record { live = a; other = b }) (length (D.state (opened self.old)).content) }
+        requires layout { AreLaidOut (record { live = a; other = b })
+            (length (D.state (disk_in_opening self.old)).content) }
         ensures live { D.honest → IfOk result
             (λ live. MatchOption live
-            (NoneLive a b (D.state (opened self.old)).content)
-            (λ l. IsLiveAs l (D.state (opened self.old)).content)) }
+            (NoLiveArea a b (D.state (disk_in_opening self.old)).content)
+            (λ l. IsLiveAs l (D.state (disk_in_opening self.old)).content)) }
         ensures areas { IfOk result (λ live. MatchOption live (Unit {0}) (λ l. AreOf a b l.areas)) }
         ensures layout { IfOk result (λ live. MatchOption live (Unit {0})
-            (λ l. AreLaidOut l.areas (length (D.state (opened self.old)).content))) }
+            (λ l. AreLaidOut l.areas (length (D.state (disk_in_opening self.old)).content))) }
         ensures reads { OnlyReads D.honest D.state D.failures D.outlook
-            (opened self.old) (opened self.new) (is_err result) }
+            (disk_in_opening self.old) (disk_in_opening self.new) (is_err result) }
     {
         let header_a = read_header(&mut self.disk, a.start)?;
         let header_b = read_header(&mut self.disk, b.start)?;
         Ok(Live::of(a, header_a, b, header_b))
     }
 
-    /// What the disk holds: the live area's checkpoint, and the longest list of open batches behind it. `Damaged`
-    /// comes exactly where it holds nothing.
+    /// What the disk holds: the live area's checkpoint, and the longest list of open batches behind
+    /// it. `Damaged` comes exactly where it holds nothing.
     pub fn recover(&mut self, alloc: Global, live: Live) -> Result<Recovered, RecoverError>
-        requires layout { AreLaidOut live.areas (length (D.state (opened self.old)).content) }
+        requires layout { AreLaidOut live.areas
+            (length (D.state (disk_in_opening self.old)).content) }
         requires room { HasRoomFor live.areas.live live.header }
-        ensures recovered { D.honest → IsLive live.areas live.header (D.state (opened self.old)).content
-            → IfOk result (IsRecovered live.areas (D.state (opened self.old)).content) }
+        ensures recovered { D.honest
+            → IsLiveArea live.areas live.header (D.state (disk_in_opening self.old)).content
+            → IfOk result (IsRecovered live.areas (D.state (disk_in_opening self.old)).content) }
         ensures header { IfOk result (λ recovered. recovered.header ≡ live.header) }
         ensures next { IfOk result (λ recovered. recovered.next < live.areas.live.end) }
-        ensures damaged { D.honest → IsLive live.areas live.header (D.state (opened self.old)).content
+        ensures damaged { D.honest → IsLiveArea live.areas live.header
+            (D.state (disk_in_opening self.old)).content
             → result ≡ Err RecoverError.Damaged → (a b : Area) → AreOf a b live.areas
-            → (c : Contents) → AreOf a b c.areas → ¬ Holds c (D.state (opened self.old)).content }
+            → (c : LogContents) → AreOf a b c.areas
+            → ¬ Holds c (D.state (disk_in_opening self.old)).content }
         ensures reads { OnlyReads D.honest D.state D.failures D.outlook
-            (opened self.old) (opened self.new) (has_device_error result) }
+            (disk_in_opening self.old) (disk_in_opening self.new) (has_device_error result) }
     {
         recover_area(&mut self.disk, alloc, live.areas.live, live.header)
     }
 
     /// The log of the disk, whose next batch's gate stands at this place in the live area.
     pub fn into_log(self, live: Live, next: u64) -> Log<D>
-        requires layout { AreLaidOut live.areas (length (D.state (opened self)).content) }
+        requires layout { AreLaidOut live.areas (length (D.state (disk_in_opening self)).content) }
         requires room { next < live.areas.live.end }
-        ensures log { seen D.state result ≡ record {
-          disk = D.state (opened self);
+        ensures log { log_state D.state result ≡ record {
+          disk = D.state (disk_in_opening self);
           areas = live.areas;
           next = next;
           generation = live.header.generation;
           other_open = live.other_open;
         } }
-        ensures disk { disk_of result ≡ opened self }
-        ensures rest { D.honest → (c : Contents) → Holds c (D.state (opened self)).content
-            → IsLiveAs live (D.state (opened self)).content → c.areas ≡ live.areas → c.journal.header ≡ live.header
-            → next ≡ c.areas.live.start + length (spelling c.journal) → IsAtRest (seen D.state result) c }
-        ensures settled { D.honest → NothingOpen (D.state (opened self)) }
+        ensures disk { disk_of result ≡ disk_in_opening self }
+        ensures rest { D.honest → (c : LogContents)
+            → Holds c (D.state (disk_in_opening self)).content
+            → IsLiveAs live (D.state (disk_in_opening self)).content → c.areas ≡ live.areas
+            → c.journal.header ≡ live.header
+            → next ≡ c.areas.live.start + length (spelling c.journal)
+            → IsAtRest (log_state D.state result) c }
+        ensures settled { D.honest → NothingOpen (D.state (disk_in_opening self)) }
     {
         Log::new(
             self.disk,
@@ -134,7 +146,7 @@ impl<D: Disk> Opening<D> {
 
     /// Gives the disk back.
     pub fn close(self) -> D
-        ensures disk { result ≡ opened self }
+        ensures disk { result ≡ disk_in_opening self }
         ensures settled { D.honest → NothingOpen (D.state result) }
     {
         self.disk

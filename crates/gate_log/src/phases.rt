@@ -1,10 +1,12 @@
 // The phases of one batch, each spent by one call of the disk.
 ghost use Rattle.std.specs.Prelude.{◌≡◌, ◌<◌, ◌≤◌, ◌+◌, ◌^◌, length, IfOk, OnOk, OnErr};
 ghost use Rattle.disk.specs.State.{EveryImage};
-ghost use Rattle.gate_log.specs.Areas.{Contents, Holds, HoldsEither, batched};
+ghost use Rattle.gate_log.specs.Areas.{LogContents, Holds, HoldsOneOf, contents_with_batch};
 ghost use Rattle.gate_log.specs.Layout.{BatchValue};
-ghost use Rattle.gate_log.specs.Log.{seen, disk_of, IsAtRest, IsOneCall, OnlyDiskChanges};
-ghost use Rattle.gate_log.specs.Phases.{bytes_of, written_size, synced_size, opened_size, IsBegun, IsWritten, IsBodySynced, IsGateWritten};
+ghost use Rattle.gate_log.specs.Log.{log_state, disk_of, IsAtRest, IsOneLogCall, OnlyDiskChanges};
+ghost use Rattle.gate_log.specs.Phases.{bytes_of, written_size, body_synced_size};
+ghost use Rattle.gate_log.specs.Phases.{gate_written_size, IsBegun, IsWritten, IsBodySynced};
+ghost use Rattle.gate_log.specs.Phases.{IsGateWritten};
 
 use crate::layout::{CLOSED, ENTRIES_AT, OPEN};
 use crate::log::Log;
@@ -54,7 +56,8 @@ impl Begun {
               entry_count = entry_count;
               entries = entries.now;
             })) }
-        ensures size { IfOk result (λ begun. length (bytes_of begun) ≡ ENTRIES_AT + length entries.now) }
+        ensures size { IfOk result (λ begun. length (bytes_of begun)
+            ≡ ENTRIES_AT + length entries.now) }
     {
         let mut bytes = Vec::with_capacity(alloc, entries.len() + ENTRIES_AT as usize)?;
         bytes.extend_from_slice(&(entries.len() as u32).to_be_bytes())?;
@@ -67,16 +70,17 @@ impl Begun {
 
     /// Writes the batch's body and the closed gate of the next batch.
     pub fn write<D: Disk>(self, log: &mut Log<D>) -> Result<Written, DeviceFailed>
-        requires { (seen D.state log.old).next + length (bytes_of self)
-            < (seen D.state log.old).areas.live.end }
-        ensures next { D.honest → (c : Contents) (b : BatchValue)
-            → IsAtRest (seen D.state log.old) c → IsBegun self b
-            → IfOk result (λ phase. IsWritten (seen D.state log.new) c b (written_size phase)) }
-        ensures images { D.honest → (c : Contents) → IsAtRest (seen D.state log.old) c
+        requires { (log_state D.state log.old).next + length (bytes_of self)
+            < (log_state D.state log.old).areas.live.end }
+        ensures next { D.honest → (c : LogContents) (b : BatchValue)
+            → IsAtRest (log_state D.state log.old) c → IsBegun self b
+            → IfOk result (λ phase. IsWritten (log_state D.state log.new) c b
+            (written_size phase)) }
+        ensures images { D.honest → (c : LogContents) → IsAtRest (log_state D.state log.old) c
             → EveryImage (D.state (disk_of log.new)) (Holds c) }
         ensures size { IfOk result (λ phase. written_size phase ≡ length (bytes_of self)) }
-        ensures place { OnlyDiskChanges (seen D.state log.old) (seen D.state log.new) }
-        ensures call { IsOneCall D.failures D.outlook log.old log.new result }
+        ensures place { OnlyDiskChanges (log_state D.state log.old) (log_state D.state log.new) }
+        ensures call { IsOneLogCall D.failures D.outlook log.old log.new result }
     {
         disk::laws::settled_disk_keeps_its_content();
         disk::laws::a_write_tears_an_image();
@@ -96,15 +100,16 @@ impl Begun {
 impl Written {
     /// Syncs the batch's body.
     pub fn sync<D: Disk>(self, log: &mut Log<D>) -> Result<BodySynced, DeviceFailed>
-        ensures next { D.honest → (c : Contents) (b : BatchValue)
-            → IsWritten (seen D.state log.old) c b (written_size self)
-            → IfOk result (λ phase. IsBodySynced (seen D.state log.new) c b (synced_size phase)) }
-        ensures images { D.honest → (c : Contents) (b : BatchValue)
-            → IsWritten (seen D.state log.old) c b (written_size self)
+        ensures next { D.honest → (c : LogContents) (b : BatchValue)
+            → IsWritten (log_state D.state log.old) c b (written_size self)
+            → IfOk result (λ phase. IsBodySynced (log_state D.state log.new) c b
+            (body_synced_size phase)) }
+        ensures images { D.honest → (c : LogContents) (b : BatchValue)
+            → IsWritten (log_state D.state log.old) c b (written_size self)
             → EveryImage (D.state (disk_of log.new)) (Holds c) }
-        ensures size { IfOk result (λ phase. synced_size phase ≡ written_size self) }
-        ensures place { OnlyDiskChanges (seen D.state log.old) (seen D.state log.new) }
-        ensures call { IsOneCall D.failures D.outlook log.old log.new result }
+        ensures size { IfOk result (λ phase. body_synced_size phase ≡ written_size self) }
+        ensures place { OnlyDiskChanges (log_state D.state log.old) (log_state D.state log.new) }
+        ensures call { IsOneLogCall D.failures D.outlook log.old log.new result }
     {
         disk::laws::settled_disk_keeps_its_content();
         let Written { size } = self;
@@ -121,15 +126,16 @@ impl Written {
 impl BodySynced {
     /// Opens the batch's gate.
     pub fn open_gate<D: Disk>(self, log: &mut Log<D>) -> Result<GateWritten, DeviceFailed>
-        ensures next { D.honest → (c : Contents) (b : BatchValue)
-            → IsBodySynced (seen D.state log.old) c b (synced_size self)
-            → IfOk result (λ phase. IsGateWritten (seen D.state log.new) c b (opened_size phase)) }
-        ensures images { D.honest → (c : Contents) (b : BatchValue)
-            → IsBodySynced (seen D.state log.old) c b (synced_size self)
-            → EveryImage (D.state (disk_of log.new)) (HoldsEither c (batched c b)) }
-        ensures size { IfOk result (λ phase. opened_size phase ≡ synced_size self) }
-        ensures place { OnlyDiskChanges (seen D.state log.old) (seen D.state log.new) }
-        ensures call { IsOneCall D.failures D.outlook log.old log.new result }
+        ensures next { D.honest → (c : LogContents) (b : BatchValue)
+            → IsBodySynced (log_state D.state log.old) c b (body_synced_size self)
+            → IfOk result (λ phase. IsGateWritten (log_state D.state log.new) c b
+            (gate_written_size phase)) }
+        ensures images { D.honest → (c : LogContents) (b : BatchValue)
+            → IsBodySynced (log_state D.state log.old) c b (body_synced_size self)
+            → EveryImage (D.state (disk_of log.new)) (HoldsOneOf c (contents_with_batch c b)) }
+        ensures size { IfOk result (λ phase. gate_written_size phase ≡ body_synced_size self) }
+        ensures place { OnlyDiskChanges (log_state D.state log.old) (log_state D.state log.new) }
+        ensures call { IsOneLogCall D.failures D.outlook log.old log.new result }
     {
         disk::laws::settled_disk_keeps_its_content();
         disk::laws::a_write_tears_an_image();
@@ -147,26 +153,28 @@ impl BodySynced {
 impl GateWritten {
     /// Syncs the batch's gate. Afterwards the batch is durable.
     pub fn sync<D: Disk>(self, log: &mut Log<D>) -> Result<Durable, DeviceFailed>
-        requires { (seen D.state log.old).next + opened_size self < (seen D.state log.old).areas.live.end }
-        ensures next { D.honest → (c : Contents) (b : BatchValue)
-            → IsGateWritten (seen D.state log.old) c b (opened_size self)
-            → OnOk result (IsAtRest (seen D.state log.new) (batched c b)) }
-        ensures durable { D.honest → (c : Contents) (b : BatchValue)
-            → IsGateWritten (seen D.state log.old) c b (opened_size self)
+        requires { (log_state D.state log.old).next + gate_written_size self
+            < (log_state D.state log.old).areas.live.end }
+        ensures next { D.honest → (c : LogContents) (b : BatchValue)
+            → IsGateWritten (log_state D.state log.old) c b (gate_written_size self)
+            → OnOk result (IsAtRest (log_state D.state log.new) (contents_with_batch c b)) }
+        ensures durable { D.honest → (c : LogContents) (b : BatchValue)
+            → IsGateWritten (log_state D.state log.old) c b (gate_written_size self)
             → OnOk result (EveryImage (D.state (disk_of log.new))
-            (Holds (batched c b))) }
-        ensures images { D.honest → (c : Contents) (b : BatchValue)
-            → IsGateWritten (seen D.state log.old) c b (opened_size self)
-            → EveryImage (D.state (disk_of log.new)) (HoldsEither c (batched c b)) }
-        ensures place { OnOk result (seen D.state log.new ≡ record {
+            (Holds (contents_with_batch c b))) }
+        ensures images { D.honest → (c : LogContents) (b : BatchValue)
+            → IsGateWritten (log_state D.state log.old) c b (gate_written_size self)
+            → EveryImage (D.state (disk_of log.new)) (HoldsOneOf c (contents_with_batch c b)) }
+        ensures place { OnOk result (log_state D.state log.new ≡ record {
           disk = D.state (disk_of log.new);
-          areas = (seen D.state log.old).areas;
-          next = (seen D.state log.old).next + opened_size self;
-          generation = (seen D.state log.old).generation;
-          other_open = (seen D.state log.old).other_open;
+          areas = (log_state D.state log.old).areas;
+          next = (log_state D.state log.old).next + gate_written_size self;
+          generation = (log_state D.state log.old).generation;
+          other_open = (log_state D.state log.old).other_open;
         }) }
-        ensures same_place { OnErr result (OnlyDiskChanges (seen D.state log.old) (seen D.state log.new)) }
-        ensures call { IsOneCall D.failures D.outlook log.old log.new result }
+        ensures same_place { OnErr result
+            (OnlyDiskChanges (log_state D.state log.old) (log_state D.state log.new)) }
+        ensures call { IsOneLogCall D.failures D.outlook log.old log.new result }
     {
         disk::laws::settled_disk_keeps_its_content();
         let GateWritten { size } = self;

@@ -1,7 +1,9 @@
 // Reads the parts of an area.
-ghost use Rattle.std.specs.Prelude.{◌≡◌, ◌≢◌, ◌<◌, ◌≤◌, ◌+◌, ◌↔◌, ℕ, List, Err, length, take, drop, slice_index, IfOk, MatchOption, IsTrue, is_err, is_ok, not};
+ghost use Rattle.std.specs.Prelude.{◌≡◌, ◌≢◌, ◌<◌, ◌≤◌, ◌+◌, ◌↔◌, ℕ, List, Err, length, take, drop};
+ghost use Rattle.std.specs.Prelude.{slice_index, IfOk, MatchOption, IsTrue, is_err, is_ok, not};
 ghost use Rattle.gate_log.specs.Layout.{BatchValue, head_bytes, IsHead, open_batches};
-ghost use Rattle.gate_log.specs.Recover.{OnlyReads, has_device_error, IsHeaderAt, IsBatchAt, NoBatchAt, AreBatchesAt};
+ghost use Rattle.gate_log.specs.Recover.{OnlyReads, has_device_error, IsHeaderAt, IsBatchAt};
+ghost use Rattle.gate_log.specs.Recover.{NoBatchAt, AreBatchesAt};
 
 use crate::batch::Batch;
 use crate::error::RecoverError;
@@ -15,7 +17,8 @@ fn is_open<D: Disk>(disk: &mut D, at: u64) -> Result<bool, DeviceFailed>
     requires { at < length (D.state disk.old).content }
     ensures gate { D.honest → IfOk result
         (λ is_open. IsTrue is_open ↔ (slice_index (D.state disk.old).content at ≡ OPEN)) }
-    ensures reads { OnlyReads D.honest D.state D.failures D.outlook disk.old disk.new (is_err result) }
+    ensures reads { OnlyReads D.honest D.state D.failures D.outlook disk.old disk.new
+        (is_err result) }
 {
     let mut gate = [0; 1];
     disk.read_at(at, &mut gate)?;
@@ -30,7 +33,8 @@ pub fn read_header<D: Disk>(disk: &mut D, at: u64) -> Result<Option<Header>, Dev
         (λ header. MatchOption header
         (slice_index (D.state disk.old).content at ≢ OPEN)
         (IsHeaderAt (D.state disk.old).content at)) }
-    ensures reads { OnlyReads D.honest D.state D.failures D.outlook disk.old disk.new (is_err result) }
+    ensures reads { OnlyReads D.honest D.state D.failures D.outlook disk.old disk.new
+        (is_err result) }
 {
     let mut bytes = [0; RECORDS_AT as usize];
     disk.read_at(at, &mut bytes)?;
@@ -45,9 +49,11 @@ pub fn read_header<D: Disk>(disk: &mut D, at: u64) -> Result<Option<Header>, Dev
 fn read_head<D: Disk>(disk: &mut D, at: u64) -> Result<BatchHead, DeviceFailed>
     requires { at + BatchHead.LEN ≤ length (D.state disk.old).content }
     ensures head { D.honest
-        → IfOk result (λ head. head_bytes head ≡ take BatchHead.LEN (drop at (D.state disk.old).content)) }
+        → IfOk result (λ head. head_bytes head
+        ≡ take BatchHead.LEN (drop at (D.state disk.old).content)) }
     ensures in_range { IfOk result IsHead }
-    ensures reads { OnlyReads D.honest D.state D.failures D.outlook disk.old disk.new (is_err result) }
+    ensures reads { OnlyReads D.honest D.state D.failures D.outlook disk.old disk.new
+        (is_err result) }
 {
     let mut bytes = [0; BatchHead::LEN];
     disk.read_at(at, &mut bytes)?;

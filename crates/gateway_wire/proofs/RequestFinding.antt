@@ -11,7 +11,7 @@ use Rattle.lw_types.specs.declared.refusal.Refusal.TheVariants.{BadMessage, OutO
 use Rattle.devices.specs.declared.Tag.{Tag}
 use Rattle.gateway_wire.specs.declared.request.Request.{Request}
 use Rattle.gateway_wire.specs.declared.request.Request.TheVariants.{Provision, Queue, Mac}
-use Rattle.gateway_wire.specs.Request.{AreRequestWords, IsRequest, IsRequestOf, confirmed_text, request_words}
+use Rattle.gateway_wire.specs.Request.{AreRequestWords, IsRequestInRange, IsRequestOf, confirmed_text, request_words}
 use Rattle.gateway_wire.specs.Finding.{AreItemFields, AreLast, Finds, item_words}
 
 -- ---- the public clauses, of what is found
@@ -37,7 +37,7 @@ one_confirmed false false e = refl
 abbrev tag_at : ℕ → Tag
 tag_at n = record { 0 = n }
 
-pub one_request : OneText → (a b : Request) → IsRequest a → IsRequest b → request_words a ≡ request_words b → a ≡ b
+pub one_request : OneText → (a b : Request) → IsRequestInRange a → IsRequestInRange b → request_words a ≡ request_words b → a ≡ b
 one_request one (Provision d j k o y) (Provision d' j' k' o' y') h h' e =
     let d-is : d ≡ d' = one.euis d d' h.0 h'.0 cc in
     let j-is : j ≡ j' = one.euis j j' h.1 h'.1 cc in
@@ -64,11 +64,11 @@ one_request one (Mac d commands) (Mac d' commands') h h' e =
     let commands-is : commands ≡ commands' = one.fields commands commands' h.1 h'.1 cc in
     cc
 
-pub found_of : (words : List (List ℕ)) (result : Result Request Refusal) → Finds (IsRequestOf words) result → IfOk result (λ r. IsRequest r × (words ≡ request_words r))
+pub found_of : (words : List (List ℕ)) (result : Result Request Refusal) → Finds (IsRequestOf words) result → IfOk result (λ r. IsRequestInRange r × (words ≡ request_words r))
 found_of words (Ok r) h = h
 found_of words (Err e) h = tt
 
-pub only_of : OneText → (words : List (List ℕ)) (result : Result Request Refusal) → Finds (IsRequestOf words) result → (r : Request) → IsRequest r → words ≡ request_words r
+pub only_of : OneText → (words : List (List ℕ)) (result : Result Request Refusal) → Finds (IsRequestOf words) result → (r : Request) → IsRequestInRange r → words ≡ request_words r
     → MatchResult result (λ x. x ≡ r) (λ e. e ≡ OutOfMemory)
 only_of one words (Ok x) h r ranges is = one_request one x r h.0 ranges (sym h.1 ∙ is)
 only_of one words (Err e) (inl h) r ranges is = absurd (h.1 (r, (ranges, is)))
@@ -99,19 +99,19 @@ abbrev ok_or_bad : Option Request → Result Request Refusal
 ok_or_bad None = Err BadMessage
 ok_or_bad (Some r) = Ok r
 
-pub provision_found : (left : List (List ℕ)) (o : Option Request) (result : Result Request Refusal) → result ≡ ok_or_bad o → IfSome o (λ r. IsRequest r × (codes "provision" ∷ left ≡ request_words r))
-    → ((d j : Eui) (k : Key) (offset delay : ℕ) → IsRequest (Provision d j k offset delay) → codes "provision" ∷ left ≡ request_words (Provision d j k offset delay) → o ≡ Some (Provision d j k offset delay))
+pub provision_found : (left : List (List ℕ)) (o : Option Request) (result : Result Request Refusal) → result ≡ ok_or_bad o → IfSome o (λ r. IsRequestInRange r × (codes "provision" ∷ left ≡ request_words r))
+    → ((d j : Eui) (k : Key) (offset delay : ℕ) → IsRequestInRange (Provision d j k offset delay) → codes "provision" ∷ left ≡ request_words (Provision d j k offset delay) → o ≡ Some (Provision d j k offset delay))
     → Finds (IsRequestOf (codes "provision" ∷ left)) result
 provision_found left o result e found only = subst (Finds (IsRequestOf (codes "provision" ∷ left))) (sym e) (by o found only)
   where
-    by : (o : Option Request) → IfSome o (λ r. IsRequest r × (codes "provision" ∷ left ≡ request_words r))
-        → ((d j : Eui) (k : Key) (offset delay : ℕ) → IsRequest (Provision d j k offset delay) → codes "provision" ∷ left ≡ request_words (Provision d j k offset delay) → o ≡ Some (Provision d j k offset delay))
+    by : (o : Option Request) → IfSome o (λ r. IsRequestInRange r × (codes "provision" ∷ left ≡ request_words r))
+        → ((d j : Eui) (k : Key) (offset delay : ℕ) → IsRequestInRange (Provision d j k offset delay) → codes "provision" ∷ left ≡ request_words (Provision d j k offset delay) → o ≡ Some (Provision d j k offset delay))
         → Finds (IsRequestOf (codes "provision" ∷ left)) (ok_or_bad o)
     by (Some r) found only = found
     by None found only = inl (refl, λ are. no are.0 are.1.0 are.1.1 only)
       where
-        no : (r : Request) → IsRequest r → codes "provision" ∷ left ≡ request_words r
-            → ((d j : Eui) (k : Key) (offset delay : ℕ) → IsRequest (Provision d j k offset delay) → codes "provision" ∷ left ≡ request_words (Provision d j k offset delay) → None ≡ Some (Provision d j k offset delay)) → ⊥
+        no : (r : Request) → IsRequestInRange r → codes "provision" ∷ left ≡ request_words r
+            → ((d j : Eui) (k : Key) (offset delay : ℕ) → IsRequestInRange (Provision d j k offset delay) → codes "provision" ∷ left ≡ request_words (Provision d j k offset delay) → None ≡ Some (Provision d j k offset delay)) → ⊥
         no (Provision d j k offset delay) h is only = let e = only d j k offset delay h is in absurd cc
         no (Queue d t p c payload) h is only = absurd (apart 112 113 refl cc)
         no (Mac d commands) h is only = absurd (apart 112 109 refl cc)
@@ -123,7 +123,7 @@ pub no_item : (left : List (List ℕ)) → ((d : Eui) (t : Tag) (p : ℕ) (c : B
     → ¬ ((r : Request) × IsRequestOf (codes "queue" ∷ left) r)
 no_item left none are = by are.0 are.1.0 are.1.1
   where
-    by : (r : Request) → IsRequest r → codes "queue" ∷ left ≡ request_words r → ⊥
+    by : (r : Request) → IsRequestInRange r → codes "queue" ∷ left ≡ request_words r → ⊥
     by (Provision d j k offset delay) h is = absurd (apart 113 112 refl cc)
     by (Queue d t p c payload) h is = none d t p c payload (h.0, h.1, h.2) h.3 cc
     by (Mac d commands) h is = absurd (apart 113 109 refl cc)
@@ -143,7 +143,7 @@ pub no_mac : (left : List (List ℕ)) → ((d : Eui) (commands : List ℕ) → d
     → ¬ ((r : Request) × IsRequestOf (codes "mac" ∷ left) r)
 no_mac left none are = by are.0 are.1.0 are.1.1
   where
-    by : (r : Request) → IsRequest r → codes "mac" ∷ left ≡ request_words r → ⊥
+    by : (r : Request) → IsRequestInRange r → codes "mac" ∷ left ≡ request_words r → ⊥
     by (Provision d j k offset delay) h is = absurd (apart 109 112 refl cc)
     by (Queue d t p c payload) h is = absurd (apart 109 113 refl cc)
     by (Mac d commands) h is = none d commands h.0 h.1 cc

@@ -10,7 +10,7 @@ use Rattle.lw_types.specs.declared.key.Key.{Key}
 use Rattle.lw_types.specs.declared.refusal.Refusal.{Refusal}
 use Rattle.gateway_wire.specs.declared.request.Request.{Request}
 use Rattle.gateway_wire.specs.declared.request.Request.TheVariants.{Provision, Queue, Mac}
-use Rattle.gateway_wire.specs.Request.{IsRequest, confirmed_text, request_line, request_words}
+use Rattle.gateway_wire.specs.Request.{IsRequestInRange, confirmed_text, request_line, request_words}
 
 -- the laws of texts that this file stands on
 pub record Texts : Type 0 where
@@ -34,7 +34,7 @@ unfolding confirmed_text
 confirmed_is_word true k d lt = agree_below_at (λ i. is_space (get_or (codes "c") i d)) (λ _. false) 1 k refl lt
 confirmed_is_word false k d lt = agree_below_at (λ i. is_space (get_or (codes "u") i d)) (λ _. false) 1 k refl lt
 
-are_words : Texts → (r : Request) → IsRequest r → AreWords (request_words r)
+are_words : Texts → (r : Request) → IsRequestInRange r → AreWords (request_words r)
 are_words texts (Provision dev_eui join_eui app_key offset delay) h =
     (omega arith, (name_is_word, (texts.euis dev_eui, (texts.euis join_eui, (texts.keys app_key h.2.0, (texts.decimals offset (omega arith), (texts.decimals delay (omega arith), tt)))))))
 are_words texts (Queue dev_eui tag port confirmed payload) h =
@@ -42,12 +42,12 @@ are_words texts (Queue dev_eui tag port confirmed payload) h =
 are_words texts (Mac dev_eui commands) h =
     (omega arith, (mac_is_word, (texts.euis dev_eui, (texts.fields commands h.1, tt))))
 
-pub request_line_words : Texts → (line : List ℕ) (r : Request) → IsRequest r → line ≡ request_line r → words_of line ≡ request_words r
+pub request_line_words : Texts → (line : List ℕ) (r : Request) → IsRequestInRange r → line ≡ request_line r → words_of line ≡ request_words r
 request_line_words texts line r h is = ap words_of is ∙ texts.words (request_words r) (are_words texts r h)
 
 -- words that were read make a line again
 pub read_back : (result : Result Request Refusal) (words : List (List ℕ)) (line : List ℕ) → line_of words ≡ line
-    → IfOk result (λ r. IsRequest r × (words ≡ request_words r)) → IfOk result (λ r. IsRequest r × (line ≡ request_line r))
+    → IfOk result (λ r. IsRequestInRange r × (words ≡ request_words r)) → IfOk result (λ r. IsRequestInRange r × (line ≡ request_line r))
 read_back (Ok r) words line is h = (h.0, sym is ∙ ap line_of h.1)
 read_back (Err e) words line is h = tt
 

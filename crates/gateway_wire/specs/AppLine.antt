@@ -1,4 +1,5 @@
--- What an application is told of its device: a line of words, each parted from the next by one space.
+-- What is reported to an application of its device: a line of words, each parted from the next by
+-- one space.
 use Rattle.std.specs.Prelude.{ℕ, List, [], ◌∷◌, codes}
 use Rattle.std.specs.Fmt.{decimal, signed_decimal}
 use Rattle.lw_types.specs.Hex.{eui_text, field_text}
@@ -7,32 +8,37 @@ use Rattle.lw_types.specs.declared.identifiers.Eui.{Eui}
 use Rattle.lw_types.specs.declared.frame_copy.Reception.{Reception}
 use Rattle.devices.specs.declared.mark.SessionName.{SessionName}
 use Rattle.devices.specs.declared.effect.Report.{Report}
-use Rattle.devices.specs.declared.effect.Report.TheVariants.{Provisioned, Queued, MacQueued, Acked, Lost, Mac, Spent}
+use Rattle.devices.specs.declared.effect.Report.TheVariants.{Provisioned, Queued, MacQueued, Acked}
+use Rattle.devices.specs.declared.effect.Report.TheVariants.{Lost, Mac, Spent}
 
 -- a report: its name, the DevEUI, and what it tells
 abbrev pub report_words : Eui → Report → List (List ℕ)
 report_words dev_eui (Provisioned slot) = codes "provisioned" ∷ eui_text dev_eui ∷ decimal slot ∷ []
 report_words dev_eui (Queued tag) = codes "queued" ∷ eui_text dev_eui ∷ decimal tag.0 ∷ []
-report_words dev_eui (MacQueued commands) = codes "macqueued" ∷ eui_text dev_eui ∷ field_text commands ∷ []
+report_words dev_eui (MacQueued commands) =
+    codes "macqueued" ∷ eui_text dev_eui ∷ field_text commands ∷ []
 report_words dev_eui (Acked tag) = codes "acked" ∷ eui_text dev_eui ∷ decimal tag.0 ∷ []
 report_words dev_eui (Lost tag) = codes "lost" ∷ eui_text dev_eui ∷ decimal tag.0 ∷ []
-report_words dev_eui (Mac join_nonce commands) = codes "mac" ∷ eui_text dev_eui ∷ decimal join_nonce ∷ field_text commands ∷ []
+report_words dev_eui (Mac join_nonce commands) =
+    codes "mac" ∷ eui_text dev_eui ∷ decimal join_nonce ∷ field_text commands ∷ []
 report_words dev_eui (Spent join_nonce) = codes "spent" ∷ eui_text dev_eui ∷ decimal join_nonce ∷ []
 
 abbrev pub report_line : Eui → Report → List ℕ
 report_line dev_eui report = line_of (report_words dev_eui report)
 
--- how many gateways heard an uplink, and how the best of them did: the gateway, Hz, data rate, SNR in quarter
--- dB, RSSI in dBm
+-- how many gateways heard an uplink, and how the best of them did: the gateway, Hz, data rate, SNR
+-- in quarter dB, RSSI in dBm
 abbrev pub heard_words : ℕ → Reception → List (List ℕ)
 heard_words copies best =
-    decimal copies ∷ eui_text best.gateway ∷ decimal best.frequency ∷ decimal best.data_rate ∷ signed_decimal best.snr
+    decimal copies ∷ eui_text best.gateway ∷ decimal best.frequency ∷ decimal best.data_rate
+    ∷ signed_decimal best.snr
     ∷ signed_decimal best.rssi ∷ []
 
 -- a payload under its session and counter, and who heard it
 abbrev pub up_words : SessionName → ℕ → ℕ → List ℕ → ℕ → Reception → List (List ℕ)
 up_words session counter port payload copies best =
-    codes "up" ∷ eui_text session.dev_eui ∷ decimal session.join_nonce ∷ decimal counter ∷ decimal port ∷ field_text payload
+    codes "up" ∷ eui_text session.dev_eui ∷ decimal session.join_nonce ∷ decimal counter
+    ∷ decimal port ∷ field_text payload
     ∷ heard_words copies best
 
 abbrev pub up_line : SessionName → ℕ → ℕ → List ℕ → ℕ → Reception → List ℕ

@@ -7,7 +7,8 @@ use Rattle.gateway_wire.specs.declared.emission.Emission.TheVariants.{Gateway, A
 use Rattle.gateway_wire.specs.AppLine.{up_line, report_line}
 use Rattle.gateway_wire.specs.Downlink.{downlink_frame}
 
--- payloads and reports go to the device's application, frames for the device to the gateway that heard it best
+-- payloads and reports go to the device's application, frames for the device to the gateway that
+-- heard it best
 abbrev pub emission : Effect → Emission
 emission (Forward application session counter port payload copies best) =
     Application application (up_line session counter port payload copies best)

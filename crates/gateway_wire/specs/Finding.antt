@@ -8,8 +8,8 @@ use Rattle.lw_types.specs.declared.refusal.Refusal.TheVariants.{BadMessage, OutO
 use Rattle.devices.specs.declared.Tag.{Tag}
 use Rattle.gateway_wire.specs.Request.{confirmed_text}
 
--- A reader finds a value that is wanted. It is refused as BadMessage only where there is none, and as OutOfMemory
--- only where there may be one.
+-- A reader finds a value that is wanted. It is refused as BadMessage only where there is none, and
+-- as OutOfMemory only where there may be one.
 abbrev pub Finds : {X : Type 0} → (X → Type 0) → Result X Refusal → Type 0
 Finds IsWanted (Ok found) = IsWanted found
 Finds {X} IsWanted (Err e) =

@@ -1,5 +1,6 @@
 -- What applications ask for: a line of words, each parted from the next by one space.
-use Rattle.std.specs.Prelude.{◌≡◌, ℕ, ◌<◌, ◌≤◌, ◌^◌, Bool, true, false, List, [], ◌∷◌, length, codes}
+use Rattle.std.specs.Prelude.{◌≡◌, ℕ, ◌<◌, ◌≤◌, ◌^◌, Bool, true, false, List, [], ◌∷◌, length}
+use Rattle.std.specs.Prelude.{codes}
 use Rattle.std.specs.Fmt.{decimal}
 use Rattle.lw_types.specs.Hex.{IsBytes, eui_text, field_text, key_text}
 use Rattle.lw_types.specs.Words.{line_of}
@@ -16,34 +17,36 @@ confirmed_text false = codes "u"
 -- the name of the request and its fields
 abbrev pub request_words : Request → List (List ℕ)
 request_words (Provision dev_eui join_eui app_key rx1_offset rx_delay) =
-    codes "provision" ∷ eui_text dev_eui ∷ eui_text join_eui ∷ key_text app_key ∷ decimal rx1_offset ∷ decimal rx_delay ∷ []
+    codes "provision" ∷ eui_text dev_eui ∷ eui_text join_eui ∷ key_text app_key ∷ decimal rx1_offset
+    ∷ decimal rx_delay ∷ []
 request_words (Queue dev_eui tag port confirmed payload) =
-    codes "queue" ∷ eui_text dev_eui ∷ decimal tag.0 ∷ decimal port ∷ confirmed_text confirmed ∷ field_text payload ∷ []
+    codes "queue" ∷ eui_text dev_eui ∷ decimal tag.0 ∷ decimal port ∷ confirmed_text confirmed
+    ∷ field_text payload ∷ []
 request_words (Mac dev_eui commands) = codes "mac" ∷ eui_text dev_eui ∷ field_text commands ∷ []
 
 abbrev pub request_line : Request → List ℕ
 request_line r = line_of (request_words r)
 
 -- the fields are in their ranges
-abbrev pub IsRequest : Request → Type 0
-IsRequest (Provision dev_eui join_eui app_key rx1_offset rx_delay) =
+abbrev pub IsRequestInRange : Request → Type 0
+IsRequestInRange (Provision dev_eui join_eui app_key rx1_offset rx_delay) =
     (dev_eui.0 < 2 ^ 64) × (join_eui.0 < 2 ^ 64) × (IsBytes app_key.0 × (length app_key.0 ≡ 16))
     × (rx1_offset ≤ 5) × ((1 ≤ rx_delay) × (rx_delay ≤ 15))
-IsRequest (Queue dev_eui tag port confirmed payload) =
+IsRequestInRange (Queue dev_eui tag port confirmed payload) =
     (dev_eui.0 < 2 ^ 64) × (tag.0 < 2 ^ 32) × (port < 256) × IsBytes payload
-IsRequest (Mac dev_eui commands) = (dev_eui.0 < 2 ^ 64) × IsBytes commands
+IsRequestInRange (Mac dev_eui commands) = (dev_eui.0 < 2 ^ 64) × IsBytes commands
 
 -- the request of these words
 abbrev pub IsRequestOf : List (List ℕ) → Request → Type 0
-IsRequestOf words r = IsRequest r × (words ≡ request_words r)
+IsRequestOf words r = IsRequestInRange r × (words ≡ request_words r)
 
 -- the words of some request
 abbrev pub AreRequestWords : List (List ℕ) → Type 0
-AreRequestWords words = (r : Request) × IsRequest r × (words ≡ request_words r)
+AreRequestWords words = (r : Request) × IsRequestInRange r × (words ≡ request_words r)
 
 -- the line of some request
 abbrev pub IsRequestLine : List ℕ → Type 0
-IsRequestLine line = (r : Request) × IsRequest r × (line ≡ request_line r)
+IsRequestLine line = (r : Request) × IsRequestInRange r × (line ≡ request_line r)
 
 -- the command that an application asks for by a request
 abbrev pub command_of : ℕ → Request → Command

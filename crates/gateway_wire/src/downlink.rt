@@ -2,7 +2,7 @@
 ghost use Rattle.std.specs.Prelude.{◌≡◌, ◌≤◌, IfOk};
 ghost use Rattle.gateway_wire.specs.Downlink.{downlink_frame, rx2_delay};
 
-use devices::{Downlink, Windows};
+use devices::{Downlink, ReceiveWindows};
 use lw_types::{Bytes, LONGEST_FRAME};
 use std::alloc::{AllocError, Global};
 
@@ -39,12 +39,12 @@ pub(crate) fn downlink_frame(alloc: Global, downlink: &Downlink) -> Result<WireF
 }
 
 // The delay of RX2 in seconds, which is one above that of RX1; 0 where RX2 isn't to be used.
-fn rx2_delay(windows: Windows, rx1_delay: u8) -> u8
+fn rx2_delay(windows: ReceiveWindows, rx1_delay: u8) -> u8
     requires { rx1_delay ≤ 15 }
     ensures { result ≡ rx2_delay windows rx1_delay }
 {
     match windows {
-        Windows::Rx1 => 0,
-        Windows::Rx1OrRx2 => rx1_delay + 1,
+        ReceiveWindows::Rx1 => 0,
+        ReceiveWindows::Rx1OrRx2 => rx1_delay + 1,
     }
 }

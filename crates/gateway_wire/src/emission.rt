@@ -29,8 +29,8 @@ pub enum Emission {
 impl Emission {
     ghost use Rattle.gateway_wire.specs.Emission.{emission};
 
-    /// What leaves by this effect: payloads and reports go to the device's application, frames for the
-    /// device to the gateway that heard it best.
+    /// What leaves by this effect: payloads and reports go to the device's application, frames for
+    /// the device to the gateway that heard it best.
     pub fn of(alloc: Global, effect: &Effect) -> Result<Emission, Refusal>
         ensures { MatchResult result (λ e. e ≡ emission effect.now) (λ e. e ≡ OutOfMemory) }
     {
@@ -78,7 +78,8 @@ pub fn app_line(alloc: Global, effect: &Effect) -> Result<Option<Line>, Refusal>
 /// The frame, with its length, that tells a gateway of this effect; `None` where it is for an
 /// application.
 pub fn gateway_bytes(alloc: Global, effect: &Effect) -> Result<Option<WireFrame>, Refusal>
-    ensures { MatchResult result (λ frame. frame ≡ gateway_bytes effect.now) (λ e. e ≡ OutOfMemory) }
+    ensures { MatchResult result (λ frame. frame ≡ gateway_bytes effect.now)
+        (λ e. e ≡ OutOfMemory) }
 {
     match Emission::of(alloc, effect)? {
         Emission::Gateway { frame, .. } => Ok(Some(frame)),

@@ -1,4 +1,5 @@
-//! What is told on the links: frames for gateways, lines of applications and to them, and the list of a table.
+//! What is said on the links: frames for gateways, lines of applications and to them, and the list
+//! of a table.
 #![tactic(auto)]
 
 mod downlink;

@@ -10,10 +10,11 @@ use sessions::Table;
 use std::alloc::{AllocError, Global};
 use std::fmt;
 
-/// A line for each device, in order of slot, and a last line with their number and `seq`, the number
-/// of the last decision. Each line ends with a newline.
+/// A line for each device, in order of slot, and a last line with their number and `seq`, the
+/// number of the last decision. Each line ends with a newline.
 pub fn list_text(alloc: Global, table: &Table, seq: u64) -> Result<String, Refusal>
-    ensures { MatchResult result (λ text. string_bytes text ≡ list_text table.now.devices seq) (λ e. e ≡ OutOfMemory) }
+    ensures { MatchResult result (λ text. string_bytes text ≡ list_text table.now.devices seq)
+        (λ e. e ≡ OutOfMemory) }
 {
     let mut text = String::new(alloc);
     let devices = table.devices();
@@ -35,7 +36,8 @@ fn last_line(alloc: Global, count: usize, seq: u64) -> Result<String, AllocError
     Ok(text)
 }
 
-// Slot, DevEUI, last JoinNonce granted, the session in use with its counters, and how many items wait.
+// Slot, DevEUI, last JoinNonce granted, the current session with its counters, and how many items
+// wait.
 #[tactic(auto, unfolding(lw_types::specs::Words::line_of))]
 fn device_line(alloc: Global, slot: usize, device: &Device) -> Result<String, AllocError>
     ensures { IfOk result (λ text. string_bytes text ≡ device_line slot device.now) }
@@ -47,7 +49,7 @@ fn device_line(alloc: Global, slot: usize, device: &Device) -> Result<String, Al
     Ok(text)
 }
 
-// The session in use with its counters, and how many items wait.
+// The current session with its counters, and how many items wait.
 #[derive(Clone, Copy)]
 struct Traffic<'a>(&'a Device);
 

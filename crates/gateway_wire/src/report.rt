@@ -1,4 +1,4 @@
-// What applications are told of their devices.
+// What is reported to applications of their devices.
 ghost use Rattle.std.specs.Prelude.{◌≡◌, ◌∷◌, [], IfOk};
 ghost use Rattle.std.specs.Fmt.{decimal};
 ghost use Rattle.lw_types.specs.Hex.{eui_text};
@@ -38,7 +38,8 @@ pub(crate) fn report_line(alloc: Global, dev_eui: Eui, report: &Report) -> Resul
 // The line of a report that tells a number.
 #[tactic(auto, unfolding(lw_types::specs::Words::line_of))]
 fn number_line(alloc: Global, name: &str, dev_eui: Eui, number: u32) -> Result<Line, AllocError>
-    ensures { IfOk result (λ line. line ≡ line_of (name.now ∷ eui_text dev_eui ∷ decimal number ∷ [])) }
+    ensures { IfOk result (λ line. line
+        ≡ line_of (name.now ∷ eui_text dev_eui ∷ decimal number ∷ [])) }
 {
     let text = format!(in alloc; "{name} {dev_eui} {number}")?;
     Ok(Line::new(text))
@@ -72,12 +73,12 @@ fn sent_line(
 
 /// How many gateways heard an uplink, and how the best of them did.
 #[derive(Clone, Copy)]
-struct Heard<'a> {
+struct UplinkWords<'a> {
     copies: Copies,
     best: &'a Reception,
 }
 
-impl fmt::Display for Heard<'_> {
+impl fmt::Display for UplinkWords<'_> {
     ghost use Rattle.std.specs.Prelude.{Some};
     ghost use Rattle.lw_types.specs.Words.{line_of};
     ghost use Rattle.gateway_wire.specs.AppLine.{heard_words};
@@ -104,12 +105,13 @@ pub(crate) fn up_line(
     copies: Copies,
     best: &Reception,
 ) -> Result<Line, AllocError>
-    ensures { IfOk result (λ line. line ≡ up_line session.now counter port payload.now copies best.now) }
+    ensures { IfOk result (λ line. line
+        ≡ up_line session.now counter port payload.now copies best.now) }
 {
     let (dev_eui, nonce) = (session.dev_eui, session.join_nonce.get());
     let port = port.get();
     let hex = ByteField(payload.as_slice());
-    let heard = Heard { copies, best };
+    let heard = UplinkWords { copies, best };
     let text = format!(in alloc; "up {dev_eui} {nonce} {counter} {port} {hex} {heard}")?;
     Ok(Line::new(text))
 }

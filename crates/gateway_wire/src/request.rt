@@ -1,12 +1,15 @@
 // What applications ask for.
-ghost use Rattle.std.specs.Prelude.{◌≡◌, ◌↔◌, ◌∷◌, ◌⊎◌, ◌<◌, ◌^◌, Bool, ℕ, List, [], IfSome, IfOk, IfErr, Some, Err, MatchResult, codes};
+ghost use Rattle.std.specs.Prelude.{◌≡◌, ◌↔◌, ◌∷◌, ◌⊎◌, ◌<◌, ◌^◌, Bool, ℕ, List, [], IfSome, IfOk};
+ghost use Rattle.std.specs.Prelude.{IfErr, Some, Err, MatchResult, codes};
 ghost use Rattle.lw_types.specs.declared.refusal.Refusal.TheVariants.{BadMessage, OutOfMemory};
 ghost use Rattle.lw_types.specs.WordsLeft.{words_left};
 ghost use Rattle.gateway_wire.specs.declared.request.Request.{Request};
 ghost use Rattle.lw_types.specs.declared.identifiers.Eui.{Eui};
 ghost use Rattle.lw_types.specs.declared.key.Key.{Key};
 ghost use Rattle.devices.specs.declared.Tag.{Tag};
-ghost use Rattle.gateway_wire.specs.Request.{command_of, request_words, request_line, IsRequest, IsRequestLine, IsRequestOf, AreRequestWords};
+ghost use Rattle.gateway_wire.specs.Request.{command_of, request_words, request_line};
+ghost use Rattle.gateway_wire.specs.Request.{IsRequestInRange, IsRequestLine, IsRequestOf};
+ghost use Rattle.gateway_wire.specs.Request.{AreRequestWords};
 ghost use Rattle.gateway_wire.specs.Finding.{item_words, AreItemFields, Finds};
 
 use crate::word_values::{Confirmed, last_bytes, next_ranged, next_value};
@@ -19,7 +22,7 @@ use std::alloc::Global;
 /// What an application asks for on its link.
 #[derive(Clone, PartialEq, Eq, Drop)]
 pub enum Request {
-    /// `provision`: a new device is brought.
+    /// `provision`: a new device is provisioned.
     Provision {
         dev_eui: Eui,
         join_eui: Eui,
@@ -88,8 +91,8 @@ impl Request {
 /// The request that a line is. Any other line is refused as `BadMessage`, whether or not there is
 /// memory.
 pub fn read_line(alloc: Global, line: &str) -> Result<Request, Refusal>
-    ensures found { IfOk result (λ r. IsRequest r × (line.now ≡ request_line r)) }
-    ensures only { (r : Request) → IsRequest r → line.now ≡ request_line r
+    ensures found { IfOk result (λ r. IsRequestInRange r × (line.now ≡ request_line r)) }
+    ensures only { (r : Request) → IsRequestInRange r → line.now ≡ request_line r
         → MatchResult result (λ x. x ≡ r) (λ e. e ≡ OutOfMemory) }
     ensures malformed { (result ≡ Err BadMessage) ↔ ¬ (IsRequestLine line.now) }
     ensures refused { IfErr result (λ e. (e ≡ BadMessage) ⊎ (e ≡ OutOfMemory)) }
@@ -106,10 +109,13 @@ pub fn read_line(alloc: Global, line: &str) -> Result<Request, Refusal>
 /// The request of this name with these fields, each a word. Anything else is refused as
 /// `BadMessage`, whether or not there is memory.
 pub fn read_request(alloc: Global, name: &str, fields: Words<'_>) -> Result<Request, Refusal>
-    ensures found { IfOk result (λ r. IsRequest r × (name.now ∷ words_left fields.entry ≡ request_words r)) }
-    ensures only { (r : Request) → IsRequest r → name.now ∷ words_left fields.entry ≡ request_words r
+    ensures found { IfOk result (λ r. IsRequestInRange r
+        × (name.now ∷ words_left fields.entry ≡ request_words r)) }
+    ensures only { (r : Request) → IsRequestInRange r
+        → name.now ∷ words_left fields.entry ≡ request_words r
         → MatchResult result (λ x. x ≡ r) (λ e. e ≡ OutOfMemory) }
-    ensures malformed { (result ≡ Err BadMessage) ↔ ¬ (AreRequestWords (name.now ∷ words_left fields.entry)) }
+    ensures malformed { (result ≡ Err BadMessage)
+        ↔ ¬ (AreRequestWords (name.now ∷ words_left fields.entry)) }
     ensures refused { IfErr result (λ e. (e ≡ BadMessage) ⊎ (e ≡ OutOfMemory)) }
 {
     laws::each_text_is_of_one_value();
@@ -127,11 +133,11 @@ fn find_request(alloc: Global, name: &str, fields: Words<'_>) -> Result<Request,
     }
 }
 
-// The device that is brought: DevEUI, JoinEUI, AppKey, RX1DROffset and RX1's delay.
+// The device that is provisioned: DevEUI, JoinEUI, AppKey, RX1DROffset and RX1's delay.
 fn provision(mut fields: Words<'_>) -> Option<Request>
-    ensures found { IfSome result (λ r. IsRequest r × (codes "provision" ∷ words_left fields.entry ≡ request_words r)) }
+    ensures found { IfSome result (λ r. IsRequestInRange r × (codes "provision" ∷ words_left fields.entry ≡ request_words r)) }
     ensures only { (dev_eui : Eui) (join_eui : Eui) (app_key : Key) (rx1_offset : ℕ) (rx_delay : ℕ)
-        → IsRequest (Request.Provision dev_eui join_eui app_key rx1_offset rx_delay)
+        → IsRequestInRange (Request.Provision dev_eui join_eui app_key rx1_offset rx_delay)
         → codes "provision" ∷ words_left fields.entry ≡ request_words (Request.Provision dev_eui join_eui app_key rx1_offset rx_delay)
         → result ≡ Some (Request.Provision dev_eui join_eui app_key rx1_offset rx_delay) }
 {
@@ -155,7 +161,7 @@ fn brought(
     rx_delay: RxDelay,
 ) -> Request
     ensures value { result ≡ Request.Provision dev_eui join_eui app_key rx1_offset rx_delay }
-    ensures in_range { IsRequest result }
+    ensures in_range { IsRequestInRange result }
 {
     Request::Provision {
         dev_eui,
@@ -189,7 +195,8 @@ fn item_fields(fields: &mut Words<'_>) -> Option<(Eui, Tag, u8, bool)>
     ensures found { IfSome result (λ x. AreItemFields x.0 x.1 x.2
         × (words_left fields.old ≡ item_words x.0 x.1 x.2 x.3 (words_left fields.new))) }
     ensures only { (dev_eui : Eui) (tag : Tag) (port : ℕ) (confirmed : Bool) (rest : List (List ℕ))
-        → AreItemFields dev_eui tag port → words_left fields.old ≡ item_words dev_eui tag port confirmed rest
+        → AreItemFields dev_eui tag port
+        → words_left fields.old ≡ item_words dev_eui tag port confirmed rest
         → (result ≡ Some (dev_eui, tag, port, confirmed)) × (words_left fields.new ≡ rest) }
 {
     let dev_eui = next_value(fields)?;

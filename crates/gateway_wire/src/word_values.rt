@@ -1,5 +1,6 @@
 // Values that are words of a line.
-ghost use Rattle.std.specs.Prelude.{◌≡◌, ◌≤◌, ◌∷◌, ◌⊎◌, ◌↔◌, ℕ, Err, List, Some, IfErr, IfOk, IfSome};
+ghost use Rattle.std.specs.Prelude.{◌≡◌, ◌≤◌, ◌∷◌, ◌⊎◌, ◌↔◌, ℕ, Err, List, Some, IfErr, IfOk};
+ghost use Rattle.std.specs.Prelude.{IfSome};
 ghost use Rattle.std.specs.Fmt.{decimal};
 ghost use Rattle.lw_types.specs.Hex.{field_text, IsBytes, IsFieldText};
 ghost use Rattle.lw_types.specs.WordsLeft.{words_left};
@@ -14,7 +15,8 @@ use std::alloc::Global;
 pub fn next_value<T: FromText>(words: &mut Words<'_>) -> Option<T>
     ensures value { IfSome result T.is_value }
     ensures found { IfSome result (λ x. words_left words.old ≡ T.text_of x ∷ words_left words.new) }
-    ensures only { (x : T) (rest : List (List ℕ)) → T.is_value x → words_left words.old ≡ T.text_of x ∷ rest
+    ensures only { (x : T) (rest : List (List ℕ)) → T.is_value x
+        → words_left words.old ≡ T.text_of x ∷ rest
         → (result ≡ Some x) × (words_left words.new ≡ rest) }
 {
     T::from_text(words.next()?)
@@ -26,7 +28,8 @@ pub fn next_ranged<const LEAST: u64, const MOST: u64>(
     words: &mut Words<'_>,
 ) -> Option<Ranged<LEAST, MOST>>
     ensures found { IfSome result (λ n. words_left words.old ≡ decimal n ∷ words_left words.new) }
-    ensures only { (n : ℕ) (rest : List (List ℕ)) → LEAST ≤ n → n ≤ MOST → words_left words.old ≡ decimal n ∷ rest
+    ensures only { (n : ℕ) (rest : List (List ℕ)) → LEAST ≤ n → n ≤ MOST
+        → words_left words.old ≡ decimal n ∷ rest
         → (result ≡ Some n) × (words_left words.new ≡ rest) }
 {
     Ranged::new(next_value(words)?)

@@ -2,14 +2,15 @@
 use Rattle.std.specs.Prelude.{◌≡◌, ℕ, List, length, take}
 use Rattle.devices.specs.declared.command.Command.{Command}
 use Rattle.sessions.specs.Table.{TableState}
-use Rattle.world.specs.Course.{Origin, Course, decided, table_from, number_from, effects_from}
+use Rattle.world.specs.Course.{Origin, Course, decided_commands, table_from, number_from}
+use Rattle.world.specs.Course.{effects_from}
 use Rattle.sessions.specs.Marks.{IsSubsequence}
 
--- A table and a number are what a beginning of the decided commands leaves. It has every command whose batch was
--- released, and what has left is part of its effects.
+-- A table and a number are what a beginning of the decided commands leaves. It has every command
+-- whose batch was released, and what has left is part of its effects.
 pub record Recovers (origin : Origin) (c : Course) (table : TableState) (number : ℕ) : Type 0 where
   pub kept : List Command
-  pub beginning : take (length kept) (decided c) ≡ kept
+  pub beginning : take (length kept) (decided_commands c) ≡ kept
   pub released : take (length c.settled) kept ≡ c.settled
   pub left : IsSubsequence c.left (effects_from origin kept)
   pub table_is : table ≡ table_from origin kept

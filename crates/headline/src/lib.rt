@@ -5,10 +5,10 @@ ghost use Rattle.std.specs.Prelude.{◌≡◌, ◌≢◌, IfOk, IfErr, length};
 ghost use Rattle.disk.specs.Outlook.Outlook.{AllSucceed};
 ghost use Rattle.lw_types.specs.declared.refusal.Refusal.TheVariants.{DeviceFailed, OutOfMemory};
 ghost use Rattle.store.specs.Faults.{IsFormatRefusal};
-ghost use Rattle.store.specs.State.{seen};
+ghost use Rattle.store.specs.State.{store_state};
 ghost use Rattle.world.specs.Answers.{AreRight};
-ghost use Rattle.world.specs.Calls.{AreForetold, passed_some};
-ghost use Rattle.world.specs.Course.{beginning, course_of, formatted};
+ghost use Rattle.world.specs.Calls.{AreForetold, outlook_after_opening};
+ghost use Rattle.world.specs.Course.{beginning, course_of, new_store};
 ghost use Rattle.sessions.specs.Marks.{AreOnce};
 ghost use Rattle.headline.specs.Failing.{ArmsNothing};
 ghost use Rattle.headline.specs.Recovers.{Recovers};
@@ -19,15 +19,17 @@ use std::alloc::Global;
 use store::Store;
 use world::{Answer, Step, World, run};
 
-/// Takes the steps on a world with a new store on this disk, crashes among them, lets the disk crash to this
-/// image at the end, and opens the store. With [`Image::Bytes`] each image that the disk permits can be asked
-/// for. A refusal is `OutOfMemory`, `DeviceFailed`, or that of [`World::format`] for such slots or such a disk: what a crash leaves is
-/// never refused as no store. `DeviceFailed` never comes where all calls of the disk were to succeed and no step arms a failure.
+/// Takes the steps on a world with a new store on this disk, crashes among them, lets the disk
+/// crash to this image at the end, and opens the store. With [`Image::Bytes`] each image that the
+/// disk permits can be asked for. A refusal is `OutOfMemory`, `DeviceFailed`, or that of
+/// [`World::format`] for such slots or such a disk: what a crash leaves is never refused as no
+/// store. `DeviceFailed` never comes where all calls of the disk were to succeed and no step arms a
+/// failure.
 ///
-/// Where it isn't refused, each answer is the right one, a failed call of the disk comes where it is due, and the store
-/// has the table and the number that a beginning of the decided commands leaves. That beginning holds every command of
-/// which an effect has left. And over all lives no mark was used up twice by what has left: no JoinNonce of a device stands
-/// in two accepts.
+/// Where it isn't refused, each answer is the right one, a failed call of the disk comes where it
+/// is due, and the store has the table and the number that a beginning of the decided commands
+/// leaves. That beginning holds every command of which an effect has left. And over all lives no
+/// mark was used up twice by what has left: no JoinNonce of a device stands in two accepts.
 pub fn crash_after<D: Sim + Drop>(
     alloc: Global,
     disk: D,
@@ -36,18 +38,19 @@ pub fn crash_after<D: Sim + Drop>(
     steps: &[Step],
     image: &Image,
 ) -> Result<(Vec<Answer>, Store<D>), Refusal>
-    ensures answers { IfOk result (λ found. AreRight (formatted net_id slots)
-        (beginning (formatted net_id slots)) steps.now found.0.items) }
+    ensures answers { IfOk result (λ found. AreRight (new_store net_id slots)
+        (beginning (new_store net_id slots)) steps.now found.0.items) }
     ensures calls { IfOk result (λ found. AreForetold
-        (record { failed = D.failures disk; coming = passed_some (D.outlook disk) }) steps.now found.0.items) }
-    ensures recovers { IfOk result (λ found. Recovers (formatted net_id slots)
-        (course_of (formatted net_id slots) (beginning (formatted net_id slots)) steps.now found.0.items)
-        (seen D.state found.1).table (seen D.state found.1).seq) }
+        (record { failed = D.failures disk; coming = outlook_after_opening (D.outlook disk) }) steps.now found.0.items) }
+    ensures recovers { IfOk result (λ found. Recovers (new_store net_id slots)
+        (course_of (new_store net_id slots) (beginning (new_store net_id slots)) steps.now found.0.items)
+        (store_state D.state found.1).table (store_state D.state found.1).seq) }
     ensures refused { IfErr result (λ e. e ≢ DeviceFailed → e ≢ OutOfMemory
         → IsFormatRefusal slots (length (D.state disk).content) e) }
-    ensures unarmed { D.outlook disk ≡ AllSucceed → ArmsNothing steps.now → IfErr result (λ e. e ≢ DeviceFailed) }
+    ensures unarmed { D.outlook disk ≡ AllSucceed → ArmsNothing steps.now
+        → IfErr result (λ e. e ≢ DeviceFailed) }
     ensures once { IfOk result (λ found. AreOnce
-        (course_of (formatted net_id slots) (beginning (formatted net_id slots)) steps.now found.0.items).left) }
+        (course_of (new_store net_id slots) (beginning (new_store net_id slots)) steps.now found.0.items).left) }
 {
     world::laws::what_a_crash_leaves();
     sessions::laws::no_mark_stands_twice();

@@ -3,7 +3,7 @@ use Rattle.std.proofs.Common.{rules, ℕ, ◌<◌, ◌^◌, ◌/◌, ◌%◌, []
 use Rattle.std.specs.Prelude.{All, replicate}
 use Rattle.std.specs.Int.{w32, to_le_bytes}
 use Rattle.std.proofs.lemmas.List.Elements.{All-append, All-cons, All-take}
-use Rattle.frame_crypt.specs.Joins.{three_bytes}
+use Rattle.frame_crypt.specs.Joins.{three_le_bytes}
 use Rattle.join_server.specs.declared.ask.JoinAsk.{JoinAsk}
 use Rattle.join_server.specs.Join.{accept_fields}
 
@@ -28,8 +28,8 @@ accept_bytes join_nonce ask settings delay =
     let none = replicate 4 0 in
     let options = ask.dl_settings ∷ ask.rx_delay ∷ none in
     let addr = to_le_bytes w32 ask.dev_addr.0 in
-    let net = three_bytes ask.net_id in
-    let nonce = three_bytes join_nonce in
+    let net = three_le_bytes ask.net_id in
+    let nonce = three_le_bytes join_nonce in
     All-cons IsByte 0x20 (nonce ++ (net ++ (addr ++ options))) (omega arith)
     (All-append IsByte nonce (net ++ (addr ++ options)) (All-take IsByte 3 (to_le_bytes w32 join_nonce) (four_bytes join_nonce))
     (All-append IsByte net (addr ++ options) (All-take IsByte 3 (to_le_bytes w32 ask.net_id) (four_bytes ask.net_id))

@@ -1,9 +1,6 @@
 // What a network asks of a join server.
 use crate::JoinRequest;
-use lw_types::{DevAddr, NetId, Ranged};
-
-/// The delay from the end of an uplink to RX1, from 1 to 15 seconds (TS001-1.0.4 §6.2.6).
-pub type RxDelay = Ranged<1, 15>;
+use lw_types::{DevAddr, NetId, RxDelay};
 
 /// A device's Join-Request, and what its session is to have if it is granted.
 #[derive(Clone, Copy, PartialEq, Eq)]

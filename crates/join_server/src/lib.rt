@@ -1,4 +1,5 @@
-//! The join server of a network: it grants a device a session, or refuses it (TS001-1.0.4 §6.2). No call takes memory.
+//! The join server of a network: it grants a device a session, or refuses it (TS001-1.0.4 §6.2). No
+//! call takes memory.
 #![tactic(auto)]
 
 mod ask;
@@ -8,8 +9,9 @@ mod request;
 mod server;
 mod state;
 
-pub use ask::{JoinAsk, RxDelay};
+pub use ask::JoinAsk;
 pub use grant::{JoinGrant, SealedAccept};
+pub use lw_types::RxDelay;
 pub use request::JoinRequest;
 pub use server::answer;
 pub use state::JoinState;

@@ -2,13 +2,15 @@
 ghost use Rattle.std.specs.Prelude.{◌≡◌, SomeIff, nat_eq};
 ghost use Rattle.std.specs.Cmp.Lexicographic.{pointwise};
 ghost use Rattle.frame_crypt.specs.Joins.{join_mic};
-ghost use Rattle.join_server.specs.Request.{IsRequest, dev_eui_of, dev_nonce_of, join_eui_of, message_of, mic_of};
+ghost use Rattle.join_server.specs.Request.{IsRequest, dev_eui_of, dev_nonce_of, join_eui_of};
+ghost use Rattle.join_server.specs.Request.{message_of, mic_of};
 
 use frame_crypt::join_mic;
 use lw_types::{Eui, FromText, HexArray, Key};
 use std::marker::Model;
 
-/// The 23 bytes of a Join-Request: MHDR, which is 0, JoinEUI, DevEUI, DevNonce and MIC (TS001-1.0.4 §6.2.5).
+/// The 23 bytes of a Join-Request: MHDR, which is 0, JoinEUI, DevEUI, DevNonce and MIC (TS001-1.0.4
+/// §6.2.5).
 #[derive(Clone, Copy, PartialEq, Eq)]
 pub struct JoinRequest {
     bytes: [u8; 23],
@@ -28,7 +30,8 @@ impl Model for JoinRequest {
 }
 
 impl JoinRequest {
-    /// The Join-Request of these bytes; `None` where the MHDR isn't 0, so that they are no Join-Request.
+    /// The Join-Request of these bytes; `None` where the MHDR isn't 0, so that they are no
+    /// Join-Request.
     pub fn new(bytes: [u8; 23]) -> Option<Self>
         ensures { SomeIff result (IsRequest bytes) bytes }
     {
@@ -76,7 +79,8 @@ impl JoinRequest {
 
     /// Whether the MIC is that of all before it under this key (TS001-1.0.4 §6.2.5).
     pub fn is_signed(&self, key: &Key) -> bool
-        ensures { result ≡ pointwise nat_eq (mic_of self.now) (join_mic key.now.0 (message_of self.now)) }
+        ensures { result ≡ pointwise nat_eq (mic_of self.now)
+            (join_mic key.now.0 (message_of self.now)) }
     {
         let (message, mic) = self.bytes.split_at(19);
         mic == join_mic(key, message).as_slice()

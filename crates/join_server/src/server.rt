@@ -1,17 +1,18 @@
 // Joins are granted or refused.
 ghost use Rattle.std.specs.Prelude.{◌≡◌, ◌<◌, ◌^◌, MatchResult, Ok, Err, SomeIff};
-ghost use Rattle.frame_crypt.specs.Joins.{sealed};
-ghost use Rattle.join_server.specs.Join.{admission, answered, accept_fields, is_later, next_join_nonce};
+ghost use Rattle.frame_crypt.specs.Joins.{sealed_accept};
+ghost use Rattle.join_server.specs.Join.{admission, answer_to, accept_fields, is_later};
+ghost use Rattle.join_server.specs.Join.{next_join_nonce};
 
 use crate::{JoinAsk, JoinGrant, JoinRequest, JoinState, SealedAccept};
 use frame_crypt::{derive_keys, seal_accept};
 use lw_types::{JoinNonce, Key, Refusal};
 
-/// Answers a Join-Request of the state's device, with the device's state after it. Refused with `WrongJoinEui`, then
-/// `BadMic`, `DevNonceUsed` where the DevNonce isn't above the last accepted one, and `JoinNonceSpent` where 16,777,215
-/// was granted already. Takes no memory.
+/// Answers a Join-Request of the state's device, with the device's state after it. Refused with
+/// `WrongJoinEui`, then `BadMic`, `DevNonceUsed` where the DevNonce isn't above the last accepted
+/// one, and `JoinNonceSpent` where 16,777,215 was granted already. Takes no memory.
 pub fn answer(state: &JoinState, ask: &JoinAsk) -> Result<(JoinState, JoinGrant), Refusal>
-    ensures { result ≡ answered state.now ask.now }
+    ensures { result ≡ answer_to state.now ask.now }
 {
     let join_nonce = admit(state, &ask.request)?;
     let dev_nonce = ask.request.dev_nonce();
@@ -33,7 +34,8 @@ pub fn answer(state: &JoinState, ask: &JoinAsk) -> Result<(JoinState, JoinGrant)
 // The JoinNonce that a Join-Request is granted, if it is.
 fn admit(state: &JoinState, request: &JoinRequest) -> Result<JoinNonce, Refusal>
     ensures { MatchResult result
-        (λ granted. (admission state.now request.now ≡ Ok tt) × (granted ≡ next_join_nonce state.now.join_nonce))
+        (λ granted. (admission state.now request.now ≡ Ok tt)
+        × (granted ≡ next_join_nonce state.now.join_nonce))
         (λ refusal. admission state.now request.now ≡ Err refusal) }
 {
     if request.join_eui() != state.join_eui {
@@ -69,7 +71,7 @@ fn next_join_nonce(last: Option<JoinNonce>) -> Option<JoinNonce>
 
 // The sealed Join-Accept.
 fn accept(key: &Key, join_nonce: JoinNonce, ask: &JoinAsk) -> SealedAccept
-    ensures { result ≡ sealed key.now.0 (accept_fields join_nonce ask.now) }
+    ensures { result ≡ sealed_accept key.now.0 (accept_fields join_nonce ask.now) }
 {
     let [j0, j1, j2, _] = join_nonce.get().to_le_bytes();
     let [n0, n1, n2, _] = u32::from(ask.net_id.get()).to_le_bytes();

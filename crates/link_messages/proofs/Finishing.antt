@@ -9,8 +9,8 @@ use Rattle.std.proofs.lemmas.List.{append-nil, nil_from_length, length-take, len
 use denote.Ref.{Bor}
 use Rattle.lw_types.specs.Hex.{IsBytes}
 use Rattle.link_messages.specs.Wire.{wire_frame}
-use Rattle.link_messages.specs.Stream.{IsFrame, IsPart, told_length}
-use Rattle.link_messages.specs.Steps.{Begins, Finishes}
+use Rattle.link_messages.specs.Stream.{IsFrame, IsPart, stated_length}
+use Rattle.link_messages.specs.Steps.{IsFirstFrame, Finishes}
 use Rattle.link_messages.proofs.OneSaying.{frame_is}
 
 abbrev some_of : ℕ → Option ℕ
@@ -19,8 +19,8 @@ some_of n = Some n
 some_same : (a b : ℕ) → some_of a ≡ some_of b → a ≡ b
 some_same a b e = cc
 
-pub begins : (stream : List ℕ) (told : ℕ) (o : Option (Bor (List ℕ) × Bor (List ℕ))) → IsBytes stream → told_length stream ≡ Some told → told ≤ 700
-    → MatchOption o (length (drop 2 stream) < told) (λ p. IsSplitAt (drop 2 stream) told p.0.now p.1.now) → Begins stream (Ok o)
+pub begins : (stream : List ℕ) (told : ℕ) (o : Option (Bor (List ℕ) × Bor (List ℕ))) → IsBytes stream → stated_length stream ≡ Some told → told ≤ 700
+    → MatchOption o (length (drop 2 stream) < told) (λ p. IsSplitAt (drop 2 stream) told p.0.now p.1.now) → IsFirstFrame stream (Ok o)
 begins [] told o fits is few split = absurd cc
 begins (high ∷ []) told o fits is few split = absurd cc
 begins (high ∷ low ∷ rest) told None fits is few split =
@@ -31,8 +31,8 @@ begins (high ∷ low ∷ rest) told (Some p) fits is few split =
     (subst (λ (behind : List ℕ). IsFrame (high ∷ low ∷ rest) (take told rest) behind) (sym split.2) (frame_is high low rest told fits (sym e) few split.0))
 
 -- the bytes behind the first two, as the code cuts them
-pub begins_cut : (stream : List ℕ) (told : ℕ) (o : Option (Bor (List ℕ) × Bor (List ℕ))) → IsBytes stream → told_length stream ≡ Some told → told ≤ 700
-    → MatchOption o (length (take (length stream - 2) (drop 2 stream)) < told) (λ p. IsSplitAt (take (length stream - 2) (drop 2 stream)) told p.0.now p.1.now) → Begins stream (Ok o)
+pub begins_cut : (stream : List ℕ) (told : ℕ) (o : Option (Bor (List ℕ) × Bor (List ℕ))) → IsBytes stream → stated_length stream ≡ Some told → told ≤ 700
+    → MatchOption o (length (take (length stream - 2) (drop 2 stream)) < told) (λ p. IsSplitAt (take (length stream - 2) (drop 2 stream)) told p.0.now p.1.now) → IsFirstFrame stream (Ok o)
 begins_cut stream told o fits is few split =
     let all : take (length stream - 2) (drop 2 stream) ≡ drop 2 stream = ap (λ (n : ℕ). take n (drop 2 stream)) (sym (length-drop 2 stream)) ∙ take-length (drop 2 stream) in
     begins stream told o fits is few (subst (λ (xs : List ℕ). MatchOption o (length xs < told) (λ p. IsSplitAt xs told p.0.now p.1.now)) all split)
@@ -67,13 +67,13 @@ finishes_more high low rest piece told n fits_high fits_low is few within at =
           inr (inr (rest ++ take n piece, frame_whole high low (rest ++ take n piece) fits_high fits_low (all ∙ is) (omega arith)))
     ]
 
-pub finishes_none : (kept piece : List ℕ) → 0 < length kept → told_length (kept ++ piece) ≡ None → Finishes (kept ++ take 0 piece) (drop 0 piece)
+pub finishes_none : (kept piece : List ℕ) → 0 < length kept → stated_length (kept ++ piece) ≡ None → Finishes (kept ++ take 0 piece) (drop 0 piece)
 finishes_none [] piece some none = absurd (omega arith)
 finishes_none (high ∷ []) [] some none = inl (tt, refl)
 finishes_none (high ∷ []) (low ∷ piece) some none = absurd cc
 finishes_none (high ∷ low ∷ kept) piece some none = absurd cc
 
-pub finishes_long : (kept piece : List ℕ) (told n : ℕ) → 0 < length kept → IsPart kept → told_length (kept ++ piece) ≡ Some told → 700 < told
+pub finishes_long : (kept piece : List ℕ) (told n : ℕ) → 0 < length kept → IsPart kept → stated_length (kept ++ piece) ≡ Some told → 700 < told
     → n ≡ min (2 - length kept) (length piece) → Finishes (kept ++ take n piece) (drop n piece)
 finishes_long [] piece told n some part is long at = absurd (omega arith)
 finishes_long (high ∷ []) [] told n some part is long at = absurd cc
@@ -83,7 +83,7 @@ finishes_long (high ∷ []) (low ∷ piece) told n some part is long at =
 finishes_long (high ∷ low ∷ kept) piece told n some part is long at =
     let e = some_same (from_be_bytes w16 (high ∷ low ∷ [])) told is in absurd (omega (arith, part.0))
 
-pub finishes_some : (kept piece : List ℕ) (told n : ℕ) → IsBytes kept → IsBytes piece → 0 < length kept → IsPart kept → told_length (kept ++ piece) ≡ Some told → told ≤ 700
+pub finishes_some : (kept piece : List ℕ) (told n : ℕ) → IsBytes kept → IsBytes piece → 0 < length kept → IsPart kept → stated_length (kept ++ piece) ≡ Some told → told ≤ 700
     → n ≡ min ((2 + told) - length kept) (length piece) → Finishes (kept ++ take n piece) (drop n piece)
 finishes_some [] piece told n fits_kept fits some part is few at = absurd (omega arith)
 finishes_some (high ∷ []) [] told n fits_kept fits some part is few at = absurd cc

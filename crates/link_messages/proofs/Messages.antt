@@ -12,7 +12,7 @@ use Rattle.lw_types.specs.declared.identifiers.Eui.{Eui}
 use Rattle.lw_types.specs.declared.frame_copy.Reception.{Reception}
 use Rattle.lw_types.specs.declared.frame_copy.FrameCopy.{FrameCopy}
 use Rattle.byte_fields.specs.Field.{IsField}
-use Rattle.byte_fields.specs.FieldLemmas.{bind_some, some_is, chosen, guard_some, both_field, seen_field, whole_takes, whole_again, byte_field, IsBytes-after}
+use Rattle.byte_fields.specs.FieldLemmas.{bind_some, some_is, chosen_some, guard_some, both_field, seen_field, whole_takes, whole_again, byte_field, IsBytes-after}
 use Rattle.byte_fields.specs.NumberLemmas.{Below, Between, IsEui, u16_be_field, u32_be_field, be_eui_field, ranged_field}
 use Rattle.byte_fields.specs.Reading.{◌>>=◌, both, be_at, be_eui_at, byte_at, ranged_at, whole}
 use Rattle.link_messages.specs.declared.message.Peer.{Peer}
@@ -84,7 +84,7 @@ application_takes fields m fits e =
 
 greeting_takes : (kind : ℕ) (fields : List ℕ) (m : Message) → IsBytes fields → greeting_at kind fields ≡ Some m → IsSaying None (kind ∷ fields) m
 greeting_takes kind fields m fits e =
-    elim (chosen (kind == GATEWAY_GREETING) (gateway_at fields) (cond (kind == APPLICATION_GREETING) (application_at fields) None) (Some m) e) [
+    elim (chosen_some (kind == GATEWAY_GREETING) (gateway_at fields) (cond (kind == APPLICATION_GREETING) (application_at fields) None) (Some m) e) [
       | inl h ↦ subst (λ (k : ℕ). IsSaying None (k ∷ fields) m) (sym (eqb-true kind GATEWAY_GREETING h.0)) (gateway_takes fields m fits h.1)
       | inr h ↦ let g = guarded (kind == APPLICATION_GREETING) (application_at fields) m h.1 in
           subst (λ (k : ℕ). IsSaying None (k ∷ fields) m) (sym (eqb-true kind APPLICATION_GREETING g.0)) (application_takes fields m fits g.1)

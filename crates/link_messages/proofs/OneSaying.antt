@@ -11,7 +11,7 @@ use Rattle.link_messages.specs.declared.message.Peer.{Peer}
 use Rattle.link_messages.specs.declared.message.Message.{Message}
 use Rattle.link_messages.specs.Message.{IsSaying}
 use Rattle.link_messages.specs.MessageReading.{message_at}
-use Rattle.link_messages.specs.Stream.{End, Rest, Fault, IsEnd, IsFrame, IsPart, IsSaid, after_one}
+use Rattle.link_messages.specs.Stream.{End, Rest, Fault, IsEnd, IsFrame, IsPart, IsSaid, peer_after_one}
 use Rattle.link_messages.proofs.Messages.{message_again, message_takes}
 use Rattle.link_messages.proofs.StreamLaws.{frame_is_no_part, frame_is_short, one_frame, part_is_short}
 
@@ -54,9 +54,9 @@ said_one peer stream (m ∷ ms) [] x y hx hy = absurd (no_end peer stream hx.0 h
 said_one peer stream (m ∷ ms) (n ∷ ns) x y hx hy =
     let same = one_frame stream hx.0 hx.1 hy.0 hy.1 hx.2 hy.2 in
     let is : m ≡ n = one_saying peer hy.0 m n (subst (λ (c : List ℕ). IsSaying peer c m) same.0 hx.3) hy.3 in
-    let left : IsSaid (after_one peer m) hy.1 ms x = subst (λ (b : List ℕ). IsSaid (after_one peer m) b ms x) same.1 hx.4 in
-    let behind : IsSaid (after_one peer n) hy.1 ms x = subst (λ (q : Message). IsSaid (after_one peer q) hy.1 ms x) is left in
-    let others = said_one (after_one peer n) hy.1 ms ns x y behind hy.4 in
+    let left : IsSaid (peer_after_one peer m) hy.1 ms x = subst (λ (b : List ℕ). IsSaid (peer_after_one peer m) b ms x) same.1 hx.4 in
+    let behind : IsSaid (peer_after_one peer n) hy.1 ms x = subst (λ (q : Message). IsSaid (peer_after_one peer q) hy.1 ms x) is left in
+    let others = said_one (peer_after_one peer n) hy.1 ms ns x y behind hy.4 in
     (ap (λ (q : Message). q ∷ ms) is ∙ ap (λ (qs : List Message). n ∷ qs) others.0, others.1)
 
 -- ---- some
@@ -79,7 +79,7 @@ with_message : (peer : Option Peer) (stream content behind : List ℕ) (read : O
     → ((next : Option Peer) → Says next behind) → Says peer stream
 with_message peer stream content behind None e fits frame others = ([], Fault BadMessage, inr (refl, (content, behind, frame, unsaid peer content e)))
 with_message peer stream content behind (Some m) e fits frame others =
-    let said = others (after_one peer m) in
+    let said = others (peer_after_one peer m) in
     (m ∷ said.0, said.1, (content, behind, frame, message_takes peer content m fits e, said.2))
 
 said_some : (fuel : ℕ) (peer : Option Peer) (stream : List ℕ) → IsBytes stream → length stream ≤ fuel → Says peer stream

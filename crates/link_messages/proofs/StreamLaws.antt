@@ -6,16 +6,16 @@ use Rattle.lw_types.specs.declared.refusal.Refusal.{Refusal}
 use Rattle.link_messages.specs.declared.message.Peer.{Peer}
 use Rattle.link_messages.specs.declared.message.Message.{Message}
 use Rattle.link_messages.specs.Wire.{wire_frame}
-use Rattle.link_messages.specs.Stream.{End, Rest, Fault, IsEnd, IsFrame, IsPart, IsPartOf, IsSaid, IsTooLong, after, after_one, told_length}
+use Rattle.link_messages.specs.Stream.{End, Rest, Fault, IsEnd, IsFrame, IsPart, IsPartOf, IsSaid, IsTooLong, peer_after, peer_after_one, stated_length}
 
 -- ---- frames
 
 -- what a frame tells of its length
-pub told_of_frame : (content behind : List ℕ) → length content ≤ 700 → told_length (wire_frame content ++ behind) ≡ Some (length content)
+pub told_of_frame : (content behind : List ℕ) → length content ≤ 700 → stated_length (wire_frame content ++ behind) ≡ Some (length content)
 told_of_frame content behind few = ap (λ (n : ℕ). Some n) (from_be_bytes-to_be_bytes_2 (length content) (omega arith))
 
-frame_told : (stream content behind : List ℕ) → IsFrame stream content behind → told_length stream ≡ Some (length content)
-frame_told stream content behind frame = ap told_length frame.1 ∙ told_of_frame content behind frame.0
+frame_told : (stream content behind : List ℕ) → IsFrame stream content behind → stated_length stream ≡ Some (length content)
+frame_told stream content behind frame = ap stated_length frame.1 ∙ told_of_frame content behind frame.0
 
 abbrev some_of : ℕ → Option ℕ
 some_of n = Some n
@@ -57,7 +57,7 @@ one_frame stream a b c d one two =
 pub frame_more : (stream content behind more : List ℕ) → IsFrame stream content behind → IsFrame (stream ++ more) content (behind ++ more)
 frame_more stream content behind more frame = (frame.0, ap (λ (s : List ℕ). s ++ more) frame.1 ∙ append_assoc (wire_frame content) behind more)
 
-told_more : (stream more : List ℕ) (told : ℕ) → told_length stream ≡ Some told → told_length (stream ++ more) ≡ Some told
+told_more : (stream more : List ℕ) (told : ℕ) → stated_length stream ≡ Some told → stated_length (stream ++ more) ≡ Some told
 told_more [] more told e = absurd cc
 told_more (high ∷ []) more told e = absurd cc
 told_more (high ∷ low ∷ rest) more told e = e
@@ -70,21 +70,21 @@ fault_more peer stream more refusal (inr h) = inr (h.0, (h.1.0, h.1.1 ++ more, f
 pub said_fault_more : (peer : Option Peer) (stream more : List ℕ) (ms : List Message) (refusal : Refusal) → IsSaid peer stream ms (Fault refusal) → IsSaid peer (stream ++ more) ms (Fault refusal)
 said_fault_more peer stream more [] refusal h = fault_more peer stream more refusal h
 said_fault_more peer stream more (m ∷ ms) refusal h =
-    (h.0, h.1 ++ more, frame_more stream h.0 h.1 more h.2, h.3, said_fault_more (after_one peer m) h.1 more ms refusal h.4)
+    (h.0, h.1 ++ more, frame_more stream h.0 h.1 more h.2, h.3, said_fault_more (peer_after_one peer m) h.1 more ms refusal h.4)
 
 -- what the rest and a piece say comes behind what was said before
 pub said_more : (peer : Option Peer) (stream rest piece : List ℕ) (ms others : List Message) (end : End)
-    → IsSaid peer stream ms (Rest rest) → IsSaid (after peer ms) (rest ++ piece) others end → IsSaid peer (stream ++ piece) (ms ++ others) end
+    → IsSaid peer stream ms (Rest rest) → IsSaid (peer_after peer ms) (rest ++ piece) others end → IsSaid peer (stream ++ piece) (ms ++ others) end
 said_more peer stream rest piece [] others end h next =
     subst (λ (s : List ℕ). IsSaid peer (s ++ piece) others end) (sym h.0) next
 said_more peer stream rest piece (m ∷ ms) others end h next =
-    (h.0, h.1 ++ piece, frame_more stream h.0 h.1 piece h.2, h.3, said_more (after_one peer m) h.1 rest piece ms others end h.4 next)
+    (h.0, h.1 ++ piece, frame_more stream h.0 h.1 piece h.2, h.3, said_more (peer_after_one peer m) h.1 rest piece ms others end h.4 next)
 
-pub after-append : (peer : Option Peer) (ms others : List Message) → after peer (ms ++ others) ≡ after (after peer ms) others
+pub after-append : (peer : Option Peer) (ms others : List Message) → peer_after peer (ms ++ others) ≡ peer_after (peer_after peer ms) others
 after-append peer [] others = refl
-after-append peer (m ∷ ms) others = after-append (after_one peer m) ms others
+after-append peer (m ∷ ms) others = after-append (peer_after_one peer m) ms others
 
 -- the rest that a stream ends in is a part of a frame
 pub said_part : (peer : Option Peer) (stream rest : List ℕ) (ms : List Message) → IsSaid peer stream ms (Rest rest) → IsPart rest
 said_part peer stream rest [] h = h.1
-said_part peer stream rest (m ∷ ms) h = said_part (after_one peer m) h.1 rest ms h.4
+said_part peer stream rest (m ∷ ms) h = said_part (peer_after_one peer m) h.1 rest ms h.4

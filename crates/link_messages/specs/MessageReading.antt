@@ -1,8 +1,11 @@
--- Reading a message from left to right. That it gives back what is said, and nothing else, is proved of it.
-use Rattle.std.specs.Prelude.{◌≡◌, ℕ, ℤ, ◌==◌, ◌&&◌, not, nat_lt, nat_le, Bool, List, [], ◌∷◌, length, if◌then◌else◌, Option, Some, None, Result, Err, MatchResult}
+-- Reading a message from left to right. That it gives back what is said, and nothing else, is
+-- proved of it.
+use Rattle.std.specs.Prelude.{◌≡◌, ℕ, ℤ, ◌==◌, ◌&&◌, not, nat_lt, nat_le, Bool, List, [], ◌∷◌}
+use Rattle.std.specs.Prelude.{length, if◌then◌else◌, Option, Some, None, Result, Err, MatchResult}
 use Rattle.std.specs.List.{list_all}
 use Rattle.std.specs.Int.{w16, w32, cast_signed}
-use Rattle.byte_fields.specs.Reading.{Reader, ◌>>=◌, both, seen_as, whole, be_at, byte_at, ranged_at, be_eui_at}
+use Rattle.byte_fields.specs.Reading.{Reader, ◌>>=◌, both, seen_as, whole, be_at, byte_at}
+use Rattle.byte_fields.specs.Reading.{ranged_at, be_eui_at}
 use Rattle.lw_types.specs.FrameCopy.{frame_copy}
 use Rattle.lw_types.specs.declared.identifiers.Eui.{Eui}
 use Rattle.lw_types.specs.declared.frame_copy.Reception.{Reception}
@@ -12,22 +15,34 @@ use Rattle.link_messages.specs.declared.message.Peer.{Peer}
 use Rattle.link_messages.specs.declared.message.Peer.TheVariants.{Gateway, Application}
 use Rattle.link_messages.specs.declared.message.Message.{Message}
 use Rattle.link_messages.specs.declared.message.Message.TheVariants.{Greeting, Copy, Line}
-use Rattle.link_messages.specs.declared.message.TheConstants.{GATEWAY_GREETING, UPLINK_COPY, APPLICATION_GREETING, REQUEST}
+use Rattle.link_messages.specs.declared.message.TheConstants.{GATEWAY_GREETING, UPLINK_COPY}
+use Rattle.link_messages.specs.declared.message.TheConstants.{APPLICATION_GREETING, REQUEST}
 
 abbrev pub signed_at : Reader ℤ
 signed_at = seen_as (cast_signed w16) (be_at w16)
 
 abbrev pub heard_of : Eui × (ℕ × (ℕ × (ℤ × (ℤ × ℕ)))) → Reception × ℕ
-heard_of x =
-    (record { gateway = x.0; frequency = x.1.0; data_rate = x.1.1.0; snr = x.1.1.1.0; rssi = x.1.1.1.1.0 }, x.1.1.1.1.1)
+heard_of x = (
+  record {
+    gateway = x.0;
+    frequency = x.1.0;
+    data_rate = x.1.1.0;
+    snr = x.1.1.1.0;
+    rssi = x.1.1.1.1.0;
+  },
+  x.1.1.1.1.1,
+)
 
 -- how a gateway heard a frame, and its stamp
 unfoldable pub heard_at : Reader (Reception × ℕ)
-heard_at = seen_as heard_of (both be_eui_at (both (be_at w32) (both byte_at (both signed_at (both signed_at (be_at w32))))))
+heard_at =
+    seen_as heard_of (both be_eui_at
+    (both (be_at w32) (both byte_at (both signed_at (both signed_at (be_at w32))))))
 
 abbrev pub copy_of : Eui → (Reception × ℕ) × List ℕ → Option Message
 copy_of gateway x =
-    if x.0.0.gateway.0 == gateway.0 && nat_le (length x.1) 255 then Some (Copy (frame_copy x.0.0 x.0.1 x.1)) else None
+    if x.0.0.gateway.0 == gateway.0
+    && nat_le (length x.1) 255 then Some (Copy (frame_copy x.0.0 x.0.1 x.1)) else None
 
 -- a copy of this gateway's
 abbrev pub copy_at : Eui → List ℕ → Option Message
@@ -43,7 +58,8 @@ abbrev pub gateway_at : List ℕ → Option Message
 gateway_at fields = whole be_eui_at fields >>= λ eui. Some (Greeting (Gateway eui))
 
 abbrev pub application_at : List ℕ → Option Message
-application_at fields = whole (ranged_at 0 15) fields >>= λ number. Some (Greeting (Application number))
+application_at fields =
+    whole (ranged_at 0 15) fields >>= λ number. Some (Greeting (Application number))
 
 abbrev pub greeting_at : ℕ → List ℕ → Option Message
 greeting_at kind fields =
@@ -55,8 +71,10 @@ greeting_at kind fields =
 unfoldable pub message_at : Option Peer → List ℕ → Option Message
 message_at peer [] = None
 message_at None (kind ∷ fields) = greeting_at kind fields
-message_at (Some (Gateway gateway)) (kind ∷ fields) = if kind == UPLINK_COPY then copy_at gateway fields else None
-message_at (Some (Application application)) (kind ∷ fields) = if kind == REQUEST then line_at fields else None
+message_at (Some (Gateway gateway)) (kind ∷ fields) =
+    if kind == UPLINK_COPY then copy_at gateway fields else None
+message_at (Some (Application application)) (kind ∷ fields) =
+    if kind == REQUEST then line_at fields else None
 
 -- a function answers what is wanted, for which it may take memory, or that there is no message
 abbrev pub Reads : Result Message Refusal → Option Message → Type 0

@@ -1,6 +1,7 @@
--- What a link's stream of bytes says: messages, each in a frame, and then a rest or a fault. Nothing here is about
--- how the stream comes in pieces.
-use Rattle.std.specs.Prelude.{◌≡◌, ℕ, ◌+◌, ◌<◌, ◌≤◌, ◌⊎◌, List, [], ◌∷◌, ◌++◌, length, Option, Some, None}
+-- What a link's stream of bytes says: messages, each in a frame, and then a rest or a fault.
+-- Nothing here is about how the stream comes in pieces.
+use Rattle.std.specs.Prelude.{◌≡◌, ℕ, ◌+◌, ◌<◌, ◌≤◌, ◌⊎◌, List, [], ◌∷◌, ◌++◌, length, Option, Some}
+use Rattle.std.specs.Prelude.{None}
 use Rattle.std.specs.Int.{w16, from_be_bytes}
 use Rattle.lw_types.specs.declared.refusal.Refusal.{Refusal}
 use Rattle.lw_types.specs.declared.refusal.Refusal.TheVariants.{BadMessage, FrameTooLong}
@@ -11,13 +12,13 @@ use Rattle.link_messages.specs.Wire.{wire_frame}
 use Rattle.link_messages.specs.Message.{IsSaying}
 
 -- who is at the other end after a message
-abbrev pub after_one : Option Peer → Message → Option Peer
-after_one peer (Greeting greeted) = Some greeted
-after_one peer message = peer
+abbrev pub peer_after_one : Option Peer → Message → Option Peer
+peer_after_one peer (Greeting greeted) = Some greeted
+peer_after_one peer message = peer
 
-abbrev pub after : Option Peer → List Message → Option Peer
-after peer [] = peer
-after peer (message ∷ messages) = after (after_one peer message) messages
+abbrev pub peer_after : Option Peer → List Message → Option Peer
+peer_after peer [] = peer
+peer_after peer (message ∷ messages) = peer_after (peer_after_one peer message) messages
 
 -- how a stream ends: in the bytes of a frame that isn't whole, or in a fault
 pub data End : Type 0 where
@@ -27,22 +28,22 @@ pub data End : Type 0 where
 -- ---- what stands at the front of a stream
 
 -- the length of content that the first two bytes tell
-abbrev pub told_length : List ℕ → Option ℕ
-told_length [] = None
-told_length (high ∷ []) = None
-told_length (high ∷ low ∷ behind) = Some (from_be_bytes w16 (high ∷ low ∷ []))
+abbrev pub stated_length : List ℕ → Option ℕ
+stated_length [] = None
+stated_length (high ∷ []) = None
+stated_length (high ∷ low ∷ behind) = Some (from_be_bytes w16 (high ∷ low ∷ []))
 
 abbrev pub IsPartOf : ℕ → Option ℕ → Type 0
 IsPartOf len None = Unit {0}
 IsPartOf len (Some told) = (told ≤ 700) × (len < told + 2)
 
--- fewer bytes than a frame has, of which no more than is allowed is told
+-- fewer bytes than a frame has, of which no more than is allowed is stated
 abbrev pub IsPart : List ℕ → Type 0
-IsPart stream = IsPartOf (length stream) (told_length stream)
+IsPart stream = IsPartOf (length stream) (stated_length stream)
 
 -- the two bytes of a length that is above the longest
 abbrev pub IsTooLong : List ℕ → Type 0
-IsTooLong stream = (told : ℕ) × (told_length stream ≡ Some told) × (700 < told)
+IsTooLong stream = (told : ℕ) × (stated_length stream ≡ Some told) × (700 < told)
 
 -- a whole frame of this content, and what follows it
 abbrev pub IsFrame : List ℕ → List ℕ → List ℕ → Type 0
@@ -51,7 +52,8 @@ IsFrame stream content behind = (length content ≤ 700) × (stream ≡ wire_fra
 -- a whole frame whose content is no message that may be said
 abbrev pub IsWrong : Option Peer → List ℕ → Type 0
 IsWrong peer stream =
-    (content : List ℕ) × (behind : List ℕ) × IsFrame stream content behind × ¬ ((message : Message) × IsSaying peer content message)
+    (content : List ℕ) × (behind : List ℕ) × IsFrame stream content behind
+    × ¬ ((message : Message) × IsSaying peer content message)
 
 -- ---- what a stream says
 
@@ -61,9 +63,11 @@ IsEnd peer stream (Rest bytes) = (stream ≡ bytes) × IsPart bytes
 IsEnd peer stream (Fault refusal) =
     ((refusal ≡ FrameTooLong) × IsTooLong stream) ⊎ ((refusal ≡ BadMessage) × IsWrong peer stream)
 
--- this stream of a link of this peer, who is none before the greeting, says these messages and ends so
+-- this stream of a link of this peer, who is none before the greeting, says these messages and ends
+-- so
 abbrev pub IsSaid : Option Peer → List ℕ → List Message → End → Type 0
 IsSaid peer stream [] end = IsEnd peer stream end
 IsSaid peer stream (message ∷ messages) end =
-    (content : List ℕ) × (behind : List ℕ) × IsFrame stream content behind × IsSaying peer content message
-    × IsSaid (after_one peer message) behind messages end
+    (content : List ℕ) × (behind : List ℕ) × IsFrame stream content behind
+    × IsSaying peer content message
+    × IsSaid (peer_after_one peer message) behind messages end

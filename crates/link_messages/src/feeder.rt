@@ -1,9 +1,10 @@
 // What a link says, of the pieces in which its bytes come.
-ghost use Rattle.std.specs.Prelude.{◌≡◌, ◌≤◌, ◌++◌, ◌<◌, ◌-◌, min, length, take, drop, IfErr, IfOk, OnErr, OnOk};
+ghost use Rattle.std.specs.Prelude.{◌≡◌, ◌≤◌, ◌++◌, ◌<◌, ◌-◌, min, length, take, drop, IfErr, IfOk};
+ghost use Rattle.std.specs.Prelude.{OnErr, OnOk};
 ghost use Rattle.lw_types.specs.declared.refusal.Refusal.TheVariants.{OutOfMemory};
-ghost use Rattle.link_messages.specs.Stream.{after_one, told_length, IsPart};
-ghost use Rattle.link_messages.specs.Feeding.{end_of, ended, fault_in, nothing_heard, Hears};
-ghost use Rattle.link_messages.specs.Steps.{Begins, Continues, Finishes, IsHeard, Tells};
+ghost use Rattle.link_messages.specs.Stream.{peer_after_one, stated_length, IsPart};
+ghost use Rattle.link_messages.specs.Feeding.{end_of, end_answer, fault_in, new_feed, Feeds};
+ghost use Rattle.link_messages.specs.Steps.{IsFirstFrame, IsNext, Finishes, HasGathered, Tells};
 
 use crate::message::{LONGEST_CONTENT, Message, Peer};
 use crate::read_message::read_message;
@@ -23,8 +24,8 @@ pub struct Fed {
     pub fault: Option<Refusal>,
 }
 
-/// Reads the messages of a link, whose bytes come in pieces of any length. In contracts it is who is at
-/// the other end, and how the bytes so far end: in a part of a frame, or in a fault.
+/// Reads the messages of a link, whose bytes come in pieces of any length. In contracts it is who
+/// is at the other end, and how the bytes so far end: in a part of a frame, or in a fault.
 #[derive(Drop)]
 pub struct Feeder {
     alloc: Global,
@@ -35,19 +36,19 @@ pub struct Feeder {
 }
 
 impl Model for Feeder {
-    ghost use Rattle.link_messages.specs.Feeding.{Heard, end_of};
+    ghost use Rattle.link_messages.specs.Feeding.{FeedState, end_of};
     ghost use Rattle.link_messages.specs.Stream.{IsPart};
 
-    ghost Value = { Heard };
+    ghost Value = { FeedState };
 
     ghost view = { λ f. record { peer = f.peer; end = end_of f.fault f.rest.items } };
 
     ghost invariant = { λ f. IsPart f.rest.items };
 }
 
-// The length of content that is told in the first two bytes.
+// The length of content that is stated in the first two bytes.
 fn told_length(stream: &[u8]) -> Option<usize>
-    ensures { result ≡ told_length stream.now }
+    ensures { result ≡ stated_length stream.now }
 {
     let (head, _) = stream.split_first_chunk::<HEAD>()?;
     Some(usize::from(u16::from_be_bytes(*head)))
@@ -55,7 +56,7 @@ fn told_length(stream: &[u8]) -> Option<usize>
 
 // The content of the first frame and what follows it; `None` where it isn't whole.
 fn first_frame(stream: &[u8]) -> Result<Option<(&[u8], &[u8])>, Refusal>
-    ensures { Begins stream.now result }
+    ensures { IsFirstFrame stream.now result }
 {
     match told_length(stream) {
         None => Ok(None),
@@ -64,10 +65,10 @@ fn first_frame(stream: &[u8]) -> Result<Option<(&[u8], &[u8])>, Refusal>
     }
 }
 
-// The length of content that is told in the first two bytes of both together.
+// The length of content that is stated in the first two bytes of both together.
 fn told_across(kept: &[u8], piece: &[u8]) -> Option<usize>
     requires { 0 < length kept.now }
-    ensures { result ≡ told_length (kept.now ++ piece.now) }
+    ensures { result ≡ stated_length (kept.now ++ piece.now) }
 {
     let (high, others) = kept.split_first()?;
     let low = match others.first() {
@@ -120,7 +121,7 @@ fn next_message<'a>(
     peer: &Option<Peer>,
     stream: &'a [u8],
 ) -> Result<Next<'a>, Refusal>
-    ensures { Continues peer.now stream.now result }
+    ensures { IsNext peer.now stream.now result }
 {
     match first_frame(stream) {
         Err(fault) => Ok(Next::Fault(fault)),
@@ -135,7 +136,7 @@ fn next_message<'a>(
 
 // A greeting tells who is at the other end.
 fn greet(peer: &mut Option<Peer>, message: &Message)
-    ensures { peer.new ≡ after_one peer.old message.now }
+    ensures { peer.new ≡ peer_after_one peer.old message.now }
 {
     if let Message::Greeting(greeted) = message {
         *peer = Some(*greeted);
@@ -149,7 +150,8 @@ fn hear<'a>(
     stream: &'a [u8],
     messages: &mut Vec<Message>,
 ) -> Result<(&'a [u8], Option<Refusal>), Refusal>
-    ensures heard { IfOk result (λ r. IsHeard peer.old stream.now messages.old.items messages.new.items peer.new (end_of r.1 r.0.now)) }
+    ensures heard { IfOk result (λ r. HasGathered peer.old stream.now messages.old.items
+        messages.new.items peer.new (end_of r.1 r.0.now)) }
     ensures refused { IfErr result (λ e. e ≡ OutOfMemory) }
 {
     let mut left = stream;
@@ -188,7 +190,8 @@ fn hear_and_keep(
     messages: &mut Vec<Message>,
 ) -> Result<Option<Refusal>, Refusal>
     ensures heard { IfOk result (λ fault. IsPart kept.new.items
-        × IsHeard peer.old stream.now messages.old.items messages.new.items peer.new (end_of fault kept.new.items)) }
+        × HasGathered peer.old stream.now messages.old.items messages.new.items peer.new
+        (end_of fault kept.new.items)) }
     ensures refused { IfErr result (λ e. (e ≡ OutOfMemory) × (kept.new.items ≡ kept.old.items)) }
 {
     let (left, fault) = hear(alloc, peer, stream, messages)?;
@@ -204,7 +207,8 @@ fn hear_and_keep(
     }
 }
 
-// Hears a piece behind the bytes that were kept, and keeps the rest. Answers the fault that stands there.
+// Hears a piece behind the bytes that were kept, and keeps the rest. Answers the fault that stands
+// there.
 fn hear_piece(
     alloc: Global,
     peer: &mut Option<Peer>,
@@ -214,8 +218,10 @@ fn hear_piece(
 ) -> Result<Option<Refusal>, Refusal>
     requires part { IsPart kept.old.items }
     ensures heard { IfOk result (λ fault. IsPart kept.new.items
-        × IsHeard peer.old (kept.old.items ++ piece.now) messages.old.items messages.new.items peer.new (end_of fault kept.new.items)) }
-    ensures refused { IfErr result (λ e. (e ≡ OutOfMemory) × (take (length kept.old.items) kept.new.items ≡ kept.old.items)) }
+        × HasGathered peer.old (kept.old.items ++ piece.now) messages.old.items messages.new.items
+        peer.new (end_of fault kept.new.items)) }
+    ensures refused { IfErr result
+        (λ e. (e ≡ OutOfMemory) × (take (length kept.old.items) kept.new.items ≡ kept.old.items)) }
 {
     if kept.is_empty() {
         return hear_and_keep(alloc, peer, kept, piece, messages);
@@ -252,7 +258,7 @@ impl Clone for Feeder {
 impl Feeder {
     /// The feeder of a new link. Takes no memory.
     pub fn new(alloc: Global) -> Self
-        ensures { result ≡ nothing_heard }
+        ensures { result ≡ new_feed }
     {
         Feeder {
             alloc,
@@ -262,12 +268,12 @@ impl Feeder {
         }
     }
 
-    /// The messages that become whole by this piece, and the fault behind them: `FrameTooLong` as soon
-    /// as a length above 700 is there, `BadMessage` for content that is no message or may not be said.
-    /// Behind a fault nothing is read any more, and each piece is answered that fault. The only refusal is
-    /// `OutOfMemory`, and then the feeder is as before the piece.
+    /// The messages that become whole by this piece, and the fault behind them: `FrameTooLong` as
+    /// soon as a length above 700 is there, `BadMessage` for content that is no message or may not
+    /// be said. Behind a fault nothing is read any more, and each piece is answered that fault. The
+    /// only refusal is `OutOfMemory`, and then the feeder is as before the piece.
     pub fn feed(&mut self, piece: &[u8]) -> Result<Fed, Refusal>
-        ensures fed { IfOk result (λ fed. Hears self.old piece.now fed.messages.items self.new
+        ensures fed { IfOk result (λ fed. Feeds self.old piece.now fed.messages.items self.new
             × (fed.fault ≡ fault_in self.new.end)) }
         ensures refused { IfErr result (λ e. (e ≡ OutOfMemory) × (self.new ≡ self.old)) }
     {
@@ -298,10 +304,10 @@ impl Feeder {
         self.peer
     }
 
-    /// What the end of the input is: `CutShort` exactly where a part of a frame is left, and behind a fault
-    /// that fault. Takes no memory.
+    /// What the end of the input is: `CutShort` exactly where a part of a frame is left, and behind
+    /// a fault that fault. Takes no memory.
     pub fn end(&self) -> Result<(), Refusal>
-        ensures { result ≡ ended self.now.end }
+        ensures { result ≡ end_answer self.now.end }
     {
         match self.fault {
             Some(fault) => Err(fault),

@@ -4,27 +4,32 @@ ghost use Rattle.lw_types.specs.Hex.{IsBytes};
 ghost use Rattle.lw_types.specs.declared.refusal.Refusal.{Refusal};
 ghost use Rattle.link_messages.specs.declared.message.Message.{Message};
 ghost use Rattle.link_messages.specs.declared.message.Peer.{Peer};
-ghost use Rattle.link_messages.specs.Stream.{after, End, Fault, IsSaid, Rest};
-ghost use Rattle.link_messages.specs.Feeding.{joined, nothing_heard, Heard, HearsAll};
+ghost use Rattle.link_messages.specs.Stream.{peer_after, End, Fault, IsSaid, Rest};
+ghost use Rattle.link_messages.specs.Feeding.{joined_pieces, new_feed, FeedState, FeedsAll};
 
 /// Each stream of bytes says something, and nothing else.
 pub fn each_stream_says_one_thing()
     ensures some { (peer : Option Peer) (stream : List ℕ) → IsBytes stream
         → (messages : List Message) × (end : End) × IsSaid peer stream messages end }
-    ensures one { (peer : Option Peer) (stream : List ℕ) (a : List Message) (b : List Message) (x : End) (y : End)
+    ensures one { (peer : Option Peer) (stream : List ℕ) (a : List Message) (b : List Message)
+        (x : End) (y : End)
         → IsSaid peer stream a x → IsSaid peer stream b y → (a ≡ b) × (x ≡ y) }
 {}
 
-/// Where a stream is cut makes no difference: what its rest and a piece say comes behind what it said
-/// before, a fault stays, and the pieces that a new feeder is fed say what they are joined.
+/// Where a stream is cut makes no difference: what its rest and a piece say comes behind what it
+/// said before, a fault stays, and the pieces that a new feeder is fed say what they are joined.
 pub fn cuts_make_no_difference()
     ensures rest { (peer : Option Peer) (stream : List ℕ) (rest : List ℕ) (piece : List ℕ)
         (messages : List Message) (others : List Message) (end : End)
-        → IsSaid peer stream messages (Rest rest) → IsSaid (after peer messages) (rest ++ piece) others end
+        → IsSaid peer stream messages (Rest rest)
+        → IsSaid (peer_after peer messages) (rest ++ piece) others end
         → IsSaid peer (stream ++ piece) (messages ++ others) end }
-    ensures fault { (peer : Option Peer) (stream : List ℕ) (piece : List ℕ) (messages : List Message) (refusal : Refusal)
-        → IsSaid peer stream messages (Fault refusal) → IsSaid peer (stream ++ piece) messages (Fault refusal) }
-    ensures pieces { (pieces : List (List ℕ)) (messages : List Message) (heard : Heard)
-        → HearsAll nothing_heard pieces messages heard
-        → (heard.peer ≡ after None messages) × IsSaid None (joined pieces) messages heard.end }
+    ensures fault { (peer : Option Peer) (stream : List ℕ) (piece : List ℕ)
+        (messages : List Message) (refusal : Refusal)
+        → IsSaid peer stream messages (Fault refusal)
+        → IsSaid peer (stream ++ piece) messages (Fault refusal) }
+    ensures pieces { (pieces : List (List ℕ)) (messages : List Message) (heard : FeedState)
+        → FeedsAll new_feed pieces messages heard
+        → (heard.peer ≡ peer_after None messages)
+        × IsSaid None (joined_pieces pieces) messages heard.end }
 {}

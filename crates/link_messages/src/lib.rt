@@ -1,4 +1,5 @@
-//! What gateways and applications say on their links: the messages of a link's bytes, in whatever pieces they come.
+//! What gateways and applications say on their links: the messages of a link's bytes, in whatever
+//! pieces they come.
 #![tactic(auto)]
 
 mod feeder;

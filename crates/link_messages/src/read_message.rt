@@ -2,7 +2,9 @@
 ghost use Rattle.std.specs.Prelude.{◌≡◌};
 ghost use Rattle.std.specs.List.{list_all};
 ghost use Rattle.byte_fields.specs.Reading.{Gives};
-ghost use Rattle.link_messages.specs.MessageReading.{application_at, copy_at, gateway_at, greeting_at, heard_at, is_line_byte, line_at, message_at, signed_at, Reads};
+ghost use Rattle.link_messages.specs.MessageReading.{application_at, copy_at, gateway_at};
+ghost use Rattle.link_messages.specs.MessageReading.{greeting_at, heard_at, is_line_byte, line_at};
+ghost use Rattle.link_messages.specs.MessageReading.{message_at, signed_at, Reads};
 
 use crate::line::Line;
 use crate::message::{APPLICATION_GREETING, GATEWAY_GREETING, Message, Peer, REQUEST, UPLINK_COPY};

@@ -12,7 +12,8 @@ use std::rt::Clock;
 /// The bytes of its records: 4,096 entries of a device with 16 items of 242 bytes.
 const BYTES: u64 = 4096 * 4039;
 
-/// Tells how long a checkpoint of 4,096 devices takes with 16 items of 242 bytes each, and how long it takes to open it.
+/// Tells how long a checkpoint of 4,096 devices takes with 16 items of 242 bytes each, and how long
+/// it takes to open it.
 pub fn tell_checkpoint(rt: &(impl Clock + Eprint), alloc: Global) -> io::Result<()> {
     match measure(rt, alloc) {
         Ok((checkpoint, opening)) => {

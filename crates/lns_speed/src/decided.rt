@@ -58,7 +58,8 @@ impl Course {
         })
     }
 
-    /// Decides the frames and puts the records that they leave into the table, where the device has its first record.
+    /// Decides the frames and puts the records that they leave into the table, where the device has
+    /// its first record.
     fn decide(&self, alloc: Global, table: &mut Table) -> Result<(), Refusal> {
         table.put(self.slot, self.record.copy()?)?;
         for (seq, frame) in self.frames.iter().enumerate() {
@@ -73,7 +74,8 @@ fn decide_one(alloc: Global, table: &mut Table, seq: u64, frame: Heard) -> Resul
     table.apply(&decision)
 }
 
-/// How many nanoseconds an event of the last device takes in a full table, decided for a second or a little more.
+/// How many nanoseconds an event of the last device takes in a full table, decided for a second or
+/// a little more.
 pub fn measure(
     rt: &impl Clock,
     alloc: Global,

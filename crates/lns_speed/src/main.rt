@@ -1,7 +1,8 @@
-//! `lns-speed`: how long it takes on one processor here to decide a command and to put its record into the table,
-//! in tables of 8 to 4,096 devices; and how long whole uplinks take, from the copies of their frames to the release of
-//! their effects, committed to a disk in memory; and how long a checkpoint of the largest store takes, and opening it.
-//! What was measured goes to standard error, since it is never the same twice; standard output stays empty.
+//! `lns-speed`: how long it takes on one processor here to decide a command and to put its record
+//! into the table, in tables of 8 to 4,096 devices; and how long whole uplinks take, from the
+//! copies of their frames to the release of their effects, committed to a disk in memory; and how
+//! long a checkpoint of the largest store takes, and opening it. What was measured goes to standard
+//! error, since it is never the same twice; standard output stays empty.
 #![tactic(auto)]
 
 mod checkpoints;
@@ -55,7 +56,8 @@ fn measure(rt: &impl Clock, alloc: Global, what: Measured, slots: u16) -> Result
     }
 }
 
-/// Tells how much longer something takes with the most devices than with few, where both were measured.
+/// Tells how much longer something takes with the most devices than with few, where both were
+/// measured.
 fn tell_ratio(rt: &impl Eprint, name: &str, few: u32, most: u32) -> io::Result<()> {
     let [fewest, ..] = SLOTS;
     match (u64::from(most) * 100).checked_div(u64::from(few)) {

@@ -118,7 +118,8 @@ pub fn longest_item(alloc: Global, slot: u16, tag: u32) -> Result<Queueing, Refu
     })
 }
 
-/// The frame of this number of the device at a slot, as the gateway heard it. An uplink has the counter behind the number.
+/// The frame of this number of the device at a slot, as the gateway heard it. An uplink has the
+/// counter behind the number.
 pub fn heard(alloc: Global, event: Event, slot: u16, number: u16) -> Result<Heard, Refusal> {
     let hearings = Hearings::of(alloc, HEARING)?;
     let phy_payload = match event {

@@ -54,7 +54,8 @@ impl Server {
         self.settle()
     }
 
-    /// So many devices are brought, and as many items are queued for each as may wait, the longest there are.
+    /// So many devices are brought, and as many items are queued for each as may wait, the longest
+    /// there are.
     pub fn load_all(&mut self, slots: u16) -> Result<(), Refusal> {
         for slot in 0..slots {
             self.bring(slot)?;
@@ -124,7 +125,8 @@ impl Server {
         self.store.close()
     }
 
-    // The oldest decisions are committed, after a checkpoint where the journal is full, and their effects are released.
+    // The oldest decisions are committed, after a checkpoint where the journal is full, and their
+    // effects are released.
     fn commit(&mut self) -> Result<(), Refusal> {
         let most = Most::new(u64::from(BATCH)).ok_or(Refusal::Damaged)?;
         let mut batches = Vec::new(self.alloc);

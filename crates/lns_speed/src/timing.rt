@@ -34,7 +34,8 @@ pub fn nanos_since(rt: &impl Clock, start: Result<u128, Unmeasured>) -> Result<u
     Ok(clock_nanos(rt)?.saturating_sub(start?))
 }
 
-/// The nanoseconds of one of so many events that took so long together. On no machine of today are they none, or seconds.
+/// The nanoseconds of one of so many events that took so long together. On no machine of today are
+/// they none, or seconds.
 pub fn nanos_of_one(spent: u128, events: u128) -> Result<u32, Unmeasured> {
     match u32::try_from(spent.checked_div(events).unwrap_or(0)) {
         Ok(nanos) if nanos > 0 => Ok(nanos),

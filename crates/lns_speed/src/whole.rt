@@ -9,7 +9,8 @@ use std::rt::Clock;
 /// For how long uplinks are handled, in nanoseconds.
 const MEASURED_NANOS: u128 = 500_000_000;
 
-/// More batches than are handled in that time on any machine of today, and fewer than there are counters.
+/// More batches than are handled in that time on any machine of today, and fewer than there are
+/// counters.
 const MOST_BATCHES: u32 = 100_000;
 
 /// How often a server is made anew, since its journal fills.
@@ -48,7 +49,8 @@ impl Senders {
     }
 }
 
-/// How many nanoseconds an uplink takes that so many gateways hear, of one of so many devices, in batches of 64.
+/// How many nanoseconds an uplink takes that so many gateways hear, of one of so many devices, in
+/// batches of 64.
 pub fn measure(
     rt: &impl Clock,
     alloc: Global,
@@ -78,8 +80,8 @@ fn one_life(
     measure_life(rt, &mut server, gateways, slots)
 }
 
-// The devices join, and batches are handled until the journal is full, or long enough: the nanoseconds of the batches, and
-// how many there were.
+// The devices join, and batches are handled until the journal is full, or long enough: the
+// nanoseconds of the batches, and how many there were.
 fn measure_life(
     rt: &impl Clock,
     server: &mut Server,

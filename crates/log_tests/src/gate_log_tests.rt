@@ -128,8 +128,8 @@ fn checkpoint(
     Ok(opened.sync(log).is_ok())
 }
 
-// A step on a log, and whether no call of the disk failed: `a` and `b` are batches, `c` a checkpoint, `d` a batch behind it,
-// and `e` another checkpoint.
+// A step on a log, and whether no call of the disk failed: `a` and `b` are batches, `c` a
+// checkpoint, `d` a batch behind it, and `e` another checkpoint.
 fn take(alloc: Global, log: &mut Log<MemDisk>, step: char) -> Result<bool, RecoverError> {
     match step {
         'a' => commit(alloc, log, 1, b"first"),
@@ -192,7 +192,8 @@ fn recover(
     }
 }
 
-// The generation of what a disk holds, and the numbers of its batches, of which there are at most two; 0 stands for none.
+// The generation of what a disk holds, and the numbers of its batches, of which there are at most
+// two; 0 stands for none.
 type Held = (u64, u64, u64);
 
 fn held(alloc: Global, disk: MemDisk) -> Result<Held, RecoverError> {
@@ -206,13 +207,15 @@ fn held(alloc: Global, disk: MemDisk) -> Result<Held, RecoverError> {
     Ok((recovered.header.generation, first, second))
 }
 
-// The live area's header, a batch of three bytes, and a closed gate; behind it the disk is as it was.
+// The live area's header, a batch of three bytes, and a closed gate; behind it the disk is as it
+// was.
 const LAYOUT: &[u8] = &[
     0xA5, 1, 0, 0, 0, 0, 0, 0, 0, 1, 0, 0, 0, 0, 0, 0, 0, 0, 0, 0, 0, 0, 0, 0, 0, 0, 0, 0, 0, 0,
     0xA5, 0, 0, 0, 3, 0, 0, 0, 0, 0, 0, 1, 2, 0, 1, b'a', b'b', b'c', 0, 0xA5,
 ];
 
-// The other area's header, two records of three bytes, and a closed gate; behind it the disk is as it was.
+// The other area's header, two records of three bytes, and a closed gate; behind it the disk is as
+// it was.
 const CHECKPOINT: &[u8] = &[
     0xA5, 1, 0, 0, 0, 0, 0, 0, 2, 3, 0, 0, 0, 0, 0, 0, 0, 7, 0, 0, 0, 2, 0, 0, 0, 0, 0, 0, 0, 3,
     b'a', b'b', b'c', 0, 0xA5,
@@ -265,7 +268,8 @@ fn around(last: char) -> (&'static str, Held, Held) {
     }
 }
 
-// Whether the last step is done, of which the nth call fails, and whether a crash to an image leaves it.
+// Whether the last step is done, of which the nth call fails, and whether a crash to an image
+// leaves it.
 fn left(alloc: Global, last: char, n: u64, image: &Image) -> Result<(bool, bool), RecoverError> {
     let (steps, before, after) = around(last);
     let (is_done, mut disk) = cut(alloc, steps, last, n)?;
@@ -279,8 +283,8 @@ fn left(alloc: Global, last: char, n: u64, image: &Image) -> Result<(bool, bool)
     }
 }
 
-// The last step, its call that fails, whether it's done, and whether it is in what is left of the old bytes, of the new ones
-// and of open gates.
+// The last step, its call that fails, whether it's done, and whether it is in what is left of the
+// old bytes, of the new ones and of open gates.
 type Crash = (char, u64, bool, bool, bool, bool);
 
 fn leaves(alloc: Global, crash: &Crash) -> bool {
@@ -335,8 +339,8 @@ fn open_positions(alloc: Global, last: char, n: u64) -> Result<Open, RecoverErro
     Ok((is_done, first, count))
 }
 
-// A checkpoint writes its header, its records and a gate behind the closed gate of the other area, and then that; one
-// that is open is closed first.
+// A checkpoint writes its header, its records and a gate behind the closed gate of the other area,
+// and then that; one that is open is closed first.
 const OPEN_POSITIONS: &[(char, u64, bool, Option<usize>, usize)] = &[
     ('c', 1, false, Some(101), 33),
     ('c', 2, false, Some(101), 33),
@@ -457,7 +461,8 @@ fn a_damaged_area_is_refused(rt: HostRuntime) {
     }
 }
 
-// The error of a recovery, or, where the sync before it fails, the length of the disk that comes back.
+// The error of a recovery, or, where the sync before it fails, the length of the disk that comes
+// back.
 type Fault = Result<Option<RecoverError>, u64>;
 
 fn fault(alloc: Global, disk: MemDisk) -> Fault {

@@ -3,8 +3,11 @@ use Rattle.std.specs.Prelude.{ℕ, Bool, ◌&&◌, ◌||◌, ◌==◌, List, len
 
 -- a digit from 1 to 9 stands first, or a 0 alone: no sign and no leading 0
 abbrev pub starts_plain : List ℕ → Bool
-starts_plain text = nat_le 49 (slice_index text 0) && nat_le (slice_index text 0) 57 || slice_index text 0 == 48 && length text == 1
+starts_plain text =
+    nat_le 49 (slice_index text 0) && nat_le (slice_index text 0) 57 || slice_index text 0 == 48
+    && length text == 1
 
 -- the same behind a minus, where no 0 stands
 abbrev pub starts_with_minus : List ℕ → Bool
-starts_with_minus text = slice_index text 0 == 45 && nat_le 49 (slice_index text 1) && nat_le (slice_index text 1) 57
+starts_with_minus text =
+    slice_index text 0 == 45 && nat_le 49 (slice_index text 1) && nat_le (slice_index text 1) 57

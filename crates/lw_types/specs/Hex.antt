@@ -1,4 +1,5 @@
--- The texts of bytes and of the values made of them: two upper-case hex digits a byte, the first byte first.
+-- The texts of bytes and of the values made of them: two upper-case hex digits a byte, the first
+-- byte first.
 use Rattle.std.specs.Prelude.{◌≡◌, ℕ, Bool, ◌&&◌, ◌||◌, nat_le, List, [], ◌∷◌, codes}
 use Rattle.std.specs.Int.{w32, w64, to_be_bytes}
 use Rattle.hex.specs.Hex.{encode_upper}

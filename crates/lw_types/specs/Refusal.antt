@@ -1,7 +1,19 @@
 -- The numbers and the words by which the outside names refusals.
 use Rattle.std.specs.Prelude.{ℕ, List, codes}
 use Rattle.lw_types.specs.declared.refusal.Refusal.{Refusal}
-use Rattle.lw_types.specs.declared.refusal.Refusal.TheVariants.{Malformed, NotServed, UnknownDevAddr, BadMic, CounterGap, Repeat, UnknownDevEui, WrongJoinEui, DevNonceUsed, JoinNonceSpent, MacBoth, QueueFull, MacQueueFull, TooLong, BadPort, DevEuiTaken, TableFull, BadMac, WindowsFull, SameGateway, CopiesFull, Backlog, UnknownChannel, OutOfMemory, DeviceFailed, Failed, OutOfStep, NotFormatted, Damaged, WrongVersion, WrongSize, FrameTooLong, BadMessage, CutShort}
+use Rattle.lw_types.specs.declared.refusal.Refusal.TheVariants.{Malformed, NotServed}
+use Rattle.lw_types.specs.declared.refusal.Refusal.TheVariants.{UnknownDevAddr, BadMic, CounterGap}
+use Rattle.lw_types.specs.declared.refusal.Refusal.TheVariants.{Repeat, UnknownDevEui, WrongJoinEui}
+use Rattle.lw_types.specs.declared.refusal.Refusal.TheVariants.{DevNonceUsed, JoinNonceSpent}
+use Rattle.lw_types.specs.declared.refusal.Refusal.TheVariants.{MacBoth, QueueFull, MacQueueFull}
+use Rattle.lw_types.specs.declared.refusal.Refusal.TheVariants.{TooLong, BadPort, DevEuiTaken}
+use Rattle.lw_types.specs.declared.refusal.Refusal.TheVariants.{TableFull, BadMac, WindowsFull}
+use Rattle.lw_types.specs.declared.refusal.Refusal.TheVariants.{SameGateway, CopiesFull, Backlog}
+use Rattle.lw_types.specs.declared.refusal.Refusal.TheVariants.{UnknownChannel, OutOfMemory}
+use Rattle.lw_types.specs.declared.refusal.Refusal.TheVariants.{DeviceFailed, Failed, OutOfStep}
+use Rattle.lw_types.specs.declared.refusal.Refusal.TheVariants.{NotFormatted, Damaged, WrongVersion}
+use Rattle.lw_types.specs.declared.refusal.Refusal.TheVariants.{WrongSize, FrameTooLong, BadMessage}
+use Rattle.lw_types.specs.declared.refusal.Refusal.TheVariants.{CutShort}
 
 -- the number of each refusal
 abbrev pub number_of : Refusal → ℕ

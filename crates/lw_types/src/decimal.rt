@@ -6,7 +6,8 @@ ghost use Rattle.lw_types.specs.Decimal.{starts_plain, starts_with_minus};
 
 use crate::text::FromText;
 
-/// Whether the text has no sign and no leading zero, so that it is a decimal if its other bytes are digits.
+/// Whether the text has no sign and no leading zero, so that it is a decimal if its other bytes are
+/// digits.
 fn starts_plain(text: &str) -> bool
     ensures { result ≡ starts_plain text.now }
 {

@@ -41,7 +41,8 @@ impl FrameCopy {
         phy_payload: &[u8],
     ) -> Result<Self, Refusal>
         ensures { MatchBool (nat_le (length phy_payload.now) LONGEST_FRAME)
-            (MatchResult result (λ copy. copy ≡ frame_copy reception stamp phy_payload.now) (λ e. e ≡ OutOfMemory))
+            (MatchResult result (λ copy. copy ≡ frame_copy reception stamp phy_payload.now)
+            (λ e. e ≡ OutOfMemory))
             (result ≡ Err FrameTooLong) }
     {
         if phy_payload.len() > LONGEST_FRAME {

@@ -1,5 +1,6 @@
 // Bytes as upper-case hex, the only hex that is written and read.
-ghost use Rattle.std.specs.Prelude.{◌≡◌, ℕ, ◌⊎◌, List, length, IsTrue, ◌↔◌, IfOk, IfErr, IfSome, MatchResult, Some, Err};
+ghost use Rattle.std.specs.Prelude.{◌≡◌, ℕ, ◌⊎◌, List, length, IsTrue, ◌↔◌, IfOk, IfErr, IfSome};
+ghost use Rattle.std.specs.Prelude.{MatchResult, Some, Err};
 ghost use Rattle.std.specs.Fmt.{WritesOnOk};
 ghost use Rattle.std.specs.List.{AllPass};
 ghost use Rattle.std.specs.String.{string_bytes};
@@ -31,8 +32,10 @@ fn is_hex(text: &str) -> bool
 
 /// The bytes of a text of twice `N` digits; `None` for any other text.
 pub(crate) fn read_array<const N: usize>(text: &str) -> Option<[u8; N]>
-    ensures found { IfSome result (λ bytes. IsBytes bytes × (length bytes ≡ N) × (text.now ≡ hex_text bytes)) }
-    ensures only { (bytes : List ℕ) → IsBytes bytes → length bytes ≡ N → text.now ≡ hex_text bytes → result ≡ Some bytes }
+    ensures found { IfSome result
+        (λ bytes. IsBytes bytes × (length bytes ≡ N) × (text.now ≡ hex_text bytes)) }
+    ensures only { (bytes : List ℕ) → IsBytes bytes → length bytes ≡ N → text.now ≡ hex_text bytes
+        → result ≡ Some bytes }
 {
     if !is_hex(text) {
         return None;
@@ -58,7 +61,8 @@ pub fn write_hex(alloc: Global, bytes: &[u8]) -> Result<String, AllocError>
     hex::encode_upper(alloc, bytes)
 }
 
-/// The bytes whose text this is. Any other text is refused as `BadMessage`, whether or not there is memory.
+/// The bytes whose text this is. Any other text is refused as `BadMessage`, whether or not there is
+/// memory.
 pub fn read_hex(alloc: Global, text: &str) -> Result<Vec<u8>, Refusal>
     ensures found { IfOk result (λ bytes. text.now ≡ hex_text bytes.items) }
     ensures only { (bytes : List ℕ) → IsBytes bytes → text.now ≡ hex_text bytes
@@ -118,8 +122,8 @@ impl fmt::Display for ByteField<'_> {
     }
 }
 
-/// The bytes whose word in a line this is. Any other text is refused as `BadMessage`, whether or not
-/// there is memory.
+/// The bytes whose word in a line this is. Any other text is refused as `BadMessage`, whether or
+/// not there is memory.
 pub fn read_field(alloc: Global, text: &str) -> Result<Vec<u8>, Refusal>
     ensures found { IfOk result (λ bytes. text.now ≡ field_text bytes.items) }
     ensures only { (bytes : List ℕ) → IsBytes bytes → text.now ≡ field_text bytes

@@ -7,7 +7,8 @@ use crate::text::FromText;
 use std::fmt;
 use std::marker::Model;
 
-/// A 64-bit extended unique identifier: a DevEUI, a JoinEUI or a gateway's EUI (TS001-1.0.4 §6.1.1).
+/// A 64-bit extended unique identifier: a DevEUI, a JoinEUI or a gateway's EUI (TS001-1.0.4
+/// §6.1.1).
 #[derive(Clone, Copy, Debug, PartialEq, Eq, PartialOrd, Ord)]
 pub struct Eui(pub u64);
 

@@ -1,26 +1,34 @@
 //! Laws of texts, for crates that write and read lines of them, and the bounds of the types.
-ghost use Rattle.std.specs.Prelude.{◌≡◌, ◌<◌, ◌≤◌, ◌^◌, FitsSigned, List, MatchResult, ℕ, ℤ, length};
+ghost use Rattle.std.specs.Prelude.{◌≡◌, ◌<◌, ◌≤◌, ◌^◌, FitsSigned, List, MatchResult, ℕ, ℤ};
+ghost use Rattle.std.specs.Prelude.{length};
 ghost use Rattle.std.specs.Fmt.{decimal, signed_decimal};
 ghost use Rattle.std.specs.Int.{w16};
 ghost use Rattle.hex.specs.Hex.{IsBytes};
 ghost use Rattle.lw_types.specs.declared.identifiers.DevAddr.{DevAddr};
 ghost use Rattle.lw_types.specs.declared.identifiers.Eui.{Eui};
 ghost use Rattle.lw_types.specs.declared.key.Key.{Key};
-ghost use Rattle.lw_types.specs.Hex.{dev_addr_text, eui_text, field_text, hex_text, key_text, net_id_text};
+ghost use Rattle.lw_types.specs.Hex.{dev_addr_text, eui_text, field_text, hex_text, key_text};
+ghost use Rattle.lw_types.specs.Hex.{net_id_text};
 ghost use Rattle.lw_types.specs.Words.{line_of, words_of, AreWords, IsWord};
 
 use crate::payload::{Payload, PhyPayload};
 
 /// No two values share a text.
 pub fn each_text_is_of_one_value()
-    ensures hex { (a : List ℕ) (b : List ℕ) → IsBytes a → IsBytes b → hex_text a ≡ hex_text b → a ≡ b }
-    ensures fields { (a : List ℕ) (b : List ℕ) → IsBytes a → IsBytes b → field_text a ≡ field_text b → a ≡ b }
-    ensures euis { (a : Eui) (b : Eui) → a.0 < 2 ^ 64 → b.0 < 2 ^ 64 → eui_text a ≡ eui_text b → a ≡ b }
-    ensures addresses { (a : DevAddr) (b : DevAddr) → a.0 < 2 ^ 32 → b.0 < 2 ^ 32 → dev_addr_text a ≡ dev_addr_text b → a ≡ b }
+    ensures hex { (a : List ℕ) (b : List ℕ) → IsBytes a → IsBytes b → hex_text a ≡ hex_text b
+        → a ≡ b }
+    ensures fields { (a : List ℕ) (b : List ℕ) → IsBytes a → IsBytes b → field_text a ≡ field_text b
+        → a ≡ b }
+    ensures euis { (a : Eui) (b : Eui) → a.0 < 2 ^ 64 → b.0 < 2 ^ 64 → eui_text a ≡ eui_text b
+        → a ≡ b }
+    ensures addresses { (a : DevAddr) (b : DevAddr) → a.0 < 2 ^ 32 → b.0 < 2 ^ 32
+        → dev_addr_text a ≡ dev_addr_text b → a ≡ b }
     ensures networks { (a : ℕ) (b : ℕ) → a < 64 → b < 64 → net_id_text a ≡ net_id_text b → a ≡ b }
-    ensures keys { (a : Key) (b : Key) → IsBytes a.0 → IsBytes b.0 → key_text a ≡ key_text b → a ≡ b }
+    ensures keys { (a : Key) (b : Key) → IsBytes a.0 → IsBytes b.0 → key_text a ≡ key_text b
+        → a ≡ b }
     ensures decimals { (a : ℕ) (b : ℕ) → a < 2 ^ 64 → b < 2 ^ 64 → decimal a ≡ decimal b → a ≡ b }
-    ensures signed { (a : ℤ) (b : ℤ) → FitsSigned w16 a → FitsSigned w16 b → signed_decimal a ≡ signed_decimal b → a ≡ b }
+    ensures signed { (a : ℤ) (b : ℤ) → FitsSigned w16 a → FitsSigned w16 b
+        → signed_decimal a ≡ signed_decimal b → a ≡ b }
 {}
 
 /// No text has a space, so each is one word of a line.

@@ -86,10 +86,10 @@ pub enum Refusal {
 impl Refusal {
     ghost use Rattle.lw_types.specs.Refusal.{number_of, words_of};
 
-    /// The number of this refusal. 1 to 24 are of a command, which then leaves every device as it was:
-    /// the windows that were due are closed all the same, the effective time moves on to the command's
-    /// moment, and the refusal itself is an outcome. 30 is want of memory, 40 to 46 are of the store,
-    /// and 50 to 52 of wires and texts.
+    /// The number of this refusal. 1 to 24 are of a command, which then leaves every device as it
+    /// was: the windows that were due are closed all the same, the effective time moves on to the
+    /// command's moment, and the refusal itself is an outcome. 30 is want of memory, 40 to 46 are
+    /// of the store, and 50 to 52 of wires and texts.
     pub fn number(self) -> u8
         ensures { result ≡ number_of self }
     {

@@ -1,8 +1,8 @@
 // Reading of values that have one text each.
 ghost use Rattle.std.specs.Prelude.{◌≡◌, List, ℕ, IfSome, Some};
 
-/// A value that has one text. In a text that is written, as by `Display`, and in one that is read there
-/// is no other way to spell it.
+/// A value that has one text. In a text that is written, as by `Display`, and in one that is read
+/// there is no other way to spell it.
 pub trait FromText: Sized {
     /// What holds of each value of the type, where a clause ranges over more.
     ghost is_value: { Self → Type 0 } = { λ _. Unit {0} };

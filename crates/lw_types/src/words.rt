@@ -2,8 +2,8 @@
 ghost use Rattle.std.specs.Prelude.{◌≡◌, ◌∷◌};
 ghost use Rattle.lw_types.specs.Words.{words_in, words_of};
 
-/// The words of a line that are left to read. Two spaces in a row have an empty word between them, so
-/// that a line is read back from its words.
+/// The words of a line that are left to read. Two spaces in a row have an empty word between them,
+/// so that a line is read back from its words.
 #[derive(Clone, Copy)]
 pub struct Words<'a> {
     rest: Option<&'a str>,

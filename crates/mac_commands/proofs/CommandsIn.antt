@@ -11,7 +11,7 @@ use Rattle.mac_commands.specs.declared.cid.Cid.{Cid}
 use Rattle.mac_commands.specs.declared.command.MacCommand.{MacCommand}
 use Rattle.mac_commands.specs.Table.{number_of, payload_len}
 use Rattle.mac_commands.specs.Commands.{IsWhole, command_bytes, spelling, BeginsWhole, AreCommands, IsLongestFit}
-use Rattle.mac_commands.specs.Reading.{known_cids, cid_of, with_payload, front_in, and_behind, first_commands, commands_in, is_told, told_bytes, is_link_check, asks_link_check, fitting}
+use Rattle.mac_commands.specs.Reading.{known_cids, cid_of, with_payload, front_in, and_behind, first_commands, commands_in, is_reported, reported_bytes, is_link_check, asks_link_check, fitting_len}
 use Rattle.mac_commands.proofs.Reading.{HasRead, is_read, is_longest, known, none_begins, same_commands, same_stop}
 
 -- ---- the command at the front
@@ -152,33 +152,33 @@ none_in direction bytes none = by (front_in direction bytes) refl
 -- ---- of an uplink
 
 front_told : (bytes rest : List ℕ) (command : MacCommand) → IsWhole Up command → bytes ≡ command_bytes command ++ rest
-    → told_bytes bytes ≡ spelling (cond (is_told command) (command ∷ filter is_told (commands_in Up rest)) (filter is_told (commands_in Up rest)))
-front_told bytes rest command whole e = ap (λ (cs : List MacCommand). spelling (filter is_told cs)) (begin_with Up bytes rest command whole e)
+    → reported_bytes bytes ≡ spelling (cond (is_reported command) (command ∷ filter is_reported (commands_in Up rest)) (filter is_reported (commands_in Up rest)))
+front_told bytes rest command whole e = ap (λ (cs : List MacCommand). spelling (filter is_reported cs)) (begin_with Up bytes rest command whole e)
 
 abbrev kept_if : MacCommand → List ℕ → Bool → List ℕ
-kept_if command rest b = spelling (cond b (command ∷ filter is_told (commands_in Up rest)) (filter is_told (commands_in Up rest)))
+kept_if command rest b = spelling (cond b (command ∷ filter is_reported (commands_in Up rest)) (filter is_reported (commands_in Up rest)))
 
-pub is_kept : (bytes rest : List ℕ) (command : MacCommand) → IsWhole Up command → bytes ≡ command_bytes command ++ rest → is_told command ≡ true
-    → told_bytes bytes ≡ command_bytes command ++ told_bytes rest
+pub is_kept : (bytes rest : List ℕ) (command : MacCommand) → IsWhole Up command → bytes ≡ command_bytes command ++ rest → is_reported command ≡ true
+    → reported_bytes bytes ≡ command_bytes command ++ reported_bytes rest
 is_kept bytes rest command whole e told = front_told bytes rest command whole e ∙ ap (kept_if command rest) told
 
-pub is_left_out : (bytes rest : List ℕ) (command : MacCommand) → IsWhole Up command → bytes ≡ command_bytes command ++ rest → is_told command ≡ false
-    → told_bytes bytes ≡ told_bytes rest
+pub is_left_out : (bytes rest : List ℕ) (command : MacCommand) → IsWhole Up command → bytes ≡ command_bytes command ++ rest → is_reported command ≡ false
+    → reported_bytes bytes ≡ reported_bytes rest
 is_left_out bytes rest command whole e told = front_told bytes rest command whole e ∙ ap (kept_if command rest) told
 
-pub none_told : (bytes : List ℕ) → ¬ BeginsWhole Up bytes → told_bytes bytes ≡ []
-none_told bytes none = ap (λ (cs : List MacCommand). spelling (filter is_told cs)) (none_in Up bytes none)
+pub none_told : (bytes : List ℕ) → ¬ BeginsWhole Up bytes → reported_bytes bytes ≡ []
+none_told bytes none = ap (λ (cs : List MacCommand). spelling (filter is_reported cs)) (none_in Up bytes none)
 
-few_kept : (commands : List MacCommand) → length (spelling (filter is_told commands)) ≤ length (spelling commands)
+few_kept : (commands : List MacCommand) → length (spelling (filter is_reported commands)) ≤ length (spelling commands)
 few_kept [] = omega arith
-few_kept (c ∷ commands) = by (few_kept commands) (is_told c)
+few_kept (c ∷ commands) = by (few_kept commands) (is_reported c)
   where
-    by : length (spelling (filter is_told commands)) ≤ length (spelling commands) → (b : Bool)
-        → length (spelling (cond b (c ∷ filter is_told commands) (filter is_told commands))) ≤ length (spelling (c ∷ commands))
-    by few true = omega (arith, few, length-append (command_bytes c) (spelling (filter is_told commands)), length-append (command_bytes c) (spelling commands))
+    by : length (spelling (filter is_reported commands)) ≤ length (spelling commands) → (b : Bool)
+        → length (spelling (cond b (c ∷ filter is_reported commands) (filter is_reported commands))) ≤ length (spelling (c ∷ commands))
+    by few true = omega (arith, few, length-append (command_bytes c) (spelling (filter is_reported commands)), length-append (command_bytes c) (spelling commands))
     by few false = omega (arith, few, length-append (command_bytes c) (spelling commands))
 
-pub few_told : (bytes : List ℕ) → length (told_bytes bytes) ≤ length bytes
+pub few_told : (bytes : List ℕ) → length (reported_bytes bytes) ≤ length bytes
 few_told bytes = omega (arith, few_kept (commands_in Up bytes), (are_commands Up bytes).within)
 
 front_asks : (bytes rest : List ℕ) (command : MacCommand) → IsWhole Up command → bytes ≡ command_bytes command ++ rest
@@ -206,14 +206,14 @@ cut_at queue room =
     ]
 
 -- what is read of a queue that is cut at the room
-pub is_fitting : (queue : List ℕ) (room k n : ℕ) (commands : List MacCommand) → k ≡ min (length queue) room → AreCommands Down (take k queue) commands n → n ≡ fitting queue room
+pub is_fitting : (queue : List ℕ) (room k n : ℕ) (commands : List MacCommand) → k ≡ min (length queue) room → AreCommands Down (take k queue) commands n → n ≡ fitting_len queue room
 is_fitting queue room k n commands cut read =
     let all = take room queue in
     let same : take k queue ≡ all = ap (λ i. take i queue) cut ∙ cut_at queue room in
-    same_stop Down all commands (commands_in Down all) n (fitting queue room) (subst (λ (bytes : List ℕ). AreCommands Down bytes commands n) same read) (are_commands Down all)
+    same_stop Down all commands (commands_in Down all) n (fitting_len queue room) (subst (λ (bytes : List ℕ). AreCommands Down bytes commands n) same read) (are_commands Down all)
 
-pub fits : (queue : List ℕ) (room : ℕ) → IsLongestFit queue room (fitting queue room)
+pub fits : (queue : List ℕ) (room : ℕ) → IsLongestFit queue room (fitting_len queue room)
 fits queue room =
     let all = take room queue in
-    let read = subst (λ (bytes : List ℕ). AreCommands Down bytes (commands_in Down all) (fitting queue room)) (sym (cut_at queue room)) (are_commands Down all) in
-    is_longest queue room (min (length queue) room) (fitting queue room) (commands_in Down all) refl read
+    let read = subst (λ (bytes : List ℕ). AreCommands Down bytes (commands_in Down all) (fitting_len queue room)) (sym (cut_at queue room)) (are_commands Down all) in
+    is_longest queue room (min (length queue) room) (fitting_len queue room) (commands_in Down all) refl read

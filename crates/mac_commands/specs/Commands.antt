@@ -17,7 +17,8 @@ abbrev pub spelling : List MacCommand → List ℕ
 spelling commands = flat_map command_bytes commands
 
 -- the bytes are these commands, each of them whole
-pub record Spells (direction : Direction) (bytes : List ℕ) (commands : List MacCommand) : Type 0 where
+pub record Spells (direction : Direction) (bytes : List ℕ)
+    (commands : List MacCommand) : Type 0 where
   pub whole : AllByRecursion (IsWhole direction) commands
   pub spelled : bytes ≡ spelling commands
 
@@ -27,10 +28,14 @@ AreWhole direction bytes = (commands : List MacCommand) × Spells direction byte
 
 -- a whole command stands at the front of the bytes
 abbrev pub BeginsWhole : Direction → List ℕ → Type 0
-BeginsWhole direction bytes = (command : MacCommand) × (rest : List ℕ) × IsWhole direction command × (bytes ≡ command_bytes command ++ rest)
+BeginsWhole direction bytes =
+    (command : MacCommand) × (rest : List ℕ) × IsWhole direction command
+    × (bytes ≡ command_bytes command ++ rest)
 
--- the bytes before `stop` spell the commands, and at `stop` the bytes end or no whole command begins
-pub record AreCommands (direction : Direction) (bytes : List ℕ) (commands : List MacCommand) (stop : ℕ) : Type 0 where
+-- the bytes before `stop` spell the commands, and at `stop` the bytes end or no whole command
+-- begins
+pub record AreCommands (direction : Direction) (bytes : List ℕ) (commands : List MacCommand)
+    (stop : ℕ) : Type 0 where
   pub within : stop ≤ length bytes
   pub before : Spells direction (take stop bytes) commands
   pub behind : ¬ BeginsWhole direction (drop stop bytes)

@@ -1,9 +1,13 @@
--- Which MAC commands an application may queue for a device, and what is a queue of them (TS001-1.0.4 §5).
+-- Which MAC commands an application may queue for a device, and what is a queue of them
+-- (TS001-1.0.4 §5).
 use Rattle.std.specs.Prelude.{◌≡◌, ℕ, Bool, false, true, List}
 use Rattle.std.specs.List.{AllByRecursion}
 use Rattle.lw_types.specs.declared.direction.Direction.TheVariants.{Down}
 use Rattle.mac_commands.specs.declared.cid.Cid.{Cid}
-use Rattle.mac_commands.specs.declared.cid.Cid.TheVariants.{LinkCheck, LinkAdr, DutyCycle, RxParamSetup, DevStatus, NewChannel, RxTimingSetup, TxParamSetup, DlChannel, DeviceTime}
+use Rattle.mac_commands.specs.declared.cid.Cid.TheVariants.{LinkCheck, LinkAdr, DutyCycle}
+use Rattle.mac_commands.specs.declared.cid.Cid.TheVariants.{RxParamSetup, DevStatus, NewChannel}
+use Rattle.mac_commands.specs.declared.cid.Cid.TheVariants.{RxTimingSetup, TxParamSetup, DlChannel}
+use Rattle.mac_commands.specs.declared.cid.Cid.TheVariants.{DeviceTime}
 use Rattle.mac_commands.specs.declared.command.MacCommand.{MacCommand}
 use Rattle.mac_commands.specs.Commands.{Spells}
 

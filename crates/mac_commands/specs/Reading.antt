@@ -1,10 +1,15 @@
--- The MAC commands that bytes begin with, as a function (TS001-1.0.4 §5), and what of them concerns whom.
-use Rattle.std.specs.Prelude.{◌==◌, ◌&&◌, ℕ, zero, suc, Bool, true, false, nat_lt, if◌then◌else◌, List, [], ◌∷◌, Option, Some, None, length, take, drop, filter, find}
+-- The MAC commands that bytes begin with, as a function (TS001-1.0.4 §5), and what of them concerns
+-- whom.
+use Rattle.std.specs.Prelude.{◌==◌, ◌&&◌, ℕ, zero, suc, Bool, true, false, nat_lt, if◌then◌else◌}
+use Rattle.std.specs.Prelude.{List, [], ◌∷◌, Option, Some, None, length, take, drop, filter, find}
 use Rattle.std.specs.List.{list_all, list_any}
 use Rattle.lw_types.specs.declared.direction.Direction.{Direction}
 use Rattle.lw_types.specs.declared.direction.Direction.TheVariants.{Up, Down}
 use Rattle.mac_commands.specs.declared.cid.Cid.{Cid}
-use Rattle.mac_commands.specs.declared.cid.Cid.TheVariants.{LinkCheck, LinkAdr, DutyCycle, RxParamSetup, DevStatus, NewChannel, RxTimingSetup, TxParamSetup, DlChannel, DeviceTime}
+use Rattle.mac_commands.specs.declared.cid.Cid.TheVariants.{LinkCheck, LinkAdr, DutyCycle}
+use Rattle.mac_commands.specs.declared.cid.Cid.TheVariants.{RxParamSetup, DevStatus, NewChannel}
+use Rattle.mac_commands.specs.declared.cid.Cid.TheVariants.{RxTimingSetup, TxParamSetup, DlChannel}
+use Rattle.mac_commands.specs.declared.cid.Cid.TheVariants.{DeviceTime}
 use Rattle.mac_commands.specs.declared.command.MacCommand.{MacCommand}
 use Rattle.mac_commands.specs.Table.{number_of, payload_len}
 use Rattle.mac_commands.specs.Commands.{spelling}
@@ -15,18 +20,21 @@ use Rattle.mac_commands.specs.Queueable.{may_be_queued}
 -- the identifiers that there are
 abbrev pub known_cids : List Cid
 known_cids =
-    LinkCheck ∷ LinkAdr ∷ DutyCycle ∷ RxParamSetup ∷ DevStatus ∷ NewChannel ∷ RxTimingSetup ∷ TxParamSetup ∷ DlChannel ∷ DeviceTime ∷ []
+    LinkCheck ∷ LinkAdr ∷ DutyCycle ∷ RxParamSetup ∷ DevStatus ∷ NewChannel ∷ RxTimingSetup
+    ∷ TxParamSetup ∷ DlChannel ∷ DeviceTime ∷ []
 
 -- the identifier that a byte stands for, where it is known
 abbrev pub cid_of : ℕ → Option Cid
 cid_of number = find (λ cid. number_of cid == number) known_cids
 
--- the command with this identifier, of which these bytes begin with the payload, and the bytes behind it
+-- the command with this identifier, of which these bytes begin with the payload, and the bytes
+-- behind it
 abbrev pub with_payload : Direction → List ℕ → Option Cid → Option (MacCommand × List ℕ)
 with_payload direction bytes None = None
 with_payload direction bytes (Some cid) =
     let n = payload_len direction cid in
-    if nat_lt (length bytes) n then None else Some (record { cid = cid; payload = take n bytes }, drop n bytes)
+    if nat_lt (length bytes) n then None else Some
+    (record { cid = cid; payload = take n bytes }, drop n bytes)
 
 -- the whole command at the front of some bytes, and the bytes behind it
 abbrev pub front_in : Direction → List ℕ → Option (MacCommand × List ℕ)
@@ -38,29 +46,31 @@ abbrev pub and_behind : (List ℕ → List MacCommand) → Option (MacCommand ×
 and_behind read None = []
 and_behind read (Some front) = front.0 ∷ read front.1
 
--- the commands that some bytes begin with, at most so many
+-- the first n commands that some bytes begin with
 abbrev pub first_commands : ℕ → Direction → List ℕ → List MacCommand
 first_commands zero direction bytes = []
-first_commands (suc n) direction bytes = and_behind (first_commands n direction) (front_in direction bytes)
+first_commands (suc n) direction bytes =
+    and_behind (first_commands n direction) (front_in direction bytes)
 
--- the commands that some bytes begin with: reading stops at an identifier that isn't known and at a payload that is cut
+-- the commands that some bytes begin with: reading stops at an identifier that isn't known and at a
+-- payload that is cut
 abbrev pub commands_in : Direction → List ℕ → List MacCommand
 commands_in direction bytes = first_commands (length bytes) direction bytes
 
 -- ---- of an uplink
 
--- the application is told all commands but those that the network answers: LinkCheckReq and DeviceTimeReq
-abbrev pub is_told_cid : Cid → Bool
-is_told_cid LinkCheck = false
-is_told_cid DeviceTime = false
-is_told_cid cid = true
+-- all commands are reported but those that the network answers: LinkCheckReq and DeviceTimeReq
+abbrev pub is_reported_cid : Cid → Bool
+is_reported_cid LinkCheck = false
+is_reported_cid DeviceTime = false
+is_reported_cid cid = true
 
-abbrev pub is_told : MacCommand → Bool
-is_told command = is_told_cid command.cid
+abbrev pub is_reported : MacCommand → Bool
+is_reported command = is_reported_cid command.cid
 
--- the bytes of the commands in an uplink that the application is told
-abbrev pub told_bytes : List ℕ → List ℕ
-told_bytes bytes = spelling (filter is_told (commands_in Up bytes))
+-- the bytes of the commands in an uplink that are reported
+abbrev pub reported_bytes : List ℕ → List ℕ
+reported_bytes bytes = spelling (filter is_reported (commands_in Up bytes))
 
 abbrev pub is_link_check_cid : Cid → Bool
 is_link_check_cid LinkCheck = true
@@ -75,12 +85,14 @@ asks_link_check bytes = list_any is_link_check (commands_in Up bytes)
 
 -- ---- of a downlink
 
--- whether the bytes are whole commands and nothing behind them, each of which an application may queue
+-- whether the bytes are whole commands and nothing behind them, each of which an application may
+-- queue
 abbrev pub is_queue : List ℕ → Bool
 is_queue bytes =
     let commands = commands_in Down bytes in
-    (length (spelling commands) == length bytes) && list_all (λ command. may_be_queued command.cid) commands
+    (length (spelling commands) == length bytes)
+    && list_all (λ command. may_be_queued command.cid) commands
 
 -- how many bytes of a queue, from its front and in whole commands, fit the room
-abbrev pub fitting : List ℕ → ℕ → ℕ
-fitting queue room = length (spelling (commands_in Down (take room queue)))
+abbrev pub fitting_len : List ℕ → ℕ → ℕ
+fitting_len queue room = length (spelling (commands_in Down (take room queue)))

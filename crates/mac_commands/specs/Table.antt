@@ -1,7 +1,10 @@
 -- The MAC commands of class A devices (TS001-1.0.4 §5). No other is known.
 use Rattle.std.specs.Prelude.{ℕ}
 use Rattle.mac_commands.specs.declared.cid.Cid.{Cid}
-use Rattle.mac_commands.specs.declared.cid.Cid.TheVariants.{LinkCheck, LinkAdr, DutyCycle, RxParamSetup, DevStatus, NewChannel, RxTimingSetup, TxParamSetup, DlChannel, DeviceTime}
+use Rattle.mac_commands.specs.declared.cid.Cid.TheVariants.{LinkCheck, LinkAdr, DutyCycle}
+use Rattle.mac_commands.specs.declared.cid.Cid.TheVariants.{RxParamSetup, DevStatus, NewChannel}
+use Rattle.mac_commands.specs.declared.cid.Cid.TheVariants.{RxTimingSetup, TxParamSetup, DlChannel}
+use Rattle.mac_commands.specs.declared.cid.Cid.TheVariants.{DeviceTime}
 use Rattle.lw_types.specs.declared.direction.Direction.{Direction}
 use Rattle.lw_types.specs.declared.direction.Direction.TheVariants.{Up, Down}
 

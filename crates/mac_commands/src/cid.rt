@@ -22,7 +22,7 @@ pub enum Cid {
 impl Cid {
     ghost use Rattle.mac_commands.specs.declared.cid.Cid.{Cid};
     ghost use Rattle.mac_commands.specs.Queueable.{may_be_queued};
-    ghost use Rattle.mac_commands.specs.Reading.{is_link_check_cid, is_told_cid};
+    ghost use Rattle.mac_commands.specs.Reading.{is_link_check_cid, is_reported_cid};
     ghost use Rattle.mac_commands.specs.Table.{number_of, payload_len};
 
     /// The byte that stands for the identifier.
@@ -52,17 +52,18 @@ impl Cid {
         }
     }
 
-    /// Whether an application may queue the downlink command: LinkADRReq, DutyCycleReq and DevStatusReq.
+    /// Whether an application may queue the downlink command: LinkADRReq, DutyCycleReq and
+    /// DevStatusReq.
     pub fn may_be_queued(self) -> bool
         ensures { result ≡ may_be_queued self }
     {
         matches!(self, Cid::LinkAdr | Cid::DutyCycle | Cid::DevStatus)
     }
 
-    /// Whether the application is told the uplink command: all but LinkCheckReq and DeviceTimeReq, which the network
-    /// answers or passes over.
-    pub fn is_told(self) -> bool
-        ensures { result ≡ is_told_cid self }
+    /// Whether the uplink command is reported to the application: all but LinkCheckReq and
+    /// DeviceTimeReq, which the network answers or passes over.
+    pub fn is_reported(self) -> bool
+        ensures { result ≡ is_reported_cid self }
     {
         !matches!(self, Cid::LinkCheck | Cid::DeviceTime)
     }

@@ -2,17 +2,18 @@
 ghost use Rattle.std.specs.Prelude.{◌≡◌, List};
 ghost use Rattle.mac_commands.specs.declared.command.MacCommand.{MacCommand};
 ghost use Rattle.mac_commands.specs.Commands.{AreCommands, IsLongestFit};
-ghost use Rattle.mac_commands.specs.Reading.{fitting};
+ghost use Rattle.mac_commands.specs.Reading.{fitting_len};
 
 use crate::front::read_front;
 use lw_types::Direction;
 
-/// How many bytes of a queue of downlink commands, from its front and in whole commands, fit the room
-/// that is left of the 15 bytes of FOpts (TS001-1.0.4 §4.3.1.6): as many as possible. Takes no memory.
+/// How many bytes of a queue of downlink commands, from its front and in whole commands, fit the
+/// room that is left of the 15 bytes of FOpts (TS001-1.0.4 §4.3.1.6): as many as possible. Takes no
+/// memory.
 #[tactic(auto, using(crate::proofs::Reading::is_longest, crate::proofs::CommandsIn::is_fitting))]
 pub fn fit15(queue: &[u8], room: u8) -> usize
     ensures longest { IsLongestFit queue.now room result }
-    ensures value { result ≡ fitting queue.now room }
+    ensures value { result ≡ fitting_len queue.now room }
 {
     let within = queue.len().min(usize::from(room));
     whole_len(Direction::Down, &queue[..within])

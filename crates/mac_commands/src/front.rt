@@ -46,7 +46,8 @@ impl Front<'_> {
 
     /// Appends the bytes of the command.
     pub fn put(self, out: &mut Vec<u8>) -> Result<(), AllocError>
-        ensures { OnOk result (out.new.items ≡ out.old.items ++ command_bytes (command_of self.entry)) }
+        ensures { OnOk result (out.new.items
+            ≡ out.old.items ++ command_bytes (command_of self.entry)) }
     {
         out.push(self.cid.number())?;
         out.extend_from_slice(self.payload)?;

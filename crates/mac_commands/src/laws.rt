@@ -4,25 +4,28 @@ ghost use Rattle.lw_types.specs.declared.direction.Direction.{Direction};
 ghost use Rattle.mac_commands.specs.declared.command.MacCommand.{MacCommand};
 ghost use Rattle.mac_commands.specs.Commands.{AreCommands, IsLongestFit, Spells, spelling};
 ghost use Rattle.mac_commands.specs.Queueable.{AreQueueable};
-ghost use Rattle.mac_commands.specs.Reading.{commands_in, fitting, is_queue, told_bytes};
+ghost use Rattle.mac_commands.specs.Reading.{commands_in, fitting_len, is_queue, reported_bytes};
 
 /// Bytes are read in one way: as one list of commands, up to one place.
 pub fn bytes_are_read_in_one_way()
-    ensures commands { (direction : Direction) (bytes : List ℕ) (a : List MacCommand) (b : List MacCommand) (m : ℕ) (n : ℕ)
+    ensures commands { (direction : Direction) (bytes : List ℕ) (a : List MacCommand)
+        (b : List MacCommand) (m : ℕ) (n : ℕ)
         → AreCommands direction bytes a m → AreCommands direction bytes b n → a ≡ b }
-    ensures stop { (direction : Direction) (bytes : List ℕ) (a : List MacCommand) (b : List MacCommand) (m : ℕ) (n : ℕ)
+    ensures stop { (direction : Direction) (bytes : List ℕ) (a : List MacCommand)
+        (b : List MacCommand) (m : ℕ) (n : ℕ)
         → AreCommands direction bytes a m → AreCommands direction bytes b n → m ≡ n }
 {}
 
 /// Bytes are read as `commands_in` says, up to where these commands end.
 pub fn bytes_begin_with_these_commands()
-    ensures { (direction : Direction) (bytes : List ℕ) → let commands = commands_in direction bytes in
+    ensures { (direction : Direction) (bytes : List ℕ)
+        → let commands = commands_in direction bytes in
         AreCommands direction bytes commands (length (spelling commands)) }
 {}
 
-/// What an application is told of an uplink is no longer than the uplink's commands.
-pub fn what_is_told_is_short()
-    ensures { (bytes : List ℕ) → length (told_bytes bytes) ≤ length bytes }
+/// What is reported of an uplink is no longer than the uplink's commands.
+pub fn what_is_reported_is_short()
+    ensures { (bytes : List ℕ) → length (reported_bytes bytes) ≤ length bytes }
 {}
 
 /// What is written in whole commands is read again, all of it.
@@ -31,12 +34,15 @@ pub fn whole_commands_are_read_to_the_end()
         → Spells direction bytes commands → AreCommands direction bytes commands (length bytes) }
 {}
 
-/// Whole commands behind whole commands are whole commands, and so is what is left of whole commands
-/// where some of them are taken from the front.
+/// Whole commands behind whole commands are whole commands, and so is what is left of whole
+/// commands where some of them are taken from the front.
 pub fn whole_commands_join_and_part()
-    ensures join { (direction : Direction) (a : List ℕ) (b : List ℕ) (first : List MacCommand) (second : List MacCommand)
-        → Spells direction a first → Spells direction b second → Spells direction (a ++ b) (first ++ second) }
-    ensures part { (direction : Direction) (a : List ℕ) (b : List ℕ) (all : List MacCommand) (first : List MacCommand)
+    ensures join { (direction : Direction) (a : List ℕ) (b : List ℕ) (first : List MacCommand)
+        (second : List MacCommand)
+        → Spells direction a first → Spells direction b second
+        → Spells direction (a ++ b) (first ++ second) }
+    ensures part { (direction : Direction) (a : List ℕ) (b : List ℕ) (all : List MacCommand)
+        (first : List MacCommand)
         → Spells direction (a ++ b) all → Spells direction a first
         → (second : List MacCommand) × (all ≡ first ++ second) × Spells direction b second }
 {}
@@ -46,9 +52,10 @@ pub fn queues_are_found()
     ensures { (bytes : List ℕ) → IsTrue (is_queue bytes) ↔ AreQueueable bytes }
 {}
 
-/// As many bytes of a queue as `fitting` says are the longest beginning in whole commands that fits the room.
+/// As many bytes of a queue as `fitting` says are the longest beginning in whole commands that fits
+/// the room.
 pub fn what_fits_is_the_longest()
-    ensures { (queue : List ℕ) (room : ℕ) → IsLongestFit queue room (fitting queue room) }
+    ensures { (queue : List ℕ) (room : ℕ) → IsLongestFit queue room (fitting_len queue room) }
 {}
 
 /// What `fit15` takes from the front of a queue is a queue, and so is what it leaves.

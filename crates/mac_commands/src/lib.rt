@@ -1,5 +1,5 @@
-//! MAC commands as bytes (TS001-1.0.4 §5): read from an uplink or a downlink, written for a downlink, and
-//! chosen from a queue for the room that a downlink's FOpts has.
+//! MAC commands as bytes (TS001-1.0.4 §5): read from an uplink or a downlink, written for a
+//! downlink, and chosen from a queue for the room that a downlink's FOpts has.
 #![tactic(auto)]
 
 mod cid;
@@ -18,4 +18,4 @@ pub use decode::{decode_down, decode_up};
 pub use encode::encode_down;
 pub use fit::fit15;
 pub use queueable::are_queueable;
-pub use uplink::{asks_link_check, read_told};
+pub use uplink::{asks_link_check, read_reported};

@@ -1,22 +1,23 @@
-// What the MAC commands of an uplink ask for, and what the application is told of them.
+// What the MAC commands of an uplink ask for, and what is reported of them.
 ghost use Rattle.std.specs.Prelude.{◌≡◌, ◌≤◌, IfOk, length};
 ghost use Rattle.lw_types.specs.declared.payload.TheConstants.{LONGEST_PAYLOAD};
-ghost use Rattle.mac_commands.specs.Reading.{asks_link_check, told_bytes};
+ghost use Rattle.mac_commands.specs.Reading.{asks_link_check, reported_bytes};
 
 use crate::front::read_front;
 use lw_types::{Direction, Payload};
 use std::alloc::{AllocError, Global};
 
-/// The commands in an uplink that its application is told, as bytes and in order: those at the front of its FOpts or of its
-/// FRMPayload of port 0, as `decode_up` reads them, without LinkCheckReq and DeviceTimeReq, which are asked of the network.
-pub fn read_told(alloc: Global, bytes: &[u8]) -> Result<Payload, AllocError>
+/// The commands in an uplink that are reported to its application, as bytes and in order: those at
+/// the front of its FOpts or of its FRMPayload of port 0, as `decode_up` reads them, without
+/// LinkCheckReq and DeviceTimeReq, which are asked of the network.
+pub fn read_reported(alloc: Global, bytes: &[u8]) -> Result<Payload, AllocError>
     requires { length bytes.now ≤ LONGEST_PAYLOAD }
-    ensures { IfOk result (λ told. told ≡ told_bytes bytes.now) }
+    ensures { IfOk result (λ told. told ≡ reported_bytes bytes.now) }
 {
     let mut told = Vec::new(alloc);
     let mut rest = bytes;
     while let Some(front) = read_front(Direction::Up, rest) {
-        if front.cid.is_told() {
+        if front.cid.is_reported() {
             front.put(&mut told)?;
         }
         rest = front.rest;

@@ -12,9 +12,9 @@ use Rattle.phy_payload.specs.declared.control.Control.{Control}
 use Rattle.phy_payload.specs.declared.control.Control.TheVariants.{Uplink, Downlink}
 use Rattle.lw_types.specs.declared.direction.Direction.{Direction}
 use Rattle.lw_types.specs.declared.direction.Direction.TheVariants.{Up, Down}
-use Rattle.phy_payload.specs.declared.contents.Message.{Message}
+use Rattle.phy_payload.specs.declared.contents.PortPayload.{PortPayload}
 use Rattle.phy_payload.specs.Contents.{payload_len}
-use Rattle.phy_payload.specs.Frame.{bit, data_type, f_ctrl, port_and_payload, IsJoinRequest, IsMessage, IsMic}
+use Rattle.phy_payload.specs.Frame.{bit, data_type, f_ctrl, port_and_payload, IsJoinRequest, IsPortPayload, IsMic}
 use Rattle.byte_fields.specs.Field.{IsField, AreBytes}
 use Rattle.byte_fields.specs.Reading.{both, byte_at, front_at, le_at, le_eui_at}
 use Rattle.byte_fields.specs.FieldLemmas.{IsBytes-after, IsBytes-take, both_field, byte_field, front_field, other_some, seen_field}
@@ -159,11 +159,11 @@ head_field =
 
 -- what was read as a message is all of the bytes
 pub message_takes : (bytes : List ℕ) (opts : ℕ) → IsBytes bytes → opts ≤ 15 → opts + length bytes ≤ 243
-    → IfSome (message_of bytes) IsMessage × (opts + payload_len (message_of bytes) ≤ 242) × (bytes ≡ port_and_payload (message_of bytes))
+    → IfSome (message_of bytes) IsPortPayload × (opts + payload_len (message_of bytes) ≤ 242) × (bytes ≡ port_and_payload (message_of bytes))
 message_takes [] opts fits few le = (tt, omega arith, refl)
 message_takes (port ∷ payload) opts fits few le = ((fits 0, λ i. fits (suc i)), omega arith, refl)
 
-pub message_again : (sent : Option Message) → message_of (port_and_payload sent) ≡ sent
+pub message_again : (sent : Option PortPayload) → message_of (port_and_payload sent) ≡ sent
 message_again None = refl
 message_again (Some sent) = refl
 

@@ -15,11 +15,11 @@ use Rattle.phy_payload.specs.declared.control.Control.TheVariants.{Uplink, Downl
 use Rattle.lw_types.specs.declared.direction.Direction.{Direction}
 use Rattle.lw_types.specs.declared.direction.Direction.TheVariants.{Up, Down}
 use Rattle.phy_payload.specs.declared.data_frame.DataFrame.{DataFrame}
-use Rattle.phy_payload.specs.Contents.{carried}
-use Rattle.phy_payload.specs.Frame.{data_type, f_ctrl, mhdr, port_and_payload, refusal_of, sealed_bytes, spelling, Fits, IsDataFrame, IsJoinAccept, IsJoinRequest, IsPhy, IsSomePhyInMemory, TakesMemory}
+use Rattle.phy_payload.specs.Contents.{carried_contents}
+use Rattle.phy_payload.specs.Frame.{data_type, f_ctrl, mhdr, port_and_payload, refusal_of, sealed_bytes, spelling, FitsPhy, IsDataFrame, IsJoinAccept, IsJoinRequest, IsPhy, IsSomePhyInMemory, TakesMemory}
 use Rattle.phy_payload.specs.Reading.{accept_at, body_at, contents_at, control_of, data_at, head_at, message_of, mic_off, or_malformed, phy_at, request_at, Reads}
 use Rattle.byte_fields.specs.Reading.{◌>>=◌, front_at, whole}
-use Rattle.byte_fields.specs.FieldLemmas.{IsBytes-after, bind_some, chosen, front_field, guard_some, some_is, whole_again, whole_takes}
+use Rattle.byte_fields.specs.FieldLemmas.{IsBytes-after, bind_some, chosen_some, front_field, guard_some, some_is, whole_again, whole_takes}
 use Rattle.phy_payload.proofs.FrameFields.{control_again, control_byte, control_takes, dir_of, head_field, head_text, message_again, message_takes, mic_again, mic_takes, request_field, request_text, same_type, type_of}
 use Rattle.phy_payload.proofs.Lengths.{has_spelling}
 
@@ -50,7 +50,7 @@ data_takes direction confirmed body d fits short e =
     let control = u.0 in
     let is_control = control_takes direction byte control head.0.1.0 u.1 in
     let after : IsBytes rest = IsBytes-after (head_text t.0.0) rest (subst IsBytes head.1 split.0) in
-    let v = bind_some (front_at (byte % 16) rest) (λ opts. Some (record { confirmed = confirmed; dev_addr = record { 0 = addr }; control = control; f_cnt = cnt; contents = carried opts.0 (message_of opts.1); mic = mic })) d u.2 in
+    let v = bind_some (front_at (byte % 16) rest) (λ opts. Some (record { confirmed = confirmed; dev_addr = record { 0 = addr }; control = control; f_cnt = cnt; contents = carried_contents opts.0 (message_of opts.1); mic = mic })) d u.2 in
     let opts = v.0.0 in
     let sent = v.0.1 in
     let cut = (front_field (byte % 16)).takes rest opts sent after v.1 in
@@ -60,7 +60,7 @@ data_takes direction confirmed body d fits short e =
     let len_rest : length rest ≡ length opts + length sent = ap length cut.1 ∙ length-append opts sent in
     let len_body = split.3 in
     let message = message_takes sent (length opts) last (omega arith) (omega arith) in
-    let made : DataFrame = record { confirmed = confirmed; dev_addr = record { 0 = addr }; control = control; f_cnt = cnt; contents = carried opts (message_of sent); mic = mic } in
+    let made : DataFrame = record { confirmed = confirmed; dev_addr = record { 0 = addr }; control = control; f_cnt = cnt; contents = carried_contents opts (message_of sent); mic = mic } in
     let whole_byte : byte ≡ f_ctrl control (length opts) = sym is_control.1 ∙ ap (f_ctrl control) (sym few) in
     let text : front ≡ data_text made =
     head.1 ∙ ap (λ (b : ℕ). head_text (addr, (b, cnt)) ++ rest) whole_byte ∙ ap (λ (r : List ℕ). head_text (addr, (f_ctrl control (length opts), cnt)) ++ r) (cut.1 ∙ ap (λ (r : List ℕ). opts ++ r) message.2) in
@@ -111,7 +111,7 @@ request_found body frame fits e =
 
 accept_takes : (body : List ℕ) (a : JoinAccept) → IsBytes body → accept_at body ≡ Some a → IsJoinAccept a × (body ≡ sealed_bytes a)
 accept_takes body a fits e =
-    elim (chosen (length body == 16) (Some (Short body)) (cond (length body == 32) (Some (WithCfList body)) None) (Some a) e) [
+    elim (chosen_some (length body == 16) (Some (Short body)) (cond (length body == 32) (Some (WithCfList body)) None) (Some a) e) [
       | inl h ↦ subst (λ (x : JoinAccept). IsJoinAccept x × (body ≡ sealed_bytes x)) (some_is (Short body) a h.1) ((fits, eqb-true (length body) 16 h.0), refl)
       | inr h ↦
           let g = guard_some (length body == 32) (WithCfList body) a h.1 in
@@ -146,21 +146,21 @@ data_found direction confirmed body frame fits short e =
 body_found : (first : ℕ) (body : List ℕ) (frame : Phy) → IsBytes body → length body ≤ 254 → body_at first body ≡ Ok frame → IsFrameOf first body frame
 body_found first body frame fits short e =
     let is : (n : ℕ) → (first == n) ≡ true → IsFrameOf n body frame → IsFrameOf first body frame = λ n test h. subst (λ (k : ℕ). IsFrameOf k body frame) (sym (eqb-true first n test)) h in
-    elim (chosen (first == mhdr 0) _ _ (done frame) e) [
+    elim (chosen_some (first == mhdr 0) _ _ (done frame) e) [
       | inl h ↦ is (mhdr 0) h.0 (request_found body frame fits h.1)
-      | inr h0 ↦ elim (chosen (first == mhdr 1) _ _ (done frame) h0.1) [
+      | inr h0 ↦ elim (chosen_some (first == mhdr 1) _ _ (done frame) h0.1) [
         | inl h ↦ is (mhdr 1) h.0 (accept_found body frame fits h.1)
-        | inr h1 ↦ elim (chosen (first == mhdr 2) _ _ (done frame) h1.1) [
+        | inr h1 ↦ elim (chosen_some (first == mhdr 2) _ _ (done frame) h1.1) [
           | inl h ↦ is (mhdr 2) h.0 (data_found Up false body frame fits short h.1)
-          | inr h2 ↦ elim (chosen (first == mhdr 3) _ _ (done frame) h2.1) [
+          | inr h2 ↦ elim (chosen_some (first == mhdr 3) _ _ (done frame) h2.1) [
             | inl h ↦ is (mhdr 3) h.0 (data_found Down false body frame fits short h.1)
-            | inr h3 ↦ elim (chosen (first == mhdr 4) _ _ (done frame) h3.1) [
+            | inr h3 ↦ elim (chosen_some (first == mhdr 4) _ _ (done frame) h3.1) [
               | inl h ↦ is (mhdr 4) h.0 (data_found Up true body frame fits short h.1)
-              | inr h4 ↦ elim (chosen (first == mhdr 5) _ _ (done frame) h4.1) [
+              | inr h4 ↦ elim (chosen_some (first == mhdr 5) _ _ (done frame) h4.1) [
                 | inl h ↦ is (mhdr 5) h.0 (data_found Down true body frame fits short h.1)
-                | inr h5 ↦ elim (chosen (first == mhdr 6) _ _ (done frame) h5.1) [
+                | inr h5 ↦ elim (chosen_some (first == mhdr 6) _ _ (done frame) h5.1) [
                   | inl h ↦ absurd (let no = h.1 in cc)
-                  | inr h6 ↦ elim (chosen (first == mhdr 7) _ _ (done frame) h6.1) [
+                  | inr h6 ↦ elim (chosen_some (first == mhdr 7) _ _ (done frame) h6.1) [
                     | inl h ↦ absurd (let no = h.1 in cc)
                     | inr h ↦ absurd (let no = h.1 in cc)
                   ]
@@ -176,7 +176,7 @@ pub phy_takes : (bytes : List ℕ) (frame : Phy) → IsBytes bytes → phy_at by
 unfolding phy_at
 phy_takes [] frame fits e = absurd cc
 phy_takes (first ∷ body) frame fits e =
-    elim (chosen (ltb 254 (length body)) (Err Malformed) (body_at first body) (Ok frame) e) [
+    elim (chosen_some (ltb 254 (length body)) (Err Malformed) (body_at first body) (Ok frame) e) [
       | inl h ↦ absurd (let no = h.1 in cc)
       | inr h ↦ body_found first body frame (λ i. fits (suc i)) (ltb-false 254 (length body) h.0) h.1
     ]
@@ -188,10 +188,10 @@ data_body (Uplink adr request ack) false body = refl
 data_body (Downlink adr ack pending) true body = refl
 data_body (Downlink adr ack pending) false body = refl
 
-pub short_enough : (frame : Phy) → Fits frame → length (spelling frame) ≤ 255
+pub short_enough : (frame : Phy) → FitsPhy frame → length (spelling frame) ≤ 255
 short_enough frame h = (has_spelling frame h).1
 
-pub phy_again : (frame : Phy) → Fits frame → phy_at (spelling frame) ≡ Ok frame
+pub phy_again : (frame : Phy) → FitsPhy frame → phy_at (spelling frame) ≡ Ok frame
 unfolding phy_at spelling
 phy_again (phy.JoinRequest r) h =
     let most : length (spelling (phy.JoinRequest r)) ≤ 255 = short_enough (phy.JoinRequest r) h in
@@ -213,21 +213,21 @@ no_frame : (first : ℕ) (body : List ℕ) (e : Refusal) → length body ≤ 254
 no_frame first body e short h =
     let small = le-leb (length body) 254 short in
     let malformed : (n : ℕ) → (first == n) ≡ true → refusal_of (n ∷ body) ≡ Malformed → e ≡ Malformed → e ≡ refusal_of (first ∷ body) = λ n test is given. given ∙ sym is ∙ ap (λ (k : ℕ). refusal_of (k ∷ body)) (sym (eqb-true first n test)) in
-    elim (chosen (first == mhdr 0) _ _ (Err e) h) [
+    elim (chosen_some (first == mhdr 0) _ _ (Err e) h) [
       | inl t ↦ malformed (mhdr 0) t.0 (rw small refl) (or_err phy.JoinRequest _ e t.1)
-      | inr t0 ↦ elim (chosen (first == mhdr 1) _ _ (Err e) t0.1) [
+      | inr t0 ↦ elim (chosen_some (first == mhdr 1) _ _ (Err e) t0.1) [
         | inl t ↦ malformed (mhdr 1) t.0 (rw small refl) (or_err phy.JoinAccept _ e t.1)
-        | inr t1 ↦ elim (chosen (first == mhdr 2) _ _ (Err e) t1.1) [
+        | inr t1 ↦ elim (chosen_some (first == mhdr 2) _ _ (Err e) t1.1) [
           | inl t ↦ malformed (mhdr 2) t.0 (rw small refl) (or_err phy.DataFrame _ e t.1)
-          | inr t2 ↦ elim (chosen (first == mhdr 3) _ _ (Err e) t2.1) [
+          | inr t2 ↦ elim (chosen_some (first == mhdr 3) _ _ (Err e) t2.1) [
             | inl t ↦ malformed (mhdr 3) t.0 (rw small refl) (or_err phy.DataFrame _ e t.1)
-            | inr t3 ↦ elim (chosen (first == mhdr 4) _ _ (Err e) t3.1) [
+            | inr t3 ↦ elim (chosen_some (first == mhdr 4) _ _ (Err e) t3.1) [
               | inl t ↦ malformed (mhdr 4) t.0 (rw small refl) (or_err phy.DataFrame _ e t.1)
-              | inr t4 ↦ elim (chosen (first == mhdr 5) _ _ (Err e) t4.1) [
+              | inr t4 ↦ elim (chosen_some (first == mhdr 5) _ _ (Err e) t4.1) [
                 | inl t ↦ malformed (mhdr 5) t.0 (rw small refl) (or_err phy.DataFrame _ e t.1)
-                | inr t5 ↦ elim (chosen (first == mhdr 6) _ _ (Err e) t5.1) [
+                | inr t5 ↦ elim (chosen_some (first == mhdr 6) _ _ (Err e) t5.1) [
                   | inl t ↦ rw (small, t.0) (let is = t.1 in cc)
-                  | inr t6 ↦ elim (chosen (first == mhdr 7) _ _ (Err e) t6.1) [
+                  | inr t6 ↦ elim (chosen_some (first == mhdr 7) _ _ (Err e) t6.1) [
                     | inl t ↦ rw (small, t6.0, t.0) (let is = t.1 in cc)
                     | inr t ↦ rw (small, t6.0, t.0) (let is = t.1 in cc)
                   ]
@@ -243,7 +243,7 @@ phy_refuses : (bytes : List ℕ) (e : Refusal) → phy_at bytes ≡ Err e → e 
 unfolding phy_at
 phy_refuses [] e h = cc
 phy_refuses (first ∷ body) e h =
-    elim (chosen (ltb 254 (length body)) (Err Malformed) (body_at first body) (Err e) h) [
+    elim (chosen_some (ltb 254 (length body)) (Err Malformed) (body_at first body) (Err e) h) [
       | inl t ↦
           let long = lt-leb (length body) 254 (ltb-true 254 (length body) t.0) in
           rw long (let is = t.1 in cc)

@@ -6,7 +6,7 @@ use Rattle.std.proofs.lemmas.Nat.{from_le_bytes-to_le_bytes_2, from_le_bytes-to_
 use Rattle.lw_types.specs.Hex.{IsBytes}
 use Rattle.phy_payload.specs.declared.phy.Phy.TheVariants as phy
 use Rattle.phy_payload.specs.declared.join.JoinRequest.{JoinRequest}
-use Rattle.phy_payload.specs.Frame.{request_message, spelling, IsPhy}
+use Rattle.phy_payload.specs.Frame.{request_mic_input, spelling, IsPhy}
 use Rattle.phy_payload.specs.Reading.{phy_at, request_at}
 use Rattle.phy_payload.proofs.FrameLaws.{phy_takes}
 
@@ -14,7 +14,7 @@ pub request_shape : (bytes : List ℕ) (r : JoinRequest) → IsPhy bytes (phy.Jo
 unfolding spelling
 request_shape bytes r h =
     let mic = h.0.mic.1 in
-    let len : length bytes ≡ length (request_message r) + length r.mic.0 = ap length h.1 ∙ length-append (request_message r) r.mic.0 in
+    let len : length bytes ≡ length (request_mic_input r) + length r.mic.0 = ap length h.1 ∙ length-append (request_mic_input r) r.mic.0 in
     (omega arith, ap (take 1) h.1)
 
 pub request_fields : (bytes : List ℕ) (r : JoinRequest) → IsPhy bytes (phy.JoinRequest r)

@@ -1,16 +1,16 @@
 -- What a data frame carries.
 use Rattle.std.specs.Prelude.{ℕ, List, length, Option, Some, None}
-use Rattle.phy_payload.specs.declared.contents.Message.{Message}
+use Rattle.phy_payload.specs.declared.contents.PortPayload.{PortPayload}
 
 -- FOpts, and FPort with FRMPayload where there is a port
 pub record Carried : Type 0 where
   pub f_opts : List ℕ
-  pub message : Option Message
+  pub message : Option PortPayload
 
-abbrev pub carried : List ℕ → Option Message → Carried
-carried opts sent = record { f_opts = opts; message = sent }
+abbrev pub carried_contents : List ℕ → Option PortPayload → Carried
+carried_contents opts sent = record { f_opts = opts; message = sent }
 
 -- the number of bytes of FRMPayload, 0 where there is no port
-abbrev pub payload_len : Option Message → ℕ
+abbrev pub payload_len : Option PortPayload → ℕ
 payload_len None = 0
 payload_len (Some sent) = length sent.frm_payload

@@ -1,5 +1,7 @@
 -- Frames and their bytes (TS001-1.0.4 §4, §6.2). Numbers have the lowest byte first.
-use Rattle.std.specs.Prelude.{◌≡◌, ℕ, ◌+◌, ◌*◌, ◌^◌, ◌<◌, ◌≤◌, Bool, false, true, ◌&&◌, ◌||◌, ◌==◌, nat_le, if◌then◌else◌, List, [], ◌∷◌, ◌++◌, length, Option, Some, None, IfSome}
+use Rattle.std.specs.Prelude.{◌≡◌, ℕ, ◌+◌, ◌*◌, ◌^◌, ◌<◌, ◌≤◌, Bool, false, true, ◌&&◌, ◌||◌, ◌==◌}
+use Rattle.std.specs.Prelude.{nat_le, if◌then◌else◌, List, [], ◌∷◌, ◌++◌, length, Option, Some}
+use Rattle.std.specs.Prelude.{None, IfSome}
 use Rattle.std.specs.Int.{w16, w32, w64, to_le_bytes}
 use Rattle.lw_types.specs.Hex.{IsBytes}
 use Rattle.lw_types.specs.declared.refusal.Refusal.{Refusal}
@@ -12,7 +14,7 @@ use Rattle.phy_payload.specs.declared.join.JoinAccept.{JoinAccept}
 use Rattle.phy_payload.specs.declared.join.JoinAccept.TheVariants.{Short, WithCfList}
 use Rattle.phy_payload.specs.declared.control.Control.{Control}
 use Rattle.phy_payload.specs.declared.control.Control.TheVariants.{Uplink, Downlink}
-use Rattle.phy_payload.specs.declared.contents.Message.{Message}
+use Rattle.phy_payload.specs.declared.contents.PortPayload.{PortPayload}
 use Rattle.phy_payload.specs.declared.data_frame.DataFrame.{DataFrame}
 use Rattle.phy_payload.specs.Contents.{Carried, payload_len}
 
@@ -34,21 +36,24 @@ abbrev pub bit : ℕ → Bool → ℕ
 bit value true = value
 bit value false = 0
 
--- FCtrl: the length of FOpts in bits 3 to 0. Bit 4 of an uplink and bit 6 of a downlink are 0 (§4.3.1)
+-- FCtrl: the length of FOpts in bits 3 to 0. Bit 4 of an uplink and bit 6 of a downlink are 0
+-- (§4.3.1)
 abbrev pub f_ctrl : Control → ℕ → ℕ
 f_ctrl (Uplink adr adr_ack_req ack) len = bit 128 adr + bit 64 adr_ack_req + bit 32 ack + len
 f_ctrl (Downlink adr ack f_pending) len = bit 128 adr + bit 32 ack + bit 16 f_pending + len
 
 -- FPort and FRMPayload, where there is a port (§4.3.2, §4.3.3)
-abbrev pub port_and_payload : Option Message → List ℕ
+abbrev pub port_and_payload : Option PortPayload → List ℕ
 port_and_payload None = []
 port_and_payload (Some sent) = sent.f_port ∷ sent.frm_payload
 
 -- ---- the frames
 
 -- a Join-Request before its MIC: MHDR, JoinEUI, DevEUI, DevNonce (§6.2.5)
-abbrev pub request_message : JoinRequest → List ℕ
-request_message r = mhdr 0 ∷ (to_le_bytes w64 r.join_eui.0 ++ (to_le_bytes w64 r.dev_eui.0 ++ to_le_bytes w16 r.dev_nonce))
+abbrev pub request_mic_input : JoinRequest → List ℕ
+request_mic_input r =
+    mhdr 0 ∷ (to_le_bytes w64 r.join_eui.0
+    ++ (to_le_bytes w64 r.dev_eui.0 ++ to_le_bytes w16 r.dev_nonce))
 
 -- what stands behind the MHDR of a Join-Accept (§6.2.6)
 abbrev pub sealed_bytes : JoinAccept → List ℕ
@@ -56,8 +61,8 @@ sealed_bytes (Short sealed) = sealed
 sealed_bytes (WithCfList sealed) = sealed
 
 -- a data frame before its MIC: MHDR, DevAddr, FCtrl, FCnt, FOpts, FPort and FRMPayload (§4.3)
-abbrev pub data_message : DataFrame → List ℕ
-data_message d =
+abbrev pub data_mic_input : DataFrame → List ℕ
+data_mic_input d =
     mhdr (data_type d.control d.confirmed)
     ∷ (to_le_bytes w32 d.dev_addr.0
     ++ (f_ctrl d.control (length d.contents.f_opts)
@@ -67,9 +72,9 @@ data_message d =
 
 -- the one spelling of a frame
 unfoldable pub spelling : Phy → List ℕ
-spelling (phy.JoinRequest r) = request_message r ++ r.mic.0
+spelling (phy.JoinRequest r) = request_mic_input r ++ r.mic.0
 spelling (phy.JoinAccept a) = mhdr 1 ∷ sealed_bytes a
-spelling (phy.DataFrame d) = data_message d ++ d.mic.0
+spelling (phy.DataFrame d) = data_mic_input d ++ d.mic.0
 
 -- ---- which values there are
 
@@ -87,13 +92,13 @@ abbrev pub IsJoinAccept : JoinAccept → Type 0
 IsJoinAccept (Short sealed) = IsBytes sealed × (length sealed ≡ 16)
 IsJoinAccept (WithCfList sealed) = IsBytes sealed × (length sealed ≡ 32)
 
-abbrev pub IsMessage : Message → Type 0
-IsMessage sent = (sent.f_port < 256) × IsBytes sent.frm_payload
+abbrev pub IsPortPayload : PortPayload → Type 0
+IsPortPayload sent = (sent.f_port < 256) × IsBytes sent.frm_payload
 
 -- FOpts has at most 15 bytes, and a frame at most 255
 pub record IsCarried (c : Carried) : Type 0 where
   pub f_opts : IsBytes c.f_opts × (length c.f_opts ≤ 15)
-  pub message : IfSome c.message IsMessage
+  pub message : IfSome c.message IsPortPayload
   pub fits : length c.f_opts + payload_len c.message ≤ 242
 
 pub record IsDataFrame (d : DataFrame) : Type 0 where
@@ -103,16 +108,16 @@ pub record IsDataFrame (d : DataFrame) : Type 0 where
   pub mic : IsMic d.mic
 
 -- a frame whose fields are in their ranges, as each frame of a program is
-abbrev pub Fits : Phy → Type 0
-Fits (phy.JoinRequest r) = IsJoinRequest r
-Fits (phy.JoinAccept a) = IsJoinAccept a
-Fits (phy.DataFrame d) = IsDataFrame d
+abbrev pub FitsPhy : Phy → Type 0
+FitsPhy (phy.JoinRequest r) = IsJoinRequest r
+FitsPhy (phy.JoinAccept a) = IsJoinAccept a
+FitsPhy (phy.DataFrame d) = IsDataFrame d
 
 -- ---- bytes and frames
 
 -- these bytes are this frame
 abbrev pub IsPhy : List ℕ → Phy → Type 0
-IsPhy bytes frame = Fits frame × (bytes ≡ spelling frame)
+IsPhy bytes frame = FitsPhy frame × (bytes ≡ spelling frame)
 
 -- memory is taken for a data frame alone, for what it carries
 abbrev pub TakesMemory : Phy → Type 0

@@ -1,8 +1,11 @@
--- Reading a frame from left to right. That it gives back what is spelled, and nothing else, is the law
--- `reading_is_the_grammar`.
-use Rattle.std.specs.Prelude.{◌≡◌, ℕ, ◌-◌, ◌/◌, ◌%◌, Bool, false, true, List, [], ◌∷◌, length, take, drop, nat_lt, ◌==◌, if◌then◌else◌, Option, Some, None, Result, Ok, Err, MatchResult}
+-- Reading a frame from left to right. That it gives back what is spelled, and nothing else, is the
+-- law `reading_is_the_grammar`.
+use Rattle.std.specs.Prelude.{◌≡◌, ℕ, ◌-◌, ◌/◌, ◌%◌, Bool, false, true, List, [], ◌∷◌, length, take}
+use Rattle.std.specs.Prelude.{drop, nat_lt, ◌==◌, if◌then◌else◌, Option, Some, None, Result, Ok}
+use Rattle.std.specs.Prelude.{Err, MatchResult}
 use Rattle.std.specs.Int.{w16, w32}
-use Rattle.byte_fields.specs.Reading.{Reader, ◌>>=◌, both, byte_at, front_at, le_at, le_eui_at, seen_as, whole}
+use Rattle.byte_fields.specs.Reading.{Reader, ◌>>=◌, both, byte_at, front_at, le_at, le_eui_at}
+use Rattle.byte_fields.specs.Reading.{seen_as, whole}
 use Rattle.lw_types.specs.declared.identifiers.Eui.{Eui}
 use Rattle.lw_types.specs.declared.refusal.Refusal.{Refusal}
 use Rattle.lw_types.specs.declared.refusal.Refusal.TheVariants.{Malformed, NotServed, OutOfMemory}
@@ -16,18 +19,19 @@ use Rattle.phy_payload.specs.declared.control.Control.{Control}
 use Rattle.phy_payload.specs.declared.control.Control.TheVariants.{Uplink, Downlink}
 use Rattle.lw_types.specs.declared.direction.Direction.{Direction}
 use Rattle.lw_types.specs.declared.direction.Direction.TheVariants.{Up, Down}
-use Rattle.phy_payload.specs.declared.contents.Message.{Message}
+use Rattle.phy_payload.specs.declared.contents.PortPayload.{PortPayload}
 use Rattle.phy_payload.specs.declared.data_frame.DataFrame.{DataFrame}
-use Rattle.phy_payload.specs.Contents.{carried}
+use Rattle.phy_payload.specs.Contents.{carried_contents}
 use Rattle.phy_payload.specs.Frame.{mhdr, TakesMemory}
 
 -- ---- what a function answers
 
--- A function answers what is wanted; where that is a frame for which it takes memory, it may answer OutOfMemory
--- instead.
+-- A function answers what is wanted; where that is a frame for which it takes memory, it may answer
+-- OutOfMemory instead.
 abbrev pub Reads : Result Phy Refusal → Result Phy Refusal → Type 0
 Reads (Ok frame) wanted = wanted ≡ Ok frame
-Reads (Err e) wanted = MatchResult wanted (λ frame. (e ≡ OutOfMemory) × TakesMemory frame) (λ refusal. e ≡ refusal)
+Reads (Err e) wanted =
+    MatchResult wanted (λ frame. (e ≡ OutOfMemory) × TakesMemory frame) (λ refusal. e ≡ refusal)
 
 abbrev pub or_malformed : {X Y : Type 0} → (X → Y) → Option X → Result Y Refusal
 or_malformed f None = Err Malformed
@@ -45,7 +49,10 @@ unfoldable pub request_at : Reader JoinRequest
 request_at = seen_as request_of (both le_eui_at (both le_eui_at (both (le_at w16) mic_at)))
 
 abbrev pub accept_at : List ℕ → Option JoinAccept
-accept_at body = if length body == 16 then Some (Short body) else if length body == 32 then Some (WithCfList body) else None
+accept_at body =
+    if length body == 16
+    then Some (Short body)
+    else if length body == 32 then Some (WithCfList body) else None
 
 -- ---- data frames
 
@@ -54,16 +61,25 @@ is_set byte value = byte / value % 2 == 1
 
 -- the bits of FCtrl, where the one that is RFU is 0
 abbrev pub control_of : Direction → ℕ → Option Control
-control_of Up byte = if is_set byte 16 then None else Some (Uplink (is_set byte 128) (is_set byte 64) (is_set byte 32))
-control_of Down byte = if is_set byte 64 then None else Some (Downlink (is_set byte 128) (is_set byte 32) (is_set byte 16))
+control_of Up byte =
+    if is_set byte 16
+    then None
+    else Some (Uplink (is_set byte 128) (is_set byte 64) (is_set byte 32))
+control_of Down byte =
+    if is_set byte 64
+    then None
+    else Some (Downlink (is_set byte 128) (is_set byte 32) (is_set byte 16))
 
-abbrev pub message_of : List ℕ → Option Message
+abbrev pub message_of : List ℕ → Option PortPayload
 message_of [] = None
 message_of (port ∷ payload) = Some (record { f_port = port; frm_payload = payload })
 
 -- the last four bytes, behind what stands before them
 abbrev pub mic_off : List ℕ → Option (List ℕ × Mic)
-mic_off bytes = if nat_lt (length bytes) 4 then None else Some (take (length bytes - 4) bytes, record { 0 = drop (length bytes - 4) bytes })
+mic_off bytes =
+    if nat_lt (length bytes) 4
+    then None
+    else Some (take (length bytes - 4) bytes, record { 0 = drop (length bytes - 4) bytes })
 
 -- DevAddr, FCtrl and FCnt
 abbrev pub head_at : Reader (ℕ × (ℕ × ℕ))
@@ -79,7 +95,7 @@ contents_at confirmed control head mic bytes =
       dev_addr = record { 0 = head.0 };
       control = control;
       f_cnt = head.1.1;
-      contents = carried opts.0 (message_of opts.1);
+      contents = carried_contents opts.0 (message_of opts.1);
       mic = mic;
     }
     )
@@ -87,7 +103,8 @@ contents_at confirmed control head mic bytes =
 -- what stands behind the MHDR of a data frame
 unfoldable pub data_at : Direction → Bool → List ℕ → Option DataFrame
 data_at direction confirmed body =
-    mic_off body >>= λ parts. head_at parts.0 >>= λ head. control_of direction head.0.1.0 >>= λ control. contents_at confirmed control head.0 parts.1 head.1
+    mic_off body >>= λ parts. head_at parts.0 >>= λ head. control_of direction head.0.1.0
+    >>= λ control. contents_at confirmed control head.0 parts.1 head.1
 
 -- ---- frames
 

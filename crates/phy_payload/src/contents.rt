@@ -1,6 +1,6 @@
 // What a data frame carries (TS001-1.0.4 §4.3.1.6, §4.3.2, §4.3.3).
 ghost use Rattle.std.specs.Prelude.{◌≡◌, ◌+◌, ◌≤◌, length};
-ghost use Rattle.phy_payload.specs.Contents.{carried, payload_len};
+ghost use Rattle.phy_payload.specs.Contents.{carried_contents, payload_len};
 
 use lw_types::{Bytes, LONGEST_PAYLOAD, Payload};
 use std::alloc::AllocError;
@@ -17,17 +17,17 @@ pub type FrmPayload = Payload;
 
 /// A port and the payload for it. On port 0 these are MAC commands.
 #[derive(Clone, PartialEq, Eq, Drop)]
-pub struct Message {
+pub struct PortPayload {
     pub f_port: u8,
     pub frm_payload: FrmPayload,
 }
 
-/// FOpts and, where there is a port, FPort and FRMPayload. FOpts and FRMPayload have at most 242 bytes
-/// together, so that the frame has at most 255.
+/// FOpts and, where there is a port, FPort and FRMPayload. FOpts and FRMPayload have at most 242
+/// bytes together, so that the frame has at most 255.
 #[derive(PartialEq, Eq, Drop)]
 pub struct Contents {
     f_opts: FOpts,
-    message: Option<Message>,
+    message: Option<PortPayload>,
 }
 
 impl Model for Contents {
@@ -48,9 +48,9 @@ impl Contents {
     ghost use Rattle.std.specs.Option.{option_copied};
 
     /// These parts. FOpts and FRMPayload may have at most 242 bytes together.
-    pub fn new(f_opts: FOpts, message: Option<Message>) -> Self
+    pub fn new(f_opts: FOpts, message: Option<PortPayload>) -> Self
         requires { length f_opts + payload_len message ≤ LONGEST_PAYLOAD }
-        ensures { result ≡ carried f_opts message }
+        ensures { result ≡ carried_contents f_opts message }
     {
         Contents { f_opts, message }
     }
@@ -64,7 +64,7 @@ impl Contents {
     }
 
     /// FPort and FRMPayload, where there is a port.
-    pub fn message(&self) -> Option<&Message>
+    pub fn message(&self) -> Option<&PortPayload>
         ensures message { option_copied result ≡ self.now.message }
         ensures fits { length self.now.f_opts + payload_len self.now.message ≤ LONGEST_PAYLOAD }
     {
@@ -72,7 +72,7 @@ impl Contents {
     }
 
     /// FOpts, and the port with its payload.
-    pub fn into_parts(self) -> (FOpts, Option<Message>)
+    pub fn into_parts(self) -> (FOpts, Option<PortPayload>)
         ensures f_opts { result.0 ≡ self.f_opts }
         ensures message { result.1 ≡ self.message }
         ensures fits { length self.f_opts + payload_len self.message ≤ LONGEST_PAYLOAD }

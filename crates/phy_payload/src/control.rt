@@ -76,7 +76,7 @@ impl Control {
         }
     }
 
-    /// The FCtrl of a frame with so many bytes of FOpts.
+    /// The FCtrl of a frame with `f_opts_len` bytes of FOpts.
     pub(crate) fn f_ctrl(self, f_opts_len: u8) -> u8
         requires { f_opts_len ≤ 15 }
         ensures { result ≡ f_ctrl self f_opts_len }

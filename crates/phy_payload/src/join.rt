@@ -11,8 +11,8 @@ pub struct JoinRequest {
     pub mic: Mic,
 }
 
-/// The network's answer to a Join-Request (TS001-1.0.4 §6.2.6). All but its first byte is sealed under the
-/// AppKey, and it is kept so.
+/// The network's answer to a Join-Request (TS001-1.0.4 §6.2.6). All but its first byte is sealed
+/// under the AppKey, and it is kept so.
 #[derive(Clone, Copy, PartialEq, Eq)]
 pub enum JoinAccept {
     /// The fields and their MIC.

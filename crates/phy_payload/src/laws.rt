@@ -5,7 +5,8 @@ ghost use Rattle.lw_types.specs.Hex.{IsBytes};
 ghost use Rattle.phy_payload.specs.declared.phy.Phy.{Phy};
 ghost use Rattle.phy_payload.specs.declared.data_frame.DataFrame.{DataFrame};
 ghost use Rattle.phy_payload.specs.declared.join.JoinRequest.{JoinRequest};
-ghost use Rattle.phy_payload.specs.Frame.{data_message, request_message, spelling, Fits, IsPhy};
+ghost use Rattle.phy_payload.specs.Frame.{data_mic_input, request_mic_input, spelling, FitsPhy};
+ghost use Rattle.phy_payload.specs.Frame.{IsPhy};
 ghost use Rattle.phy_payload.specs.Reading.{phy_at};
 
 use crate::DataFrame;
@@ -28,29 +29,32 @@ pub fn frames_are_short()
 
 /// The message of which the MIC of a data frame is made has at most 251 bytes.
 #[tactic(auto, using(crate::proofs::Lengths::message_len))]
-pub fn messages_are_short(frame: &DataFrame)
-    ensures { length (data_message frame.now) ≤ 251 }
+pub fn mic_inputs_are_short(frame: &DataFrame)
+    ensures { length (data_mic_input frame.now) ≤ 251 }
 {
     let _ = frame.contents.message();
 }
 
-/// The last four bytes of a data frame or of a Join-Request are its MIC, and those before them the message
-/// that the MIC is made of.
-pub fn a_mic_stands_behind_its_message()
+/// The last four bytes of a data frame or of a Join-Request are its MIC, and those before them the
+/// message that the MIC is made of.
+pub fn a_mic_stands_behind_its_input()
     ensures requests { (bytes : List ℕ) (r : JoinRequest) → IsPhy bytes (Phy.JoinRequest r)
-        → (take (length bytes - 4) bytes ≡ request_message r) × (drop (length bytes - 4) bytes ≡ r.mic.0) }
+        → (take (length bytes - 4) bytes ≡ request_mic_input r)
+        × (drop (length bytes - 4) bytes ≡ r.mic.0) }
     ensures data_frames { (bytes : List ℕ) (d : DataFrame) → IsPhy bytes (Phy.DataFrame d)
-        → (take (length bytes - 4) bytes ≡ data_message d) × (drop (length bytes - 4) bytes ≡ d.mic.0) }
+        → (take (length bytes - 4) bytes ≡ data_mic_input d)
+        × (drop (length bytes - 4) bytes ≡ d.mic.0) }
 {}
 
 /// Reading from left to right gives a frame exactly where the bytes are that frame.
 pub fn reading_is_the_grammar()
-    ensures read { (bytes : List ℕ) (frame : Phy) → IsBytes bytes → phy_at bytes ≡ Ok frame → IsPhy bytes frame }
+    ensures read { (bytes : List ℕ) (frame : Phy) → IsBytes bytes → phy_at bytes ≡ Ok frame
+        → IsPhy bytes frame }
     ensures spelled { (bytes : List ℕ) (frame : Phy) → IsPhy bytes frame → phy_at bytes ≡ Ok frame }
 {}
 
-/// The Join-Requests are the 23 bytes whose MHDR is 0. Their fields are JoinEUI (8), DevEUI (8), DevNonce (2)
-/// and MIC (4), low bytes first (TS001-1.0.4 §4.2, §6.2.5).
+/// The Join-Requests are the 23 bytes whose MHDR is 0. Their fields are JoinEUI (8), DevEUI (8),
+/// DevNonce (2) and MIC (4), low bytes first (TS001-1.0.4 §4.2, §6.2.5).
 pub fn a_join_request_has_23_bytes()
     ensures shape { (bytes : List ℕ) (r : JoinRequest) → IsPhy bytes (Phy.JoinRequest r)
         → (length bytes ≡ 23) × (take 1 bytes ≡ 0 ∷ []) }

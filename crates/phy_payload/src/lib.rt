@@ -12,10 +12,10 @@ mod phy;
 mod read;
 mod write;
 
-pub use contents::{Contents, FOpts, FrmPayload, Message};
+pub use contents::{Contents, FOpts, FrmPayload, PortPayload};
 pub use control::Control;
 pub use data_frame::DataFrame;
 pub use join::{JoinAccept, JoinRequest};
 pub use phy::{Mic, Phy};
 pub use read::decode;
-pub use write::{encode, encode_message};
+pub use write::{encode, encode_mic_input};

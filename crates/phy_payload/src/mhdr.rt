@@ -1,4 +1,5 @@
-// The MHDR of each FType (TS001-1.0.4 §4.2): bits 7 to 5. Bits 4 to 0, which are RFU and Major, are 0.
+// The MHDR of each FType (TS001-1.0.4 §4.2): bits 7 to 5. Bits 4 to 0, which are RFU and Major, are
+// 0.
 
 pub(crate) const JOIN_REQUEST: u8 = 0x00;
 

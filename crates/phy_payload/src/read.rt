@@ -2,12 +2,13 @@
 ghost use Rattle.std.specs.Prelude.{◌≡◌, ◌+◌, ◌≤◌, ◌⊎◌, IfErr, IfOk, MatchResult, OnSome, length};
 ghost use Rattle.lw_types.specs.declared.refusal.Refusal.TheVariants.{OutOfMemory};
 ghost use Rattle.phy_payload.specs.declared.phy.Phy.{Phy};
-ghost use Rattle.phy_payload.specs.Contents.{carried};
+ghost use Rattle.phy_payload.specs.Contents.{carried_contents};
 ghost use Rattle.byte_fields.specs.Reading.{whole, Gives, GivesSeen};
 ghost use Rattle.phy_payload.specs.Frame.{refusal_of, IsPhy, IsSomePhyInMemory, TakesMemory};
-ghost use Rattle.phy_payload.specs.Reading.{accept_at, data_at, head_at, message_of, or_malformed, phy_at, request_at, Reads};
+ghost use Rattle.phy_payload.specs.Reading.{accept_at, data_at, head_at, message_of, or_malformed};
+ghost use Rattle.phy_payload.specs.Reading.{phy_at, request_at, Reads};
 
-use crate::contents::{Contents, FOpts, FrmPayload, Message};
+use crate::contents::{Contents, FOpts, FrmPayload, PortPayload};
 use crate::control::Control;
 use crate::data_frame::DataFrame;
 use crate::join::{JoinAccept, JoinRequest};
@@ -61,11 +62,12 @@ fn read_join_accept(body: &[u8]) -> Option<JoinAccept>
 fn contents_of(alloc: Global, f_opts: &[u8], rest: &[u8]) -> Result<Contents, Refusal>
     requires few { length f_opts.now ≤ 15 }
     requires fits { length f_opts.now + length rest.now ≤ 243 }
-    ensures { MatchResult result (λ c. c ≡ carried f_opts.now (message_of rest.now)) (λ e. e ≡ OutOfMemory) }
+    ensures { MatchResult result (λ c. c ≡ carried_contents f_opts.now (message_of rest.now))
+        (λ e. e ≡ OutOfMemory) }
 {
     let message = match rest.split_first() {
         None => None,
-        Some((f_port, payload)) => Some(Message {
+        Some((f_port, payload)) => Some(PortPayload {
             f_port: *f_port,
             frm_payload: FrmPayload::from_slice(alloc, payload)?,
         }),
@@ -75,17 +77,18 @@ fn contents_of(alloc: Global, f_opts: &[u8], rest: &[u8]) -> Result<Contents, Re
 
 // What stands before FOpts.
 #[derive(Clone, Copy)]
-struct Head {
+struct FrameHead {
     dev_addr: DevAddr,
     f_ctrl: u8,
     f_cnt: u16,
 }
 
-fn read_head(fields: &mut FieldReader<'_>) -> Option<Head>
-    ensures field { GivesSeen (λ head. (head.dev_addr.0, (head.f_ctrl, head.f_cnt))) result fields.new.rest.now (head_at fields.old.rest.now) }
+fn read_head(fields: &mut FieldReader<'_>) -> Option<FrameHead>
+    ensures field { GivesSeen (λ head. (head.dev_addr.0, (head.f_ctrl, head.f_cnt))) result
+        fields.new.rest.now (head_at fields.old.rest.now) }
     ensures left { OnSome result (length fields.new.rest.now + 7 ≡ length fields.old.rest.now) }
 {
-    Some(Head {
+    Some(FrameHead {
         dev_addr: DevAddr(fields.u32_le()?),
         f_ctrl: fields.byte()?,
         f_cnt: fields.u16_le()?,
@@ -148,9 +151,9 @@ fn read_phy(alloc: Global, bytes: &[u8]) -> Result<Phy, Refusal>
 
 /// Reads a frame from its bytes, which are all of the PHYPayload (TS001-1.0.4 §4).
 ///
-/// What is no frame is refused, whether or not there is memory: as `NotServed` where it has 1 to 255 bytes and
-/// an MHDR of FType 6 or 7 whose RFU bits and Major are 0, else as `Malformed`. For want of memory a data frame
-/// is refused as `OutOfMemory`; joins take none.
+/// What is no frame is refused, whether or not there is memory: as `NotServed` where it has 1 to
+/// 255 bytes and an MHDR of FType 6 or 7 whose RFU bits and Major are 0, else as `Malformed`. For
+/// want of memory a data frame is refused as `OutOfMemory`; joins take none.
 pub fn decode(alloc: Global, bytes: &[u8]) -> Result<Phy, Refusal>
     // These bytes are the frame that is read.
     ensures found { IfOk result (λ frame. IsPhy bytes.now frame) }
@@ -158,7 +161,8 @@ pub fn decode(alloc: Global, bytes: &[u8]) -> Result<Phy, Refusal>
     ensures only { (frame : Phy) → IsPhy bytes.now frame
         → MatchResult result (λ found. found ≡ frame) (λ e. (e ≡ OutOfMemory) × TakesMemory frame) }
     // Memory runs out only for a frame that takes some, and else the bytes decide.
-    ensures refused { IfErr result (λ e. ((e ≡ OutOfMemory) × IsSomePhyInMemory bytes.now) ⊎ (e ≡ refusal_of bytes.now)) }
+    ensures refused { IfErr result
+        (λ e. ((e ≡ OutOfMemory) × IsSomePhyInMemory bytes.now) ⊎ (e ≡ refusal_of bytes.now)) }
     // What reading from left to right gives is answered, but where memory runs out for it.
     ensures reads { Reads result (phy_at bytes.now) }
 {

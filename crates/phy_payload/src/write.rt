@@ -3,13 +3,16 @@ ghost use Rattle.std.specs.Prelude.{◌≡◌, ◌<◌, ◌^◌, ◌∷◌, ◌+
 ghost use Rattle.std.specs.Int.{w64, to_le_bytes};
 ghost use Rattle.lw_types.specs.Hex.{IsBytes};
 ghost use Rattle.lw_types.specs.declared.refusal.Refusal.TheVariants.{OutOfMemory};
-ghost use Rattle.phy_payload.specs.Frame.{data_message, data_type, mhdr, port_and_payload, request_message, sealed_bytes, spelling, Fits, IsCarried, IsDataFrame, IsJoinAccept, IsJoinRequest, IsMessage, IsMic, IsPhy};
+ghost use Rattle.phy_payload.specs.Frame.{data_mic_input, data_type, mhdr, port_and_payload};
+ghost use Rattle.phy_payload.specs.Frame.{request_mic_input, sealed_bytes, spelling, FitsPhy};
+ghost use Rattle.phy_payload.specs.Frame.{IsCarried, IsDataFrame, IsJoinAccept, IsJoinRequest};
+ghost use Rattle.phy_payload.specs.Frame.{IsPortPayload, IsMic, IsPhy};
 
-use crate::contents::{Contents, Message};
+use crate::contents::{Contents, PortPayload};
 use crate::control::Control;
 use crate::data_frame::DataFrame;
 use crate::join::{JoinAccept, JoinRequest};
-use crate::laws::messages_are_short;
+use crate::laws::mic_inputs_are_short;
 use crate::mhdr;
 use crate::phy::{Mic, Phy};
 use lw_types::{Eui, Refusal};
@@ -37,7 +40,8 @@ fn put_bytes(out: &mut Vec<u8>, bytes: &[u8]) -> Result<(), AllocError>
 }
 
 fn put_join_request(out: &mut Vec<u8>, request: &JoinRequest) -> Result<(), AllocError>
-    ensures written { OnOk result (out.new.items ≡ out.old.items ++ (request_message request.now ++ request.now.mic.0)) }
+    ensures written { OnOk result
+        (out.new.items ≡ out.old.items ++ (request_mic_input request.now ++ request.now.mic.0)) }
     ensures in_range { OnOk result (IsJoinRequest request.now) }
 {
     out.push(mhdr::JOIN_REQUEST)?;
@@ -49,7 +53,8 @@ fn put_join_request(out: &mut Vec<u8>, request: &JoinRequest) -> Result<(), Allo
 }
 
 fn put_join_accept(out: &mut Vec<u8>, accept: &JoinAccept) -> Result<(), AllocError>
-    ensures written { OnOk result (out.new.items ≡ out.old.items ++ mhdr 1 ∷ sealed_bytes accept.now) }
+    ensures written { OnOk result
+        (out.new.items ≡ out.old.items ++ mhdr 1 ∷ sealed_bytes accept.now) }
     ensures in_range { OnOk result (IsJoinAccept accept.now) }
 {
     out.push(mhdr::JOIN_ACCEPT)?;
@@ -71,9 +76,10 @@ fn data_header(control: Control, confirmed: bool) -> u8
     }
 }
 
-fn put_message(out: &mut Vec<u8>, message: &Message) -> Result<(), AllocError>
-    ensures written { OnOk result (out.new.items ≡ out.old.items ++ message.now.f_port ∷ message.now.frm_payload) }
-    ensures in_range { OnOk result (IsMessage message.now) }
+fn put_message(out: &mut Vec<u8>, message: &PortPayload) -> Result<(), AllocError>
+    ensures written { OnOk result
+        (out.new.items ≡ out.old.items ++ message.now.f_port ∷ message.now.frm_payload) }
+    ensures in_range { OnOk result (IsPortPayload message.now) }
 {
     out.push(message.f_port)?;
     put_bytes(out, message.frm_payload.as_slice())
@@ -81,7 +87,9 @@ fn put_message(out: &mut Vec<u8>, message: &Message) -> Result<(), AllocError>
 
 // FOpts, FPort and FRMPayload.
 fn put_contents(out: &mut Vec<u8>, contents: &Contents) -> Result<(), AllocError>
-    ensures written { OnOk result (out.new.items ≡ out.old.items ++ (contents.now.f_opts ++ port_and_payload contents.now.message)) }
+    ensures written { OnOk result
+        (out.new.items ≡ out.old.items
+        ++ (contents.now.f_opts ++ port_and_payload contents.now.message)) }
     ensures in_range { OnOk result (IsCarried contents.now) }
 {
     put_bytes(out, contents.f_opts())?;
@@ -93,7 +101,7 @@ fn put_contents(out: &mut Vec<u8>, contents: &Contents) -> Result<(), AllocError
 
 // All of a data frame but its MIC.
 fn put_data_message(out: &mut Vec<u8>, frame: &DataFrame) -> Result<(), AllocError>
-    ensures written { OnOk result (out.new.items ≡ out.old.items ++ data_message frame.now) }
+    ensures written { OnOk result (out.new.items ≡ out.old.items ++ data_mic_input frame.now) }
     ensures dev_addr { OnOk result (frame.now.dev_addr.0 < 2 ^ 32) }
     ensures f_cnt { OnOk result (frame.now.f_cnt < 2 ^ 16) }
     ensures contents { OnOk result (IsCarried frame.now.contents) }
@@ -107,7 +115,8 @@ fn put_data_message(out: &mut Vec<u8>, frame: &DataFrame) -> Result<(), AllocErr
 }
 
 fn put_data_frame(out: &mut Vec<u8>, frame: &DataFrame) -> Result<(), AllocError>
-    ensures written { OnOk result (out.new.items ≡ out.old.items ++ (data_message frame.now ++ frame.now.mic.0)) }
+    ensures written { OnOk result
+        (out.new.items ≡ out.old.items ++ (data_mic_input frame.now ++ frame.now.mic.0)) }
     ensures in_range { OnOk result (IsDataFrame frame.now) }
 {
     put_data_message(out, frame)?;
@@ -118,7 +127,7 @@ fn put_data_frame(out: &mut Vec<u8>, frame: &DataFrame) -> Result<(), AllocError
 #[tactic(auto, unfolding(crate::specs::Frame::spelling))]
 fn put_frame(out: &mut Vec<u8>, frame: &Phy) -> Result<(), AllocError>
     ensures written { OnOk result (out.new.items ≡ out.old.items ++ spelling frame.now) }
-    ensures in_range { OnOk result (Fits frame.now) }
+    ensures in_range { OnOk result (FitsPhy frame.now) }
 {
     match frame {
         Phy::JoinRequest(request) => put_join_request(out, request),
@@ -127,27 +136,28 @@ fn put_frame(out: &mut Vec<u8>, frame: &Phy) -> Result<(), AllocError>
     }
 }
 
-/// Appends the message of a data frame, which is what its MIC is made of: all of its bytes but the last four.
-/// They are at most 251. The MIC that the frame has isn't looked at. For want of memory it is refused as
-/// `OutOfMemory`, and then nothing is appended.
-pub fn encode_message(alloc: Global, frame: &DataFrame, out: &mut Vec<u8>) -> Result<(), Refusal>
+/// Appends the message of a data frame, which is what its MIC is made of: all of its bytes but the
+/// last four. They are at most 251. The MIC that the frame has isn't looked at. For want of memory
+/// it is refused as `OutOfMemory`, and then nothing is appended.
+pub fn encode_mic_input(alloc: Global, frame: &DataFrame, out: &mut Vec<u8>) -> Result<(), Refusal>
     ensures written { MatchResult result
-        (λ _. out.new.items ≡ out.old.items ++ data_message frame.now)
+        (λ _. out.new.items ≡ out.old.items ++ data_mic_input frame.now)
         (λ e. (e ≡ OutOfMemory) × (out.new.items ≡ out.old.items)) }
-    ensures short { OnOk result (length (data_message frame.now) ≤ 251) }
+    ensures short { OnOk result (length (data_mic_input frame.now) ≤ 251) }
 {
-    messages_are_short(frame);
+    mic_inputs_are_short(frame);
     let mut bytes = Vec::new(alloc);
     put_data_message(&mut bytes, frame)?;
     out.extend_from_slice(bytes.as_slice())?;
     Ok(())
 }
 
-/// Appends the bytes of a frame, its one spelling of 12 to 255 bytes. For want of memory it is refused as
-/// `OutOfMemory`, and then nothing is appended.
+/// Appends the bytes of a frame, its one spelling of 12 to 255 bytes. For want of memory it is
+/// refused as `OutOfMemory`, and then nothing is appended.
 pub fn encode(alloc: Global, frame: &Phy, out: &mut Vec<u8>) -> Result<(), Refusal>
     ensures { MatchResult result
-        (λ _. IsPhy (spelling frame.now) frame.now × (out.new.items ≡ out.old.items ++ spelling frame.now))
+        (λ _. IsPhy (spelling frame.now) frame.now
+        × (out.new.items ≡ out.old.items ++ spelling frame.now))
         (λ e. (e ≡ OutOfMemory) × (out.new.items ≡ out.old.items)) }
 {
     let mut bytes = Vec::new(alloc);

@@ -11,8 +11,8 @@ use Rattle.devices.specs.declared.activation.CurrentSession.{CurrentSession}
 use Rattle.devices.specs.declared.device.Device.{Device}
 use Rattle.devices.specs.declared.queue.Item.{Item}
 use Rattle.devices.specs.Activation.{Grants}
-use Rattle.byte_fields.specs.Spelling.{counted, flag, optional}
-use Rattle.record_codec.specs.DeviceRecord.{activation, awaited, current_session, dev_nonce, granted, head, item, item_queue, session, spelling, AreGrants, IsCurrentSession, IsDevice, IsItem, IsSession}
+use Rattle.byte_fields.specs.Spelling.{counted_bytes, flag, optional}
+use Rattle.record_codec.specs.DeviceRecord.{activation, awaited_bytes, current_session, dev_nonce, granted_bytes, head, item, item_queue, session, spelling, AreGrants, IsCurrentSession, IsDevice, IsItem, IsSession}
 
 abbrev Has : ℕ → ℕ → List ℕ → Type 0
 Has least most bytes = (least ≤ length bytes) × (length bytes ≤ most)
@@ -34,11 +34,11 @@ has_dev_nonce : (o : Option ℕ) → Has 3 3 (dev_nonce o)
 has_dev_nonce None = (omega arith, omega arith)
 has_dev_nonce (Some n) = (omega arith, omega arith)
 
-has_awaited : (o : Option Tag) → Has 5 5 (awaited o)
+has_awaited : (o : Option Tag) → Has 5 5 (awaited_bytes o)
 has_awaited None = (omega arith, omega arith)
 has_awaited (Some tag) = (omega arith, omega arith)
 
-has_granted : (o : Option ℕ) → Has 3 3 (granted o)
+has_granted : (o : Option ℕ) → Has 3 3 (granted_bytes o)
 has_granted None = (omega arith, omega arith)
 has_granted (Some n) = (omega arith, omega arith)
 
@@ -62,17 +62,17 @@ has_optional_session (Some s) h = let k = has_session s h in let k0 = k.0 in let
 
 has_activation : (g : Grants) → AreGrants g → Has 5 87 (activation g)
 has_activation g h =
-    has-append 3 3 2 84 (granted g.granted) (optional current_session g.current ++ optional session g.pending) (has_granted g.granted)
+    has-append 3 3 2 84 (granted_bytes g.granted) (optional current_session g.current ++ optional session g.pending) (has_granted g.granted)
     (has-append 1 48 1 36 (optional current_session g.current) (optional session g.pending) (has_optional_current g.current h.current) (has_optional_session g.pending h.pending))
 
-has_counted : (bytes : List ℕ) (most : ℕ) → length bytes ≤ most → Has 1 (1 + most) (counted bytes)
+has_counted : (bytes : List ℕ) (most : ℕ) → length bytes ≤ most → Has 1 (1 + most) (counted_bytes bytes)
 has_counted bytes most le = (omega arith, omega arith)
 
 has_item : (i : Item) → IsItem i → Has 7 249 (item i)
 has_item i h =
-    has-append 4 4 3 245 (to_be_bytes w32 i.tag.0) (i.port ∷ [] ++ (flag i.confirmed ++ counted i.payload)) (omega arith, omega arith)
-    (has-append 1 1 2 244 (i.port ∷ []) (flag i.confirmed ++ counted i.payload) (omega arith, omega arith)
-    (has-append 1 1 1 243 (flag i.confirmed) (counted i.payload) (has_flag i.confirmed) (has_counted i.payload 242 h.payload.1)))
+    has-append 4 4 3 245 (to_be_bytes w32 i.tag.0) (i.port ∷ [] ++ (flag i.confirmed ++ counted_bytes i.payload)) (omega arith, omega arith)
+    (has-append 1 1 2 244 (i.port ∷ []) (flag i.confirmed ++ counted_bytes i.payload) (omega arith, omega arith)
+    (has-append 1 1 1 243 (flag i.confirmed) (counted_bytes i.payload) (has_flag i.confirmed) (has_counted i.payload 242 h.payload.1)))
 
 items_most : (items : List Item) → AllByRecursion IsItem items → length (flat_map item items) ≤ 249 * length items
 items_most [] h = omega arith
@@ -95,8 +95,8 @@ has_head d h =
 pub has_spelling : (d : Device) → IsDevice d → Has 50 4180 (spelling d)
 unfolding spelling
 has_spelling d h =
-    has-append 35 35 15 4145 (head d) (dev_nonce d.last_dev_nonce ++ (activation d.activation ++ (awaited d.awaited ++ (counted d.mac_queue ++ item_queue d.items)))) (has_head d h)
-    (has-append 3 3 12 4142 (dev_nonce d.last_dev_nonce) (activation d.activation ++ (awaited d.awaited ++ (counted d.mac_queue ++ item_queue d.items))) (has_dev_nonce d.last_dev_nonce)
-    (has-append 5 87 7 4055 (activation d.activation) (awaited d.awaited ++ (counted d.mac_queue ++ item_queue d.items)) (has_activation d.activation h.activation)
-    (has-append 5 5 2 4050 (awaited d.awaited) (counted d.mac_queue ++ item_queue d.items) (has_awaited d.awaited)
-    (has-append 1 65 1 3985 (counted d.mac_queue) (item_queue d.items) (has_counted d.mac_queue 64 h.mac_queue.1) (has_items d.items h.items.0 h.items.1)))))
+    has-append 35 35 15 4145 (head d) (dev_nonce d.last_dev_nonce ++ (activation d.activation ++ (awaited_bytes d.awaited ++ (counted_bytes d.mac_queue ++ item_queue d.items)))) (has_head d h)
+    (has-append 3 3 12 4142 (dev_nonce d.last_dev_nonce) (activation d.activation ++ (awaited_bytes d.awaited ++ (counted_bytes d.mac_queue ++ item_queue d.items))) (has_dev_nonce d.last_dev_nonce)
+    (has-append 5 87 7 4055 (activation d.activation) (awaited_bytes d.awaited ++ (counted_bytes d.mac_queue ++ item_queue d.items)) (has_activation d.activation h.activation)
+    (has-append 5 5 2 4050 (awaited_bytes d.awaited) (counted_bytes d.mac_queue ++ item_queue d.items) (has_awaited d.awaited)
+    (has-append 1 65 1 3985 (counted_bytes d.mac_queue) (item_queue d.items) (has_counted d.mac_queue 64 h.mac_queue.1) (has_items d.items h.items.0 h.items.1)))))

@@ -6,16 +6,16 @@ use Rattle.std.specs.Int.{Width, w16, w32, w64, to_be_bytes}
 use Rattle.std.proofs.lemmas.Bool.{and_from, and_parts, both_ways, cases_Bool, cond-true, cond-false, eqb-true, le-leb, leb-true, lt-ltb, ltb-true}
 use Rattle.lw_types.specs.declared.key.Key.{Key}
 use Rattle.byte_fields.specs.Field.{IsField}
-use Rattle.byte_fields.specs.Reading.{both, seen_as, that, be_at, flag_at, key_at, optional_at, three_bytes_at}
+use Rattle.byte_fields.specs.Reading.{both, seen_as, that, be_at, flag_at, key_at, optional_at, three_be_bytes_at}
 use Rattle.byte_fields.specs.Spelling.{flag, optional}
 use Rattle.byte_fields.specs.FieldLemmas.{same_field, both_field, seen_field, that_field, flag_field, optional_field}
-use Rattle.byte_fields.specs.NumberLemmas.{Below, key_field, three_bytes_field, u16_be_field, u32_be_field, u64_be_field}
+use Rattle.byte_fields.specs.NumberLemmas.{Below, key_field, three_be_bytes_field, u16_be_field, u32_be_field, u64_be_field}
 use Rattle.devices.specs.declared.Tag.{Tag}
 use Rattle.devices.specs.declared.activation.Session.{Session}
 use Rattle.devices.specs.declared.activation.CurrentSession.{CurrentSession}
 use Rattle.devices.specs.Activation.{Grants, AreInOrder, current_nonce}
-use Rattle.record_codec.specs.DeviceRecord.{nonce, flagged_number, dev_nonce, awaited, granted, session, current_session, activation, IsKey, IsJoinNonce, IsSession, IsCurrentSession, AreGrants}
-use Rattle.record_codec.specs.Reading.{flagged, is_plain, flagged_at, awaited_at, is_join_nonce, granted_nonce, session_of, session_at, current_of, current_at, grants_of, are_in_order, activation_at}
+use Rattle.record_codec.specs.DeviceRecord.{nonce, flagged_number, dev_nonce, awaited_bytes, granted_bytes, session, current_session, activation, IsKey, IsJoinNonce, IsSession, IsCurrentSession, AreGrants}
+use Rattle.record_codec.specs.Reading.{flagged_value, is_plain, flagged_at, awaited_at, is_join_nonce, granted_nonce, session_of, session_at, current_of, current_at, grants_of, are_in_order, activation_at}
 
 -- ---- a number behind a flag
 
@@ -23,11 +23,11 @@ use Rattle.record_codec.specs.Reading.{flagged, is_plain, flagged_at, awaited_at
 abbrev IsFlagged : ℕ → Bool × ℕ → Type 0
 IsFlagged limit x = (Unit {0} × Below limit x.1) × (is_plain x ≡ true)
 
-flagged_back : (w : Width) (limit : ℕ) (x : Bool × ℕ) → IsFlagged limit x → IfSome (flagged x) (Below limit) × (flagged_number w (flagged x) ≡ flag x.0 ++ to_be_bytes w x.1)
+flagged_back : (w : Width) (limit : ℕ) (x : Bool × ℕ) → IsFlagged limit x → IfSome (flagged_value x) (Below limit) × (flagged_number w (flagged_value x) ≡ flag x.0 ++ to_be_bytes w x.1)
 flagged_back w limit (true, n) h = (h.0.1, refl)
 flagged_back w limit (false, n) h = let none : 0 ≡ n = sym (eqb-true n 0 h.1) in (tt, ap (λ (k : ℕ). 0 ∷ to_be_bytes w k) none)
 
-flagged_forth : (w : Width) (limit : ℕ) → 0 < limit → (o : Option ℕ) → IfSome o (Below limit) → (x : Bool × ℕ) × IsFlagged limit x × (flagged x ≡ o) × (flagged_number w o ≡ flag x.0 ++ to_be_bytes w x.1)
+flagged_forth : (w : Width) (limit : ℕ) → 0 < limit → (o : Option ℕ) → IfSome o (Below limit) → (x : Bool × ℕ) × IsFlagged limit x × (flagged_value x ≡ o) × (flagged_number w o ≡ flag x.0 ++ to_be_bytes w x.1)
 flagged_forth w limit some None h = ((false, 0), ((tt, some), refl), refl, refl)
 flagged_forth w limit some (Some n) h = ((true, n), ((tt, h), refl), refl, refl)
 
@@ -37,7 +37,7 @@ flagged_field w limit some field =
     seen_field (IsFlagged limit) (λ x. flag x.0 ++ to_be_bytes w x.1) (that is_plain (both flag_at (be_at w)))
     (that_field (λ (x : Bool × ℕ). Unit {0} × Below limit x.1) (λ x. flag x.0 ++ to_be_bytes w x.1) (both flag_at (be_at w))
     (both_field (λ (f : Bool). Unit {0}) flag flag_at (Below limit) (to_be_bytes w) (be_at w) flag_field field) is_plain)
-    flagged (λ o. IfSome o (Below limit)) (flagged_number w) (flagged_back w limit) (flagged_forth w limit some)
+    flagged_value (λ o. IfSome o (Below limit)) (flagged_number w) (flagged_back w limit) (flagged_forth w limit some)
 
 pub dev_nonce_field : IsField (λ o. IfSome o (Below (2 ^ 16))) dev_nonce (flagged_at w16)
 dev_nonce_field = flagged_field w16 (2 ^ 16) (omega arith) u16_be_field
@@ -45,17 +45,17 @@ dev_nonce_field = flagged_field w16 (2 ^ 16) (omega arith) u16_be_field
 abbrev IsTag : Option Tag → Type 0
 IsTag o = IfSome o (λ tag. tag.0 < 2 ^ 32)
 
-tag_back : (o : Option ℕ) → IfSome o (Below (2 ^ 32)) → IsTag (option_map (λ n. record { 0 = n }) o) × (awaited (option_map (λ n. record { 0 = n }) o) ≡ flagged_number w32 o)
+tag_back : (o : Option ℕ) → IfSome o (Below (2 ^ 32)) → IsTag (option_map (λ n. record { 0 = n }) o) × (awaited_bytes (option_map (λ n. record { 0 = n }) o) ≡ flagged_number w32 o)
 tag_back None h = (tt, refl)
 tag_back (Some n) h = (h, refl)
 
-tag_forth : (o : Option Tag) → IsTag o → (n : Option ℕ) × IfSome n (Below (2 ^ 32)) × (option_map (λ k. record { 0 = k }) n ≡ o) × (awaited o ≡ flagged_number w32 n)
+tag_forth : (o : Option Tag) → IsTag o → (n : Option ℕ) × IfSome n (Below (2 ^ 32)) × (option_map (λ k. record { 0 = k }) n ≡ o) × (awaited_bytes o ≡ flagged_number w32 n)
 tag_forth None h = (None, tt, refl, refl)
 tag_forth (Some tag) h = (Some tag.0, h, refl, refl)
 
-pub awaited_field : IsField (λ o. IfSome o (λ tag. tag.0 < 2 ^ 32)) awaited awaited_at
+pub awaited_field : IsField (λ o. IfSome o (λ tag. tag.0 < 2 ^ 32)) awaited_bytes awaited_at
 awaited_field =
-    seen_field (λ o. IfSome o (Below (2 ^ 32))) (flagged_number w32) (flagged_at w32) (flagged_field w32 (2 ^ 32) (omega arith) u32_be_field) (option_map (λ n. record { 0 = n })) IsTag awaited tag_back tag_forth
+    seen_field (λ o. IfSome o (Below (2 ^ 32))) (flagged_number w32) (flagged_at w32) (flagged_field w32 (2 ^ 32) (omega arith) u32_be_field) (option_map (λ n. record { 0 = n })) IsTag awaited_bytes tag_back tag_forth
 
 -- ---- sessions
 
@@ -65,10 +65,10 @@ nonce_test n h = and_from (ltb 0 n) (ltb n (2 ^ 24)) (lt-ltb 0 n h.0) (lt-ltb n 
 nonce_fact : (n : ℕ) → is_join_nonce n ≡ true → IsJoinNonce n
 nonce_fact n h = let p = and_parts (ltb 0 n) (ltb n (2 ^ 24)) h in (ltb-true 0 n p.0, ltb-true n (2 ^ 24) p.1)
 
-join_nonce_field : IsField IsJoinNonce nonce (that is_join_nonce three_bytes_at)
+join_nonce_field : IsField IsJoinNonce nonce (that is_join_nonce three_be_bytes_at)
 join_nonce_field =
-    same_field (λ n. Below (2 ^ 24) n × (is_join_nonce n ≡ true)) IsJoinNonce nonce (that is_join_nonce three_bytes_at)
-    (that_field (Below (2 ^ 24)) nonce three_bytes_at three_bytes_field is_join_nonce)
+    same_field (λ n. Below (2 ^ 24) n × (is_join_nonce n ≡ true)) IsJoinNonce nonce (that is_join_nonce three_be_bytes_at)
+    (that_field (Below (2 ^ 24)) nonce three_be_bytes_at three_be_bytes_field is_join_nonce)
     (λ n h. nonce_fact n h.1)
     (λ n h. (h.1, nonce_test n h))
 
@@ -76,7 +76,7 @@ no_nonce : (n : ℕ) → n < 2 ^ 24 → is_join_nonce n ≡ false → 0 ≡ n
 no_nonce zero lt other = refl
 no_nonce (suc n) lt other = absurd (both_ways (is_join_nonce (suc n)) other (nonce_test (suc n) (omega arith, lt)))
 
-granted_back : (n : ℕ) → n < 2 ^ 24 → IfSome (granted_nonce n) IsJoinNonce × (granted (granted_nonce n) ≡ nonce n)
+granted_back : (n : ℕ) → n < 2 ^ 24 → IfSome (granted_nonce n) IsJoinNonce × (granted_bytes (granted_nonce n) ≡ nonce n)
 granted_back n lt =
     elim (cases_Bool (is_join_nonce n)) [
       | inl is ↦ rw (cond-true (is_join_nonce n) (Some n) None is) (nonce_fact n is, refl)
@@ -86,18 +86,18 @@ granted_back n lt =
           rw none (tt, ap nonce zero-is)
     ]
 
-granted_forth : (o : Option ℕ) → IfSome o IsJoinNonce → (n : ℕ) × Below (2 ^ 24) n × (granted_nonce n ≡ o) × (granted o ≡ nonce n)
+granted_forth : (o : Option ℕ) → IfSome o IsJoinNonce → (n : ℕ) × Below (2 ^ 24) n × (granted_nonce n ≡ o) × (granted_bytes o ≡ nonce n)
 granted_forth None h = (0, omega arith, refl, refl)
 granted_forth (Some n) h = (n, h.1, cond-true (is_join_nonce n) (Some n) None (nonce_test n h), refl)
 
-granted_field : IsField (λ o. IfSome o IsJoinNonce) granted (seen_as granted_nonce three_bytes_at)
-granted_field = seen_field (Below (2 ^ 24)) nonce three_bytes_at three_bytes_field granted_nonce (λ o. IfSome o IsJoinNonce) granted granted_back granted_forth
+granted_field : IsField (λ o. IfSome o IsJoinNonce) granted_bytes (seen_as granted_nonce three_be_bytes_at)
+granted_field = seen_field (Below (2 ^ 24)) nonce three_be_bytes_at three_be_bytes_field granted_nonce (λ o. IfSome o IsJoinNonce) granted_bytes granted_back granted_forth
 
 pub session_field : IsField IsSession session session_at
 unfolding session_at
 session_field =
-    seen_field (λ (x : ℕ × (Key × Key)). IsJoinNonce x.0 × (IsKey x.1.0 × IsKey x.1.1)) (λ x. nonce x.0 ++ (x.1.0.0 ++ x.1.1.0)) (both (that is_join_nonce three_bytes_at) (both key_at key_at))
-    (both_field IsJoinNonce nonce (that is_join_nonce three_bytes_at) (λ (k : Key × Key). IsKey k.0 × IsKey k.1) (λ k. k.0.0 ++ k.1.0) (both key_at key_at) join_nonce_field
+    seen_field (λ (x : ℕ × (Key × Key)). IsJoinNonce x.0 × (IsKey x.1.0 × IsKey x.1.1)) (λ x. nonce x.0 ++ (x.1.0.0 ++ x.1.1.0)) (both (that is_join_nonce three_be_bytes_at) (both key_at key_at))
+    (both_field IsJoinNonce nonce (that is_join_nonce three_be_bytes_at) (λ (k : Key × Key). IsKey k.0 × IsKey k.1) (λ k. k.0.0 ++ k.1.0) (both key_at key_at) join_nonce_field
     (both_field IsKey (λ k. k.0) key_at IsKey (λ k. k.0) key_at key_field key_field))
     session_of IsSession session
     (λ x h. (record { join_nonce = h.0; nwk_skey = h.1.0; app_skey = h.1.1 }, refl))
@@ -154,7 +154,7 @@ abbrev AreParts : Option ℕ × (Option CurrentSession × Option Session) → Ty
 AreParts x = IfSome x.0 IsJoinNonce × (IfSome x.1.0 IsCurrentSession × IfSome x.1.1 IsSession)
 
 abbrev part_text : Option ℕ × (Option CurrentSession × Option Session) → List ℕ
-part_text x = granted x.0 ++ (optional current_session x.1.0 ++ optional session x.1.1)
+part_text x = granted_bytes x.0 ++ (optional current_session x.1.0 ++ optional session x.1.1)
 
 abbrev ArePartsOf : Grants → Type 0
 ArePartsOf g = AreParts (g.granted, (g.current, g.pending))
@@ -162,10 +162,10 @@ ArePartsOf g = AreParts (g.granted, (g.current, g.pending))
 pub activation_field : IsField AreGrants activation activation_at
 unfolding activation_at
 activation_field =
-    same_field (λ g. ArePartsOf g × (are_in_order g ≡ true)) AreGrants activation (that are_in_order (seen_as grants_of (both (seen_as granted_nonce three_bytes_at) (both (optional_at current_at) (optional_at session_at)))))
-    (that_field ArePartsOf activation (seen_as grants_of (both (seen_as granted_nonce three_bytes_at) (both (optional_at current_at) (optional_at session_at))))
-    (seen_field AreParts part_text (both (seen_as granted_nonce three_bytes_at) (both (optional_at current_at) (optional_at session_at)))
-    (both_field (λ o. IfSome o IsJoinNonce) granted (seen_as granted_nonce three_bytes_at) (λ (x : Option CurrentSession × Option Session). IfSome x.0 IsCurrentSession × IfSome x.1 IsSession) (λ x. optional current_session x.0 ++ optional session x.1) (both (optional_at current_at) (optional_at session_at)) granted_field
+    same_field (λ g. ArePartsOf g × (are_in_order g ≡ true)) AreGrants activation (that are_in_order (seen_as grants_of (both (seen_as granted_nonce three_be_bytes_at) (both (optional_at current_at) (optional_at session_at)))))
+    (that_field ArePartsOf activation (seen_as grants_of (both (seen_as granted_nonce three_be_bytes_at) (both (optional_at current_at) (optional_at session_at))))
+    (seen_field AreParts part_text (both (seen_as granted_nonce three_be_bytes_at) (both (optional_at current_at) (optional_at session_at)))
+    (both_field (λ o. IfSome o IsJoinNonce) granted_bytes (seen_as granted_nonce three_be_bytes_at) (λ (x : Option CurrentSession × Option Session). IfSome x.0 IsCurrentSession × IfSome x.1 IsSession) (λ x. optional current_session x.0 ++ optional session x.1) (both (optional_at current_at) (optional_at session_at)) granted_field
     (both_field (λ o. IfSome o IsCurrentSession) (optional current_session) (optional_at current_at) (λ o. IfSome o IsSession) (optional session) (optional_at session_at)
     (optional_field IsCurrentSession current_session current_at current_field) (optional_field IsSession session session_at session_field)))
     grants_of ArePartsOf activation

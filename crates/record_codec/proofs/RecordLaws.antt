@@ -11,7 +11,7 @@ use Rattle.lw_types.specs.declared.refusal.Refusal.{Refusal}
 use Rattle.lw_types.specs.declared.refusal.Refusal.TheVariants.{OutOfMemory, Damaged}
 use Rattle.byte_fields.specs.Field.{IsField}
 use Rattle.byte_fields.specs.Reading.{◌>>=◌, both, that, be_at, be_eui_at, byte_at, counted_at, flag_at, key_at, ranged_at}
-use Rattle.byte_fields.specs.Spelling.{flag, counted}
+use Rattle.byte_fields.specs.Spelling.{flag, counted_bytes}
 use Rattle.byte_fields.specs.FieldLemmas.{IsBytes-after, bind_some, both_field, counted_field, flag_field, same_field, seen_field, some_is, that_field, whole_again, whole_takes}
 use Rattle.byte_fields.specs.NumberLemmas.{Below, Between, IsEui, be_eui_field, key_field, ranged_field, u32_be_field}
 use Rattle.mac_commands.specs.Queueable.{AreQueueable}
@@ -20,7 +20,7 @@ use Rattle.devices.specs.declared.device.Device.{Device}
 use Rattle.devices.specs.declared.queue.Item.{Item}
 use Rattle.devices.specs.declared.mac_queue.TheConstants.MacQueue.{MOST as LONGEST_MAC_QUEUE}
 use Rattle.devices.specs.declared.queue.TheConstants.ItemQueue.{MOST as MOST_ITEMS}
-use Rattle.record_codec.specs.DeviceRecord.{activation, awaited, dev_nonce, item, item_queue, spelling, AreGrants, HeadIsInRange, IsDevice, IsItem, IsKey, IsSomeRecord}
+use Rattle.record_codec.specs.DeviceRecord.{activation, awaited_bytes, dev_nonce, item, item_queue, spelling, AreGrants, HeadIsInRange, IsDevice, IsItem, IsKey, IsSomeRecord}
 use Rattle.record_codec.specs.Reading.{activation_at, awaited_at, device_at, device_of, flagged_at, head_at, item_at, item_of, item_queue_at, items_at, mac_queue_at, payload_at, record_at, Fields, Head, IsNoRecord}
 use Rattle.record_codec.proofs.RecordFields.{activation_field, awaited_field, dev_nonce_field}
 
@@ -32,10 +32,10 @@ IsPayload bytes = IsBytes bytes × (length bytes ≤ LONGEST_PAYLOAD)
 abbrev IsCounted : List ℕ → Type 0
 IsCounted bytes = IsBytes bytes × (length bytes < 256)
 
-payload_field : IsField IsPayload counted payload_at
+payload_field : IsField IsPayload counted_bytes payload_at
 payload_field =
-    same_field (λ bytes. IsCounted bytes × (nat_le (length bytes) LONGEST_PAYLOAD ≡ true)) IsPayload counted payload_at
-    (that_field IsCounted counted counted_at counted_field (λ bytes. nat_le (length bytes) LONGEST_PAYLOAD))
+    same_field (λ bytes. IsCounted bytes × (nat_le (length bytes) LONGEST_PAYLOAD ≡ true)) IsPayload counted_bytes payload_at
+    (that_field IsCounted counted_bytes counted_at counted_field (λ bytes. nat_le (length bytes) LONGEST_PAYLOAD))
     (λ bytes h. (h.0.0, leb-true (length bytes) LONGEST_PAYLOAD h.1))
     (λ bytes h. let le = h.1 in ((h.0, omega arith), le-leb (length bytes) LONGEST_PAYLOAD h.1))
 
@@ -43,10 +43,10 @@ payload_field =
 abbrev IsQueue : List ℕ → Type 0
 IsQueue bytes = IsBytes bytes × (length bytes ≤ LONGEST_MAC_QUEUE)
 
-mac_queue_field : IsField IsQueue counted mac_queue_at
+mac_queue_field : IsField IsQueue counted_bytes mac_queue_at
 mac_queue_field =
-    same_field (λ bytes. IsCounted bytes × (nat_le (length bytes) LONGEST_MAC_QUEUE ≡ true)) IsQueue counted mac_queue_at
-    (that_field IsCounted counted counted_at counted_field (λ bytes. nat_le (length bytes) LONGEST_MAC_QUEUE))
+    same_field (λ bytes. IsCounted bytes × (nat_le (length bytes) LONGEST_MAC_QUEUE ≡ true)) IsQueue counted_bytes mac_queue_at
+    (that_field IsCounted counted_bytes counted_at counted_field (λ bytes. nat_le (length bytes) LONGEST_MAC_QUEUE))
     (λ bytes h. (h.0.0, leb-true (length bytes) LONGEST_MAC_QUEUE h.1))
     (λ bytes h. let le = h.1 in ((h.0, omega arith), le-leb (length bytes) LONGEST_MAC_QUEUE h.1))
 
@@ -54,13 +54,13 @@ abbrev IsItemParts : ℕ × (ℕ × (Bool × List ℕ)) → Type 0
 IsItemParts x = Below (2 ^ 32) x.0 × (Between 1 223 x.1.0 × (Unit {0} × IsPayload x.1.1.1))
 
 abbrev item_text : ℕ × (ℕ × (Bool × List ℕ)) → List ℕ
-item_text x = to_be_bytes w32 x.0 ++ (x.1.0 ∷ [] ++ (flag x.1.1.0 ++ counted x.1.1.1))
+item_text x = to_be_bytes w32 x.0 ++ (x.1.0 ∷ [] ++ (flag x.1.1.0 ++ counted_bytes x.1.1.1))
 
 item_parts_field : IsField IsItemParts item_text (both (be_at w32) (both (ranged_at 1 223) (both flag_at payload_at)))
 item_parts_field =
-    both_field (Below (2 ^ 32)) (to_be_bytes w32) (be_at w32) (λ (x : ℕ × (Bool × List ℕ)). Between 1 223 x.0 × (Unit {0} × IsPayload x.1.1)) (λ x. x.0 ∷ [] ++ (flag x.1.0 ++ counted x.1.1)) (both (ranged_at 1 223) (both flag_at payload_at)) u32_be_field
-    (both_field (Between 1 223) (λ n. n ∷ []) (ranged_at 1 223) (λ (x : Bool × List ℕ). Unit {0} × IsPayload x.1) (λ x. flag x.0 ++ counted x.1) (both flag_at payload_at) (ranged_field 1 223 (omega arith))
-    (both_field (λ (f : Bool). Unit {0}) flag flag_at IsPayload counted payload_at flag_field payload_field))
+    both_field (Below (2 ^ 32)) (to_be_bytes w32) (be_at w32) (λ (x : ℕ × (Bool × List ℕ)). Between 1 223 x.0 × (Unit {0} × IsPayload x.1.1)) (λ x. x.0 ∷ [] ++ (flag x.1.0 ++ counted_bytes x.1.1)) (both (ranged_at 1 223) (both flag_at payload_at)) u32_be_field
+    (both_field (Between 1 223) (λ n. n ∷ []) (ranged_at 1 223) (λ (x : Bool × List ℕ). Unit {0} × IsPayload x.1) (λ x. flag x.0 ++ counted_bytes x.1) (both flag_at payload_at) (ranged_field 1 223 (omega arith))
+    (both_field (λ (f : Bool). Unit {0}) flag flag_at IsPayload counted_bytes payload_at flag_field payload_field))
 
 item_field : IsField IsItem item item_at
 unfolding item_at
@@ -140,15 +140,15 @@ abbrev AreFields : Fields → Type 0
 AreFields x = IsHead x.0 × (IsNonce x.1.0 × (AreGrants x.1.1.0 × (IsTag x.1.1.1.0 × (IsQueue x.1.1.1.1.0 × AreItems x.1.1.1.1.1))))
 
 abbrev fields_text : Fields → List ℕ
-fields_text x = head_text x.0 ++ (dev_nonce x.1.0 ++ (activation x.1.1.0 ++ (awaited x.1.1.1.0 ++ (counted x.1.1.1.1.0 ++ item_queue x.1.1.1.1.1))))
+fields_text x = head_text x.0 ++ (dev_nonce x.1.0 ++ (activation x.1.1.0 ++ (awaited_bytes x.1.1.1.0 ++ (counted_bytes x.1.1.1.1.0 ++ item_queue x.1.1.1.1.1))))
 
 fields_field : IsField AreFields fields_text (both head_at (both (flagged_at w16) (both activation_at (both awaited_at (both mac_queue_at item_queue_at)))))
 fields_field =
     both_field IsHead head_text head_at _ _ _ head_field
     (both_field IsNonce dev_nonce (flagged_at w16) _ _ _ dev_nonce_field
     (both_field AreGrants activation activation_at _ _ _ activation_field
-    (both_field IsTag awaited awaited_at _ _ _ awaited_field
-    (both_field IsQueue counted mac_queue_at AreItems item_queue item_queue_at mac_queue_field item_queue_field))))
+    (both_field IsTag awaited_bytes awaited_at _ _ _ awaited_field
+    (both_field IsQueue counted_bytes mac_queue_at AreItems item_queue item_queue_at mac_queue_field item_queue_field))))
 
 -- a device, whatever commands wait for it
 pub record IsInRange (d : Device) : Type 0 where

@@ -1,10 +1,11 @@
 -- The layout of a device record: numbers with the highest byte first, one field after another.
-use Rattle.std.specs.Prelude.{◌≡◌, ℕ, ◌^◌, ◌<◌, ◌≤◌, Bool, false, true, List, [], ◌∷◌, ◌++◌, length, Option, Some, None, option_map, IfSome}
+use Rattle.std.specs.Prelude.{◌≡◌, ℕ, ◌^◌, ◌<◌, ◌≤◌, Bool, false, true, List, [], ◌∷◌, ◌++◌, length}
+use Rattle.std.specs.Prelude.{Option, Some, None, option_map, IfSome}
 use Rattle.std.specs.List.{flat_map, AllByRecursion}
 use Rattle.std.specs.Int.{Width, w16, w32, w64, to_be_bytes}
 use Rattle.lw_types.specs.Hex.{IsBytes}
 use Rattle.lw_types.specs.declared.payload.TheConstants.{LONGEST_PAYLOAD}
-use Rattle.byte_fields.specs.Spelling.{flag, three_bytes, counted, optional}
+use Rattle.byte_fields.specs.Spelling.{flag, three_be_bytes, counted_bytes, optional}
 use Rattle.lw_types.specs.declared.key.Key.{Key}
 use Rattle.devices.specs.declared.Tag.{Tag}
 use Rattle.devices.specs.declared.activation.Session.{Session}
@@ -20,7 +21,7 @@ use Rattle.mac_commands.specs.Queueable.{AreQueueable}
 
 -- three bytes
 abbrev pub nonce : ℕ → List ℕ
-nonce n = three_bytes n
+nonce n = three_be_bytes n
 
 -- a flag and a number, which is 0 where none is there
 abbrev pub flagged_number : Width → Option ℕ → List ℕ
@@ -30,13 +31,13 @@ flagged_number w (Some n) = 1 ∷ to_be_bytes w n
 abbrev pub dev_nonce : Option ℕ → List ℕ
 dev_nonce o = flagged_number w16 o
 
-abbrev pub awaited : Option Tag → List ℕ
-awaited o = flagged_number w32 (option_map (λ tag. tag.0) o)
+abbrev pub awaited_bytes : Option Tag → List ℕ
+awaited_bytes o = flagged_number w32 (option_map (λ tag. tag.0) o)
 
 -- three bytes, which are 0 where nothing was granted
-abbrev pub granted : Option ℕ → List ℕ
-granted None = nonce 0
-granted (Some n) = nonce n
+abbrev pub granted_bytes : Option ℕ → List ℕ
+granted_bytes None = nonce 0
+granted_bytes (Some n) = nonce n
 
 abbrev pub session : Session → List ℕ
 session s = nonce s.join_nonce ++ (s.nwk_skey.0 ++ s.app_skey.0)
@@ -45,10 +46,11 @@ abbrev pub current_session : CurrentSession → List ℕ
 current_session c = session c.session ++ (to_be_bytes w32 c.last_up ++ to_be_bytes w64 c.next_down)
 
 abbrev pub activation : Grants → List ℕ
-activation g = granted g.granted ++ (optional current_session g.current ++ optional session g.pending)
+activation g =
+    granted_bytes g.granted ++ (optional current_session g.current ++ optional session g.pending)
 
 abbrev pub item : Item → List ℕ
-item i = to_be_bytes w32 i.tag.0 ++ (i.port ∷ [] ++ (flag i.confirmed ++ counted i.payload))
+item i = to_be_bytes w32 i.tag.0 ++ (i.port ∷ [] ++ (flag i.confirmed ++ counted_bytes i.payload))
 
 -- a byte with their number, and each item
 abbrev pub item_queue : List Item → List ℕ
@@ -70,8 +72,8 @@ spelling d =
     head d
     ++ (dev_nonce d.last_dev_nonce
     ++ (activation d.activation
-    ++ (awaited d.awaited
-    ++ (counted d.mac_queue
+    ++ (awaited_bytes d.awaited
+    ++ (counted_bytes d.mac_queue
     ++ item_queue d.items))))
 
 -- ---- which values there are
@@ -118,7 +120,8 @@ pub record IsDevice (d : Device) : Type 0 where
   pub last_dev_nonce : IfSome d.last_dev_nonce (λ n. n < 2 ^ 16)
   pub activation : AreGrants d.activation
   pub awaited : IfSome d.awaited (λ tag. tag.0 < 2 ^ 32)
-  pub mac_queue : IsBytes d.mac_queue × (length d.mac_queue ≤ LONGEST_MAC_QUEUE) × AreQueueable d.mac_queue
+  pub mac_queue : IsBytes d.mac_queue × (length d.mac_queue ≤ LONGEST_MAC_QUEUE)
+      × AreQueueable d.mac_queue
   pub items : (length d.items ≤ MOST_ITEMS) × AllByRecursion IsItem d.items
 
 -- the bytes are some device's record

@@ -9,7 +9,8 @@ use Rattle.record_codec.specs.Reading.{items_in}
 
 -- the item, with a payload of its own
 abbrev pub item_of_part : ItemPart → Item
-item_of_part i = record { tag = i.tag; port = i.port; confirmed = i.confirmed; payload = i.payload.now }
+item_of_part i =
+    record { tag = i.tag; port = i.port; confirmed = i.confirmed; payload = i.payload.now }
 
 -- the items that stand in the bytes
 abbrev pub items_of_parts : ItemParts → List Item

@@ -1,12 +1,16 @@
--- Reading a device record from left to right, field by field. That it gives back what is spelled, and
--- nothing else, is what `read_device` ensures.
-use Rattle.std.specs.Prelude.{◌≡◌, ℕ, zero, suc, ◌^◌, Bool, true, ◌&&◌, List, [], ◌∷◌, length, nat_le, nat_lt, ◌==◌, if◌then◌else◌, Option, Some, None, unwrap_or, option_map}
+-- Reading a device record from left to right, field by field. That it gives back what is spelled,
+-- and nothing else, is what `read_device` ensures.
+use Rattle.std.specs.Prelude.{◌≡◌, ℕ, zero, suc, ◌^◌, Bool, true, ◌&&◌, List, [], ◌∷◌, length}
+use Rattle.std.specs.Prelude.{nat_le, nat_lt, ◌==◌, if◌then◌else◌, Option, Some, None, unwrap_or}
+use Rattle.std.specs.Prelude.{option_map}
 use Rattle.std.specs.Option.{option_map_or}
 use Rattle.std.specs.Int.{Width, w16, w32, w64}
 use Rattle.lw_types.specs.declared.identifiers.Eui.{Eui}
 use Rattle.lw_types.specs.declared.key.Key.{Key}
 use Rattle.lw_types.specs.declared.payload.TheConstants.{LONGEST_PAYLOAD}
-use Rattle.byte_fields.specs.Reading.{Reader, ◌>>=◌, both, seen_as, that, whole, be_at, be_eui_at, byte_at, counted_at, flag_at, key_at, optional_at, ranged_at, three_bytes_at}
+use Rattle.byte_fields.specs.Reading.{Reader, ◌>>=◌, both, seen_as, that, whole, be_at, be_eui_at}
+use Rattle.byte_fields.specs.Reading.{byte_at, counted_at, flag_at, key_at, optional_at, ranged_at}
+use Rattle.byte_fields.specs.Reading.{three_be_bytes_at}
 use Rattle.mac_commands.specs.Queueable.{AreQueueable}
 use Rattle.devices.specs.declared.Tag.{Tag}
 use Rattle.devices.specs.declared.activation.Session.{Session}
@@ -20,14 +24,14 @@ use Rattle.devices.specs.declared.queue.TheConstants.ItemQueue.{MOST as MOST_ITE
 -- ---- fields
 
 -- a flag and a number, which is 0 where the flag is
-abbrev pub flagged : Bool × ℕ → Option ℕ
-flagged x = if x.0 then Some x.1 else None
+abbrev pub flagged_value : Bool × ℕ → Option ℕ
+flagged_value x = if x.0 then Some x.1 else None
 
 abbrev pub is_plain : Bool × ℕ → Bool
 is_plain x = if x.0 then true else x.1 == 0
 
 unfoldable pub flagged_at : Width → Reader (Option ℕ)
-flagged_at w = seen_as flagged (that is_plain (both flag_at (be_at w)))
+flagged_at w = seen_as flagged_value (that is_plain (both flag_at (be_at w)))
 
 abbrev pub awaited_at : Reader (Option Tag)
 awaited_at = seen_as (option_map (λ n. record { 0 = n })) (flagged_at w32)
@@ -44,13 +48,15 @@ abbrev pub session_of : ℕ × (Key × Key) → Session
 session_of x = record { join_nonce = x.0; nwk_skey = x.1.0; app_skey = x.1.1 }
 
 unfoldable pub session_at : Reader Session
-session_at = seen_as session_of (both (that is_join_nonce three_bytes_at) (both key_at key_at))
+session_at = seen_as session_of (both (that is_join_nonce three_be_bytes_at) (both key_at key_at))
 
 abbrev pub current_of : Session × (ℕ × ℕ) → CurrentSession
 current_of x = record { session = x.0; last_up = x.1.0; next_down = x.1.1 }
 
 unfoldable pub current_at : Reader CurrentSession
-current_at = seen_as current_of (both session_at (both (be_at w32) (that (λ n. nat_le n (2 ^ 32)) (be_at w64))))
+current_at =
+    seen_as current_of (both session_at
+    (both (be_at w32) (that (λ n. nat_le n (2 ^ 32)) (be_at w64))))
 
 abbrev pub grants_of : Option ℕ × (Option CurrentSession × Option Session) → Grants
 grants_of x = record { granted = x.0; current = x.1.0; pending = x.1.1 }
@@ -59,10 +65,14 @@ grants_of x = record { granted = x.0; current = x.1.0; pending = x.1.1 }
 abbrev pub are_in_order : Grants → Bool
 are_in_order g =
     nat_le (current_nonce g.current) (unwrap_or g.granted 0)
-    && option_map_or (λ s. nat_le s.join_nonce (unwrap_or g.granted 0) && nat_lt (current_nonce g.current) s.join_nonce) g.pending true
+    && option_map_or (λ s. nat_le s.join_nonce (unwrap_or g.granted 0)
+    && nat_lt (current_nonce g.current) s.join_nonce) g.pending true
 
 unfoldable pub activation_at : Reader Grants
-activation_at = that are_in_order (seen_as grants_of (both (seen_as granted_nonce three_bytes_at) (both (optional_at current_at) (optional_at session_at))))
+activation_at =
+    that are_in_order (seen_as grants_of
+    (both (seen_as granted_nonce three_be_bytes_at)
+    (both (optional_at current_at) (optional_at session_at))))
 
 -- ---- queues
 
@@ -74,14 +84,16 @@ abbrev pub payload_at : Reader (List ℕ)
 payload_at = that (λ bytes. nat_le (length bytes) LONGEST_PAYLOAD) counted_at
 
 abbrev pub item_of : ℕ × (ℕ × (Bool × List ℕ)) → Item
-item_of x = record { tag = record { 0 = x.0 }; port = x.1.0; confirmed = x.1.1.0; payload = x.1.1.1 }
+item_of x =
+    record { tag = record { 0 = x.0 }; port = x.1.0; confirmed = x.1.1.0; payload = x.1.1.1 }
 
 unfoldable pub item_at : Reader Item
 item_at = seen_as item_of (both (be_at w32) (both (ranged_at 1 223) (both flag_at payload_at)))
 
 unfoldable pub items_at : ℕ → Reader (List Item)
 items_at zero bytes = Some ([], bytes)
-items_at (suc n) bytes = item_at bytes >>= λ first. items_at n first.1 >>= λ others. Some (first.0 ∷ others.0, others.1)
+items_at (suc n) bytes =
+    item_at bytes >>= λ first. items_at n first.1 >>= λ others. Some (first.0 ∷ others.0, others.1)
 
 unfoldable pub item_queue_at : Reader (List Item)
 item_queue_at bytes = ranged_at 0 MOST_ITEMS bytes >>= λ n. items_at n.0 n.1
@@ -96,7 +108,9 @@ abbrev pub Head : Type 0
 Head = Eui × (Eui × (Key × (ℕ × (ℕ × ℕ))))
 
 unfoldable pub head_at : Reader Head
-head_at = both be_eui_at (both be_eui_at (both key_at (both (ranged_at 0 15) (both (ranged_at 0 5) (ranged_at 1 15)))))
+head_at =
+    both be_eui_at (both be_eui_at
+    (both key_at (both (ranged_at 0 15) (both (ranged_at 0 5) (ranged_at 1 15)))))
 
 -- the fields in the order of the record
 abbrev pub Fields : Type 0
@@ -119,7 +133,10 @@ device_of x =
     }
 
 unfoldable pub device_at : Reader Device
-device_at = seen_as device_of (both head_at (both (flagged_at w16) (both activation_at (both awaited_at (both mac_queue_at item_queue_at)))))
+device_at =
+    seen_as device_of (both head_at
+    (both (flagged_at w16) (both activation_at
+    (both awaited_at (both mac_queue_at item_queue_at)))))
 
 -- a device that is all of the bytes, whatever commands wait for it
 unfoldable pub record_at : List ℕ → Option Device
@@ -127,4 +144,5 @@ record_at = whole device_at
 
 -- the bytes are no record of a device for which whole commands wait
 abbrev pub IsNoRecord : List ℕ → Type 0
-IsNoRecord bytes = (device : Device) → record_at bytes ≡ Some device → ¬ AreQueueable device.mac_queue
+IsNoRecord bytes =
+    (device : Device) → record_at bytes ≡ Some device → ¬ AreQueueable device.mac_queue

@@ -1,7 +1,9 @@
 // Sessions, and what a device was granted.
 ghost use Rattle.std.specs.Prelude.{◌≡◌, ◌++◌, IfSome, OnOk};
-ghost use Rattle.record_codec.specs.DeviceRecord.{activation, current_session, granted, session, AreGrants, IsCurrentSession, IsJoinNonce, IsSession};
-ghost use Rattle.byte_fields.specs.Reading.{Gives, optional_at, seen_as, three_bytes_at};
+ghost use Rattle.record_codec.specs.DeviceRecord.{activation, current_session, granted_bytes};
+ghost use Rattle.record_codec.specs.DeviceRecord.{session, AreGrants, IsCurrentSession};
+ghost use Rattle.record_codec.specs.DeviceRecord.{IsJoinNonce, IsSession};
+ghost use Rattle.byte_fields.specs.Reading.{Gives, optional_at, seen_as, three_be_bytes_at};
 ghost use Rattle.record_codec.specs.Reading.{activation_at, current_at, granted_nonce, session_at};
 
 use crate::written_fields::put_key;
@@ -40,7 +42,8 @@ fn read_current(fields: &mut FieldReader<'_>) -> Option<CurrentSession>
 
 // The last JoinNonce granted, 0 for none.
 fn read_granted(fields: &mut FieldReader<'_>) -> Option<Option<JoinNonce>>
-    ensures { Gives result fields.new.rest.now (seen_as granted_nonce three_bytes_at fields.old.rest.now) }
+    ensures { Gives result fields.new.rest.now
+        (seen_as granted_nonce three_be_bytes_at fields.old.rest.now) }
 {
     Some(JoinNonce::new(fields.u24_be()?))
 }
@@ -98,7 +101,7 @@ fn put_current(out: &mut Vec<u8>, current: &CurrentSession) -> Result<(), AllocE
 }
 
 fn put_granted(out: &mut Vec<u8>, nonce: Option<JoinNonce>) -> Result<(), AllocError>
-    ensures written { OnOk result (out.new.items ≡ out.old.items ++ granted nonce) }
+    ensures written { OnOk result (out.new.items ≡ out.old.items ++ granted_bytes nonce) }
     ensures in_range { OnOk result (IfSome nonce IsJoinNonce) }
 {
     let number = match nonce {

@@ -1,13 +1,17 @@
 // A device record as a whole.
-ghost use Rattle.std.specs.Prelude.{◌≡◌, ◌≤◌, ◌<◌, ◌^◌, ◌++◌, ◌∷◌, ◌⊎◌, [], Err, IfErr, IfOk, IfSome, IsSome, MatchOption, MatchResult, OnErr, OnOk, Some, length};
+ghost use Rattle.std.specs.Prelude.{◌≡◌, ◌≤◌, ◌<◌, ◌^◌, ◌++◌, ◌∷◌, ◌⊎◌, [], Err, IfErr, IfOk};
+ghost use Rattle.std.specs.Prelude.{IfSome, IsSome, MatchOption, MatchResult, OnErr, OnOk, Some};
+ghost use Rattle.std.specs.Prelude.{length};
 ghost use Rattle.std.specs.Int.{w16};
 ghost use Rattle.lw_types.specs.declared.refusal.Refusal.TheVariants.{OutOfMemory, Damaged};
 ghost use Rattle.byte_fields.specs.Reading.{Gives, GivesSeen};
 ghost use Rattle.mac_commands.specs.Queueable.{AreQueueable};
 ghost use Rattle.devices.specs.declared.device.Device.{Device};
-ghost use Rattle.record_codec.specs.DeviceRecord.{awaited, dev_nonce, head, spelling, HeadIsInRange, IsDevice, IsSomeRecord};
+ghost use Rattle.record_codec.specs.DeviceRecord.{awaited_bytes, dev_nonce, head, spelling};
+ghost use Rattle.record_codec.specs.DeviceRecord.{HeadIsInRange, IsDevice, IsSomeRecord};
 ghost use Rattle.record_codec.specs.Parts.{device_of_parts};
-ghost use Rattle.record_codec.specs.Reading.{awaited_at, device_at, flagged_at, items_at, record_at, IsNoRecord};
+ghost use Rattle.record_codec.specs.Reading.{awaited_at, device_at, flagged_at, items_at};
+ghost use Rattle.record_codec.specs.Reading.{record_at, IsNoRecord};
 
 use crate::activation_fields::{put_activation, read_activation};
 use crate::queues::{ItemParts, put_item_queue, read_items, read_mac_queue};
@@ -61,7 +65,8 @@ struct RecordParts<'a> {
 
 #[tactic(auto, unfolding(crate::specs::Reading::device_at, crate::specs::Reading::head_at))]
 fn read_parts<'a>(fields: &mut FieldReader<'a>) -> Option<RecordParts<'a>>
-    ensures field { GivesSeen device_of_parts result fields.new.rest.now (device_at fields.old.rest.now) }
+    ensures field { GivesSeen device_of_parts result fields.new.rest.now
+        (device_at fields.old.rest.now) }
     ensures mac_queue { IfSome result (λ r. length r.mac_queue.now ≤ MacQueue.MOST) }
     ensures items { IfSome result (λ r. r.items.count ≤ ItemQueue.MOST) }
     ensures there { IfSome result (λ r. IsSome (items_at r.items.count r.items.bytes.now)) }
@@ -84,7 +89,8 @@ fn read_parts<'a>(fields: &mut FieldReader<'a>) -> Option<RecordParts<'a>>
 // The parts of a record that is all of the bytes. Takes no memory.
 #[tactic(auto, unfolding(crate::specs::Reading::record_at))]
 fn read_record(bytes: &[u8]) -> Option<RecordParts<'_>>
-    ensures field { MatchOption result (IsNoRecord bytes.now) (λ r. record_at bytes.now ≡ Some (device_of_parts r)) }
+    ensures field { MatchOption result (IsNoRecord bytes.now)
+        (λ r. record_at bytes.now ≡ Some (device_of_parts r)) }
     ensures whole { IfSome result (λ r. AreQueueable r.mac_queue.now) }
     ensures mac_queue { IfSome result (λ r. length r.mac_queue.now ≤ MacQueue.MOST) }
     ensures items { IfSome result (λ r. r.items.count ≤ ItemQueue.MOST) }
@@ -108,7 +114,8 @@ impl RecordParts<'_> {
         requires whole { AreQueueable self.mac_queue.now }
         requires items { self.items.count ≤ ItemQueue.MOST }
         requires there { IsSome (items_at self.items.count self.items.bytes.now) }
-        ensures { MatchResult result (λ device. device ≡ device_of_parts self.entry) (λ e. e ≡ OutOfMemory) }
+        ensures { MatchResult result (λ device. device ≡ device_of_parts self.entry)
+            (λ e. e ≡ OutOfMemory) }
     {
         Ok(Device {
             dev_eui: self.dev_eui,
@@ -148,7 +155,8 @@ pub fn read_device(alloc: Global, bytes: &[u8]) -> Result<Device, Refusal>
 // The application, and when and how fast the device is answered.
 fn put_terms(out: &mut Vec<u8>, device: &Device) -> Result<(), AllocError>
     ensures written { OnOk result (out.new.items
-        ≡ out.old.items ++ device.now.application ∷ device.now.rx1_offset ∷ device.now.rx_delay ∷ []) }
+        ≡ out.old.items ++ device.now.application ∷ device.now.rx1_offset ∷ device.now.rx_delay
+        ∷ []) }
     ensures application { device.now.application ≤ 15 }
     ensures rx1_offset { device.now.rx1_offset ≤ 5 }
     ensures rx_delay { (1 ≤ device.now.rx_delay) × (device.now.rx_delay ≤ 15) }
@@ -179,7 +187,7 @@ fn put_dev_nonce(out: &mut Vec<u8>, nonce: Option<u16>) -> Result<(), AllocError
 }
 
 fn put_awaited(out: &mut Vec<u8>, tag: Option<Tag>) -> Result<(), AllocError>
-    ensures written { OnOk result (out.new.items ≡ out.old.items ++ awaited tag) }
+    ensures written { OnOk result (out.new.items ≡ out.old.items ++ awaited_bytes tag) }
     ensures in_range { IfSome tag (λ t. t.0 < 2 ^ 32) }
 {
     let number = match tag {

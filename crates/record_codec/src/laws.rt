@@ -5,7 +5,8 @@ ghost use Rattle.record_codec.specs.DeviceRecord.{spelling, IsDevice};
 
 /// No two devices share a record.
 pub fn each_record_is_of_one_device()
-    ensures { (a : Device) (b : Device) → IsDevice a → IsDevice b → spelling a ≡ spelling b → a ≡ b }
+    ensures { (a : Device) (b : Device) → IsDevice a → IsDevice b → spelling a ≡ spelling b
+        → a ≡ b }
 {}
 
 /// A record has 50 to 4,180 bytes.

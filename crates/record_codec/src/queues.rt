@@ -3,10 +3,11 @@ ghost use Rattle.std.specs.Prelude.{◌≡◌, ◌∷◌, ◌++◌, ◌≤◌, I
 ghost use Rattle.std.specs.List.{AllByRecursion};
 ghost use Rattle.lw_types.specs.Hex.{IsBytes};
 ghost use Rattle.byte_fields.specs.Reading.{GivesSeen};
-ghost use Rattle.byte_fields.specs.Spelling.{counted, flag};
+ghost use Rattle.byte_fields.specs.Spelling.{counted_bytes, flag};
 ghost use Rattle.record_codec.specs.DeviceRecord.{item, item_queue, IsItem};
 ghost use Rattle.record_codec.specs.Parts.{item_of_part, items_of_parts};
-ghost use Rattle.record_codec.specs.Reading.{item_at, item_queue_at, items_at, items_in, mac_queue_at, payload_at};
+ghost use Rattle.record_codec.specs.Reading.{item_at, item_queue_at, items_at, items_in};
+ghost use Rattle.record_codec.specs.Reading.{mac_queue_at, payload_at};
 
 use crate::written_fields::{put_counted, put_flag};
 use byte_fields::FieldReader;
@@ -16,7 +17,8 @@ use std::alloc::{AllocError, Global};
 
 /// The bytes of the MAC queue, at most 64. Whether they are whole commands isn't looked at.
 pub(crate) fn read_mac_queue<'a>(fields: &mut FieldReader<'a>) -> Option<&'a [u8]>
-    ensures field { GivesSeen (λ bytes. bytes.now) result fields.new.rest.now (mac_queue_at fields.old.rest.now) }
+    ensures field { GivesSeen (λ bytes. bytes.now) result fields.new.rest.now
+        (mac_queue_at fields.old.rest.now) }
     ensures few { IfSome result (λ bytes. length bytes.now ≤ MacQueue.MOST) }
 {
     let bytes = fields.counted()?;
@@ -52,7 +54,8 @@ impl ItemPart<'_> {
 }
 
 fn read_payload<'a>(fields: &mut FieldReader<'a>) -> Option<&'a [u8]>
-    ensures field { GivesSeen (λ bytes. bytes.now) result fields.new.rest.now (payload_at fields.old.rest.now) }
+    ensures field { GivesSeen (λ bytes. bytes.now) result fields.new.rest.now
+        (payload_at fields.old.rest.now) }
     ensures few { IfSome result (λ bytes. length bytes.now ≤ LONGEST_PAYLOAD) }
 {
     let bytes = fields.counted()?;
@@ -65,7 +68,8 @@ fn read_payload<'a>(fields: &mut FieldReader<'a>) -> Option<&'a [u8]>
 
 #[tactic(auto, unfolding(crate::specs::Reading::item_at))]
 fn read_item<'a>(fields: &mut FieldReader<'a>) -> Option<ItemPart<'a>>
-    ensures field { GivesSeen item_of_part result fields.new.rest.now (item_at fields.old.rest.now) }
+    ensures field { GivesSeen item_of_part result fields.new.rest.now
+        (item_at fields.old.rest.now) }
     ensures few { IfSome result (λ i. length i.payload.now ≤ LONGEST_PAYLOAD) }
 {
     let tag = Tag(fields.u32_be()?);
@@ -87,9 +91,10 @@ pub(crate) struct ItemParts<'a> {
     bytes: &'a [u8],
 }
 
-// Reads so many items, and passes them.
+// Reads `count` items, and passes them.
 fn pass_items(count: u8, fields: &mut FieldReader<'_>) -> Option<()>
-    ensures { GivesSeen (λ _. items_in count fields.old.rest.now) result fields.new.rest.now (items_at count fields.old.rest.now) }
+    ensures { GivesSeen (λ _. items_in count fields.old.rest.now) result fields.new.rest.now
+        (items_at count fields.old.rest.now) }
 {
     for _ in 0..count {
         match read_item(fields) {
@@ -103,7 +108,8 @@ fn pass_items(count: u8, fields: &mut FieldReader<'_>) -> Option<()>
 /// The items, at most 16.
 #[tactic(auto, unfolding(crate::specs::Reading::item_queue_at))]
 pub(crate) fn read_items<'a>(fields: &mut FieldReader<'a>) -> Option<ItemParts<'a>>
-    ensures field { GivesSeen items_of_parts result fields.new.rest.now (item_queue_at fields.old.rest.now) }
+    ensures field { GivesSeen items_of_parts result fields.new.rest.now
+        (item_queue_at fields.old.rest.now) }
     ensures few { IfSome result (λ i. i.count ≤ ItemQueue.MOST) }
     ensures there { IfSome result (λ i. IsSome (items_at i.count i.bytes.now)) }
 {

@@ -2,7 +2,7 @@
 ghost use Rattle.std.specs.Prelude.{◌≡◌, ◌++◌, ◌≤◌, ◌<◌, ◌^◌, OnOk, length};
 ghost use Rattle.std.specs.Int.{to_be_bytes, w64};
 ghost use Rattle.lw_types.specs.Hex.{IsBytes};
-ghost use Rattle.byte_fields.specs.Spelling.{counted, flag};
+ghost use Rattle.byte_fields.specs.Spelling.{counted_bytes, flag};
 ghost use Rattle.record_codec.specs.DeviceRecord.{IsKey};
 
 use lw_types::{Eui, Key};
@@ -28,7 +28,7 @@ pub(crate) fn put_key(out: &mut Vec<u8>, key: Key) -> Result<(), AllocError>
 /// Appends a byte of length, and the bytes.
 pub(crate) fn put_counted(out: &mut Vec<u8>, bytes: &[u8]) -> Result<(), AllocError>
     requires { length bytes.now ≤ 255 }
-    ensures written { OnOk result (out.new.items ≡ out.old.items ++ counted bytes.now) }
+    ensures written { OnOk result (out.new.items ≡ out.old.items ++ counted_bytes bytes.now) }
     ensures in_range { IsBytes bytes.now }
 {
     out.push(bytes.len() as u8)?;

@@ -1,5 +1,7 @@
--- The channels and data rates of EU868 (RP002-1.0.4, EU863-870): DR 0 to 5 are SF12 to SF7 at 125 kHz.
-use Rattle.std.specs.Prelude.{◌≡◌, ◌+◌, ◌*◌, ◌/◌, ℕ, min, List, [], ◌∷◌, slice_index, ℤ, pos, negsuc, ◌+ℤ◌, ◌-ℤ◌, ◌<ℤ◌, ◌≤ℤ◌, neg_ℤ}
+-- The channels and data rates of EU868 (RP002-1.0.4, EU863-870): DR 0 to 5 are SF12 to SF7 at 125
+-- kHz.
+use Rattle.std.specs.Prelude.{◌≡◌, ◌+◌, ◌*◌, ◌/◌, ℕ, min, List, [], ◌∷◌, slice_index, ℤ, pos}
+use Rattle.std.specs.Prelude.{negsuc, ◌+ℤ◌, ◌-ℤ◌, ◌<ℤ◌, ◌≤ℤ◌, neg_ℤ}
 
 -- the channels that each device has from the start, in Hz
 abbrev pub channels : List ℕ

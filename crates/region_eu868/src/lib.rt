@@ -1,9 +1,10 @@
-//! The channels and data rates of EU868 (RP002-1.0.4, EU863-870), for class A devices with the three channels
-//! that they have from the start. No call takes memory.
+//! The channels and data rates of EU868 (RP002-1.0.4, EU863-870), for class A devices with the
+//! three channels that they have from the start. No call takes memory.
 #![tactic(auto)]
 
 ghost use Rattle.std.specs.Prelude.{◌≡◌, ◌≤◌, ◌-◌, ◌↔◌, IsTrue, Contains, slice_index};
-ghost use Rattle.region_eu868.specs.Region.{channels, max_payloads, snr_depths, margin_of, IsMargin};
+ghost use Rattle.region_eu868.specs.Region.{channels, max_payloads, snr_depths, margin_of};
+ghost use Rattle.region_eu868.specs.Region.{IsMargin};
 
 pub mod laws;
 
@@ -12,31 +13,31 @@ pub const RX2_FREQUENCY: u32 = 869_525_000;
 
 /// The frequency and the data rate of a receive window.
 #[derive(Clone, Copy, PartialEq, Eq)]
-pub struct Window {
+pub struct ReceiveWindow {
     /// In Hz.
     pub frequency: u32,
     pub data_rate: u8,
 }
 
 /// RX1: the uplink's frequency, and its data rate less the RX1DROffset, at least DR0.
-pub fn rx1(frequency: u32, data_rate: u8, offset: u8) -> Window
+pub fn rx1(frequency: u32, data_rate: u8, offset: u8) -> ReceiveWindow
     requires channel { Contains channels frequency }
     requires data_rate { data_rate ≤ 5 }
     requires offset { offset ≤ 5 }
     ensures frequency { result.frequency ≡ frequency }
     ensures data_rate { result.data_rate ≡ data_rate - offset }
 {
-    Window {
+    ReceiveWindow {
         frequency,
         data_rate: data_rate.saturating_sub(offset),
     }
 }
 
 /// RX2: 869.525 MHz at DR0.
-pub fn rx2() -> Window
+pub fn rx2() -> ReceiveWindow
     ensures { result ≡ record { frequency = RX2_FREQUENCY; data_rate = 0 } }
 {
-    Window {
+    ReceiveWindow {
         frequency: RX2_FREQUENCY,
         data_rate: 0,
     }

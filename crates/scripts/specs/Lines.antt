@@ -1,5 +1,6 @@
 -- The lines of an input.
-use Rattle.std.specs.Prelude.{◌≡◌, ◌==◌, ◌<◌, ◌⊎◌, ℕ, Bool, false, List, [], ◌∷◌, ◌++◌, length, All, Option, Some, None}
+use Rattle.std.specs.Prelude.{◌≡◌, ◌==◌, ◌<◌, ◌⊎◌, ℕ, Bool, false, List, [], ◌∷◌, ◌++◌, length, All}
+use Rattle.std.specs.Prelude.{Option, Some, None}
 use denote.Ref.{Bor}
 
 abbrev pub is_newline : ℕ → Bool
@@ -16,4 +17,5 @@ IsSplit input line rest = (input ≡ line ++ 10 ∷ rest) ⊎ ((input ≡ line) 
 -- the first line of an input and what is left behind it; no input has no line
 abbrev pub TakesLine : List ℕ → Option (Bor (List ℕ)) → List ℕ → Type 0
 TakesLine input None rest = (input ≡ []) × (rest ≡ [])
-TakesLine input (Some line) rest = (0 < length input) × (IsLine line.now × IsSplit input line.now rest)
+TakesLine input (Some line) rest =
+    (0 < length input) × (IsLine line.now × IsSplit input line.now rest)

@@ -1,5 +1,5 @@
-//! Scripts: lines are steps, which are taken on a world with a new store on a disk in memory, and the answers are
-//! lines again.
+//! Scripts: lines are steps, which are taken on a world with a new store on a disk in memory, and
+//! the answers are lines again.
 #![tactic(auto)]
 
 mod answers;
@@ -10,9 +10,9 @@ mod playing;
 mod step_line;
 
 pub use answers::write_answer;
-pub use outcome::{Outcome, write_outcome};
+pub use outcome::{ScriptResult, write_outcome};
 use plan::Plan;
-pub use plan::Row;
+pub use plan::PlanRow;
 pub use playing::script;
 pub use step_line::read_step;
 use step_line::{Format, read_format};

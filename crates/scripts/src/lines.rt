@@ -2,8 +2,8 @@
 ghost use Rattle.std.specs.Prelude.{◌≡◌};
 ghost use Rattle.scripts.specs.Lines.{IsLine, IsSplit};
 
-/// The lines that are left to read. A line ends at a newline or where the input ends, so no input has
-/// no line, and a newline at the end begins no further one.
+/// The lines that are left to read. A line ends at a newline or where the input ends, so no input
+/// has no line, and a newline at the end begins no further one.
 #[derive(Clone, Copy)]
 pub struct Lines<'a> {
     rest: &'a [u8],

@@ -1,5 +1,5 @@
 // What a script comes to.
-use crate::Row;
+use crate::PlanRow;
 use crate::answers::{write_answer, write_refusal};
 use lw_types::Refusal;
 use std::alloc::Global;
@@ -9,18 +9,18 @@ use world::Answer;
 
 /// What a script comes to.
 #[derive(Drop)]
-pub enum Outcome {
+pub enum ScriptResult {
     /// It had no line.
     Nothing,
     /// Its first line formats no store.
     BadStart,
     /// It was refused before its first step.
     Refused(Refusal),
-    /// A disk of so many bytes was formatted, and the steps were answered.
+    /// A disk of this length in bytes was formatted, and the steps were answered.
     Played {
         disk_len: u64,
         /// The lines behind the first one.
-        rows: Vec<Row>,
+        rows: Vec<PlanRow>,
         /// The answer to each step.
         answers: Vec<Answer>,
     },
@@ -28,12 +28,16 @@ pub enum Outcome {
 
 /// Writes the lines that a script is answered with: that of its first line, and those of the others
 /// in order.
-pub fn write_outcome<W: Write>(alloc: Global, out: &mut W, outcome: &Outcome) -> io::Result<()> {
+pub fn write_outcome<W: Write>(
+    alloc: Global,
+    out: &mut W,
+    outcome: &ScriptResult,
+) -> io::Result<()> {
     match outcome {
-        Outcome::Nothing => Ok(()),
-        Outcome::BadStart => write_bad_line(out),
-        Outcome::Refused(refusal) => write_refusal(out, *refusal),
-        Outcome::Played {
+        ScriptResult::Nothing => Ok(()),
+        ScriptResult::BadStart => write_bad_line(out),
+        ScriptResult::Refused(refusal) => write_refusal(out, *refusal),
+        ScriptResult::Played {
             disk_len,
             rows,
             answers,
@@ -48,14 +52,14 @@ pub fn write_outcome<W: Write>(alloc: Global, out: &mut W, outcome: &Outcome) ->
 fn write_rows<W: Write>(
     alloc: Global,
     out: &mut W,
-    rows: &[Row],
+    rows: &[PlanRow],
     answers: &[Answer],
 ) -> io::Result<()> {
     let mut left = answers.iter();
     for row in rows {
         match row {
-            Row::BadLine => write_bad_line(out)?,
-            Row::Step => {
+            PlanRow::BadLine => write_bad_line(out)?,
+            PlanRow::Step => {
                 if let Some(answer) = left.next() {
                     write_answer(alloc, out, answer)?;
                 }

@@ -7,7 +7,7 @@ use world::Step;
 
 /// A line behind the first one.
 #[derive(Clone, Copy, PartialEq, Eq)]
-pub enum Row {
+pub enum PlanRow {
     /// A step, the next one in order.
     Step,
     /// No step.
@@ -26,8 +26,8 @@ pub enum Plan {
         format: Format,
         /// The steps in order.
         steps: Vec<Step>,
-        /// The lines behind the first one: `Row::Step` as often as there are steps.
-        rows: Vec<Row>,
+        /// The lines behind the first one: `PlanRow::Step` as often as there are steps.
+        rows: Vec<PlanRow>,
     },
 }
 
@@ -47,10 +47,10 @@ impl Plan {
             match read_step(alloc, line) {
                 Ok(step) => {
                     steps.push(step)?;
-                    rows.push(Row::Step)?;
+                    rows.push(PlanRow::Step)?;
                 }
                 Err(Refusal::OutOfMemory) => return Err(Refusal::OutOfMemory),
-                Err(_) => rows.push(Row::BadLine)?,
+                Err(_) => rows.push(PlanRow::BadLine)?,
             }
         }
         Ok(Plan::Run {

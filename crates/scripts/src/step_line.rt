@@ -9,7 +9,7 @@ use world::{Event, Step};
 /// The byte that `crash fill` leaves at every open position, which is that of an open gate.
 const FILL: u8 = 0xA5;
 
-/// What the first line of a script asks for: a store for a network, with so many slots.
+/// What the first line of a script asks for: a store for a network, and its number of slots.
 #[derive(Clone, Copy)]
 pub struct Format {
     pub net_id: NetId,

@@ -8,10 +8,10 @@ use Rattle.lw_types.specs.declared.refusal.Refusal.TheVariants.{OutOfMemory}
 use Rattle.lw_types.specs.declared.frame_copy.FrameCopy.{FrameCopy}
 use Rattle.devices.specs.declared.command.Command.{Command}
 use Rattle.dedup.specs.Groups.{Arrival, arrival}
-use Rattle.dedup.specs.Windows.{Window, IsCurrent, StandFor, added, is_due}
+use Rattle.dedup.specs.Windows.{Window, IsCurrent, StandFor, windows_with, is_due}
 use Rattle.session_core.specs.Deciding.{verdict_of}
 use Rattle.session_core.specs.Core.{CoreState, with_outcome}
-use Rattle.session_core.specs.Events.{Asks, Closes, ClosesOldest, HasClosed, Hears, IsTurn, Starves, Ticks, has_due, moved}
+use Rattle.session_core.specs.Events.{Asks, Closes, ClosesOldest, HasClosed, Hears, IsTurn, Starves, Ticks, has_due, core_at_moment}
 use Rattle.session_core.specs.declared.turn.Turn.{Turn}
 use Rattle.session_core.specs.Standing.{with_copy}
 use Rattle.session_core.proofs.Windows.{hands-clock, is-current, opened-later, opened-rest, outcome-clock, outcome-windows}
@@ -78,11 +78,11 @@ module _
       (subst (λ (ws : List Window). StandFor ws arrivals ((closed + n) + 1) h.0.clock) (sym (closed_windows h.0 new one)) rest))
 
   -- at the moment of an event, after its closings
-  stand_between : (old between : CoreState) (moment closed : ℕ) → HasClosed (moved old moment) between → StandFor old.windows arrivals closed old.clock
+  stand_between : (old between : CoreState) (moment closed : ℕ) → HasClosed (core_at_moment old moment) between → StandFor old.windows arrivals closed old.clock
       → StandFor between.windows arrivals (closed + between.closings) between.clock
   stand_between old between moment closed h s =
       let at : old.clock ≤ max old.clock moment = omega arith in
-      let last = stand_closes between.closings (moved old moment) h.last closed h.closed (wait old.windows arrivals closed old.clock (max old.clock moment) s at) in
+      let last = stand_closes between.closings (core_at_moment old moment) h.last closed h.closed (wait old.windows arrivals closed old.clock (max old.clock moment) s at) in
       subst (λ (ws : List Window). StandFor ws arrivals (closed + between.closings) between.clock) (sym (ap (λ (s : CoreState). s.windows) h.new_is))
       (subst (λ now. StandFor h.last.windows arrivals (closed + between.closings) now) (sym (ap (λ (s : CoreState). s.clock) h.new_is)) last)
 
@@ -126,7 +126,7 @@ module _
       starved false own = own
 
   module _
-      (add : (ws after : List Window) (arrivals : List Arrival) (closed now : ℕ) (copy : FrameCopy) → StandFor ws arrivals closed now → IsCurrent now ws → added ws now copy ≡ Ok after
+      (add : (ws after : List Window) (arrivals : List Arrival) (closed now : ℕ) (copy : FrameCopy) → StandFor ws arrivals closed now → IsCurrent now ws → windows_with ws now copy ≡ Ok after
       → StandFor after (arrivals ++ arrival now copy ∷ []) closed now) where
     -- a copy comes
     pub stand-heard : (copy : FrameCopy) (old new : CoreState) (moment closed : ℕ) (turn : Turn) → IsTurn old moment (Hears copy) turn new
@@ -143,10 +143,10 @@ module _
         opened_there : All (λ w. w.opened ≤ h.between.clock) h.between.windows
         opened_there =
             let at : old.clock ≤ max old.clock moment = omega arith in
-            let last = opened_closes h.between.closings (moved old moment) h.closed.last h.closed.closed (opened-later old.clock (max old.clock moment) old.windows at opened) in
+            let last = opened_closes h.between.closings (core_at_moment old moment) h.closed.last h.closed.closed (opened-later old.clock (max old.clock moment) old.windows at opened) in
             subst (λ (s : CoreState). All (λ w. w.opened ≤ s.clock) s.windows) (sym h.closed.new_is) last
 
-        taken : (ws : List Window) → has_due h.between ≡ false → added h.between.windows h.between.clock copy ≡ Ok ws → new ≡ record h.between { windows = ws } → Stands None
+        taken : (ws : List Window) → has_due h.between ≡ false → windows_with h.between.windows h.between.clock copy ≡ Ok ws → new ≡ record h.between { windows = ws } → Stands None
         taken ws none found is =
             subst (λ (n : CoreState). StandFor n.windows (arrivals ++ arrival n.clock copy ∷ []) (closed + n.closings) n.clock) (sym is)
             (add h.between.windows ws arrivals (closed + h.between.closings) h.between.clock copy between (is-current h.between.clock h.between.windows opened_there none) found)
@@ -154,13 +154,13 @@ module _
         not_there : (e : Refusal) → ◌≡◌ {A = Result (Unit {0}) Refusal} (Ok tt) (Err e) → ⊥
         not_there e h = cc
 
-        found : (outcome : Result (List Window) Refusal) → added h.between.windows h.between.clock copy ≡ outcome → has_due h.between ≡ false
+        found : (outcome : Result (List Window) Refusal) → windows_with h.between.windows h.between.clock copy ≡ outcome → has_due h.between ≡ false
             → Answers outcome (λ ws _. new ≡ record h.between { windows = ws }) (verdict_of None) → Stands None
         found (Ok ws) at none h = taken ws none at h
         found (Err e) at none h = absurd (not_there e h)
 
         own_by : (refused : Option Refusal) → has_due h.between ≡ false → Hears copy h.between refused new → Stands refused
-        own_by None none own = found (added h.between.windows h.between.clock copy) refl none (own.receivable own.known)
+        own_by None none own = found (windows_with h.between.windows h.between.clock copy) refl none (own.receivable own.known)
         own_by (Some e) none own = stand_kept h.between new closed (keeps-same h.between new own.same) between
 
         starved_by : (refused : Option Refusal) → Starves h.between refused new → Stands refused

@@ -14,13 +14,13 @@ use Rattle.devices.specs.declared.command.Command.{Command}
 use Rattle.devices.specs.declared.command.Command.TheVariants as commands
 use Rattle.devices.specs.declared.heard.Heard.{Heard}
 use Rattle.devices.specs.declared.heard.Hearing.{Hearing}
-use Rattle.dedup.specs.Windows.{Window, IsCurrent, IsOldestDue, NoneDue, added, hearing_of, is_due, is_of, joined, opened_by, result_map, with_hearings}
+use Rattle.dedup.specs.Windows.{Window, IsCurrent, IsOldestDue, NoneDue, windows_with, hearing_of, is_due, is_of, joined_windows, opened_by, result_map, with_hearings}
 use Rattle.dedup.specs.declared.TheConstants.{MOST_WINDOWS}
 use Rattle.session_core.specs.State.{DecisionsState, IsLawful}
-use Rattle.session_core.specs.Deciding.{verdict_of, Keeps, Lacks, Makes, has_room}
+use Rattle.session_core.specs.Deciding.{verdict_of, Keeps, IsWithoutMemory, Makes, has_room}
 use Rattle.session_core.specs.Core.{CoreState, with_outcome}
 use Rattle.devices.specs.Heard.{IsReceivable, with_hearing}
-use Rattle.session_core.specs.Events.{Closes, ClosesOldest, Handles, HandsInOldest, HasClosed, IsHeard, IsTurn, Starves, has_due, moved}
+use Rattle.session_core.specs.Events.{Closes, ClosesOldest, Handles, HandsInOldest, HasClosed, IsHeard, IsTurn, Starves, has_due, core_at_moment}
 use Rattle.session_core.specs.declared.turn.Turn.{Turn}
 use Rattle.session_core.proofs.Lawful.{lacks-full, lacks-turned}
 
@@ -50,7 +50,7 @@ module _ (now : ℕ) where
       (All-cons (λ (w : Window). w.opened ≤ now) (with_hearings w hearings) ws (All-head (λ (w : Window). w.opened ≤ now) w ws h) (All-tail (λ (w : Window). w.opened ≤ now) w ws h))
   opened_first w ws after (Err e) is h = absurd (no_list e after is)
 
-  opened_joined : (ws : List Window) (copy : FrameCopy) (after : List Window) → joined ws copy ≡ Ok after → Opened ws → Opened after
+  opened_joined : (ws : List Window) (copy : FrameCopy) (after : List Window) → joined_windows ws copy ≡ Ok after → Opened ws → Opened after
   opened_joined [] copy after is h = subst Opened (same_list [] after is) h
   opened_joined (w ∷ ws) copy after is h =
       by (is_of copy.phy_payload w) (λ rest found. opened_joined ws copy rest found (All-tail (λ (w : Window). w.opened ≤ now) w ws h)) is
@@ -61,15 +61,15 @@ module _ (now : ℕ) where
           (All-cons (λ (w : Window). w.opened ≤ now) w rest (All-head (λ (w : Window). w.opened ≤ now) w ws h) (below rest refl))
       later (Err e) below is = absurd (no_list e after is)
 
-      by : (b : Bool) → ((rest : List Window) → joined ws copy ≡ Ok rest → Opened rest)
-          → cond b (result_map (λ hearings. with_hearings w hearings ∷ ws) (with_hearing w.hearings (hearing_of copy))) (result_map (λ rest. w ∷ rest) (joined ws copy)) ≡ Ok after → Opened after
+      by : (b : Bool) → ((rest : List Window) → joined_windows ws copy ≡ Ok rest → Opened rest)
+          → cond b (result_map (λ hearings. with_hearings w hearings ∷ ws) (with_hearing w.hearings (hearing_of copy))) (result_map (λ rest. w ∷ rest) (joined_windows ws copy)) ≡ Ok after → Opened after
       by true below is = opened_first w ws after (with_hearing w.hearings (hearing_of copy)) is h
-      by false below is = later (joined ws copy) below is
+      by false below is = later (joined_windows ws copy) below is
 
-  opened_added : (ws : List Window) (copy : FrameCopy) (after : List Window) → added ws now copy ≡ Ok after → Opened ws → Opened after
+  opened_added : (ws : List Window) (copy : FrameCopy) (after : List Window) → windows_with ws now copy ≡ Ok after → Opened ws → Opened after
   opened_added ws copy after is h = by (list_any (is_of copy.phy_payload) ws) (nat_le MOST_WINDOWS (length ws)) is
     where
-      by : (b full : Bool) → cond b (joined ws copy) (cond full (Err WindowsFull) (Ok (ws ++ opened_by now copy ∷ []))) ≡ Ok after → Opened after
+      by : (b full : Bool) → cond b (joined_windows ws copy) (cond full (Err WindowsFull) (Ok (ws ++ opened_by now copy ∷ []))) ≡ Ok after → Opened after
       by true full is = opened_joined ws copy after is h
       by false true is = absurd (no_list WindowsFull after is)
       by false false is =
@@ -78,10 +78,10 @@ module _ (now : ℕ) where
 
   -- a copy that is taken opens no window after its moment
   pub opened-taken : (ws : List Window) (copy : FrameCopy) (after : List Window) (result : Result (Unit {0}) Refusal)
-      → Answers (added ws now copy) (λ found _. after ≡ found) result → OnErr result (after ≡ ws) → Opened ws → Opened after
-  opened-taken ws copy after result answers same h = by (added ws now copy) refl result answers same
+      → Answers (windows_with ws now copy) (λ found _. after ≡ found) result → OnErr result (after ≡ ws) → Opened ws → Opened after
+  opened-taken ws copy after result answers same h = by (windows_with ws now copy) refl result answers same
     where
-      by : (found : Result (List Window) Refusal) → added ws now copy ≡ found → (result : Result (Unit {0}) Refusal)
+      by : (found : Result (List Window) Refusal) → windows_with ws now copy ≡ found → (result : Result (Unit {0}) Refusal)
           → Answers found (λ found _. after ≡ found) result → OnErr result (after ≡ ws) → Opened after
       by (Ok found) is (Ok done) answers same = subst Opened (sym answers) (opened_added ws copy found is h)
       by (Err e) is (Ok done) answers same = absurd (not_refused e answers)
@@ -139,7 +139,7 @@ pub handles-kept : (old : CoreState) (command : Command) (result : Result (Unit 
 handles-kept old command result d new kept is = record { decisions = d; kept = kept; new_is = is ∙ outcome-again old d result }
 
 -- it was passed over
-pub handles-lack : (old : CoreState) (command : Command) (e : Refusal) (new : CoreState) → (has_room old.decisions ≡ false → e ≡ Backlog) → Lacks old.decisions command e
+pub handles-lack : (old : CoreState) (command : Command) (e : Refusal) (new : CoreState) → (has_room old.decisions ≡ false → e ≡ Backlog) → IsWithoutMemory old.decisions command e
     → IsLawful old.decisions → new ≡ with_outcome old old.decisions (Err e) → Handles old command (Err e) new
 handles-lack old command e new full lack lawful is =
     record {
@@ -195,12 +195,12 @@ closes-length (suc n) old new h =
 
 -- a window took it, or refused it
 pub heard-as : (old : CoreState) (copy : FrameCopy) (after : List Window) (result : Result (Unit {0}) Refusal) (new : CoreState)
-    → Answers (added old.windows old.clock copy) (λ ws _. after ≡ ws) result → OnErr result (after ≡ old.windows) → IsReceivable copy.reception
+    → Answers (windows_with old.windows old.clock copy) (λ ws _. after ≡ ws) result → OnErr result (after ≡ old.windows) → IsReceivable copy.reception
     → new ≡ record old { windows = after } → IsHeard copy old result new
 heard-as old copy after result new answers same receivable is =
     record {
       known = known result;
-      receivable = λ _. taken (added old.windows old.clock copy) result answers;
+      receivable = λ _. taken (windows_with old.windows old.clock copy) result answers;
       unknown = λ not. absurd (not receivable);
       same = stays result same;
     }
@@ -295,7 +295,7 @@ counted n old last new closes is =
     }
 
 -- an event whose own was done
-pub turned-own : (old between new : CoreState) (moment : ℕ) (Own : CoreState → Option Refusal → CoreState → Type 0) (turn : Turn) → HasClosed (moved old moment) between
+pub turned-own : (old between new : CoreState) (moment : ℕ) (Own : CoreState → Option Refusal → CoreState → Type 0) (turn : Turn) → HasClosed (core_at_moment old moment) between
     → has_due between ≡ false → Own between turn.refused new → turn.from ≡ old.decisions.made → turn.to ≡ new.decisions.made → IsTurn old moment Own turn new
 turned-own old between new moment Own turn closed none own from to =
     record {
@@ -307,7 +307,7 @@ turned-own old between new moment Own turn closed none own from to =
     }
 
 -- and one for whose closings there was no memory
-pub turned-starved : (old between new : CoreState) (moment : ℕ) (Own : CoreState → Option Refusal → CoreState → Type 0) (turn : Turn) → HasClosed (moved old moment) between
+pub turned-starved : (old between new : CoreState) (moment : ℕ) (Own : CoreState → Option Refusal → CoreState → Type 0) (turn : Turn) → HasClosed (core_at_moment old moment) between
     → has_due between ≡ true → turn.refused ≡ Some OutOfMemory → new ≡ between → turn.from ≡ old.decisions.made → turn.to ≡ new.decisions.made → IsTurn old moment Own turn new
 turned-starved old between new moment Own turn closed some refused same from to =
     record {

@@ -1,17 +1,18 @@
--- What a core keeps: the decisions of its life, its clock, the windows that are open, and what came of the last commands.
+-- What a core keeps: the decisions of its life, its clock, the windows that are open, and what came
+-- of the last commands.
 use Rattle.std.specs.Prelude.{◌≤◌, ℕ, List, [], ◌∷◌, ◌++◌, All, Result, Ok, Err}
 use Rattle.circular_buffer.specs.Buffer.{keep_last}
 use Rattle.lw_types.specs.declared.refusal.Refusal.{Refusal}
 use Rattle.lw_types.specs.declared.refusal.Refusal.TheVariants.{OutOfMemory}
 use Rattle.sessions.specs.Table.{TableState}
 use Rattle.dedup.specs.Windows.{Window}
-use Rattle.session_core.specs.State.{DecisionsState, IsLawful, last_number, opened}
+use Rattle.session_core.specs.State.{DecisionsState, IsLawful, last_number, new_decisions}
 use Rattle.session_core.specs.declared.outcome.TheConstants.{MOST_OUTCOMES}
 use Rattle.session_core.specs.declared.outcome.Outcome.{Outcome}
 use Rattle.session_core.specs.declared.outcome.Outcome.TheVariants.{Decided, Refused}
 
--- The decisions, the effective time, the windows that are open, the oldest first, how many the last event closed, and what
--- came of the last commands that were handed in, the oldest first.
+-- The decisions, the effective time, the windows that are open, the oldest first, how many the last
+-- event closed, and what came of the last commands that were handed in, the oldest first.
 pub record CoreState : Type 0 where
   pub decisions : DecisionsState
   pub clock : ℕ
@@ -25,15 +26,26 @@ pub record IsLawfulCore (s : CoreState) : Type 0 where
   pub opened : All (λ w. w.opened ≤ s.clock) s.windows
 
 -- the core at the beginning of a life
-abbrev pub begun : TableState → ℕ → CoreState
-begun table seq = record { decisions = opened table seq; clock = 0; windows = []; closings = 0; outcomes = [] }
+abbrev pub new_core : TableState → ℕ → CoreState
+new_core table seq =
+    record {
+      decisions = new_decisions table seq;
+      clock = 0;
+      windows = [];
+      closings = 0;
+      outcomes = [];
+    }
 
 -- the last outcomes are kept
-abbrev pub noted : CoreState → Outcome → CoreState
-noted s outcome = record s { outcomes = keep_last MOST_OUTCOMES (s.outcomes ++ outcome ∷ []) }
+abbrev pub with_last_outcome : CoreState → Outcome → CoreState
+with_last_outcome s outcome =
+    record s { outcomes = keep_last MOST_OUTCOMES (s.outcomes ++ outcome ∷ []) }
 
--- the outcome of a command that was decided, which leaves these decisions, or refused; want of memory is none
+-- the outcome of a command that was decided, which leaves these decisions, or refused; want of
+-- memory is none
 abbrev pub with_outcome : CoreState → DecisionsState → Result (Unit {0}) Refusal → CoreState
-with_outcome s decisions (Ok done) = noted (record s { decisions = decisions }) (Decided (last_number decisions))
+with_outcome s decisions (Ok done) =
+    with_last_outcome (record s { decisions = decisions }) (Decided (last_number decisions))
 with_outcome s decisions (Err OutOfMemory) = record s { decisions = decisions }
-with_outcome s decisions (Err refusal) = noted (record s { decisions = decisions }) (Refused refusal)
+with_outcome s decisions (Err refusal) =
+    with_last_outcome (record s { decisions = decisions }) (Refused refusal)

@@ -1,5 +1,6 @@
 -- What an event does: the windows that are due are closed, and then its own is done.
-use Rattle.std.specs.Prelude.{◌≡◌, ◌≢◌, ℕ, zero, suc, max, Bool, List, Option, Some, None, Result, Err, OnErr, OnOk, MatchBool}
+use Rattle.std.specs.Prelude.{◌≡◌, ◌≢◌, ℕ, zero, suc, max, Bool, List, Option, Some, None, Result}
+use Rattle.std.specs.Prelude.{Err, OnErr, OnOk, MatchBool}
 use Rattle.std.specs.List.{list_any}
 use Rattle.lw_types.specs.Answer.{Answers}
 use Rattle.lw_types.specs.declared.refusal.Refusal.{Refusal}
@@ -9,20 +10,22 @@ use Rattle.devices.specs.Heard.{IsReceivable}
 use Rattle.devices.specs.declared.heard.Heard.{Heard}
 use Rattle.devices.specs.declared.command.Command.{Command}
 use Rattle.devices.specs.declared.command.Command.TheVariants as commands
-use Rattle.dedup.specs.Windows.{Window, IsOldestDue, is_due, added}
+use Rattle.dedup.specs.Windows.{Window, IsOldestDue, is_due, windows_with}
 use Rattle.session_core.specs.State.{DecisionsState}
 use Rattle.session_core.specs.Deciding.{Keeps, verdict_of}
 use Rattle.session_core.specs.Core.{CoreState, with_outcome}
 use Rattle.session_core.specs.declared.turn.Turn.{Turn}
 
 -- a command was handed in, and this came of it, which is noted
-pub record Handles (old : CoreState) (command : Command) (result : Result (Unit {0}) Refusal) (new : CoreState) : Type 0 where
+pub record Handles (old : CoreState) (command : Command) (result : Result (Unit {0}) Refusal)
+    (new : CoreState) : Type 0 where
   pub decisions : DecisionsState
   pub kept : Keeps old.decisions command result decisions
   pub new_is : new ≡ with_outcome old decisions result
 
 -- the oldest window is due, and what was heard in it was handed in
-pub record HandsInOldest (old : CoreState) (result : Result (Unit {0}) Refusal) (new : CoreState) : Type 0 where
+pub record HandsInOldest (old : CoreState) (result : Result (Unit {0}) Refusal)
+    (new : CoreState) : Type 0 where
   pub heard : Heard
   pub rest : List Window
   pub oldest : IsOldestDue old.clock old.windows heard rest
@@ -36,7 +39,7 @@ pub record ClosesOldest (old new : CoreState) : Type 0 where
   pub there_was_memory : result ≢ Err OutOfMemory
   pub new_is : new ≡ record between { windows = handed_in.rest }
 
--- so many were closed, one after another
+-- n were closed, one after another
 abbrev pub Closes : ℕ → CoreState → CoreState → Type 0
 Closes zero old new = new ≡ old
 Closes (suc n) old new = (before : CoreState) × Closes n old before × ClosesOldest before new
@@ -48,23 +51,27 @@ pub record HasClosed (old new : CoreState) : Type 0 where
   pub new_is : new ≡ record last { closings = new.closings }
 
 -- the effective time never falls
-abbrev pub moved : CoreState → ℕ → CoreState
-moved s moment = record s { clock = max s.clock moment; closings = 0 }
+abbrev pub core_at_moment : CoreState → ℕ → CoreState
+core_at_moment s moment = record s { clock = max s.clock moment; closings = 0 }
 
 -- whether a window is due
 abbrev pub has_due : CoreState → Bool
 has_due s = list_any (is_due s.clock) s.windows
 
--- for a closing there was no memory: the windows that are left stay open, and the event's own isn't done
+-- for a closing there was no memory: the windows that are left stay open, and the event's own isn't
+-- done
 abbrev pub Starves : CoreState → Option Refusal → CoreState → Type 0
 Starves s refused new = (refused ≡ Some OutOfMemory) × (new ≡ s)
 
--- An event: at its moment the windows that are due are closed, in the order of opening, and then its own is done. The turn
--- tells which decisions were made, and why the event's own was refused.
-pub record IsTurn (old : CoreState) (moment : ℕ) (Own : CoreState → Option Refusal → CoreState → Type 0) (turn : Turn) (new : CoreState) : Type 0 where
+-- An event: at its moment the windows that are due are closed, in the order of opening, and then
+-- its own is done. The turn tells which decisions were made, and why the event's own was refused.
+pub record IsTurn (old : CoreState) (moment : ℕ)
+    (Own : CoreState → Option Refusal → CoreState → Type 0) (turn : Turn)
+    (new : CoreState) : Type 0 where
   pub between : CoreState
-  pub closed : HasClosed (moved old moment) between
-  pub own : MatchBool (has_due between) (Starves between turn.refused new) (Own between turn.refused new)
+  pub closed : HasClosed (core_at_moment old moment) between
+  pub own : MatchBool (has_due between) (Starves between turn.refused new)
+      (Own between turn.refused new)
   pub from : turn.from ≡ old.decisions.made
   pub to : turn.to ≡ new.decisions.made
 
@@ -76,10 +83,13 @@ Asks command s refused new = Handles s command (verdict_of refused) new
 abbrev pub Ticks : CoreState → Option Refusal → CoreState → Type 0
 Ticks s refused new = (refused ≡ None) × (new ≡ s)
 
--- Of a copy of a frame: where it is on a channel at a data rate that a device may use, a window takes it, or is refused as
--- the windows refuse it.
-pub record IsHeard (copy : FrameCopy) (old : CoreState) (result : Result (Unit {0}) Refusal) (new : CoreState) : Type 0 where
-  pub receivable : IsReceivable copy.reception → Answers (added old.windows old.clock copy) (λ ws _. new ≡ record old { windows = ws }) result
+-- Of a copy of a frame: where it is on a channel at a data rate that a device may use, a window
+-- takes it, or is refused as the windows refuse it.
+pub record IsHeard (copy : FrameCopy) (old : CoreState) (result : Result (Unit {0}) Refusal)
+    (new : CoreState) : Type 0 where
+  pub receivable : IsReceivable copy.reception
+      → Answers (windows_with old.windows old.clock copy)
+      (λ ws _. new ≡ record old { windows = ws }) result
   pub known : OnOk result (IsReceivable copy.reception)
   pub unknown : ¬ (IsReceivable copy.reception) → result ≡ Err UnknownChannel
   pub same : OnErr result (new ≡ old)

@@ -1,13 +1,19 @@
 -- How the decisions of a life are kept.
 use Rattle.std.specs.Prelude.{◌≡◌}
-use Rattle.sessions.specs.Decision.{taken_back_all}
+use Rattle.sessions.specs.Decision.{without_decisions}
 use Rattle.session_core.specs.State.{DecisionsState, IsLawful, now_of}
 use Rattle.session_core.specs.declared.decisions.Decisions.TheInside.{Inside}
 
 -- the table that the taken decisions leave is the one at hand with the others taken back
 abbrev pub state_of : Inside → DecisionsState
 state_of c =
-    record { base = taken_back_all c.table c.log.items; opening = c.opening; made = c.made; taken = c.taken; log = c.log.items }
+    record {
+      base = without_decisions c.table c.log.items;
+      opening = c.opening;
+      made = c.made;
+      taken = c.taken;
+      log = c.log.items;
+    }
 
 -- the state is lawful, and the table at hand is the one that the log leaves
 pub record IsKept (c : Inside) : Type 0 where

@@ -1,12 +1,12 @@
 -- The decisions of one life.
 use Rattle.std.specs.Prelude.{◌≡◌, ◌+◌, ◌≤◌, ℕ, List, [], length, max}
 use Rattle.sessions.specs.Table.{TableState}
-use Rattle.sessions.specs.Decision.{ContinueAll, applied_all}
+use Rattle.sessions.specs.Decision.{ContinueAll, with_decisions}
 use Rattle.sessions.specs.declared.decision.Decision.{Decision}
 use Rattle.session_core.specs.declared.decisions.TheConstants.{LAST_NUMBER, MOST_UNTAKEN}
 
--- The table that the taken decisions leave, the number at which this life began, how many decisions were made and
--- taken in it, and those that were made and not taken, the oldest first.
+-- The table that the taken decisions leave, the number at which this life began, how many decisions
+-- were made and taken in it, and those that were made and not taken, the oldest first.
 pub record DecisionsState : Type 0 where
   pub base : TableState
   pub opening : ℕ
@@ -16,7 +16,7 @@ pub record DecisionsState : Type 0 where
 
 -- the table after every decision made
 abbrev pub now_of : DecisionsState → TableState
-now_of s = applied_all s.base s.log
+now_of s = with_decisions s.base s.log
 
 -- the sequence number of the last decision made
 abbrev pub last_number : DecisionsState → ℕ
@@ -30,5 +30,5 @@ pub record IsLawful (s : DecisionsState) : Type 0 where
   pub numbers : last_number s ≤ max s.opening LAST_NUMBER
 
 -- the decisions at the beginning of a life
-abbrev pub opened : TableState → ℕ → DecisionsState
-opened table seq = record { base = table; opening = seq; made = 0; taken = 0; log = [] }
+abbrev pub new_decisions : TableState → ℕ → DecisionsState
+new_decisions table seq = record { base = table; opening = seq; made = 0; taken = 0; log = [] }

@@ -1,10 +1,12 @@
 // What events are made of: windows are closed, and commands and copies are handed in.
-ghost use Rattle.std.specs.Prelude.{◌≡◌, ◌≢◌, ◌∷◌, ◌+◌, ℕ, List, true, false, length, max, Err, Some, MatchBool, MatchResult, IfOk};
+ghost use Rattle.std.specs.Prelude.{◌≡◌, ◌≢◌, ◌∷◌, ◌+◌, ℕ, List, true, false, length, max, Err};
+ghost use Rattle.std.specs.Prelude.{Some, MatchBool, MatchResult, IfOk};
 ghost use Rattle.std.specs.Option.{MatchOption};
 ghost use Rattle.lw_types.specs.declared.refusal.Refusal.TheVariants.{OutOfMemory};
 ghost use Rattle.devices.specs.declared.command.Command.TheVariants as commands;
 ghost use Rattle.session_core.specs.Core.{CoreState, IsLawfulCore, with_outcome};
-ghost use Rattle.session_core.specs.Events.{Asks, Closes, ClosesOldest, Handles, HandsInOldest, HasClosed, IsHeard, has_due, moved};
+ghost use Rattle.session_core.specs.Events.{Asks, Closes, ClosesOldest, Handles, HandsInOldest};
+ghost use Rattle.session_core.specs.Events.{HasClosed, IsHeard, has_due, core_at_moment};
 
 use crate::{Core, Moment, Outcome};
 use devices::{Command, Heard, Hearings, is_receivable};
@@ -12,10 +14,10 @@ use lw_types::{FrameCopy, PhyPayload, Refusal};
 use std::alloc::AllocError;
 
 impl Core {
-    /// Moves the effective time and closes the windows that are due. Where there is no memory for one of them,
-    /// it and those behind it stay open.
+    /// Moves the effective time and closes the windows that are due. Where there is no memory for
+    /// one of them, it and those behind it stay open.
     pub(crate) fn begin(&mut self, moment: Moment) -> Result<(), Refusal>
-        ensures closed { HasClosed (moved self.old moment) self.new }
+        ensures closed { HasClosed (core_at_moment self.old moment) self.new }
         ensures due { MatchResult result
             (λ _. has_due self.new ≡ false)
             (λ e. (e ≡ OutOfMemory) × (has_due self.new ≡ true)) }
@@ -46,7 +48,8 @@ impl Core {
     // Closes the oldest window if it is due, and says whether it was.
     fn close_oldest(&mut self) -> Result<bool, Refusal>
         ensures { MatchResult result
-            (λ done. MatchBool done (ClosesOldest self.old self.new) ((self.new ≡ self.old) × (has_due self.old ≡ false)))
+            (λ done. MatchBool done (ClosesOldest self.old self.new)
+            ((self.new ≡ self.old) × (has_due self.old ≡ false)))
             (λ e. (e ≡ OutOfMemory) × ((self.new ≡ self.old) × (has_due self.old ≡ true))) }
     {
         let Some(answer) = self.hand_in_oldest() else {
@@ -59,7 +62,8 @@ impl Core {
         Ok(true)
     }
 
-    // Hands the frame of the oldest window in, if that is due. On a full log it is refused whether or not there is memory.
+    // Hands the frame of the oldest window in, if that is due. On a full log it is refused whether
+    // or not there is memory.
     fn hand_in_oldest(&mut self) -> Option<Result<(), Refusal>>
         ensures { MatchOption result
             ((self.new ≡ self.old) × (has_due self.old ≡ false))
@@ -134,7 +138,8 @@ fn is_starved(answer: &Result<(), Refusal>) -> bool
 
 // A frame with its copies, in memory of its own.
 fn frame_of(phy_payload: &PhyPayload, hearings: &Hearings) -> Result<Heard, AllocError>
-    ensures { IfOk result (λ heard. (heard.phy_payload ≡ phy_payload.now) × (heard.hearings ≡ hearings.now)) }
+    ensures { IfOk result (λ heard. (heard.phy_payload ≡ phy_payload.now)
+        × (heard.hearings ≡ hearings.now)) }
 {
     Ok(Heard {
         phy_payload: phy_payload.clone()?,

@@ -1,22 +1,18 @@
 // The decisions of one life.
-ghost use Rattle.std.specs.Prelude.{◌≡◌, ◌≤◌, MatchResult, OnErr, Err, false, take, drop, length, []};
+ghost use Rattle.std.specs.Prelude.{◌≡◌, ◌≤◌, MatchResult, OnErr, Err, false, take, drop, length};
+ghost use Rattle.std.specs.Prelude.{[]};
 ghost use Rattle.lw_types.specs.declared.refusal.Refusal.TheVariants.{Backlog, OutOfMemory};
-ghost use Rattle.session_core.specs.State.{IsLawful, now_of, opened, last_number};
-ghost use Rattle.session_core.specs.Deciding.{Makes, Lacks, has_room, wanted, taken_from};
+ghost use Rattle.session_core.specs.State.{IsLawful, now_of, new_decisions, last_number};
+ghost use Rattle.session_core.specs.Deciding.{Makes, IsWithoutMemory, has_room, step_if_room};
+ghost use Rattle.session_core.specs.Deciding.{after_taking};
 ghost use Rattle.sessions.specs.Decision.{AnswersTo};
 
 use devices::Command;
-use lw_types::{Ranged, Refusal};
-use sessions::{Batch, Decision, Table};
+use lw_types::Refusal;
+use sessions::{Batch, Decision, Most, Table};
 use std::alloc::Global;
 use std::collections::VecDeque;
 use std::marker::Model;
-
-/// How many decisions are taken at most, those of a batch.
-pub const MOST_TAKEN: u64 = Batch::MOST as u64;
-
-/// How many decisions a `take` asks for, from 1 to 64.
-pub type Most = Ranged<1, MOST_TAKEN>;
 
 /// The most decisions that wait to be taken.
 pub const MOST_UNTAKEN: u64 = 4096;
@@ -29,8 +25,8 @@ pub const LAST_NUMBER: u64 = (1 << 63) - 1;
 #[derive(Drop)]
 pub(crate) struct Decisions {
     alloc: Global,
-    // The table after every decision made. The one that they began at is this with the log taken back,
-    // which no call needs.
+    // The table after every decision made. The one that they began at is this with the log taken
+    // back, which no call needs.
     table: Table,
     opening: u64,
     made: u64,
@@ -53,7 +49,8 @@ impl Model for Decisions {
 impl Decisions {
     /// None yet, over a copy of this table, whose last decision has the number `seq`.
     pub(crate) fn new(alloc: Global, table: &Table, seq: u64) -> Result<Self, Refusal>
-        ensures { MatchResult result (λ decisions. decisions ≡ opened table.now seq) (λ e. e ≡ OutOfMemory) }
+        ensures { MatchResult result (λ decisions. decisions ≡ new_decisions table.now seq)
+            (λ e. e ≡ OutOfMemory) }
     {
         Ok(Decisions {
             alloc,
@@ -105,11 +102,12 @@ impl Decisions {
         (self.log.len() as u64) < MOST_UNTAKEN && self.seq() < LAST_NUMBER
     }
 
-    /// Decides a command on the table as it is now, and keeps the decision. Refused with `Backlog` where there is no room,
-    /// and then as [`Table::decide`] refuses it.
+    /// Decides a command on the table as it is now, and keeps the decision. Refused with `Backlog`
+    /// where there is no room, and then as [`Table::decide`] refuses it.
     pub(crate) fn keep(&mut self, command: Command) -> Result<(), Refusal>
         ensures full { has_room self.old ≡ false → result ≡ Err Backlog }
-        ensures made { AnswersTo command (wanted self.old command) (λ s _. Makes self.old command s self.new) result }
+        ensures made { AnswersTo command (step_if_room self.old command)
+            (λ s _. Makes self.old command s self.new) result }
         ensures same { OnErr result (self.new ≡ self.old) }
         ensures lawful { IsLawful self.new }
     {
@@ -129,13 +127,13 @@ impl Decisions {
     /// What a command is refused where there is no memory for it.
     pub(crate) fn lack(&self, command: &Command) -> Refusal
         ensures full { has_room self.now ≡ false → result ≡ Backlog }
-        ensures lack { Lacks self.now command.now result }
+        ensures lack { IsWithoutMemory self.now command.now result }
         ensures lawful { IsLawful self.now }
     {
         if !self.has_room() {
             return Refusal::Backlog;
         }
-        match self.table.weigh(self.alloc, self.seq() + 1, command) {
+        match self.table.check(self.alloc, self.seq() + 1, command) {
             Ok(()) => Refusal::OutOfMemory,
             Err(refusal) => refusal,
         }
@@ -146,7 +144,7 @@ impl Decisions {
     pub(crate) fn take(&mut self, max: Most) -> Result<Batch, Refusal>
         ensures asked { 1 ≤ max }
         ensures taken { MatchResult result
-            (λ batch. (batch ≡ take max self.old.log) × (self.new ≡ taken_from self.old max))
+            (λ batch. (batch ≡ take max self.old.log) × (self.new ≡ after_taking self.old max))
             (λ e. (e ≡ OutOfMemory) × (self.new ≡ self.old)) }
         ensures lawful { IsLawful self.old }
     {

@@ -3,8 +3,8 @@ ghost use Rattle.std.specs.Prelude.{◌≡◌, ◌≤◌, MatchResult, take, len
 ghost use Rattle.lw_types.specs.declared.refusal.Refusal.TheVariants.{OutOfMemory};
 ghost use Rattle.devices.specs.declared.command.Command.TheVariants as commands;
 ghost use Rattle.session_core.specs.State.{now_of, last_number};
-ghost use Rattle.session_core.specs.Deciding.{taken_from};
-ghost use Rattle.session_core.specs.Core.{IsLawfulCore, begun};
+ghost use Rattle.session_core.specs.Deciding.{after_taking};
+ghost use Rattle.session_core.specs.Core.{IsLawfulCore, new_core};
 ghost use Rattle.session_core.specs.Events.{IsTurn, Asks, Hears, Starves, Ticks};
 
 use crate::decisions::Decisions;
@@ -17,9 +17,9 @@ use sessions::{Batch, Table};
 use std::alloc::Global;
 use std::marker::Model;
 
-/// What decides in one life of a network server: the decisions, and the windows in which the copies of a
-/// frame are gathered. Each event moves the effective time, closes the windows that are due, in the order
-/// of opening, and then does its own.
+/// What decides in one life of a network server: the decisions, and the windows in which the copies
+/// of a frame are gathered. Each event moves the effective time, closes the windows that are due,
+/// in the order of opening, and then does its own.
 pub struct Core {
     pub(crate) alloc: Global,
     pub(crate) decisions: Decisions,
@@ -59,7 +59,8 @@ impl Core {
     /// The core at the beginning of a life, over a copy of this table, whose last decision has the
     /// number `seq`.
     pub fn new(alloc: Global, table: &Table, seq: u64) -> Result<Self, Refusal>
-        ensures { MatchResult result (λ core. core ≡ begun table.now seq) (λ e. e ≡ OutOfMemory) }
+        ensures { MatchResult result (λ core. core ≡ new_core table.now seq)
+            (λ e. e ≡ OutOfMemory) }
     {
         Ok(Core {
             alloc,
@@ -103,23 +104,24 @@ impl Core {
         self.decisions.untaken()
     }
 
-    /// How many windows the last event closed. Those that were refused, and so made no decision, count too.
+    /// How many windows the last event closed. Those that were refused, and so made no decision,
+    /// count too.
     pub fn closings(&self) -> usize
         ensures { result ≡ self.now.closings }
     {
         self.closings
     }
 
-    /// What came of the last commands that were handed in to be decided, at most 64, the oldest first. A command
-    /// that was refused for want of memory has no outcome.
+    /// What came of the last commands that were handed in to be decided, at most 64, the oldest
+    /// first. A command that was refused for want of memory has no outcome.
     pub fn outcomes(&self) -> &HeapCircularBuffer<Outcome>
         ensures { result.now.items ≡ self.now.outcomes }
     {
         &self.outcomes
     }
 
-    /// A gateway heard a frame. Refused with `UnknownChannel` where that wasn't on a channel at a data rate from 0
-    /// to 5, and then as [`Windows::add`] refuses the copy.
+    /// A gateway heard a frame. Refused with `UnknownChannel` where that wasn't on a channel at a
+    /// data rate from 0 to 5, and then as [`Windows::add`] refuses the copy.
     pub fn hear(&mut self, moment: Moment, copy: FrameCopy) -> Turn
         ensures turn { IsTurn self.old moment (Hears copy) result self.new }
         ensures lawful { IsLawfulCore self.old }
@@ -144,9 +146,10 @@ impl Core {
         Turn { from, to, refused }
     }
 
-    /// An application brings a device.
+    /// An application provisions a device.
     pub fn provision(&mut self, moment: Moment, provisioning: Provisioning) -> Turn
-        ensures turn { IsTurn self.old moment (Asks (commands.Provision provisioning)) result self.new }
+        ensures turn { IsTurn self.old moment
+            (Asks (commands.Provision provisioning)) result self.new }
         ensures lawful { IsLawfulCore self.old }
     {
         self.decide(moment, Command::Provision(provisioning))
@@ -168,8 +171,8 @@ impl Core {
         self.decide(moment, Command::QueueMac(queueing))
     }
 
-    /// A command comes. Refused with `Backlog` where 4,096 decisions wait or no number is left, whether or not
-    /// there is memory, and then as [`Table::decide`] refuses it.
+    /// A command comes. Refused with `Backlog` where 4,096 decisions wait or no number is left,
+    /// whether or not there is memory, and then as [`Table::decide`] refuses it.
     pub fn decide(&mut self, moment: Moment, command: Command) -> Turn
         ensures turn { IsTurn self.old moment (Asks command) result self.new }
         ensures lawful { IsLawfulCore self.old }
@@ -183,9 +186,9 @@ impl Core {
         Turn { from, to, refused }
     }
 
-    /// A command comes that can't be handed in for want of memory: it is answered its refusal, if one is due,
-    /// else `OutOfMemory`.
-    pub fn starve(&mut self, moment: Moment, command: &Command) -> Turn
+    /// A command comes that can't be handed in for want of memory: it is answered its refusal, if
+    /// one is due, else `OutOfMemory`.
+    pub fn decide_without_memory(&mut self, moment: Moment, command: &Command) -> Turn
         ensures turn { IsTurn self.old moment (Asks command.now) result self.new }
         ensures lawful { IsLawfulCore self.old }
     {
@@ -203,7 +206,7 @@ impl Core {
     }
 
     /// An event comes that can't be done for want of memory: it is refused with `OutOfMemory`.
-    pub fn miss(&mut self, moment: Moment) -> Turn
+    pub fn hear_without_memory(&mut self, moment: Moment) -> Turn
         ensures turn { IsTurn self.old moment Starves result self.new }
         ensures lawful { IsLawfulCore self.old }
     {
@@ -223,7 +226,7 @@ impl Core {
         ensures asked { 1 ≤ max }
         ensures taken { MatchResult result
             (λ batch. (batch ≡ take max self.old.decisions.log)
-            × (self.new ≡ record self.old { decisions = taken_from self.old.decisions max }))
+            × (self.new ≡ record self.old { decisions = after_taking self.old.decisions max }))
             (λ e. (e ≡ OutOfMemory) × (self.new ≡ self.old)) }
         ensures lawful { IsLawfulCore self.old }
     {

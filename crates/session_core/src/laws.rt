@@ -5,7 +5,7 @@ ghost use Rattle.devices.specs.declared.command.Command.{Command};
 ghost use Rattle.sessions.specs.Table.{TableState};
 ghost use Rattle.dedup.specs.Groups.{Arrival};
 ghost use Rattle.dedup.specs.Windows.{StandFor};
-ghost use Rattle.session_core.specs.Core.{CoreState, IsLawfulCore, begun};
+ghost use Rattle.session_core.specs.Core.{CoreState, IsLawfulCore, new_core};
 ghost use Rattle.session_core.specs.Events.{Asks, Hears, IsTurn, Starves, Ticks};
 ghost use Rattle.session_core.specs.Standing.{with_copy};
 ghost use Rattle.session_core.specs.declared.turn.Turn.{Turn};
@@ -26,20 +26,27 @@ pub fn moment_of(milliseconds: u64) -> Option<Moment>
     Moment::new(milliseconds)
 }
 
-/// The windows of a core stand for the groups of the copies that it accepted in its life, of which the first so many are closed: an
-/// event closes the next of them that are due, and a copy that is accepted goes into its group.
+/// The windows of a core stand for the groups of the copies that it accepted in its life, of which
+/// the first `closed` are closed: an event closes the next of them that are due, and a copy that is
+/// accepted goes into its group.
 pub fn windows_stand_for_groups()
-    ensures at_first { (table : TableState) (seq : ℕ) → StandFor (begun table seq).windows [] 0 (begun table seq).clock }
-    ensures asked { (command : Command) (old new : CoreState) (moment closed : ℕ) (turn : Turn) (arrivals : List Arrival) →
+    ensures at_first { (table : TableState) (seq : ℕ)
+        → StandFor (new_core table seq).windows [] 0 (new_core table seq).clock }
+    ensures asked { (command : Command) (old new : CoreState) (moment closed : ℕ) (turn : Turn)
+        (arrivals : List Arrival) →
         IsTurn old moment (Asks command) turn new → StandFor old.windows arrivals closed old.clock →
         StandFor new.windows arrivals (closed + new.closings) new.clock }
-    ensures ticked { (old new : CoreState) (moment closed : ℕ) (turn : Turn) (arrivals : List Arrival) →
+    ensures ticked { (old new : CoreState) (moment closed : ℕ) (turn : Turn)
+        (arrivals : List Arrival) →
         IsTurn old moment Ticks turn new → StandFor old.windows arrivals closed old.clock →
         StandFor new.windows arrivals (closed + new.closings) new.clock }
-    ensures heard { (copy : FrameCopy) (old new : CoreState) (moment closed : ℕ) (turn : Turn) (arrivals : List Arrival) →
-        IsTurn old moment (Hears copy) turn new → IsLawfulCore old → StandFor old.windows arrivals closed old.clock →
+    ensures heard { (copy : FrameCopy) (old new : CoreState) (moment closed : ℕ) (turn : Turn)
+        (arrivals : List Arrival) →
+        IsTurn old moment (Hears copy) turn new → IsLawfulCore old
+        → StandFor old.windows arrivals closed old.clock →
         StandFor new.windows (with_copy turn.refused new.clock copy arrivals) (closed + new.closings) new.clock }
-    ensures missed { (copy : FrameCopy) (old new : CoreState) (moment closed : ℕ) (turn : Turn) (arrivals : List Arrival) →
+    ensures missed { (copy : FrameCopy) (old new : CoreState) (moment closed : ℕ) (turn : Turn)
+        (arrivals : List Arrival) →
         IsTurn old moment Starves turn new → StandFor old.windows arrivals closed old.clock →
         StandFor new.windows (with_copy turn.refused new.clock copy arrivals) (closed + new.closings) new.clock }
 {

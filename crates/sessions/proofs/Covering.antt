@@ -10,7 +10,7 @@ use Rattle.devices.specs.declared.device.Device.{Device}
 use Rattle.devices.specs.declared.mark.Mark.{Mark}
 use Rattle.sessions.specs.Index.{HaveOwnSlots}
 use Rattle.sessions.specs.Marks.{Covers, GrantsCover, IsSound, session_in}
-use Rattle.sessions.specs.Table.{TableState, placed, slot_of, with_device}
+use Rattle.sessions.specs.Table.{TableState, with_record, slot_of, with_device}
 use Rattle.sessions.proofs.Grants.{Passes}
 use Rattle.sessions.proofs.Moves.{Moves, all_both}
 use Rattle.sessions.proofs.Placing.{at_end, get-new, get-other}
@@ -52,11 +52,11 @@ module _ (t : TableState) (slot : ℕ) (x : Device) (marks : List Mark) (r : Reg
   within : slot ≤ length t.devices
   within = let inside = slice_get_within t.devices slot r.device r.at in omega arith
 
-  same-slots : (e : ℕ) → slot_of e (placed t slot x).devices ≡ slot_of e t.devices
+  same-slots : (e : ℕ) → slot_of e (with_record t slot x).devices ≡ slot_of e t.devices
   same-slots e = place-replaced name e 0 slot x r.device t.devices r.at (ap (λ (u : Eui). u.0) r.named)
 
   -- the record covers what its device's grants do
-  by_record : (m : Mark) → slot_of (session_in m).dev_eui.0 t.devices ≡ Some slot → GrantsCover x.activation m → Covers (placed t slot x) m
+  by_record : (m : Mark) → slot_of (session_in m).dev_eui.0 t.devices ≡ Some slot → GrantsCover x.activation m → Covers (with_record t slot x) m
   by_record m own grants =
       record { slot = slot; device = x; own = same-slots (session_in m).dev_eui.0 ∙ own; at = get-new slot x t.devices within; grants = grants }
 
@@ -66,7 +66,7 @@ module _ (t : TableState) (slot : ℕ) (x : Device) (marks : List Mark) (r : Reg
       let same : c.device ≡ r.device = same_Some c.device r.device (sym c.at ∙ (ap (slice_get t.devices) (sym here) ∙ r.at)) in
       subst (λ (d : Device). GrantsCover d.activation m) same c.grants
 
-  keeps-used : (m : Mark) → Covers t m → Covers (placed t slot x) m
+  keeps-used : (m : Mark) → Covers t m → Covers (with_record t slot x) m
   keeps-used m c =
       split (nat_eq slot c.slot)
       (λ here.
@@ -84,18 +84,18 @@ module _ (t : TableState) (slot : ℕ) (x : Device) (marks : List Mark) (r : Reg
   found : (m : Mark) → r.device.dev_eui ≡ (session_in m).dev_eui → slot_of (session_in m).dev_eui.0 t.devices ≡ Some slot
   found m theirs = ap (λ (e : Eui). slot_of e.0 t.devices) (sym theirs) ∙ r.own
 
-  moves_used : Moves Covers t (placed t slot x) marks
+  moves_used : Moves Covers t (with_record t slot x) marks
   moves_used =
       record {
         keeps = keeps-used;
         fresh = all_both _ (λ m. GrantsCover r.device.activation m → ⊥) (λ m. Covers t m → ⊥) marks
             (λ m theirs uncovered c. uncovered (by_device m c (same_Some slot c.slot (sym (found m theirs) ∙ c.own)))) r.theirs r.passes.moves.fresh;
-        covered = all_both _ (λ m. GrantsCover x.activation m) (λ m. Covers (placed t slot x) m) marks
+        covered = all_both _ (λ m. GrantsCover x.activation m) (λ m. Covers (with_record t slot x) m) marks
             (λ m theirs grants. by_record m (found m theirs) grants) r.theirs r.passes.moves.covered;
         distinct = r.passes.moves.distinct;
       }
 
-  sound_used : IsSound t → IsSound (placed t slot x)
+  sound_used : IsSound t → IsSound (with_record t slot x)
   sound_used sound =
       let was : AreInOrder r.device.activation = order_at t slot r.device sound r.at in
       record {
@@ -112,7 +112,7 @@ pub record Brings (t : TableState) (slot : ℕ) (x : Device) : Type 0 where
   pub in_order : AreInOrder x.activation
 
 module _ (t : TableState) (slot : ℕ) (x : Device) (b : Brings t slot x) where
-  keeps-new : (m : Mark) → Covers t m → Covers (placed t slot x) m
+  keeps-new : (m : Mark) → Covers t m → Covers (with_record t slot x) m
   keeps-new m c =
       let e : ℕ = (session_in m).dev_eui.0 in
       let inside = slice_get_within t.devices c.slot c.device c.at in
@@ -129,10 +129,10 @@ module _ (t : TableState) (slot : ℕ) (x : Device) (b : Brings t slot x) where
         grants = c.grants;
       }
 
-  moves_new : Moves Covers t (placed t slot x) []
+  moves_new : Moves Covers t (with_record t slot x) []
   moves_new = record { keeps = keeps-new; fresh = tt; covered = tt; distinct = tt }
 
-  sound_new : IsSound t → IsSound (placed t slot x)
+  sound_new : IsSound t → IsSound (with_record t slot x)
   sound_new sound =
       record {
         own = subst (λ ds. HaveOwnSlots ds) (sym (at_end slot x t.devices b.next)) (own_names-pushed name x t.devices sound.own b.is_new);
@@ -145,10 +145,10 @@ module _ (t : TableState) (slot : ℕ) (x : Device) (b : Brings t slot x) where
 abbrev pub Changes : TableState → ℕ → Device → List Mark → Type 0
 Changes t slot x marks = Regrants t slot x marks ⊎ (Brings t slot x × (marks ≡ []))
 
-pub moves_changed : (t : TableState) (slot : ℕ) (x : Device) (marks : List Mark) → Changes t slot x marks → Moves Covers t (placed t slot x) marks
+pub moves_changed : (t : TableState) (slot : ℕ) (x : Device) (marks : List Mark) → Changes t slot x marks → Moves Covers t (with_record t slot x) marks
 moves_changed t slot x marks (inl r) = moves_used t slot x marks r
-moves_changed t slot x marks (inr (b, none)) = subst (λ ms. Moves Covers t (placed t slot x) ms) (sym none) (moves_new t slot x b)
+moves_changed t slot x marks (inr (b, none)) = subst (λ ms. Moves Covers t (with_record t slot x) ms) (sym none) (moves_new t slot x b)
 
-pub sound_changed : (t : TableState) (slot : ℕ) (x : Device) (marks : List Mark) → Changes t slot x marks → IsSound t → IsSound (placed t slot x)
+pub sound_changed : (t : TableState) (slot : ℕ) (x : Device) (marks : List Mark) → Changes t slot x marks → IsSound t → IsSound (with_record t slot x)
 sound_changed t slot x marks (inl r) sound = sound_used t slot x marks r sound
 sound_changed t slot x marks (inr (b, none)) sound = sound_new t slot x b sound

@@ -13,7 +13,7 @@ use Rattle.phy_payload.specs.Reading.{phy_at}
 use Rattle.join_server.specs.Request.{dev_eui_of}
 use Rattle.join_server.specs.declared.ask.JoinAsk.{JoinAsk}
 use Rattle.devices.specs.Address.{slot_at}
-use Rattle.devices.specs.Outcome.{Outcome}
+use Rattle.devices.specs.DeviceStep.{DeviceStep}
 use Rattle.devices.specs.declared.command.Command.TheVariants as command
 use Rattle.devices.specs.declared.device.Device.{Device}
 use Rattle.devices.specs.declared.heard.Heard.{Heard}
@@ -22,10 +22,10 @@ use Rattle.uplinks.specs.Chain.{◌>>=◌}
 use Rattle.uplinks.specs.Step.{uplink_at}
 use Rattle.uplinks.specs.Uplink.{has_both, uplink_of, uplink_with}
 use Rattle.uplinks.specs.declared.uplink.Uplink as declared
-use Rattle.sessions.specs.Join.{join_ask, joined_by}
+use Rattle.sessions.specs.Join.{join_ask, join_step}
 use Rattle.sessions.specs.Served.{frame_in, heard_at, served_at, served_in}
 use Rattle.sessions.specs.Step.{step1}
-use Rattle.sessions.specs.Table.{Step, TableState, known_slot, sender_slot, slot_of, step, step_at, used_slot}
+use Rattle.sessions.specs.Table.{TableStep, TableState, known_slot, sender_slot, slot_of, step, step_at, used_slot}
 use Rattle.sessions.specs.declared.served.Served.{Served}
 use Rattle.sessions.specs.declared.served.Served.TheVariants.{Request, Uplink}
 use Rattle.sessions.proofs.Joins.{both_ok, join-ok, no_ok, ok_is, where_true, where_false}
@@ -66,30 +66,30 @@ uplink-read bytes u h =
 -- ---- what it does
 
 -- a frame that was carried out is served
-pub heard-ok : (net_id slot : ℕ) (d : Device) (h : Heard) (o : Outcome) → heard_at net_id slot d h ≡ Ok o
+pub heard-ok : (net_id slot : ℕ) (d : Device) (h : Heard) (o : DeviceStep) → heard_at net_id slot d h ≡ Ok o
     → (served : Served) × (frame_in h.phy_payload ≡ Ok served) × (served_at net_id slot d h.hearings served ≡ Ok o)
 heard-ok net_id slot d h o is = both_ok (frame_in h.phy_payload) (served_at net_id slot d h.hearings) o is
 
 -- an uplink that was carried out is of the slot
-pub uplink-ok : (net_id slot : ℕ) (d : Device) (hearings : List Hearing) (u : declared.Uplink) (o : Outcome) → served_at net_id slot d hearings (Uplink u) ≡ Ok o
+pub uplink-ok : (net_id slot : ℕ) (d : Device) (hearings : List Hearing) (u : declared.Uplink) (o : DeviceStep) → served_at net_id slot d hearings (Uplink u) ≡ Ok o
     → (slot_at u.frame.dev_addr.0 ≡ slot) × (uplink_at net_id slot d hearings u ≡ Ok o)
 uplink-ok net_id slot d hearings u o is =
     let found = where_true (slot_at u.frame.dev_addr.0 == slot) (uplink_at net_id slot d hearings u) UnknownDevAddr o is in
     (eqb-true (slot_at u.frame.dev_addr.0) slot found.0, found.1)
 
 -- and leaves the device its name
-served-name : (net_id slot : ℕ) (d : Device) (hearings : List Hearing) (served : Served) (o : Outcome) → served_at net_id slot d hearings served ≡ Ok o
+served-name : (net_id slot : ℕ) (d : Device) (hearings : List Hearing) (served : Served) (o : DeviceStep) → served_at net_id slot d hearings served ≡ Ok o
     → d.dev_eui ≡ o.device.dev_eui
-served-name net_id slot d hearings (Request bytes) o is = ap (λ (o : Outcome). o.device.dev_eui) (join-ok net_id slot d hearings bytes o is).is
+served-name net_id slot d hearings (Request bytes) o is = ap (λ (o : DeviceStep). o.device.dev_eui) (join-ok net_id slot d hearings bytes o is).is
 served-name net_id slot d hearings (Uplink u) o is = uplink-name net_id slot d hearings u o (uplink-ok net_id slot d hearings u o is).1
 
-pub heard-name : (net_id slot : ℕ) (d : Device) (h : Heard) (o : Outcome) → heard_at net_id slot d h ≡ Ok o → d.dev_eui ≡ o.device.dev_eui
+pub heard-name : (net_id slot : ℕ) (d : Device) (h : Heard) (o : DeviceStep) → heard_at net_id slot d h ≡ Ok o → d.dev_eui ≡ o.device.dev_eui
 heard-name net_id slot d h o is =
     let found = heard-ok net_id slot d h o is in
     served-name net_id slot d h.hearings found.0 o found.2
 
 -- it was sent from the device's own slot
-served-sender : (t : TableState) (slot : ℕ) (d : Device) (hearings : List Hearing) (served : Served) (o : Outcome)
+served-sender : (t : TableState) (slot : ℕ) (d : Device) (hearings : List Hearing) (served : Served) (o : DeviceStep)
     → served_at t.net_id slot d hearings served ≡ Ok o → slot_of d.dev_eui.0 t.devices ≡ Some slot → slice_get t.devices slot ≡ Some d
     → sender_slot t served ≡ Ok slot
 served-sender t slot d hearings (Request bytes) o is own at =
@@ -97,7 +97,7 @@ served-sender t slot d hearings (Request bytes) o is own at =
 served-sender t slot d hearings (Uplink u) o is own at =
     ap (λ s. used_slot s (slice_get t.devices s)) (uplink-ok t.net_id slot d hearings u o is).0 ∙ ap (used_slot slot) at
 
-pub heard-sender : (t : TableState) (slot : ℕ) (d : Device) (h : Heard) (o : Outcome) → heard_at t.net_id slot d h ≡ Ok o
+pub heard-sender : (t : TableState) (slot : ℕ) (d : Device) (h : Heard) (o : DeviceStep) → heard_at t.net_id slot d h ≡ Ok o
     → slot_of d.dev_eui.0 t.devices ≡ Some slot → slice_get t.devices slot ≡ Some d → (frame_in h.phy_payload >>= sender_slot t) ≡ Ok slot
 heard-sender t slot d h o is own at =
     let found = heard-ok t.net_id slot d h o is in
@@ -111,7 +111,7 @@ pub step-unsent : (t : TableState) (h : Heard) (served : Served) (e : Refusal) �
 step-unsent t h served e is unsent =
     ap (λ (r : Result Served Refusal). (r >>= sender_slot t) >>= stepped_at) is ∙ ap (λ (r : Result ℕ Refusal). r >>= stepped_at) unsent
   where
-    stepped_at : ℕ → Result Step Refusal
+    stepped_at : ℕ → Result TableStep Refusal
     stepped_at slot = step1 t.net_id slot (slice_get t.devices slot) (command.Heard h) >>= λ o. Ok (step_at slot (slice_get t.devices slot) o)
 
 -- a frame of a device that is there
@@ -123,24 +123,24 @@ step-served t h served slot d is sender at =
     ∙ (ap (λ (b : Option Device). step1 t.net_id slot b (command.Heard h) >>= λ o. Ok (step_at slot b o)) at
     ∙ ap (λ (r : Result Served Refusal). (r >>= served_at t.net_id slot d h.hearings) >>= placed_at) is))
   where
-    placed_at : Outcome → Result Step Refusal
+    placed_at : DeviceStep → Result TableStep Refusal
     placed_at o = Ok (step_at slot (Some d) o)
 
-    stepped_at : ℕ → Result Step Refusal
+    stepped_at : ℕ → Result TableStep Refusal
     stepped_at slot = step1 t.net_id slot (slice_get t.devices slot) (command.Heard h) >>= λ o. Ok (step_at slot (slice_get t.devices slot) o)
 
 -- a Join-Request, by any question that differs in its number alone
 pub step-request : (t : TableState) (h : Heard) (request : List ℕ) (slot : ℕ) (d : Device) (ask : JoinAsk) → frame_in h.phy_payload ≡ Ok (Request request)
     → slot_of (dev_eui_of request) t.devices ≡ Some slot → slice_get t.devices slot ≡ Some d → d.dev_eui.0 ≡ dev_eui_of request
     → (n : ℕ) → ask ≡ join_ask t.net_id slot d request n
-    → step t (command.Heard h) ≡ (joined_by d h.hearings ask >>= λ o. Ok (step_at slot (Some d) o))
+    → step t (command.Heard h) ≡ (join_step d h.hearings ask >>= λ o. Ok (step_at slot (Some d) o))
 step-request t h request slot d ask is found at name n asked =
     step-served t h (Request request) slot d is (ap known_slot found) at
-    ∙ (ap (λ (b : Bool). cond b (joined_by d h.hearings (join_ask t.net_id slot d request 0)) (Err UnknownDevEui) >>= placed_at)
+    ∙ (ap (λ (b : Bool). cond b (join_step d h.hearings (join_ask t.net_id slot d request 0)) (Err UnknownDevEui) >>= placed_at)
     (eq-eqb (dev_eui_of request) d.dev_eui.0 (sym name))
-    ∙ ap (λ (a : JoinAsk). joined_by d h.hearings a >>= placed_at) (sym asked))
+    ∙ ap (λ (a : JoinAsk). join_step d h.hearings a >>= placed_at) (sym asked))
   where
-    placed_at : Outcome → Result Step Refusal
+    placed_at : DeviceStep → Result TableStep Refusal
     placed_at o = Ok (step_at slot (Some d) o)
 
 -- an uplink

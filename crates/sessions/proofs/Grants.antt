@@ -3,11 +3,11 @@ use Rattle.std.proofs.Common.{◌≡◌, ◌≢◌, ◌<◌, ◌≤◌, ◌+◌,
 use Rattle.std.specs.Option.{IfSome, unwrap_or}
 use Rattle.std.specs.Result.{result_and}
 use Rattle.lw_types.specs.declared.refusal.Refusal.{Refusal}
-use Rattle.join_server.specs.Join.{admission, answered, grant_of, joined, next_join_nonce}
+use Rattle.join_server.specs.Join.{admission, answer_to, grant_of, state_after_join, next_join_nonce}
 use Rattle.join_server.specs.declared.ask.JoinAsk.{JoinAsk}
 use Rattle.join_server.specs.declared.grant.JoinGrant.{JoinGrant}
 use Rattle.join_server.specs.declared.state.JoinState.{JoinState}
-use Rattle.devices.specs.Activation.{AreInOrder, Grants, advanced, begun, current_nonce, no_grants, used_down, with_grant}
+use Rattle.devices.specs.Activation.{AreInOrder, Grants, with_last_up, with_current, current_nonce, no_grants, with_down_used, with_grant}
 use Rattle.devices.specs.declared.activation.CurrentSession.{CurrentSession}
 use Rattle.devices.specs.declared.activation.Session.{Session}
 use Rattle.devices.specs.declared.mark.Mark.{Mark}
@@ -81,11 +81,11 @@ module _ (g : Grants) (s : Session) (up : ℕ) (waits : g.pending ≡ Some s) (o
   untouched : (join_nonce : ℕ) (Past : CurrentSession → Type 0) → IsPast g join_nonce Past → s.join_nonce ≢ join_nonce
   untouched join_nonce Past was = subst (λ (p : Option Session). IfSome p (λ w. w.join_nonce ≢ join_nonce)) waits was.begun
 
-  past_begun : (join_nonce : ℕ) (Past : CurrentSession → Type 0) → IsPast g join_nonce Past → IsPast (begun g s up) join_nonce Past
+  past_begun : (join_nonce : ℕ) (Past : CurrentSession → Type 0) → IsPast g join_nonce Past → IsPast (with_current g s up) join_nonce Past
   past_begun join_nonce Past was =
       record { granted = was.granted; begun = tt; past = λ same. absurd (untouched join_nonce Past was same) }
 
-  keeps_begun : (m : Mark) → GrantsCover g m → GrantsCover (begun g s up) m
+  keeps_begun : (m : Mark) → GrantsCover g m → GrantsCover (with_current g s up) m
   keeps_begun (Forwarded name counter) was = past_begun name.join_nonce _ was
   keeps_begun (Granted name) was = was
   keeps_begun (Sent name counter) was = past_begun name.join_nonce _ was
@@ -94,13 +94,13 @@ module _ (g : Grants) (s : Session) (up : ℕ) (waits : g.pending ≡ Some s) (o
   within_begun = subst (λ (p : Option Session). IfSome p (λ w. w.join_nonce ≤ unwrap_or g.granted 0)) waits order.pending
 
   -- its first uplink is handed on
-  pub passes_begun : (name : SessionName) → name.join_nonce ≡ s.join_nonce → Passes g (begun g s up) (Forwarded name up ∷ [])
+  pub passes_begun : (name : SessionName) → name.join_nonce ≡ s.join_nonce → Passes g (with_current g s up) (Forwarded name up ∷ [])
   passes_begun name same =
       let fresh : GrantsCover g (Forwarded name up) → ⊥ = λ was. untouched name.join_nonce _ was (sym same) in
       let within = within_begun in
-      let covered : GrantsCover (begun g s up) (Forwarded name up) =
+      let covered : GrantsCover (with_current g s up) (Forwarded name up) =
       record { granted = (let known : name.join_nonce ≤ unwrap_or g.granted 0 = omega arith in known); begun = tt; past = λ _. omega arith } in
-      let moves : Moves GrantsCover g (begun g s up) (Forwarded name up ∷ []) =
+      let moves : Moves GrantsCover g (with_current g s up) (Forwarded name up ∷ []) =
       record { keeps = keeps_begun; fresh = (fresh, tt); covered = (covered, tt); distinct = (tt, tt) } in
       record { moves = moves; in_order = λ _. record { current = within; pending = tt; later = tt } }
 
@@ -149,7 +149,7 @@ module _ (g : Grants) (c : CurrentSession) (is : g.current ≡ Some c) (order : 
       }
 
   module _ (up : ℕ) (later : c.last_up < up) where
-    keeps_advanced : (m : Mark) → GrantsCover g m → GrantsCover (advanced g c up) m
+    keeps_advanced : (m : Mark) → GrantsCover g m → GrantsCover (with_last_up g c up) m
     keeps_advanced (Forwarded name counter) was =
         past_on (record c { last_up = up }) refl name.join_nonce (λ c. counter ≤ c.last_up) (λ past. omega (arith, past, later)) was
     keeps_advanced (Granted name) was = was
@@ -157,17 +157,17 @@ module _ (g : Grants) (c : CurrentSession) (is : g.current ≡ Some c) (order : 
         past_on (record c { last_up = up }) refl name.join_nonce (λ c. counter < c.next_down) (λ past. past) was
 
     -- an uplink under a later counter is handed on
-    pub passes_advanced : (name : SessionName) → name.join_nonce ≡ c.session.join_nonce → Passes g (advanced g c up) (Forwarded name up ∷ [])
+    pub passes_advanced : (name : SessionName) → name.join_nonce ≡ c.session.join_nonce → Passes g (with_last_up g c up) (Forwarded name up ∷ [])
     passes_advanced name same =
         let fresh : GrantsCover g (Forwarded name up) → ⊥ =
         λ was. let past = past_of name.join_nonce (λ c. up ≤ c.last_up) was (sym same) in absurd (omega (arith, past, later)) in
-        let covered : GrantsCover (advanced g c up) (Forwarded name up) =
+        let covered : GrantsCover (with_last_up g c up) (Forwarded name up) =
         past_now (record c { last_up = up }) name same (λ c. up ≤ c.last_up) (omega arith) in
-        let moves : Moves GrantsCover g (advanced g c up) (Forwarded name up ∷ []) =
+        let moves : Moves GrantsCover g (with_last_up g c up) (Forwarded name up ∷ []) =
         record { keeps = keeps_advanced; fresh = (fresh, tt); covered = (covered, tt); distinct = (tt, tt) } in
         record { moves = moves; in_order = λ _. order_on (record c { last_up = up }) refl }
 
-  keeps_down : (m : Mark) → GrantsCover g m → GrantsCover (used_down g c) m
+  keeps_down : (m : Mark) → GrantsCover g m → GrantsCover (with_down_used g c) m
   keeps_down (Forwarded name counter) was =
       past_on (record c { next_down = c.next_down + 1 }) refl name.join_nonce (λ c. counter ≤ c.last_up) (λ past. past) was
   keeps_down (Granted name) was = was
@@ -175,13 +175,13 @@ module _ (g : Grants) (c : CurrentSession) (is : g.current ≡ Some c) (order : 
       past_on (record c { next_down = c.next_down + 1 }) refl name.join_nonce (λ c. counter < c.next_down) (λ past. omega (arith, past)) was
 
   -- a downlink is sent
-  pub passes_down : (name : SessionName) → name.join_nonce ≡ c.session.join_nonce → Passes g (used_down g c) (Sent name c.next_down ∷ [])
+  pub passes_down : (name : SessionName) → name.join_nonce ≡ c.session.join_nonce → Passes g (with_down_used g c) (Sent name c.next_down ∷ [])
   passes_down name same =
       let fresh : GrantsCover g (Sent name c.next_down) → ⊥ =
       λ was. let past = past_of name.join_nonce (λ d. c.next_down < d.next_down) was (sym same) in absurd (omega (arith, past)) in
-      let covered : GrantsCover (used_down g c) (Sent name c.next_down) =
+      let covered : GrantsCover (with_down_used g c) (Sent name c.next_down) =
       past_now (record c { next_down = c.next_down + 1 }) name same (λ d. c.next_down < d.next_down) (omega arith) in
-      let moves : Moves GrantsCover g (used_down g c) (Sent name c.next_down ∷ []) =
+      let moves : Moves GrantsCover g (with_down_used g c) (Sent name c.next_down ∷ []) =
       record { keeps = keeps_down; fresh = (fresh, tt); covered = (covered, tt); distinct = (tt, tt) } in
       record { moves = moves; in_order = λ _. order_on (record c { next_down = c.next_down + 1 }) refl }
 
@@ -192,7 +192,7 @@ and_ok (Ok u) x y h = ok_is x y h
 and_ok (Err e) x y h = no_ok e y _ h
 
 -- its JoinNonce is the one above the last
-pub answered-next : (s : JoinState) (ask : JoinAsk) (granted : JoinState × JoinGrant) → answered s ask ≡ Ok granted
+pub answered-next : (s : JoinState) (ask : JoinAsk) (granted : JoinState × JoinGrant) → answer_to s ask ≡ Ok granted
     → next_join_nonce s.join_nonce ≡ granted.1.join_nonce
 answered-next s ask granted is =
-    ap (λ (g : JoinState × JoinGrant). g.1.join_nonce) (and_ok (admission s ask.request) (joined s ask, grant_of s ask) granted is)
+    ap (λ (g : JoinState × JoinGrant). g.1.join_nonce) (and_ok (admission s ask.request) (state_after_join s ask, grant_of s ask) granted is)

@@ -7,7 +7,7 @@ use Rattle.std.proofs.lemmas.Bool.{eq-eqb}
 use Rattle.lw_types.specs.declared.refusal.Refusal.{Refusal}
 use Rattle.lw_types.specs.declared.refusal.Refusal.TheVariants.{OutOfMemory, WrongJoinEui, BadMic, DevNonceUsed, JoinNonceSpent}
 use Rattle.join_server.specs.Request.{dev_eui_of}
-use Rattle.join_server.specs.Join.{admission, answered, grant_of, joined, next_join_nonce}
+use Rattle.join_server.specs.Join.{admission, answer_to, grant_of, state_after_join, next_join_nonce}
 use Rattle.join_server.specs.declared.ask.JoinAsk.{JoinAsk}
 use Rattle.join_server.specs.declared.grant.JoinGrant.{JoinGrant}
 use Rattle.join_server.specs.declared.state.JoinState.{JoinState}
@@ -17,11 +17,11 @@ use Rattle.backend_json.specs.declared.join_ans.Cause.TheVariants.{UnknownDevEui
 use Rattle.backend_json.specs.declared.join_ans.JoinAns.{JoinAns}
 use Rattle.backend_json.specs.Answers.{IsAns, IsJoinAns}
 use Rattle.backend_json.specs.Messages.{IsAsk, IsJoinReq}
-use Rattle.backend_json.specs.Replies.{IsReply, accepted_of, ans_to, cause_of, reply, told}
+use Rattle.backend_json.specs.Replies.{IsReply, accepted_of, ans_to, cause_of, reply, server_reply}
 use Rattle.devices.specs.declared.device.Device.{Device}
 use Rattle.devices.specs.declared.heard.Hearing.{Hearing}
 use Rattle.uplinks.specs.Chain.{◌>>=◌}
-use Rattle.sessions.specs.Join.{granted_to, join_state, joined_by, refusal_of}
+use Rattle.sessions.specs.Join.{grant_step, join_state, join_step, refusal_of}
 use Rattle.sessions.proofs.Joins.{no_ok, ok_is}
 
 -- ---- from texts to the reply
@@ -50,7 +50,7 @@ caused_ok : {A : Type 0} (x : A) → IsCaused (Ok x)
 caused_ok x e is = no_ok e x _ (sym is)
 
 caused_err : {A : Type 0} (x : Refusal) → refusal_of (cause_of x) ≡ x → IsCaused {A = A} (Err x)
-caused_err {A} x told e is = subst (λ y. refusal_of (cause_of y) ≡ y) (same x e is) told
+caused_err {A} x server_reply e is = subst (λ y. refusal_of (cause_of y) ≡ y) (same x e is) server_reply
   where
     same : (x e : Refusal) → ◌≡◌ {A = Result A Refusal} (Err x) (Err e) → x ≡ e
     same x e is = cc
@@ -59,7 +59,7 @@ caused_if : {A : Type 0} (b : Bool) (r s : Result A Refusal) → IsCaused r → 
 caused_if true r s one two = one
 caused_if false r s one two = two
 
-answered_caused : (s : JoinState) (ask : JoinAsk) → IsCaused (answered s ask)
+answered_caused : (s : JoinState) (ask : JoinAsk) → IsCaused (answer_to s ask)
 answered_caused s ask = and_then (admission s ask.request) admitted
   where
     admitted : IsCaused {A = Unit {0}} (admission s ask.request)
@@ -70,17 +70,17 @@ answered_caused s ask = and_then (admission s ask.request) admitted
         (caused_if _ _ _ (caused_err JoinNonceSpent refl) (caused_ok {A = Unit {0}} tt))))
 
     and_then : (r : Result (Unit {0}) Refusal) → IsCaused {A = Unit {0}} r
-        → IsCaused {A = JoinState × JoinGrant} (result_and r (Ok (joined s ask, grant_of s ask)))
-    and_then (Ok x) is = caused_ok {A = JoinState × JoinGrant} (joined s ask, grant_of s ask)
+        → IsCaused {A = JoinState × JoinGrant} (result_and r (Ok (state_after_join s ask, grant_of s ask)))
+    and_then (Ok x) is = caused_ok {A = JoinState × JoinGrant} (state_after_join s ask, grant_of s ask)
     and_then (Err e) is = caused_err e (is e refl)
 
 -- what is granted is the state and the grant of the definition
-pub answered_is : (s : JoinState) (ask : JoinAsk) (granted : JoinState × JoinGrant) → answered s ask ≡ Ok granted → (joined s ask, grant_of s ask) ≡ granted
+pub answered_is : (s : JoinState) (ask : JoinAsk) (granted : JoinState × JoinGrant) → answer_to s ask ≡ Ok granted → (state_after_join s ask, grant_of s ask) ≡ granted
 answered_is s ask granted is = and_then (admission s ask.request) is
   where
-    and_then : (r : Result (Unit {0}) Refusal) → result_and r (Ok (joined s ask, grant_of s ask)) ≡ Ok granted
-        → (joined s ask, grant_of s ask) ≡ granted
-    and_then (Ok x) is = ok_is (joined s ask, grant_of s ask) granted is
+    and_then : (r : Result (Unit {0}) Refusal) → result_and r (Ok (state_after_join s ask, grant_of s ask)) ≡ Ok granted
+        → (state_after_join s ask, grant_of s ask) ≡ granted
+    and_then (Ok x) is = ok_is (state_after_join s ask, grant_of s ask) granted is
     and_then (Err e) is = no_ok e granted _ is
 
 same_accepted : (a b : Accepted) → ◌≡◌ {A = Result Accepted Cause} (Ok a) (Ok b) → a ≡ b
@@ -97,17 +97,17 @@ no_accepted cause accepted P is = absurd (apart cause accepted is)
 
 module _ (s : JoinState) (ask : JoinAsk) (ans : JoinAns) (after : Option JoinState) (own : dev_eui_of ask.request ≡ s.dev_eui.0)
     (is : (ans, after) ≡ reply s ask) where
-  is_told : (ans, after) ≡ told ask (answered s ask)
-  is_told = is ∙ ap (λ b. cond b (told ask (answered s ask)) (ans_to ask (Err UnknownDevEui), None)) (eq-eqb (dev_eui_of ask.request) s.dev_eui.0 own)
+  is_told : (ans, after) ≡ server_reply ask (answer_to s ask)
+  is_told = is ∙ ap (λ b. cond b (server_reply ask (answer_to s ask)) (ans_to ask (Err UnknownDevEui), None)) (eq-eqb (dev_eui_of ask.request) s.dev_eui.0 own)
 
   -- where the answer grants a session
   pub granted_is : (accepted : Accepted) → ans.result ≡ Ok accepted
-      → (granted : JoinState × JoinGrant) × (answered s ask ≡ Ok granted) × (accepted ≡ accepted_of granted.1) × (after ≡ Some granted.0)
+      → (granted : JoinState × JoinGrant) × (answer_to s ask ≡ Ok granted) × (accepted ≡ accepted_of granted.1) × (after ≡ Some granted.0)
       × (granted.0.join_nonce ≡ Some granted.1.join_nonce)
-  granted_is accepted ok = by_answer (answered s ask) refl is_told
+  granted_is accepted ok = by_answer (answer_to s ask) refl is_told
     where
-      by_answer : (r : Result (JoinState × JoinGrant) Refusal) → answered s ask ≡ r → (ans, after) ≡ told ask r
-          → (granted : JoinState × JoinGrant) × (answered s ask ≡ Ok granted) × (accepted ≡ accepted_of granted.1) × (after ≡ Some granted.0)
+      by_answer : (r : Result (JoinState × JoinGrant) Refusal) → answer_to s ask ≡ r → (ans, after) ≡ server_reply ask r
+          → (granted : JoinState × JoinGrant) × (answer_to s ask ≡ Ok granted) × (accepted ≡ accepted_of granted.1) × (after ≡ Some granted.0)
           × (granted.0.join_nonce ≡ Some granted.1.join_nonce)
       by_answer (Ok granted) answer told_is =
           let result : ◌≡◌ {A = Result Accepted Cause} (Ok accepted) (Ok (accepted_of granted.1)) =
@@ -122,10 +122,10 @@ module _ (s : JoinState) (ask : JoinAsk) (ans : JoinAns) (after : Option JoinSta
           no_accepted (cause_of e) accepted _ (sym (ap (λ (x : JoinAns × Option JoinState). x.0.result) told_is) ∙ ok)
 
   -- where it doesn't
-  pub refused_is : (cause : Cause) → ans.result ≡ Err cause → answered s ask ≡ Err (refusal_of cause)
-  refused_is cause err = by_answer (answered s ask) refl is_told
+  pub refused_is : (cause : Cause) → ans.result ≡ Err cause → answer_to s ask ≡ Err (refusal_of cause)
+  refused_is cause err = by_answer (answer_to s ask) refl is_told
     where
-      by_answer : (r : Result (JoinState × JoinGrant) Refusal) → answered s ask ≡ r → (ans, after) ≡ told ask r → answered s ask ≡ Err (refusal_of cause)
+      by_answer : (r : Result (JoinState × JoinGrant) Refusal) → answer_to s ask ≡ r → (ans, after) ≡ server_reply ask r → answer_to s ask ≡ Err (refusal_of cause)
       by_answer (Ok granted) answer told_is =
           no_accepted cause (accepted_of granted.1) _ (sym err ∙ ap (λ (x : JoinAns × Option JoinState). x.0.result) told_is)
       by_answer (Err e) answer told_is =
@@ -138,19 +138,19 @@ same_grant a b nonce accepted =
     λ i. record { join_nonce = nonce i; nwk_skey = (accepted i).nwk_skey; app_skey = (accepted i).app_skey; accept = (accepted i).accept }
 
 -- the JoinNonce that is granted is above the last one
-pub above-last : (d : Device) (ask : JoinAsk) (granted : JoinState × JoinGrant) → answered (join_state d) ask ≡ Ok granted
+pub above-last : (d : Device) (ask : JoinAsk) (granted : JoinState × JoinGrant) → answer_to (join_state d) ask ≡ Ok granted
     → unwrap_or d.activation.granted 0 < granted.1.join_nonce
 above-last d ask granted is =
     let nonce : next_join_nonce d.activation.granted ≡ granted.1.join_nonce = ap (λ (g : JoinState × JoinGrant). g.1.join_nonce) (answered_is (join_state d) ask granted is) in
     omega arith
 
 -- what comes of the answer
-pub joined-ok : (d : Device) (hearings : List Hearing) (ask : JoinAsk) (granted : JoinState × JoinGrant) → answered (join_state d) ask ≡ Ok granted
-    → joined_by d hearings ask ≡ Ok (granted_to d hearings granted)
-joined-ok d hearings ask granted is = ap (λ r. r >>= λ granted. Ok (granted_to d hearings granted)) is
+pub joined-ok : (d : Device) (hearings : List Hearing) (ask : JoinAsk) (granted : JoinState × JoinGrant) → answer_to (join_state d) ask ≡ Ok granted
+    → join_step d hearings ask ≡ Ok (grant_step d hearings granted)
+joined-ok d hearings ask granted is = ap (λ r. r >>= λ granted. Ok (grant_step d hearings granted)) is
 
-pub joined-err : (d : Device) (hearings : List Hearing) (ask : JoinAsk) (e : Refusal) → answered (join_state d) ask ≡ Err e → joined_by d hearings ask ≡ Err e
-joined-err d hearings ask e is = ap (λ r. r >>= λ granted. Ok (granted_to d hearings granted)) is
+pub joined-err : (d : Device) (hearings : List Hearing) (ask : JoinAsk) (e : Refusal) → answer_to (join_state d) ask ≡ Err e → join_step d hearings ask ≡ Err e
+joined-err d hearings ask e is = ap (λ r. r >>= λ granted. Ok (grant_step d hearings granted)) is
 
 -- an answer in memory, from what is wanted
 pub memory-ok : {A B : Type 0} (wanted : Result A Refusal) (Is : A → B → Type 0) (x : A) (result : Result B Refusal) → wanted ≡ Ok x

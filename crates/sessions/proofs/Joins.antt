@@ -4,14 +4,14 @@ use Rattle.std.proofs.lemmas.Bool.{eqb-true}
 use Rattle.lw_types.specs.declared.refusal.Refusal.{Refusal}
 use Rattle.lw_types.specs.declared.refusal.Refusal.TheVariants.{UnknownDevEui}
 use Rattle.join_server.specs.Request.{dev_eui_of}
-use Rattle.join_server.specs.Join.{answered}
+use Rattle.join_server.specs.Join.{answer_to}
 use Rattle.join_server.specs.declared.grant.JoinGrant.{JoinGrant}
 use Rattle.join_server.specs.declared.state.JoinState.{JoinState}
 use Rattle.devices.specs.declared.device.Device.{Device}
 use Rattle.devices.specs.declared.heard.Hearing.{Hearing}
 use Rattle.uplinks.specs.Chain.{◌>>=◌}
-use Rattle.devices.specs.Outcome.{Outcome}
-use Rattle.sessions.specs.Join.{granted_to, join_ask, join_at, join_state}
+use Rattle.devices.specs.DeviceStep.{DeviceStep}
+use Rattle.sessions.specs.Join.{grant_step, join_ask, join_at, join_state}
 
 pub ok_is : {A : Type 0} (x y : A) → ◌≡◌ {A = Result A Refusal} (Ok x) (Ok y) → x ≡ y
 ok_is x y h = cc
@@ -37,23 +37,23 @@ where_false {A} true r e x h = no_ok e x _ h
 where_false {A} false r e x h = h
 
 -- a join that was carried out: the device asked, and the join server granted it a session
-pub record IsGranted (net_id slot : ℕ) (d : Device) (hearings : List Hearing) (request : List ℕ) (o : Outcome) : Type 0 where
+pub record IsGranted (net_id slot : ℕ) (d : Device) (hearings : List Hearing) (request : List ℕ) (o : DeviceStep) : Type 0 where
   pub granted : JoinState × JoinGrant
   pub asks : dev_eui_of request ≡ d.dev_eui.0
-  pub answer : answered (join_state d) (join_ask net_id slot d request 0) ≡ Ok granted
-  pub is : granted_to d hearings granted ≡ o
+  pub answer : answer_to (join_state d) (join_ask net_id slot d request 0) ≡ Ok granted
+  pub is : grant_step d hearings granted ≡ o
 
-pub join-ok : (net_id slot : ℕ) (d : Device) (hearings : List Hearing) (request : List ℕ) (o : Outcome) → join_at net_id slot d hearings request ≡ Ok o
+pub join-ok : (net_id slot : ℕ) (d : Device) (hearings : List Hearing) (request : List ℕ) (o : DeviceStep) → join_at net_id slot d hearings request ≡ Ok o
     → IsGranted net_id slot d hearings request o
 join-ok net_id slot d hearings request o h = by_name (dev_eui_of request == d.dev_eui.0) refl h
   where
     answer : Result (JoinState × JoinGrant) Refusal
-    answer = answered (join_state d) (join_ask net_id slot d request 0)
+    answer = answer_to (join_state d) (join_ask net_id slot d request 0)
 
     by_name : (b : Bool) → dev_eui_of request == d.dev_eui.0 ≡ b
-        → cond b (answer >>= λ granted. Ok (granted_to d hearings granted)) (Err UnknownDevEui) ≡ Ok o
+        → cond b (answer >>= λ granted. Ok (grant_step d hearings granted)) (Err UnknownDevEui) ≡ Ok o
         → IsGranted net_id slot d hearings request o
     by_name true same h =
-        let found = both_ok answer (λ granted. Ok (granted_to d hearings granted)) o h in
-        record { granted = found.0; asks = eqb-true (dev_eui_of request) d.dev_eui.0 same; answer = found.1; is = ok_is (granted_to d hearings found.0) o found.2 }
+        let found = both_ok answer (λ granted. Ok (grant_step d hearings granted)) o h in
+        record { granted = found.0; asks = eqb-true (dev_eui_of request) d.dev_eui.0 same; answer = found.1; is = ok_is (grant_step d hearings found.0) o found.2 }
     by_name false other h = no_ok UnknownDevEui o _ h

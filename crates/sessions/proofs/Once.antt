@@ -9,9 +9,9 @@ use Rattle.lw_types.specs.declared.refusal.Refusal.{Refusal}
 use Rattle.lw_types.specs.declared.refusal.Refusal.TheVariants.{DevEuiTaken, TableFull}
 use Rattle.join_server.specs.declared.grant.JoinGrant.{JoinGrant}
 use Rattle.devices.specs.Activation.{with_grant}
-use Rattle.devices.specs.Device.{provisioned}
+use Rattle.devices.specs.Device.{new_device}
 use Rattle.devices.specs.Heard.{best_of}
-use Rattle.devices.specs.Outcome.{Outcome, outcome}
+use Rattle.devices.specs.DeviceStep.{DeviceStep, device_step}
 use Rattle.devices.specs.declared.command.Command.{Command}
 use Rattle.devices.specs.declared.command.Command.TheVariants.{Heard, Provision, Queue, QueueMac}
 use Rattle.devices.specs.declared.device.Device.{Device}
@@ -24,7 +24,7 @@ use Rattle.sessions.specs.Join.{accept_effects, join_ask, join_state, session_na
 use Rattle.sessions.specs.Marks.{AreDistinct, AreOnce, Covers, HasUsedUp, IsSound, IsSubsequence, marks_of, session_in}
 use Rattle.sessions.specs.Served.{frame_in, served_at}
 use Rattle.sessions.specs.Step.{provisioned_effects, step1}
-use Rattle.sessions.specs.Table.{TableState, Step, effects_of, empty_table, folded, new_slot, place_for, sender_slot, slot_of, step, step_effects, stepped}
+use Rattle.sessions.specs.Table.{TableState, TableStep, effects_of, empty_table, fold_of, new_slot, place_for, sender_slot, slot_of, step, step_effects, with_step}
 use Rattle.sessions.specs.declared.served.Served.{Served}
 use Rattle.sessions.specs.declared.served.Served.TheVariants.{Request, Uplink}
 use Rattle.sessions.proofs.Covering.{Changes, Regrants, moves_changed, order_at, sound_changed}
@@ -65,13 +65,13 @@ accept-passes d grant best later = at best
     at (Some best) = granted
 
 -- a join that was carried out on the device at its own slot
-join-changes : (t : TableState) (slot : ℕ) (d : Device) (hearings : List Hearing) (request : List ℕ) (o : Outcome)
+join-changes : (t : TableState) (slot : ℕ) (d : Device) (hearings : List Hearing) (request : List ℕ) (o : DeviceStep)
     → slot_of d.dev_eui.0 t.devices ≡ Some slot → slice_get t.devices slot ≡ Some d → IsGranted t.net_id slot d hearings request o
     → Regrants t slot o.device (marks_of o.effects)
 join-changes t slot d hearings request o own at g =
     let next = answered-next (join_state d) (join_ask t.net_id slot d request 0) g.granted g.answer in
     let later : unwrap_or d.activation.granted 0 < g.granted.1.join_nonce = omega (arith, next) in
-    subst (λ (o : Outcome). Regrants t slot o.device (marks_of o.effects)) g.is
+    subst (λ (o : DeviceStep). Regrants t slot o.device (marks_of o.effects)) g.is
     (record {
       device = d;
       own = own;
@@ -82,7 +82,7 @@ join-changes t slot d hearings request o own at g =
     })
 
 -- what was queued leaves the device's grants as they were
-queue-changes : (t : TableState) (slot : ℕ) (d : Device) (dev_eui : Eui) (o : Outcome)
+queue-changes : (t : TableState) (slot : ℕ) (d : Device) (dev_eui : Eui) (o : DeviceStep)
     → slot_of d.dev_eui.0 t.devices ≡ Some slot → slice_get t.devices slot ≡ Some d → IsQueued d dev_eui o
     → Regrants t slot o.device (marks_of o.effects)
 queue-changes t slot d dev_eui o own at q =
@@ -90,7 +90,7 @@ queue-changes t slot d dev_eui o own at q =
     (record { device = d; own = own; at = at; named = q.named; theirs = tt; passes = passes_nothing d.activation o.device.activation q.same })
 
 -- an uplink that was carried out uses up marks of the device
-uplink-changes : (t : TableState) (slot : ℕ) (d : Device) (o : Outcome) → slot_of d.dev_eui.0 t.devices ≡ Some slot → slice_get t.devices slot ≡ Some d
+uplink-changes : (t : TableState) (slot : ℕ) (d : Device) (o : DeviceStep) → slot_of d.dev_eui.0 t.devices ≡ Some slot → slice_get t.devices slot ≡ Some d
     → Carries d o → Regrants t slot o.device (marks_of o.effects)
 uplink-changes t slot d o own at carries =
     record { device = d; own = own; at = at; named = carries.named; theirs = carries.theirs; passes = carries.passes }
@@ -106,7 +106,7 @@ empty_used_up net_id slots =
 
 -- An uplink fits into a session of its own device alone.
 module _ (fits : FitsAreOf) where
-  served-changes : (t : TableState) (slot : ℕ) (d : Device) (hearings : List Hearing) (served : Served) (o : Outcome) → IsSound t
+  served-changes : (t : TableState) (slot : ℕ) (d : Device) (hearings : List Hearing) (served : Served) (o : DeviceStep) → IsSound t
       → slot_of d.dev_eui.0 t.devices ≡ Some slot → slice_get t.devices slot ≡ Some d → served_at t.net_id slot d hearings served ≡ Ok o
       → Regrants t slot o.device (marks_of o.effects)
   served-changes t slot d hearings (Request bytes) o sound own at is =
@@ -115,13 +115,13 @@ module _ (fits : FitsAreOf) where
       uplink-changes t slot d o own at
       (uplink-carries fits t.net_id slot d hearings u o (order_at t slot d sound at) (uplink-ok t.net_id slot d hearings u o is).1)
 
-  carried-changes : (t : TableState) (c : Command) (slot : ℕ) (o : Outcome) → IsSound t → place_for t c ≡ Ok slot
+  carried-changes : (t : TableState) (c : Command) (slot : ℕ) (o : DeviceStep) → IsSound t → place_for t c ≡ Ok slot
       → step1 t.net_id slot (slice_get t.devices slot) c ≡ Ok o → Changes t slot o.device (marks_of o.effects)
   carried-changes t (Provision p) slot o sound place is =
       let next = new_slot-is t (slot_of p.dev_eui.0 t.devices) slot place in
       let empty = slice_get_past t.devices slot (let last = next.1 in omega arith) in
       let carried : step1 t.net_id slot None (Provision p) ≡ Ok o = ap (λ b. step1 t.net_id slot b (Provision p)) (sym empty) ∙ is in
-      subst (λ (o : Outcome). Changes t slot o.device (marks_of o.effects)) (ok_is (outcome (provisioned p) (provisioned_effects slot p)) o carried)
+      subst (λ (o : DeviceStep). Changes t slot o.device (marks_of o.effects)) (ok_is (device_step (new_device p) (provisioned_effects slot p)) o carried)
       (inr (record { next = next.1; is_new = next.0; in_order = order_none }, refl))
   carried-changes t (Heard h) slot o sound place is =
       let served = both_ok (frame_in h.phy_payload) (sender_slot t) slot place in
@@ -140,46 +140,46 @@ module _ (fits : FitsAreOf) where
 
   -- ---- a step of a table
 
-  step-changes : (t : TableState) (c : Command) (s : Step) → IsSound t → step t c ≡ Ok s → Changes t s.slot s.after (marks_of s.effects)
-  step-changes t c s sound is = carried-changes t c s.slot (outcome s.after s.effects) sound (step-parts t c s is).0 (step-carried t c s is)
+  step-changes : (t : TableState) (c : Command) (s : TableStep) → IsSound t → step t c ≡ Ok s → Changes t s.slot s.after (marks_of s.effects)
+  step-changes t c s sound is = carried-changes t c s.slot (device_step s.after s.effects) sound (step-parts t c s is).0 (step-carried t c s is)
 
-  moves-stepped : (t : TableState) (c : Command) → IsSound t → Moves Covers t (stepped t (step t c)) (marks_of (step_effects (step t c)))
+  moves-stepped : (t : TableState) (c : Command) → IsSound t → Moves Covers t (with_step t (step t c)) (marks_of (step_effects (step t c)))
   moves-stepped t c sound = at (step t c) refl
     where
-      at : (r : Result Step Refusal) → step t c ≡ r → Moves Covers t (stepped t r) (marks_of (step_effects r))
+      at : (r : Result TableStep Refusal) → step t c ≡ r → Moves Covers t (with_step t r) (marks_of (step_effects r))
       at (Ok s) is = moves_changed t s.slot s.after (marks_of s.effects) (step-changes t c s sound is)
       at (Err e) is = moves_nowhere Covers t
 
-  sound-stepped : (t : TableState) (c : Command) → IsSound t → IsSound (stepped t (step t c))
+  sound-stepped : (t : TableState) (c : Command) → IsSound t → IsSound (with_step t (step t c))
   sound-stepped t c sound = at (step t c) refl
     where
-      at : (r : Result Step Refusal) → step t c ≡ r → IsSound (stepped t r)
+      at : (r : Result TableStep Refusal) → step t c ≡ r → IsSound (with_step t r)
       at (Ok s) is = sound_changed t s.slot s.after (marks_of s.effects) (step-changes t c s sound is) sound
       at (Err e) is = sound
 
   -- ---- commands
 
-  moves-folded : (t : TableState) (commands : List Command) → IsSound t → Moves Covers t (folded t commands) (marks_of (effects_of t commands))
+  moves-folded : (t : TableState) (commands : List Command) → IsSound t → Moves Covers t (fold_of t commands) (marks_of (effects_of t commands))
   moves-folded t [] sound = moves_nowhere Covers t
   moves-folded t (c ∷ commands) sound =
-      let then = stepped t (step t c) in
-      subst (λ ms. Moves Covers t (folded then commands) ms) (sym (marks_of-append (step_effects (step t c)) (effects_of then commands)))
-      (moves_then Covers t then (folded then commands) (marks_of (step_effects (step t c))) (marks_of (effects_of then commands)) (moves-stepped t c sound)
+      let then = with_step t (step t c) in
+      subst (λ ms. Moves Covers t (fold_of then commands) ms) (sym (marks_of-append (step_effects (step t c)) (effects_of then commands)))
+      (moves_then Covers t then (fold_of then commands) (marks_of (step_effects (step t c))) (marks_of (effects_of then commands)) (moves-stepped t c sound)
       (moves-folded then commands (sound-stepped t c sound)))
 
-  sound-folded : (t : TableState) (commands : List Command) → IsSound t → IsSound (folded t commands)
+  sound-folded : (t : TableState) (commands : List Command) → IsSound t → IsSound (fold_of t commands)
   sound-folded t [] sound = sound
-  sound-folded t (c ∷ commands) sound = sound-folded (stepped t (step t c)) commands (sound-stepped t c sound)
+  sound-folded t (c ∷ commands) sound = sound-folded (with_step t (step t c)) commands (sound-stepped t c sound)
 
   pub once_in_commands : (t : TableState) (commands : List Command) → IsSound t → AreOnce (effects_of t commands)
   once_in_commands t commands sound = (moves-folded t commands sound).distinct
 
   pub used_up_by_commands : (t : TableState) (marks : List Mark) (commands : List Command) → HasUsedUp t marks
-      → HasUsedUp (folded t commands) (marks ++ marks_of (effects_of t commands))
+      → HasUsedUp (fold_of t commands) (marks ++ marks_of (effects_of t commands))
   used_up_by_commands t marks commands used =
       let moves = moves-folded t commands used.sound in
       let more = marks_of (effects_of t commands) in
-      let after = folded t commands in
+      let after = fold_of t commands in
       let before : AllByRecursion (λ m. Covers t m) marks = recursion_from_All (λ m. Covers t m) marks used.covered in
       record {
         sound = sound-folded t commands used.sound;

@@ -6,9 +6,9 @@ use Rattle.std.proofs.lemmas.Bool.{eq-eqb, ne_eqb}
 use Rattle.std.proofs.lemmas.List.{take_all, drop_all, length_push}
 use Rattle.std.proofs.lemmas.Option.{none-some, same_Some, slice_get_within}
 use Rattle.devices.specs.declared.device.Device.{Device}
-use Rattle.sessions.specs.Table.{TableState, CanPlace, TakesNext, placed, slot_of, with_device}
+use Rattle.sessions.specs.Table.{TableState, CanPlace, TakesNext, with_record, slot_of, with_device}
 use Rattle.lw_types.specs.declared.identifiers.Eui.{Eui}
-use Rattle.sessions.specs.Decision.{FitAll, HasPlace, applied, applied_all}
+use Rattle.sessions.specs.Decision.{FitAll, HasPlace, with_decision, with_decisions}
 use Rattle.sessions.specs.Index.{HaveOwnSlots}
 use Rattle.sessions.specs.declared.decision.Decision.{Decision}
 use Rattle.sessions.proofs.Slots.{own_names-pushed, own_names-replaced, place, place-found, place-pushed, place-replaced, split}
@@ -70,17 +70,17 @@ is-found e i (suc n) old (y ∷ ys) at is none =
 
 -- a name is new after a record was placed where it was new and isn't the record's
 new-placed : (t : TableState) (slot e : ℕ) (x : Device) → CanPlace t slot x
-    → (slot_of e (placed t slot x).devices ≡ None) ↔ ((slot_of e t.devices ≡ None) × (name x ≢ e))
+    → (slot_of e (with_record t slot x).devices ≡ None) ↔ ((slot_of e t.devices ≡ None) × (name x ≢ e))
 new-placed t slot e x can =
     by_slot t slot x can _
     (λ old at same.
     let named : name old ≡ name x = ap (λ (u : _). u.0) same in
-    let kept : slot_of e (placed t slot x).devices ≡ slot_of e t.devices = place-replaced name e 0 slot x old t.devices at named in (
+    let kept : slot_of e (with_record t slot x).devices ≡ slot_of e t.devices = place-replaced name e 0 slot x old t.devices at named in (
       λ none. (sym kept ∙ none, λ is. is-found e 0 slot old t.devices at (named ∙ is) (sym kept ∙ none)),
       λ both. kept ∙ both.0,
     ))
     (λ none next.
-    let pushed : slot_of e (placed t slot x).devices ≡ cond (nat_eq (name x) e) (Some (0 + length t.devices)) (slot_of e t.devices) =
+    let pushed : slot_of e (with_record t slot x).devices ≡ cond (nat_eq (name x) e) (Some (0 + length t.devices)) (slot_of e t.devices) =
     ap (slot_of e) (at_end slot x t.devices next.0) ∙ place-pushed name e 0 x t.devices next.2 in (
       λ new. split (nat_eq (name x) e)
           (λ is. absurd (none-some (0 + length t.devices) (sym new ∙ (pushed ∙ ap (λ b. cond b (Some (0 + length t.devices)) (slot_of e t.devices)) is))))
@@ -94,21 +94,21 @@ new-placed t slot e x can =
 -- the same of the decisions of a list, one after another
 module _ (t : TableState) (ds : List Decision) (n : ℕ) (d : Decision) (within : n < length ds) (item : d ≡ get_or ds n d) (fit : FitAll t ds) where
   abbrev pub left : TableState
-  left = applied_all t (take n ds)
+  left = with_decisions t (take n ds)
 
   abbrev pub then_left : TableState
-  then_left = applied_all t (take (n + 1) ds)
+  then_left = with_decisions t (take (n + 1) ds)
 
   can : CanPlace left d.slot d.after
   can = CanPlace-fits left d (FitAll-next t n d ds within item fit)
 
-  more : then_left ≡ applied left d
+  more : then_left ≡ with_decision left d
   more = applied_all-next t n d ds within item
 
   pub device-new : (k : ℕ) → d.slot ≡ k → slice_get then_left.devices k ≡ Some d.after
   device-new k here =
       ap (λ (x : TableState). slice_get x.devices k) more
-      ∙ (ap (slice_get (applied left d).devices) (sym here) ∙ get-new d.slot d.after left.devices (within_slots left d.slot d.after can))
+      ∙ (ap (slice_get (with_decision left d).devices) (sym here) ∙ get-new d.slot d.after left.devices (within_slots left d.slot d.after can))
 
   pub device-other : (k : ℕ) → d.slot ≢ k → slice_get then_left.devices k ≡ slice_get left.devices k
   device-other k apart =
@@ -130,30 +130,30 @@ module _ (t : TableState) (ds : List Decision) (n : ℕ) (d : Decision) (within 
       (λ none. step.0 (sym is ∙ none), λ both. is ∙ step.1 both)
 
 -- decisions leave the network and the number of slots
-pub same_net : (t : TableState) (ds : List Decision) → (applied_all t ds).net_id ≡ t.net_id
+pub same_net : (t : TableState) (ds : List Decision) → (with_decisions t ds).net_id ≡ t.net_id
 same_net t [] = refl
-same_net t (d ∷ ds) = same_net (applied t d) ds
+same_net t (d ∷ ds) = same_net (with_decision t d) ds
 
-pub same_slots : (t : TableState) (ds : List Decision) → (applied_all t ds).slots ≡ t.slots
+pub same_slots : (t : TableState) (ds : List Decision) → (with_decisions t ds).slots ≡ t.slots
 same_slots t [] = refl
-same_slots t (d ∷ ds) = same_slots (applied t d) ds
+same_slots t (d ∷ ds) = same_slots (with_decision t d) ds
 
 -- where each device of a table is found at its own slot, it is so of what decisions leave
-own-placed : (t : TableState) (slot : ℕ) (x : Device) → CanPlace t slot x → HaveOwnSlots t.devices → HaveOwnSlots (placed t slot x).devices
+own-placed : (t : TableState) (slot : ℕ) (x : Device) → CanPlace t slot x → HaveOwnSlots t.devices → HaveOwnSlots (with_record t slot x).devices
 own-placed t slot x can own =
-    by_slot t slot x can (HaveOwnSlots (placed t slot x).devices)
+    by_slot t slot x can (HaveOwnSlots (with_record t slot x).devices)
     (λ old at same. own_names-replaced name slot x old t.devices own at (ap (λ (u : Eui). u.0) same))
     (λ none next. subst (λ ds. HaveOwnSlots ds) (sym (at_end slot x t.devices next.0)) (own_names-pushed name x t.devices own next.2))
 
-own-left : (t : TableState) (ds : List Decision) → FitAll t ds → HaveOwnSlots t.devices → HaveOwnSlots (applied_all t ds).devices
+own-left : (t : TableState) (ds : List Decision) → FitAll t ds → HaveOwnSlots t.devices → HaveOwnSlots (with_decisions t ds).devices
 own-left t [] fit own = own
-own-left t (d ∷ ds) fit own = own-left (applied t d) ds fit.1 (own-placed t d.slot d.after (CanPlace-fits t d fit.0) own)
+own-left t (d ∷ ds) fit own = own-left (with_decision t d) ds fit.1 (own-placed t d.slot d.after (CanPlace-fits t d fit.0) own)
 
 -- so a record that they leave is found at its slot
 pub has-own-place : (t : TableState) (ds : List Decision) (slot : ℕ) (after device : Device) (before : Option Device) → FitAll t ds → HaveOwnSlots t.devices
-    → before ≡ slice_get (applied_all t ds).devices slot → before ≡ Some device → HasPlace (applied_all t ds) slot after before
+    → before ≡ slice_get (with_decisions t ds).devices slot → before ≡ Some device → HasPlace (with_decisions t ds) slot after before
 has-own-place t ds slot after device before fit own found is =
-    subst (HasPlace (applied_all t ds) slot after) (sym is) (own-left t ds fit own slot device (sym found ∙ is))
+    subst (HasPlace (with_decisions t ds) slot after) (sym is) (own-left t ds fit own slot device (sym found ∙ is))
 
 -- a device that is found by its name is in the list, and has the name
 pub found_name : (e : ℕ) (slot : ℕ) (d : Device) (devices : List Device) → slot_of e devices ≡ Some slot → slice_get devices slot ≡ Some d → d.dev_eui.0 ≡ e

@@ -8,14 +8,14 @@ use Rattle.devices.specs.declared.command.MacQueueing.{MacQueueing}
 use Rattle.devices.specs.declared.command.Queueing.{Queueing}
 use Rattle.devices.specs.declared.device.Device.{Device}
 use Rattle.sessions.specs.Marks.{marks_of}
-use Rattle.devices.specs.Outcome.{Outcome}
+use Rattle.devices.specs.DeviceStep.{DeviceStep}
 use Rattle.sessions.specs.Queueing.{commands_queued, if_commands, if_mac_room, if_port, if_room, if_short, is_theirs, item_queued, queue_at, queue_mac_at}
 use Rattle.sessions.proofs.Joins.{ok_is, where_false, where_true}
 
 -- ---- what was queued
 
 -- it was asked under the device's name, which the device keeps, as its grants; and it used up no mark
-pub record IsQueued (d : Device) (dev_eui : Eui) (o : Outcome) : Type 0 where
+pub record IsQueued (d : Device) (dev_eui : Eui) (o : DeviceStep) : Type 0 where
   pub asked : dev_eui.0 ≡ d.dev_eui.0
   pub named : d.dev_eui ≡ o.device.dev_eui
   pub same : d.activation ≡ o.device.activation
@@ -29,7 +29,7 @@ asked_so : (application : ℕ) (dev_eui : Eui) (d : Device) → is_theirs applic
 asked_so application dev_eui d theirs =
     eqb-true dev_eui.0 d.dev_eui.0 (first_of (nat_eq dev_eui.0 d.dev_eui.0) (nat_eq application d.application) theirs)
 
-pub queue-ok : (d : Device) (q : Queueing) (o : Outcome) → queue_at d q ≡ Ok o → IsQueued d q.dev_eui o
+pub queue-ok : (d : Device) (q : Queueing) (o : DeviceStep) → queue_at d q ≡ Ok o → IsQueued d q.dev_eui o
 queue-ok d q o is =
     let theirs = where_true (is_theirs q.application q.dev_eui d) (if_short d q) UnknownDevEui o is in
     let short = where_false (nat_lt 242 (length q.payload)) (if_port d q) TooLong o theirs.1 in
@@ -38,7 +38,7 @@ queue-ok d q o is =
     subst (IsQueued d q.dev_eui) (ok_is (item_queued d q) o room.1)
     (record { asked = asked_so q.application q.dev_eui d theirs.0; named = refl; same = refl; unmarked = refl })
 
-pub queue_mac-ok : (d : Device) (q : MacQueueing) (o : Outcome) → queue_mac_at d q ≡ Ok o → IsQueued d q.dev_eui o
+pub queue_mac-ok : (d : Device) (q : MacQueueing) (o : DeviceStep) → queue_mac_at d q ≡ Ok o → IsQueued d q.dev_eui o
 queue_mac-ok d q o is =
     let theirs = where_true (is_theirs q.application q.dev_eui d) (if_commands d q.commands) UnknownDevEui o is in
     let whole = where_true (may_queue q.commands) (if_mac_room d q.commands) BadMac o theirs.1 in

@@ -10,7 +10,7 @@ use Rattle.std.proofs.lemmas.Result.{err_from_is_err_and}
 use Rattle.std.specs.Prelude.{MatchBool}
 use Rattle.devices.specs.declared.device.Device.{Device}
 use Rattle.lw_types.specs.declared.refusal.Refusal.TheVariants.{TableFull, DevEuiTaken, OutOfMemory, UnknownDevAddr, UnknownDevEui}
-use Rattle.devices.specs.Device.{provisioned}
+use Rattle.devices.specs.Device.{new_device}
 use Rattle.devices.specs.declared.command.Provisioning.{Provisioning}
 use Rattle.devices.specs.declared.command.Command.{Command}
 use Rattle.devices.specs.declared.command.Command.TheVariants.{Provision, Heard, Queue, QueueMac}
@@ -19,7 +19,7 @@ use Rattle.lw_types.specs.declared.refusal.Refusal.{Refusal}
 use Rattle.lw_types.specs.Answer.{Answers, AnswersWithMemory}
 use Rattle.lw_types.specs.declared.identifiers.Eui.{Eui}
 use Rattle.uplinks.specs.Chain.{◌>>=◌}
-use Rattle.devices.specs.Outcome.{Outcome, outcome}
+use Rattle.devices.specs.DeviceStep.{DeviceStep, device_step}
 use Rattle.devices.specs.Address.{slot_at}
 use Rattle.join_server.specs.Request.{dev_eui_of}
 use Rattle.sessions.specs.Step.{step1, provisioned_effects}
@@ -31,8 +31,8 @@ use Rattle.sessions.proofs.Joins.{both_ok, no_ok}
 use Rattle.sessions.proofs.Frames.{heard-name, heard-sender}
 use Rattle.sessions.proofs.Queues.{queue-ok, queue_mac-ok}
 use Rattle.sessions.proofs.Slots.{place-found, split}
-use Rattle.sessions.specs.Table.{TableState, Step, TakesNext, CanPlace, CanPut, place_for, known_slot, new_slot, sender_slot, slot_of, used_slot, with_device, step, step_at, stepped, step_effects, folded, effects_of}
-use Rattle.sessions.specs.Decision.{Continues, AnswersTo, HasPlace, is_frugal, IsDecision, IsStepped, Fits, FitAll, AreNumbered, ContinueAll, applied, applied_all, back_at, taken_back, taken_back_all, commands_of, effects_in}
+use Rattle.sessions.specs.Table.{TableState, TableStep, TakesNext, CanPlace, CanPut, place_for, known_slot, new_slot, sender_slot, slot_of, used_slot, with_device, step, step_at, with_step, step_effects, fold_of, effects_of}
+use Rattle.sessions.specs.Decision.{Continues, AnswersTo, HasPlace, is_frugal, IsDecision, IsStepped, FitsTable, FitAll, AreNumbered, ContinueAll, with_decision, with_decisions, with_before, without_decision, without_decisions, commands_of, effects_in}
 use Rattle.sessions.specs.declared.decide.Stepped.{Stepped}
 use Rattle.sessions.specs.declared.decision.Decision.{Decision}
 
@@ -73,22 +73,22 @@ MatchOption-of_some : {X : Type 0} (o : Option X) (x : X) (P : Type 0) (Q : X �
 MatchOption-of_some o x P Q is q = subst (λ o. MatchOption o P Q) (sym is) q
 
 -- a provisioning's outcome has its device's name
-name_provisioned : (net_id slot : ℕ) (p : Provisioning) (o : Outcome) → step1 net_id slot None (Provision p) ≡ Ok o → o.device.dev_eui.0 ≡ p.dev_eui.0
-name_provisioned net_id slot p o is = ap (λ (o : Outcome). o.device.dev_eui.0) (sym (same_Ok (outcome (provisioned p) (provisioned_effects slot p)) o is))
+name_provisioned : (net_id slot : ℕ) (p : Provisioning) (o : DeviceStep) → step1 net_id slot None (Provision p) ≡ Ok o → o.device.dev_eui.0 ≡ p.dev_eui.0
+name_provisioned net_id slot p o is = ap (λ (o : DeviceStep). o.device.dev_eui.0) (sym (same_Ok (device_step (new_device p) (provisioned_effects slot p)) o is))
 
 -- no device is brought to a slot in use
-not_provisioned : (net_id slot : ℕ) (d : Device) (p : Provisioning) (o : Outcome) (P : Type 0) → step1 net_id slot (Some d) (Provision p) ≡ Ok o → P
+not_provisioned : (net_id slot : ℕ) (d : Device) (p : Provisioning) (o : DeviceStep) (P : Type 0) → step1 net_id slot (Some d) (Provision p) ≡ Ok o → P
 not_provisioned net_id slot d p o P is = ok-or-err DevEuiTaken o P is
 
 -- a step leaves a device that is there its name
-keeps_name : (net_id slot : ℕ) (d : Device) (c : Command) (o : Outcome) → step1 net_id slot (Some d) c ≡ Ok o → d.dev_eui ≡ o.device.dev_eui
+keeps_name : (net_id slot : ℕ) (d : Device) (c : Command) (o : DeviceStep) → step1 net_id slot (Some d) c ≡ Ok o → d.dev_eui ≡ o.device.dev_eui
 keeps_name net_id slot d (Provision p) o is = not_provisioned net_id slot d p o _ is
 keeps_name net_id slot d (Heard h) o is = heard-name net_id slot d h o is
 keeps_name net_id slot d (Queue q) o is = (queue-ok d q o is).named
 keeps_name net_id slot d (QueueMac q) o is = (queue_mac-ok d q o is).named
 
 -- the slot of a command that was carried out on what is at a slot
-place-carried : (t : TableState) (slot : ℕ) (c : Command) (before : Option Device) (o : Outcome) → step1 t.net_id slot before c ≡ Ok o
+place-carried : (t : TableState) (slot : ℕ) (c : Command) (before : Option Device) (o : DeviceStep) → step1 t.net_id slot before c ≡ Ok o
     → before ≡ slice_get t.devices slot → HasPlace t slot o.device before → place_for t c ≡ Ok slot
 place-carried t slot (Provision p) (Some d) o is at place = not_provisioned t.net_id slot d p o _ is
 place-carried t slot (Provision p) None o is at place =
@@ -104,49 +104,49 @@ place-carried t slot (QueueMac q) None o is at place = no_ok UnknownDevEui o _ i
 place-carried t slot (QueueMac q) (Some d) o is at place = ap known_slot (ap (λ e. slot_of e t.devices) (queue_mac-ok d q o is).asked ∙ place)
 
 -- a decision that was made of a table is the step of its command there
-step-fits : (t : TableState) (d : Decision) → Fits t d
-    → step t d.command ≡ Ok (step_at d.slot (slice_get t.devices d.slot) (outcome d.after d.effects))
+step-fits : (t : TableState) (d : Decision) → FitsTable t d
+    → step t d.command ≡ Ok (step_at d.slot (slice_get t.devices d.slot) (device_step d.after d.effects))
 step-fits t d fits =
-    let carried : step1 t.net_id d.slot d.before d.command ≡ Ok (outcome d.after d.effects) = ap (λ n. step1 n d.slot d.before d.command) (sym fits.net) ∙ d.is_step in
-    let place = place-carried t d.slot d.command d.before (outcome d.after d.effects) carried fits.before fits.place in
+    let carried : step1 t.net_id d.slot d.before d.command ≡ Ok (device_step d.after d.effects) = ap (λ n. step1 n d.slot d.before d.command) (sym fits.net) ∙ d.is_step in
+    let place = place-carried t d.slot d.command d.before (device_step d.after d.effects) carried fits.before fits.place in
     ap (λ (p : Result ℕ Refusal). p >>= λ slot. step1 t.net_id slot (slice_get t.devices slot) d.command >>= λ o. Ok (step_at slot (slice_get t.devices slot) o)) place
     ∙ ap (λ p. p >>= λ o. Ok (step_at d.slot (slice_get t.devices d.slot) o))
     (ap (λ b. step1 t.net_id d.slot b d.command) (sym fits.before) ∙ carried)
 
-pub folded-fit : (t : TableState) (ds : List Decision) → FitAll t ds → folded t (commands_of ds) ≡ applied_all t ds
+pub folded-fit : (t : TableState) (ds : List Decision) → FitAll t ds → fold_of t (commands_of ds) ≡ with_decisions t ds
 folded-fit t [] fit = refl
 folded-fit t (d ∷ ds) fit =
-    ap (λ s. folded (stepped t s) (commands_of ds)) (step-fits t d fit.0) ∙ folded-fit (applied t d) ds fit.1
+    ap (λ s. fold_of (with_step t s) (commands_of ds)) (step-fits t d fit.0) ∙ folded-fit (with_decision t d) ds fit.1
 
 pub effects_of-fit : (t : TableState) (ds : List Decision) → FitAll t ds → effects_of t (commands_of ds) ≡ effects_in ds
 effects_of-fit t [] fit = refl
 effects_of-fit t (d ∷ ds) fit =
-    ap (λ s. step_effects s ++ effects_of (stepped t s) (commands_of ds)) (step-fits t d fit.0)
-    ∙ ap (λ es. d.effects ++ es) (effects_of-fit (applied t d) ds fit.1)
+    ap (λ s. step_effects s ++ effects_of (with_step t s) (commands_of ds)) (step-fits t d fit.0)
+    ∙ ap (λ es. d.effects ++ es) (effects_of-fit (with_decision t d) ds fit.1)
 
-pub folded-append : (t : TableState) (first second : List Command) → folded t (first ++ second) ≡ folded (folded t first) second
+pub folded-append : (t : TableState) (first second : List Command) → fold_of t (first ++ second) ≡ fold_of (fold_of t first) second
 folded-append t [] second = refl
-folded-append t (command ∷ first) second = folded-append (stepped t (step t command)) first second
+folded-append t (command ∷ first) second = folded-append (with_step t (step t command)) first second
 
 pub effects_of-append : (t : TableState) (first second : List Command)
-    → effects_of t (first ++ second) ≡ effects_of t first ++ effects_of (folded t first) second
+    → effects_of t (first ++ second) ≡ effects_of t first ++ effects_of (fold_of t first) second
 effects_of-append t [] second = refl
 effects_of-append t (command ∷ first) second =
     let s = step t command in
-    ap (λ es. step_effects s ++ es) (effects_of-append (stepped t s) first second)
-    ∙ sym (append_assoc (step_effects s) (effects_of (stepped t s) first) (effects_of (folded (stepped t s) first) second))
+    ap (λ es. step_effects s ++ es) (effects_of-append (with_step t s) first second)
+    ∙ sym (append_assoc (step_effects s) (effects_of (with_step t s) first) (effects_of (fold_of (with_step t s) first) second))
 
-pub applied_all-append : (t : TableState) (first second : List Decision) → applied_all t (first ++ second) ≡ applied_all (applied_all t first) second
+pub applied_all-append : (t : TableState) (first second : List Decision) → with_decisions t (first ++ second) ≡ with_decisions (with_decisions t first) second
 applied_all-append t [] second = refl
-applied_all-append t (d ∷ first) second = applied_all-append (applied t d) first second
+applied_all-append t (d ∷ first) second = applied_all-append (with_decision t d) first second
 
-pub FitAll-append : (t : TableState) (first second : List Decision) → FitAll t first → FitAll (applied_all t first) second → FitAll t (first ++ second)
+pub FitAll-append : (t : TableState) (first second : List Decision) → FitAll t first → FitAll (with_decisions t first) second → FitAll t (first ++ second)
 FitAll-append t [] second one two = two
-FitAll-append t (d ∷ first) second one two = (one.0, FitAll-append (applied t d) first second one.1 two)
+FitAll-append t (d ∷ first) second one two = (one.0, FitAll-append (with_decision t d) first second one.1 two)
 
-pub FitAll-split : (t : TableState) (first second : List Decision) → FitAll t (first ++ second) → FitAll t first × FitAll (applied_all t first) second
+pub FitAll-split : (t : TableState) (first second : List Decision) → FitAll t (first ++ second) → FitAll t first × FitAll (with_decisions t first) second
 FitAll-split t [] second both = (tt, both)
-FitAll-split t (d ∷ first) second both = let rest = FitAll-split (applied t d) first second both.1 in ((both.0, rest.0), rest.1)
+FitAll-split t (d ∷ first) second both = let rest = FitAll-split (with_decision t d) first second both.1 in ((both.0, rest.0), rest.1)
 
 pub AreNumbered-append : (seq : ℕ) (first second : List Decision) → AreNumbered seq first → AreNumbered (seq + length first) second → AreNumbered seq (first ++ second)
 AreNumbered-append seq [] second one two = let e : seq + 0 ≡ seq = omega arith in subst (λ n. AreNumbered n second) e two
@@ -162,37 +162,37 @@ AreNumbered-split seq (d ∷ first) second both =
     ((both.0, rest.0), subst (λ n. AreNumbered n second) e rest.1)
 
 pub ContinueAll-append : (t : TableState) (seq : ℕ) (first second : List Decision) → ContinueAll t seq first
-    → ContinueAll (applied_all t first) (seq + length first) second → ContinueAll t seq (first ++ second)
+    → ContinueAll (with_decisions t first) (seq + length first) second → ContinueAll t seq (first ++ second)
 ContinueAll-append t seq first second one two =
     record { fit = FitAll-append t first second one.fit two.fit; numbered = AreNumbered-append seq first second one.numbered two.numbered }
 
 pub ContinueAll-split : (t : TableState) (seq : ℕ) (first second : List Decision) → ContinueAll t seq (first ++ second)
-    → ContinueAll t seq first × ContinueAll (applied_all t first) (seq + length first) second
+    → ContinueAll t seq first × ContinueAll (with_decisions t first) (seq + length first) second
 ContinueAll-split t seq first second both =
     let fit = FitAll-split t first second both.fit in
     let numbered = AreNumbered-split seq first second both.numbered in
     (record { fit = fit.0; numbered = numbered.0 }, record { fit = fit.1; numbered = numbered.1 })
 
 -- a decision that was made of a table brings a device to the next slot, or changes the record of one that is there
-by_place : (t : TableState) (d : Decision) → Fits t d → (P : Type 0)
+by_place : (t : TableState) (d : Decision) → FitsTable t d → (P : Type 0)
     → (slice_get t.devices d.slot ≡ None → TakesNext t d.slot d.after → P)
     → ((device : Device) → slice_get t.devices d.slot ≡ Some device → device.dev_eui ≡ d.after.dev_eui → slot_of device.dev_eui.0 t.devices ≡ Some d.slot → P) → P
 by_place t d fits P next used = by_before d.before (sym fits.before) fits.place d.is_step
   where
     by_before : (before : Option Device) → slice_get t.devices d.slot ≡ before → HasPlace t d.slot d.after before
-        → step1 d.net_id d.slot before d.command ≡ Ok (outcome d.after d.effects) → P
+        → step1 d.net_id d.slot before d.command ≡ Ok (device_step d.after d.effects) → P
     by_before None found place is = next found place
-    by_before (Some device) found place is = used device found (keeps_name d.net_id d.slot device d.command (outcome d.after d.effects) is) place
+    by_before (Some device) found place is = used device found (keeps_name d.net_id d.slot device d.command (device_step d.after d.effects) is) place
 
 -- the record of a decision that was made of a table has its place there
-pub CanPlace-fits : (t : TableState) (d : Decision) → Fits t d → CanPlace t d.slot d.after
+pub CanPlace-fits : (t : TableState) (d : Decision) → FitsTable t d → CanPlace t d.slot d.after
 CanPlace-fits t d fits =
     by_place t d fits (CanPlace t d.slot d.after)
     (λ empty next. MatchOption-of_none (slice_get t.devices d.slot) _ _ empty next)
     (λ device found same own. MatchOption-of_some (slice_get t.devices d.slot) device _ _ found same)
 
 -- and may be put there
-pub CanPut-fits : (t : TableState) (d : Decision) → Fits t d → CanPut t d.slot d.after
+pub CanPut-fits : (t : TableState) (d : Decision) → FitsTable t d → CanPut t d.slot d.after
 CanPut-fits t d fits =
     by_place t d fits (CanPut t d.slot d.after)
     (λ empty next. (omega (arith, next.0), fits.within, MatchOption-of_none (slot_of d.after.dev_eui.0 t.devices) _ _ next.2 tt))
@@ -202,14 +202,14 @@ CanPut-fits t d fits =
     (omega arith, fits.within, MatchOption-of_some (slot_of d.after.dev_eui.0 t.devices) d.slot _ _ kept refl))
 
 -- it can be taken back
-taken_back-applied : (t : TableState) (d : Decision) → Fits t d → taken_back (applied t d) d ≡ t
+taken_back-applied : (t : TableState) (d : Decision) → FitsTable t d → without_decision (with_decision t d) d ≡ t
 taken_back-applied t d fits =
-    by_place t d fits (taken_back (applied t d) d ≡ t)
+    by_place t d fits (without_decision (with_decision t d) d ≡ t)
     (λ empty next.
-    ap (back_at (applied t d) d.slot) (fits.before ∙ empty)
+    ap (with_before (with_decision t d) d.slot) (fits.before ∙ empty)
     ∙ ap (λ ds. record t { devices = ds }) (take_at_end t.devices d.slot d.after next.0))
     (λ device found same own.
-    ap (back_at (applied t d) d.slot) (fits.before ∙ found)
+    ap (with_before (with_decision t d) d.slot) (fits.before ∙ found)
     ∙ ap (λ ds. record t { devices = ds }) (put_back t.devices d.slot d.after device found))
   where
     take_at_end : (ds : List Device) (slot : ℕ) (x : Device) → slot ≡ length ds → take slot (with_device slot x ds) ≡ ds
@@ -222,20 +222,20 @@ taken_back-applied t d fits =
     put_back (d ∷ ds) zero x old found = ap (λ y. y ∷ ds) (sym (same_Some d old found))
     put_back (d ∷ ds) (suc slot) x old found = ap (λ ys. d ∷ ys) (put_back ds slot x old found)
 
-pub taken_back_all-applied_all : (t : TableState) (ds : List Decision) → FitAll t ds → taken_back_all (applied_all t ds) ds ≡ t
+pub taken_back_all-applied_all : (t : TableState) (ds : List Decision) → FitAll t ds → without_decisions (with_decisions t ds) ds ≡ t
 taken_back_all-applied_all t [] fit = refl
-taken_back_all-applied_all t (d ∷ ds) fit = ap (λ s. taken_back s d) (taken_back_all-applied_all (applied t d) ds fit.1) ∙ taken_back-applied t d fit.0
+taken_back_all-applied_all t (d ∷ ds) fit = ap (λ s. without_decision s d) (taken_back_all-applied_all (with_decision t d) ds fit.1) ∙ taken_back-applied t d fit.0
 
 pub FitAll-next : (t : TableState) (n : ℕ) (d : Decision) (ds : List Decision) → n < length ds → d ≡ get_or ds n d
-    → FitAll t ds → Fits (applied_all t (take n ds)) d
+    → FitAll t ds → FitsTable (with_decisions t (take n ds)) d
 FitAll-next t n d ds within item fit =
     let at : drop n ds ≡ d ∷ drop (n + 1) ds = drop_more ds n d within ∙ ap (λ x. x ∷ drop (n + 1) ds) (sym item) in
-    (subst (FitAll (applied_all t (take n ds))) at (FitAll-split t (take n ds) (drop n ds) (subst (FitAll t) (sym (take-append-drop n ds)) fit)).1).0
+    (subst (FitAll (with_decisions t (take n ds))) at (FitAll-split t (take n ds) (drop n ds) (subst (FitAll t) (sym (take-append-drop n ds)) fit)).1).0
 
 pub applied_all-next : (t : TableState) (n : ℕ) (d : Decision) (ds : List Decision) → n < length ds → d ≡ get_or ds n d
-    → applied_all t (take (n + 1) ds) ≡ applied (applied_all t (take n ds)) d
+    → with_decisions t (take (n + 1) ds) ≡ with_decision (with_decisions t (take n ds)) d
 applied_all-next t n d ds within item =
-    ap (applied_all t) (take_more ds n d within ∙ ap (λ x. take n ds ++ x ∷ []) (sym item)) ∙ applied_all-append t (take n ds) (d ∷ [])
+    ap (with_decisions t) (take_more ds n d within ∙ ap (λ x. take n ds ++ x ∷ []) (sym item)) ∙ applied_all-append t (take n ds) (d ∷ [])
 
 -- an answer that is no refusal is what is wanted
 pub AnswersTo-ok : {A B : Type 0} (c : Command) (wanted : Result A Refusal) (Is : A → B → Type 0) (found : B) → AnswersTo c wanted Is (Ok found)
@@ -292,14 +292,14 @@ AnswersTo-memory {A} {B} c wanted Is x e result ok handed none =
     by_frugal false = inl none
 
 -- a step of a table stands at its command's slot, on the record there
-pub step-parts : (t : TableState) (c : Command) (s : Step) → step t c ≡ Ok s → (place_for t c ≡ Ok s.slot) × (s.before ≡ slice_get t.devices s.slot)
+pub step-parts : (t : TableState) (c : Command) (s : TableStep) → step t c ≡ Ok s → (place_for t c ≡ Ok s.slot) × (s.before ≡ slice_get t.devices s.slot)
 step-parts t c s h = at (place_for t c) refl h
   where
-    done : (slot : ℕ) (r : Result Outcome Refusal) → (r >>= λ o. Ok (step_at slot (slice_get t.devices slot) o)) ≡ Ok s → place_for t c ≡ Ok slot
+    done : (slot : ℕ) (r : Result DeviceStep Refusal) → (r >>= λ o. Ok (step_at slot (slice_get t.devices slot) o)) ≡ Ok s → place_for t c ≡ Ok slot
         → (place_for t c ≡ Ok s.slot) × (s.before ≡ slice_get t.devices s.slot)
     done slot (Ok o) e is =
         let same = same_Ok (step_at slot (slice_get t.devices slot) o) s e in
-        (is ∙ ap (λ (x : Step). Ok x.slot) same, sym (ap (λ (x : Step). x.before) same) ∙ ap (λ (x : Step). slice_get t.devices x.slot) same)
+        (is ∙ ap (λ (x : TableStep). Ok x.slot) same, sym (ap (λ (x : TableStep). x.before) same) ∙ ap (λ (x : TableStep). slice_get t.devices x.slot) same)
     done slot (Err e') e is = ok-or-err e' s _ e
 
     at : (p : Result ℕ Refusal) → place_for t c ≡ p → (p >>= λ slot. step1 t.net_id slot (slice_get t.devices slot) c >>= λ o. Ok (step_at slot (slice_get t.devices slot) o)) ≡ Ok s
@@ -308,28 +308,28 @@ step-parts t c s h = at (place_for t c) refl h
     at (Err e') is e = ok-or-err e' s _ e
 
 -- and is what the command does there
-pub step-carried : (t : TableState) (c : Command) (s : Step) → step t c ≡ Ok s
-    → step1 t.net_id s.slot (slice_get t.devices s.slot) c ≡ Ok (outcome s.after s.effects)
+pub step-carried : (t : TableState) (c : Command) (s : TableStep) → step t c ≡ Ok s
+    → step1 t.net_id s.slot (slice_get t.devices s.slot) c ≡ Ok (device_step s.after s.effects)
 step-carried t c s is =
     let at = both_ok (place_for t c) (λ slot. step1 t.net_id slot (slice_get t.devices slot) c >>= λ o. Ok (step_at slot (slice_get t.devices slot) o)) s is in
     let done =
     both_ok (step1 t.net_id at.0 (slice_get t.devices at.0) c) (λ o. Ok (step_at at.0 (slice_get t.devices at.0) o)) s at.2 in
     let same = same_Ok (step_at at.0 (slice_get t.devices at.0) done.0) s done.2 in
-    let here : at.0 ≡ s.slot = ap (λ (x : Step). x.slot) same in
+    let here : at.0 ≡ s.slot = ap (λ (x : TableStep). x.slot) same in
     ap (λ slot. step1 t.net_id slot (slice_get t.devices slot) c) (sym here)
-    ∙ (done.1 ∙ ap (λ (x : Step). Ok (outcome x.after x.effects)) same)
+    ∙ (done.1 ∙ ap (λ (x : TableStep). Ok (device_step x.after x.effects)) same)
 
 -- so it is a decision
-pub IsStepped-step : (t : TableState) (c : Command) (s : Step) (net_id : ℕ) (before : Option Device) (found : Stepped) → step t c ≡ Ok s → IsStepped s found
-    → net_id ≡ t.net_id → before ≡ slice_get t.devices found.slot → step1 net_id found.slot before c ≡ Ok (outcome found.after found.effects)
+pub IsStepped-step : (t : TableState) (c : Command) (s : TableStep) (net_id : ℕ) (before : Option Device) (found : Stepped) → step t c ≡ Ok s → IsStepped s found
+    → net_id ≡ t.net_id → before ≡ slice_get t.devices found.slot → step1 net_id found.slot before c ≡ Ok (device_step found.after found.effects)
 IsStepped-step t c s net_id before found is made net at =
     ap (λ n. step1 n found.slot before c) net
     ∙ (ap (λ b. step1 t.net_id found.slot b c) at
     ∙ (ap (λ slot. step1 t.net_id slot (slice_get t.devices slot) c) made.slot
     ∙ (step-carried t c s is
-    ∙ (ap (λ x. Ok (outcome x s.effects)) (sym made.after) ∙ ap (λ es. Ok (outcome found.after es)) (sym made.effects)))))
+    ∙ (ap (λ x. Ok (device_step x s.effects)) (sym made.after) ∙ ap (λ es. Ok (device_step found.after es)) (sym made.effects)))))
 
-pub IsStepped-before : (t : TableState) (c : Command) (s : Step) (before : Option Device) (found : Stepped) → step t c ≡ Ok s → IsStepped s found
+pub IsStepped-before : (t : TableState) (c : Command) (s : TableStep) (before : Option Device) (found : Stepped) → step t c ≡ Ok s → IsStepped s found
     → before ≡ slice_get t.devices found.slot → before ≡ s.before
 IsStepped-before t c s before found is made at = at ∙ (ap (slice_get t.devices) made.slot ∙ sym (step-parts t c s is).1)
 
@@ -376,7 +376,7 @@ known-place t dev_eui slot after few known =
     device-place t slot after found.0 few found.1 found.2
 
 -- a record that a step leaves has its place
-pub place-stepped : (t : TableState) (c : Command) (slot : ℕ) (o : Outcome) → length t.devices ≤ t.slots → HaveOwnSlots t.devices → place_for t c ≡ Ok slot
+pub place-stepped : (t : TableState) (c : Command) (slot : ℕ) (o : DeviceStep) → length t.devices ≤ t.slots → HaveOwnSlots t.devices → place_for t c ≡ Ok slot
     → step1 t.net_id slot (slice_get t.devices slot) c ≡ Ok o → (slot < t.slots) × HasPlace t slot o.device (slice_get t.devices slot)
 place-stepped t (Provision p) slot o few own place is =
     new_slot-ok t (slot_of p.dev_eui.0 t.devices) slot ((slot < t.slots) × HasPlace t slot o.device (slice_get t.devices slot)) place (λ new last room.
@@ -392,17 +392,17 @@ place-stepped t (Queue q) slot o few own place is = known-place t q.dev_eui.0 sl
 place-stepped t (QueueMac q) slot o few own place is = known-place t q.dev_eui.0 slot o.device few place
 
 -- a decision that is a step of a table was made of it
-pub Fits-decision : (t : TableState) (seq : ℕ) (c : Command) (s : Step) (d : Decision) → length t.devices ≤ t.slots → HaveOwnSlots t.devices → step t c ≡ Ok s
-    → IsDecision t seq c s d → Fits t d
+pub Fits-decision : (t : TableState) (seq : ℕ) (c : Command) (s : TableStep) (d : Decision) → length t.devices ≤ t.slots → HaveOwnSlots t.devices → step t c ≡ Ok s
+    → IsDecision t seq c s d → FitsTable t d
 Fits-decision t seq c s d few own is made =
     let parts = step-parts t c s is in
     let at : slice_get t.devices s.slot ≡ slice_get t.devices d.slot = ap (slice_get t.devices) (sym made.slot) in
     let before = made.before ∙ (parts.1 ∙ at) in
     let placed_at : place_for t c ≡ Ok d.slot = parts.0 ∙ ap Ok (sym made.slot) in
-    let carried : step1 t.net_id d.slot (slice_get t.devices d.slot) c ≡ Ok (outcome d.after d.effects) =
+    let carried : step1 t.net_id d.slot (slice_get t.devices d.slot) c ≡ Ok (device_step d.after d.effects) =
     ap (λ n. step1 n d.slot (slice_get t.devices d.slot) c) (sym made.net)
     ∙ (ap (λ b. step1 d.net_id d.slot b c) (sym before) ∙ (ap (step1 d.net_id d.slot d.before) (sym made.command) ∙ d.is_step)) in
-    let place = place-stepped t c d.slot (outcome d.after d.effects) few own placed_at carried in
+    let place = place-stepped t c d.slot (device_step d.after d.effects) few own placed_at carried in
     record {
       net = made.net;
       before = before;
@@ -412,21 +412,21 @@ Fits-decision t seq c s d few own is made =
 
 -- the decision behind those that continue a table continues what they leave
 pub ContinueAll-next : (t : TableState) (seq n : ℕ) (d : Decision) (ds : List Decision) → n < length ds → d ≡ get_or ds n d
-    → ContinueAll t seq ds → Continues (applied_all t (take n ds)) (seq + n) d
+    → ContinueAll t seq ds → Continues (with_decisions t (take n ds)) (seq + n) d
 ContinueAll-next t seq n d ds within item all =
     let at : drop n ds ≡ d ∷ drop (n + 1) ds = drop_more ds n d within ∙ ap (λ x. x ∷ drop (n + 1) ds) (sym item) in
     let parts = ContinueAll-split t seq (take n ds) (drop n ds) (subst (ContinueAll t seq) (sym (take-append-drop n ds)) all) in
     let long : length (take n ds) ≡ n = length-take-le n ds (omega arith) in
-    let left = applied_all t (take n ds) in
+    let left = with_decisions t (take n ds) in
     let rest : ContinueAll left (seq + n) (d ∷ drop (n + 1) ds) =
     subst (λ k. ContinueAll left (seq + k) (d ∷ drop (n + 1) ds)) long (subst (ContinueAll left (seq + length (take n ds))) at parts.1) in
     record { fits = rest.fit.0; number = rest.numbered.0 }
 
 -- one decision more
 pub ContinueAll-more : (t : TableState) (seq n : ℕ) (d : Decision) (ds : List Decision) → n < length ds → d ≡ get_or ds n d
-    → ContinueAll t seq (take n ds) → Continues (applied_all t (take n ds)) (seq + n) d → ContinueAll t seq (take (n + 1) ds)
+    → ContinueAll t seq (take n ds) → Continues (with_decisions t (take n ds)) (seq + n) d → ContinueAll t seq (take (n + 1) ds)
 ContinueAll-more t seq n d ds within item front next =
     let long : length (take n ds) ≡ n = length-take-le n ds (omega arith) in
-    let one : ContinueAll (applied_all t (take n ds)) (seq + n) (d ∷ []) = record { fit = (next.fits, tt); numbered = (next.number, tt) } in
-    let placed_so = ContinueAll-append t seq (take n ds) (d ∷ []) front (subst (λ k. ContinueAll (applied_all t (take n ds)) (seq + k) (d ∷ [])) (sym long) one) in
+    let one : ContinueAll (with_decisions t (take n ds)) (seq + n) (d ∷ []) = record { fit = (next.fits, tt); numbered = (next.number, tt) } in
+    let placed_so = ContinueAll-append t seq (take n ds) (d ∷ []) front (subst (λ k. ContinueAll (with_decisions t (take n ds)) (seq + k) (d ∷ [])) (sym long) one) in
     subst (ContinueAll t seq) (sym (take_more ds n d within ∙ ap (λ x. take n ds ++ x ∷ []) (sym item))) placed_so

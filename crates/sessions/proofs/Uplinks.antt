@@ -3,12 +3,12 @@ use Rattle.std.proofs.Common.{◌≡◌, ◌∙◌, ◌⊎◌, inl, inr, ℕ, �
 use Rattle.std.specs.List.{AllByRecursion}
 use Rattle.lw_types.specs.declared.identifiers.DevAddr.{DevAddr}
 use Rattle.lw_types.specs.declared.refusal.Refusal.TheVariants.{Repeat, UnknownDevAddr}
-use Rattle.mac_commands.specs.Reading.{told_bytes}
-use Rattle.phy_payload.specs.declared.contents.Message.{Message}
+use Rattle.mac_commands.specs.Reading.{reported_bytes}
+use Rattle.phy_payload.specs.declared.contents.PortPayload.{PortPayload}
 use Rattle.phy_payload.specs.declared.data_frame.DataFrame.{DataFrame}
-use Rattle.devices.specs.Activation.{AreInOrder, Grants, used_down}
+use Rattle.devices.specs.Activation.{AreInOrder, Grants, with_down_used}
 use Rattle.devices.specs.Heard.{best_of}
-use Rattle.devices.specs.Outcome.{Outcome, outcome, told}
+use Rattle.devices.specs.DeviceStep.{DeviceStep, device_step, report_effects}
 use Rattle.devices.specs.declared.Tag.{Tag}
 use Rattle.devices.specs.declared.activation.CurrentSession.{CurrentSession}
 use Rattle.devices.specs.declared.device.Device.{Device}
@@ -19,11 +19,11 @@ use Rattle.devices.specs.declared.heard.Hearing.{Hearing}
 use Rattle.devices.specs.declared.mark.Mark.{Mark}
 use Rattle.devices.specs.declared.mark.Mark.TheVariants.{Forwarded, Sent}
 use Rattle.downlinks.specs.Load.{is_due}
-use Rattle.downlinks.specs.Reply.{acknowledged, answered, name_of}
-use Rattle.downlinks.specs.declared.load.Asked.{Asked}
-use Rattle.uplinks.specs.Accepted.{acknowledges, asked_by, commands_of, forwarded, grants_after, is_application, mac_report, of_awaited, session_after, taken, told_by, with_uplink}
+use Rattle.downlinks.specs.Reply.{acknowledgement_step, answer_step, name_of}
+use Rattle.downlinks.specs.declared.load.Demand.{Demand}
+use Rattle.uplinks.specs.Accepted.{is_acknowledgement, demand_of, commands_of, forward_effects, grants_after, is_application, mac_report, awaited_report, session_after, uplink_step, effects_before_answer, with_uplink}
 use Rattle.uplinks.specs.Fit.{IsOf, fit_of}
-use Rattle.uplinks.specs.Step.{fitted, heard_best, uplink_at}
+use Rattle.uplinks.specs.Step.{step_in_session, step_of_best, uplink_at}
 use Rattle.uplinks.specs.declared.fit.Fit.{Fit}
 use Rattle.uplinks.specs.declared.fit.Fit.TheVariants.{First, Next, Again}
 use Rattle.uplinks.specs.declared.uplink.Uplink.{Uplink}
@@ -35,42 +35,42 @@ use Rattle.sessions.proofs.Moves.{all_append, marks_of-append}
 -- ---- a device is answered
 
 -- the device keeps its name; its grants are the same and no mark is used up, or a counter of the session is
-record IsAnswer (d : Device) (c : CurrentSession) (o : Outcome) : Type 0 where
+record IsAnswer (d : Device) (c : CurrentSession) (o : DeviceStep) : Type 0 where
   pub named : d.dev_eui ≡ o.device.dev_eui
   pub grants : (d.activation ≡ o.device.activation) × (marks_of o.effects ≡ [])
-      ⊎ (used_down d.activation c ≡ o.device.activation) × (marks_of o.effects ≡ Sent (name_of d c) c.next_down ∷ [])
+      ⊎ (with_down_used d.activation c ≡ o.device.activation) × (marks_of o.effects ≡ Sent (name_of d c) c.next_down ∷ [])
 
 -- a downlink, or the report that no counter is left
-sent-is : (d : Device) (c : CurrentSession) (spent : Bool) (sent : Outcome) → d.dev_eui ≡ sent.device.dev_eui
-    → used_down d.activation c ≡ sent.device.activation → marks_of sent.effects ≡ Sent (name_of d c) c.next_down ∷ []
-    → IsAnswer d c (cond spent (outcome d (told d (Spent c.session.join_nonce))) sent)
+sent-is : (d : Device) (c : CurrentSession) (spent : Bool) (sent : DeviceStep) → d.dev_eui ≡ sent.device.dev_eui
+    → with_down_used d.activation c ≡ sent.device.activation → marks_of sent.effects ≡ Sent (name_of d c) c.next_down ∷ []
+    → IsAnswer d c (cond spent (device_step d (report_effects d (Spent c.session.join_nonce))) sent)
 sent-is d c true sent name used marks = record { named = refl; grants = inl (refl, refl) }
 sent-is d c false sent name used marks = record { named = name; grants = inr (used, marks) }
 
 -- an answer where one is due
-due-is : (d : Device) (c : CurrentSession) (due : Bool) (o : Outcome) → IsAnswer d c o → IsAnswer d c (cond due o (outcome d []))
+due-is : (d : Device) (c : CurrentSession) (due : Bool) (o : DeviceStep) → IsAnswer d c o → IsAnswer d c (cond due o (device_step d []))
 due-is d c true o answer = answer
 due-is d c false o answer = record { named = refl; grants = inl (refl, refl) }
 
-answered-is : (net_id slot : ℕ) (d : Device) (c : CurrentSession) (asked : Asked) → IsAnswer d c (answered net_id slot d c asked)
+answered-is : (net_id slot : ℕ) (d : Device) (c : CurrentSession) (asked : Demand) → IsAnswer d c (answer_step net_id slot d c asked)
 answered-is net_id slot d c asked = due-is d c (is_due d asked) _ (sent-is d c (c.next_down == 2 ^ 32) _ refl refl refl)
 
-acknowledged-is : (net_id slot : ℕ) (d : Device) (c : CurrentSession) (best : Hearing) → IsAnswer d c (acknowledged net_id slot d c best)
+acknowledged-is : (net_id slot : ℕ) (d : Device) (c : CurrentSession) (best : Hearing) → IsAnswer d c (acknowledgement_step net_id slot d c best)
 acknowledged-is net_id slot d c best = sent-is d c (c.next_down == 2 ^ 32) _ refl refl refl
 
 -- ---- an outcome that passes a device's grants on
 
 -- the device keeps its name, the marks are its own, and they are used up
-pub record Carries (d : Device) (o : Outcome) : Type 0 where
+pub record Carries (d : Device) (o : DeviceStep) : Type 0 where
   pub named : d.dev_eui ≡ o.device.dev_eui
   pub theirs : AllByRecursion (λ m. d.dev_eui ≡ (session_in m).dev_eui) (marks_of o.effects)
   pub passes : Passes d.activation o.device.activation (marks_of o.effects)
 
-answer-carries : (d : Device) (c : CurrentSession) (o : Outcome) → IsAnswer d c o → d.activation.current ≡ Some c → AreInOrder d.activation → Carries d o
+answer-carries : (d : Device) (c : CurrentSession) (o : DeviceStep) → IsAnswer d c o → d.activation.current ≡ Some c → AreInOrder d.activation → Carries d o
 answer-carries d c o answer current order = by answer.grants
   where
     by : (d.activation ≡ o.device.activation) × (marks_of o.effects ≡ [])
-        ⊎ (used_down d.activation c ≡ o.device.activation) × (marks_of o.effects ≡ Sent (name_of d c) c.next_down ∷ [])
+        ⊎ (with_down_used d.activation c ≡ o.device.activation) × (marks_of o.effects ≡ Sent (name_of d c) c.next_down ∷ [])
         → Carries d o
     by (inl (same, none)) =
         record {
@@ -92,7 +92,7 @@ answer-carries d c o answer current order = by answer.grants
 behind_unmarked : (first second : List Effect) → marks_of first ≡ [] → marks_of (first ++ second) ≡ marks_of second
 behind_unmarked first second none = marks_of-append first second ∙ ap (λ ms. ms ++ marks_of second) none
 
-awaited-unmarked : (d : Device) (acked : Bool) (tag : Option Tag) → marks_of (of_awaited d acked tag) ≡ []
+awaited-unmarked : (d : Device) (acked : Bool) (tag : Option Tag) → marks_of (awaited_report d acked tag) ≡ []
 awaited-unmarked d acked None = refl
 awaited-unmarked d acked (Some tag) = refl
 
@@ -104,8 +104,8 @@ commands-unmarked d c (byte ∷ bytes) = refl
 abbrev MayForward : Device → CurrentSession → List Mark → Type 0
 MayForward d c marks = (marks ≡ []) ⊎ (marks ≡ Forwarded (name_of d c) c.last_up ∷ [])
 
-forwarded-marks : (addr : DevAddr) (d : Device) (c : CurrentSession) (copies : ℕ) (best : Hearing) (message : Option Message)
-    → MayForward d c (marks_of (forwarded addr d c copies best message))
+forwarded-marks : (addr : DevAddr) (d : Device) (c : CurrentSession) (copies : ℕ) (best : Hearing) (message : Option PortPayload)
+    → MayForward d c (marks_of (forward_effects addr d c copies best message))
 forwarded-marks addr d c copies best None = inl refl
 forwarded-marks addr d c copies best (Some sent) = by_port (is_application sent.f_port) _
   where
@@ -121,12 +121,12 @@ behind_told d c awaited reported handed none no_commands may =
     subst (MayForward d c) (sym (behind_unmarked awaited (reported ++ handed) none ∙ behind_unmarked reported handed no_commands)) may
 
 told-marks : (d : Device) (fit : Fit) (u : Uplink) (copies : ℕ) (best : Hearing)
-    → MayForward d (session_after fit) (marks_of (told_by d fit u copies best))
+    → MayForward d (session_after fit) (marks_of (effects_before_answer d fit u copies best))
 told-marks d fit u copies best =
     let c : CurrentSession = session_after fit in
-    behind_told d c (of_awaited d (acknowledges fit u) d.awaited) (mac_report d c (told_bytes (commands_of c u)))
-    (forwarded u.frame.dev_addr d c copies best u.frame.contents.message) (awaited-unmarked d (acknowledges fit u) d.awaited)
-    (commands-unmarked d c (told_bytes (commands_of c u))) (forwarded-marks u.frame.dev_addr d c copies best u.frame.contents.message)
+    behind_told d c (awaited_report d (is_acknowledgement fit u) d.awaited) (mac_report d c (reported_bytes (commands_of c u)))
+    (forward_effects u.frame.dev_addr d c copies best u.frame.contents.message) (awaited-unmarked d (is_acknowledgement fit u) d.awaited)
+    (commands-unmarked d c (reported_bytes (commands_of c u))) (forwarded-marks u.frame.dev_addr d c copies best u.frame.contents.message)
 
 -- ---- a new uplink
 
@@ -134,15 +134,15 @@ module _ (net_id slot : ℕ) (d : Device) (fit : Fit) (u : Uplink) (copies : ℕ
   abbrev c : CurrentSession
   c = session_after fit
 
-  taken-name : d.dev_eui ≡ (taken net_id slot d fit u copies best).device.dev_eui
-  taken-name = (answered-is net_id slot (with_uplink d fit) c (asked_by c u copies best)).named
+  taken-name : d.dev_eui ≡ (uplink_step net_id slot d fit u copies best).device.dev_eui
+  taken-name = (answered-is net_id slot (with_uplink d fit) c (demand_of c u copies best)).named
 
   -- it is handed on in a session that the device has then
   taken-carries : Passes d.activation (grants_after d.activation fit) (Forwarded (name_of d c) c.last_up ∷ [])
-      → (grants_after d.activation fit).current ≡ Some c → AreInOrder d.activation → Carries d (taken net_id slot d fit u copies best)
+      → (grants_after d.activation fit).current ≡ Some c → AreInOrder d.activation → Carries d (uplink_step net_id slot d fit u copies best)
   taken-carries passes current order =
       joined (told-marks d fit u copies best)
-      (answer-carries (with_uplink d fit) c _ (answered-is net_id slot (with_uplink d fit) c (asked_by c u copies best)) current (passes.in_order order))
+      (answer-carries (with_uplink d fit) c _ (answered-is net_id slot (with_uplink d fit) c (demand_of c u copies best)) current (passes.in_order order))
     where
       told_passes : (marks : List Mark) → MayForward d c marks → Passes d.activation (grants_after d.activation fit) marks
       told_passes marks (inl none) =
@@ -154,11 +154,11 @@ module _ (net_id slot : ℕ) (d : Device) (fit : Fit) (u : Uplink) (copies : ℕ
       told_theirs marks (inl none) = subst (λ ms. AllByRecursion (λ m. d.dev_eui ≡ (session_in m).dev_eui) ms) (sym none) tt
       told_theirs marks (inr one) = subst (λ ms. AllByRecursion (λ m. d.dev_eui ≡ (session_in m).dev_eui) ms) (sym one) (refl, tt)
 
-      joined : MayForward d c (marks_of (told_by d fit u copies best))
-          → Carries (with_uplink d fit) (answered net_id slot (with_uplink d fit) c (asked_by c u copies best)) → Carries d (taken net_id slot d fit u copies best)
+      joined : MayForward d c (marks_of (effects_before_answer d fit u copies best))
+          → Carries (with_uplink d fit) (answer_step net_id slot (with_uplink d fit) c (demand_of c u copies best)) → Carries d (uplink_step net_id slot d fit u copies best)
       joined first second =
-          let before : List Effect = told_by d fit u copies best in
-          let o : Outcome = answered net_id slot (with_uplink d fit) c (asked_by c u copies best) in
+          let before : List Effect = effects_before_answer d fit u copies best in
+          let o : Outcome = answer_step net_id slot (with_uplink d fit) c (demand_of c u copies best) in
           let marks = sym (marks_of-append before o.effects) in
           record {
             named = second.named;
@@ -171,46 +171,46 @@ module _ (net_id slot : ℕ) (d : Device) (fit : Fit) (u : Uplink) (copies : ℕ
 
 -- ---- in the session of which it is
 
-fitted-name : (net_id slot : ℕ) (d : Device) (u : Uplink) (copies : ℕ) (best : Hearing) (fit : Fit) (o : Outcome) → fitted net_id slot d u copies best fit ≡ Ok o
+fitted-name : (net_id slot : ℕ) (d : Device) (u : Uplink) (copies : ℕ) (best : Hearing) (fit : Fit) (o : DeviceStep) → step_in_session net_id slot d u copies best fit ≡ Ok o
     → d.dev_eui ≡ o.device.dev_eui
 fitted-name net_id slot d u copies best (First s n) o is =
-    taken-name net_id slot d (First s n) u copies best ∙ ap (λ (o : Outcome). o.device.dev_eui) (ok_is (taken net_id slot d (First s n) u copies best) o is)
+    taken-name net_id slot d (First s n) u copies best ∙ ap (λ (o : DeviceStep). o.device.dev_eui) (ok_is (uplink_step net_id slot d (First s n) u copies best) o is)
 fitted-name net_id slot d u copies best (Next c n) o is =
-    taken-name net_id slot d (Next c n) u copies best ∙ ap (λ (o : Outcome). o.device.dev_eui) (ok_is (taken net_id slot d (Next c n) u copies best) o is)
+    taken-name net_id slot d (Next c n) u copies best ∙ ap (λ (o : DeviceStep). o.device.dev_eui) (ok_is (uplink_step net_id slot d (Next c n) u copies best) o is)
 fitted-name net_id slot d u copies best (Again c) o is =
-    let acked = where_true u.frame.confirmed (Ok (acknowledged net_id slot d c best)) Repeat o is in
+    let acked = where_true u.frame.confirmed (Ok (acknowledgement_step net_id slot d c best)) Repeat o is in
     (acknowledged-is net_id slot d c best).named
-    ∙ ap (λ (o : Outcome). o.device.dev_eui) (ok_is (acknowledged net_id slot d c best) o acked.1)
+    ∙ ap (λ (o : DeviceStep). o.device.dev_eui) (ok_is (acknowledgement_step net_id slot d c best) o acked.1)
 
-fitted-carries : (net_id slot : ℕ) (d : Device) (u : Uplink) (copies : ℕ) (best : Hearing) (fit : Fit) (o : Outcome) → IsOf d.activation fit → AreInOrder d.activation
-    → fitted net_id slot d u copies best fit ≡ Ok o → Carries d o
+fitted-carries : (net_id slot : ℕ) (d : Device) (u : Uplink) (copies : ℕ) (best : Hearing) (fit : Fit) (o : DeviceStep) → IsOf d.activation fit → AreInOrder d.activation
+    → step_in_session net_id slot d u copies best fit ≡ Ok o → Carries d o
 fitted-carries net_id slot d u copies best (First s n) o of order is =
     let passes = passes_begun d.activation s n of order (record { dev_eui = d.dev_eui; join_nonce = s.join_nonce }) refl in
-    subst (Carries d) (ok_is (taken net_id slot d (First s n) u copies best) o is) (taken-carries net_id slot d (First s n) u copies best passes refl order)
+    subst (Carries d) (ok_is (uplink_step net_id slot d (First s n) u copies best) o is) (taken-carries net_id slot d (First s n) u copies best passes refl order)
 fitted-carries net_id slot d u copies best (Next c n) o of order is =
     let passes = passes_advanced d.activation c of.0 order n of.1 (record { dev_eui = d.dev_eui; join_nonce = c.session.join_nonce }) refl in
-    subst (Carries d) (ok_is (taken net_id slot d (Next c n) u copies best) o is) (taken-carries net_id slot d (Next c n) u copies best passes refl order)
+    subst (Carries d) (ok_is (uplink_step net_id slot d (Next c n) u copies best) o is) (taken-carries net_id slot d (Next c n) u copies best passes refl order)
 fitted-carries net_id slot d u copies best (Again c) o of order is =
-    let acked = where_true u.frame.confirmed (Ok (acknowledged net_id slot d c best)) Repeat o is in
-    subst (Carries d) (ok_is (acknowledged net_id slot d c best) o acked.1)
+    let acked = where_true u.frame.confirmed (Ok (acknowledgement_step net_id slot d c best)) Repeat o is in
+    subst (Carries d) (ok_is (acknowledgement_step net_id slot d c best) o acked.1)
     (answer-carries d c _ (acknowledged-is net_id slot d c best) of order)
 
 -- ---- an uplink
 
 -- an uplink that was carried out fits into a session
-uplink-fits : (net_id slot : ℕ) (d : Device) (hearings : List Hearing) (u : Uplink) (o : Outcome) → uplink_at net_id slot d hearings u ≡ Ok o
-    → (best : Hearing) × (fit : Fit) × (fit_of net_id slot d.activation u.frame ≡ Ok fit) × (fitted net_id slot d u (length hearings) best fit ≡ Ok o)
+uplink-fits : (net_id slot : ℕ) (d : Device) (hearings : List Hearing) (u : Uplink) (o : DeviceStep) → uplink_at net_id slot d hearings u ≡ Ok o
+    → (best : Hearing) × (fit : Fit) × (fit_of net_id slot d.activation u.frame ≡ Ok fit) × (step_in_session net_id slot d u (length hearings) best fit ≡ Ok o)
 uplink-fits net_id slot d hearings u o is = by_best (best_of hearings) is
   where
-    by_best : (best : Option Hearing) → heard_best net_id slot d u (length hearings) best ≡ Ok o
-        → (best : Hearing) × (fit : Fit) × (fit_of net_id slot d.activation u.frame ≡ Ok fit) × (fitted net_id slot d u (length hearings) best fit ≡ Ok o)
+    by_best : (best : Option Hearing) → step_of_best net_id slot d u (length hearings) best ≡ Ok o
+        → (best : Hearing) × (fit : Fit) × (fit_of net_id slot d.activation u.frame ≡ Ok fit) × (step_in_session net_id slot d u (length hearings) best fit ≡ Ok o)
     by_best None h = no_ok UnknownDevAddr o _ h
     by_best (Some best) h =
-        let found = both_ok (fit_of net_id slot d.activation u.frame) (fitted net_id slot d u (length hearings) best) o h in
+        let found = both_ok (fit_of net_id slot d.activation u.frame) (step_in_session net_id slot d u (length hearings) best) o h in
         (best, found.0, found.1, found.2)
 
 -- it leaves the device its name
-pub uplink-name : (net_id slot : ℕ) (d : Device) (hearings : List Hearing) (u : Uplink) (o : Outcome) → uplink_at net_id slot d hearings u ≡ Ok o
+pub uplink-name : (net_id slot : ℕ) (d : Device) (hearings : List Hearing) (u : Uplink) (o : DeviceStep) → uplink_at net_id slot d hearings u ≡ Ok o
     → d.dev_eui ≡ o.device.dev_eui
 uplink-name net_id slot d hearings u o is =
     let found = uplink-fits net_id slot d hearings u o is in
@@ -221,7 +221,7 @@ abbrev pub FitsAreOf : Type 0
 FitsAreOf = (net_id slot : ℕ) (g : Grants) (frame : DataFrame) (fit : Fit) → fit_of net_id slot g frame ≡ Ok fit → IsOf g fit
 
 -- so it uses up marks of its own
-pub uplink-carries : FitsAreOf → (net_id slot : ℕ) (d : Device) (hearings : List Hearing) (u : Uplink) (o : Outcome) → AreInOrder d.activation
+pub uplink-carries : FitsAreOf → (net_id slot : ℕ) (d : Device) (hearings : List Hearing) (u : Uplink) (o : DeviceStep) → AreInOrder d.activation
     → uplink_at net_id slot d hearings u ≡ Ok o → Carries d o
 uplink-carries fits net_id slot d hearings u o order is =
     let found = uplink-fits net_id slot d hearings u o is in

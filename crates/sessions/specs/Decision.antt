@@ -1,5 +1,6 @@
 -- Decisions that continue a table.
-use Rattle.std.specs.Prelude.{◌≡◌, ◌≢◌, ◌+◌, ◌<◌, ℕ, Bool, true, false, MatchBool, List, [], ◌∷◌, Option, Some, None, Result, map, slice_get, take}
+use Rattle.std.specs.Prelude.{◌≡◌, ◌≢◌, ◌+◌, ◌<◌, ℕ, Bool, true, false, MatchBool, List, [], ◌∷◌}
+use Rattle.std.specs.Prelude.{Option, Some, None, Result, map, slice_get, take}
 use Rattle.std.specs.List.{flat_map}
 use Rattle.std.specs.Option.{MatchOption}
 use Rattle.lw_types.specs.Answer.{Answers, AnswersWithMemory}
@@ -8,17 +9,20 @@ use Rattle.devices.specs.declared.device.Device.{Device}
 use Rattle.devices.specs.declared.command.Command.{Command}
 use Rattle.devices.specs.declared.command.Command.TheVariants.{Provision, Heard, Queue, QueueMac}
 use Rattle.devices.specs.declared.effect.Effect.{Effect}
-use Rattle.sessions.specs.Table.{TableState, Step, TakesNext, slot_of, step, placed}
+use Rattle.sessions.specs.Table.{TableState, TableStep, TakesNext, slot_of, step, with_record}
 use Rattle.sessions.specs.declared.decide.Stepped.{Stepped}
 use Rattle.sessions.specs.declared.decision.Decision.{Decision}
 
--- the place of a record: a device that is brought takes the next slot, and one that is there is found at its own
+-- the place of a record: a device that is provisioned takes the next slot, and one that is there is
+-- found at its own
 abbrev pub HasPlace : TableState → ℕ → Device → Option Device → Type 0
-HasPlace t slot after before = MatchOption before (TakesNext t slot after) (λ device. slot_of device.dev_eui.0 t.devices ≡ Some slot)
+HasPlace t slot after before =
+    MatchOption before (TakesNext t slot after)
+    (λ device. slot_of device.dev_eui.0 t.devices ≡ Some slot)
 
--- the decision was made of this table: its network and the record at its slot are the table's, and its record has its
--- place there
-pub record Fits (t : TableState) (d : Decision) : Type 0 where
+-- the decision was made of this table: its network and the record at its slot are the table's, and
+-- its record has its place there
+pub record FitsTable (t : TableState) (d : Decision) : Type 0 where
   pub net : d.net_id ≡ t.net_id
   pub before : d.before ≡ slice_get t.devices d.slot
   pub within : d.slot < t.slots
@@ -26,34 +30,34 @@ pub record Fits (t : TableState) (d : Decision) : Type 0 where
 
 -- it was made of this table and has the next sequence number
 pub record Continues (t : TableState) (seq : ℕ) (d : Decision) : Type 0 where
-  pub fits : Fits t d
+  pub fits : FitsTable t d
   pub number : d.seq ≡ seq + 1
 
 -- the table with the decision's record
-abbrev pub applied : TableState → Decision → TableState
-applied t d = placed t d.slot d.after
+abbrev pub with_decision : TableState → Decision → TableState
+with_decision t d = with_record t d.slot d.after
 
-abbrev pub applied_all : TableState → List Decision → TableState
-applied_all t [] = t
-applied_all t (d ∷ ds) = applied_all (applied t d) ds
+abbrev pub with_decisions : TableState → List Decision → TableState
+with_decisions t [] = t
+with_decisions t (d ∷ ds) = with_decisions (with_decision t d) ds
 
 -- the table with what was at this slot before: a record, or nothing where the slot was the next one
-abbrev pub back_at : TableState → ℕ → Option Device → TableState
-back_at t slot (Some before) = placed t slot before
-back_at t slot None = record t { devices = take slot t.devices }
+abbrev pub with_before : TableState → ℕ → Option Device → TableState
+with_before t slot (Some before) = with_record t slot before
+with_before t slot None = record t { devices = take slot t.devices }
 
 -- the table with the record that the decision found, or without a device where it found none
-abbrev pub taken_back : TableState → Decision → TableState
-taken_back t d = back_at t d.slot d.before
+abbrev pub without_decision : TableState → Decision → TableState
+without_decision t d = with_before t d.slot d.before
 
-abbrev pub taken_back_all : TableState → List Decision → TableState
-taken_back_all t [] = t
-taken_back_all t (d ∷ ds) = taken_back (taken_back_all t ds) d
+abbrev pub without_decisions : TableState → List Decision → TableState
+without_decisions t [] = t
+without_decisions t (d ∷ ds) = without_decision (without_decisions t ds) d
 
 -- each decision was made of the table that those before it leave
 abbrev pub FitAll : TableState → List Decision → Type 0
 FitAll t [] = Unit {0}
-FitAll t (d ∷ ds) = Fits t d × FitAll (applied t d) ds
+FitAll t (d ∷ ds) = FitsTable t d × FitAll (with_decision t d) ds
 
 -- the sequence numbers rise by one
 abbrev pub AreNumbered : ℕ → List Decision → Type 0
@@ -81,7 +85,8 @@ abbrev pub effects_in : List Decision → List Effect
 effects_in ds = flat_map (λ d. d.effects) ds
 
 -- the decision is this step of this command under this number
-pub record IsDecision (t : TableState) (seq : ℕ) (asked : Command) (s : Step) (d : Decision) : Type 0 where
+pub record IsDecision (t : TableState) (seq : ℕ) (asked : Command) (s : TableStep)
+    (d : Decision) : Type 0 where
   pub net : d.net_id ≡ t.net_id
   pub number : d.seq ≡ seq
   pub command : d.command ≡ asked
@@ -97,17 +102,19 @@ is_frugal (Heard h) = false
 is_frugal (Queue q) = true
 is_frugal (QueueMac q) = true
 
--- what is answered to a command: exactly what is wanted, unless memory is out; and where the command isn't frugal,
--- OutOfMemory may stand in the place of a refusal too
-abbrev pub AnswersTo : {A B : Type 0} → Command → Result A Refusal → (A → B → Type 0) → Result B Refusal → Type 0
-AnswersTo command wanted Is result = MatchBool (is_frugal command) (Answers wanted Is result) (AnswersWithMemory wanted Is result)
+-- what is answered to a command: exactly what is wanted, unless memory is out; and where the
+-- command isn't frugal, OutOfMemory may stand in the place of a refusal too
+abbrev pub AnswersTo : {A B : Type 0} → Command → Result A Refusal → (A → B → Type 0)
+    → Result B Refusal → Type 0
+AnswersTo command wanted Is result =
+    MatchBool (is_frugal command) (Answers wanted Is result) (AnswersWithMemory wanted Is result)
 
 -- the step of the command is decided, or its refusal is answered
 abbrev pub Decides : TableState → ℕ → Command → Result Decision Refusal → Type 0
 Decides t seq command result = AnswersTo command (step t command) (IsDecision t seq command) result
 
 -- this is the step
-pub record IsStepped (s : Step) (found : Stepped) : Type 0 where
+pub record IsStepped (s : TableStep) (found : Stepped) : Type 0 where
   pub slot : found.slot ≡ s.slot
   pub after : found.after ≡ s.after
   pub effects : found.effects ≡ s.effects

@@ -11,7 +11,9 @@ table_of t = record { net_id = t.net_id; slots = t.slots; devices = t.devices.it
 
 -- each device is found at its own slot, so no two have one DevEUI
 abbrev pub HaveOwnSlots : List Device → Type 0
-HaveOwnSlots devices = (slot : ℕ) (d : Device) → slice_get devices slot ≡ Some d → slot_of d.dev_eui.0 devices ≡ Some slot
+HaveOwnSlots devices =
+    (slot : ℕ) (d : Device) → slice_get devices slot ≡ Some d
+    → slot_of d.dev_eui.0 devices ≡ Some slot
 
 -- the index has the slot of each DevEUI, and there is room for every slot
 pub record IsIndexed (t : Inside) : Type 0 where

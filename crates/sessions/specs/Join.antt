@@ -1,25 +1,28 @@
 -- A device is granted a session (TS001-1.0.4 §6.2).
-use Rattle.std.specs.Prelude.{ℕ, ◌==◌, ◌*◌, ◌%◌, ◌^◌, if◌then◌else◌, List, [], ◌∷◌, Option, Some, None, Result, Ok, Err}
+use Rattle.std.specs.Prelude.{ℕ, ◌==◌, ◌*◌, ◌%◌, ◌^◌, if◌then◌else◌, List, [], ◌∷◌, Option, Some}
+use Rattle.std.specs.Prelude.{None, Result, Ok, Err}
 use Rattle.lw_types.specs.declared.identifiers.Eui.{Eui}
 use Rattle.lw_types.specs.declared.refusal.Refusal.{Refusal}
-use Rattle.lw_types.specs.declared.refusal.Refusal.TheVariants.{UnknownDevEui, WrongJoinEui, BadMic, DevNonceUsed, JoinNonceSpent, BadMessage}
+use Rattle.lw_types.specs.declared.refusal.Refusal.TheVariants.{UnknownDevEui, WrongJoinEui, BadMic}
+use Rattle.lw_types.specs.declared.refusal.Refusal.TheVariants.{DevNonceUsed, JoinNonceSpent}
+use Rattle.lw_types.specs.declared.refusal.Refusal.TheVariants.{BadMessage}
 use Rattle.backend_json.specs.declared.join_ans.Cause.{Cause}
 use Rattle.backend_json.specs.declared.join_ans.Cause.TheVariants as causes
 use Rattle.join_server.specs.Request.{dev_eui_of}
-use Rattle.join_server.specs.Join.{answered, next_join_nonce}
+use Rattle.join_server.specs.Join.{answer_to, next_join_nonce}
 use Rattle.join_server.specs.declared.ask.JoinAsk.{JoinAsk}
 use Rattle.join_server.specs.declared.grant.JoinGrant.{JoinGrant}
 use Rattle.join_server.specs.declared.state.JoinState.{JoinState}
 use Rattle.devices.specs.Activation.{with_grant}
 use Rattle.devices.specs.Address.{dev_addr}
 use Rattle.devices.specs.Heard.{best_of}
-use Rattle.devices.specs.Outcome.{Outcome, outcome}
+use Rattle.devices.specs.DeviceStep.{DeviceStep, device_step}
 use Rattle.devices.specs.declared.activation.Session.{Session}
 use Rattle.devices.specs.declared.device.Device.{Device}
 use Rattle.devices.specs.declared.heard.Hearing.{Hearing}
 use Rattle.devices.specs.declared.mark.SessionName.{SessionName}
 use Rattle.devices.specs.declared.effect.Downlink.{Downlink}
-use Rattle.devices.specs.declared.effect.Windows.TheVariants.{Rx1OrRx2}
+use Rattle.devices.specs.declared.effect.ReceiveWindows.TheVariants.{Rx1OrRx2}
 use Rattle.devices.specs.declared.effect.Effect.{Effect}
 use Rattle.devices.specs.declared.effect.Effect.TheVariants.{Accept}
 use Rattle.uplinks.specs.Chain.{◌>>=◌}
@@ -41,7 +44,8 @@ join_state d =
 abbrev pub transaction_of : ℕ → ℕ
 transaction_of seq = seq % 2 ^ 32
 
--- the question for the device at a slot, under the address that its next session has; RX2 has data rate 0
+-- the question for the device at a slot, under the address that its next session has; RX2 has data
+-- rate 0
 abbrev pub join_ask : ℕ → ℕ → Device → List ℕ → ℕ → JoinAsk
 join_ask net_id slot d request transaction =
     record {
@@ -65,15 +69,20 @@ refusal_of causes.BadMessage = BadMessage
 -- ---- what is granted
 
 abbrev pub session_of : JoinGrant → Session
-session_of grant = record { join_nonce = grant.join_nonce; nwk_skey = grant.nwk_skey; app_skey = grant.app_skey }
+session_of grant =
+    record { join_nonce = grant.join_nonce; nwk_skey = grant.nwk_skey; app_skey = grant.app_skey }
 
--- the device's record after a grant: the DevNonce is used, and the session waits for its first uplink
+-- the device's record after a grant: the DevNonce is used, and the session waits for its first
+-- uplink
 abbrev pub with_session : Device → JoinState × JoinGrant → Device
 with_session d granted =
-    record d { last_dev_nonce = granted.0.dev_nonce; activation = with_grant d.activation (session_of granted.1) }
+    record d {
+      last_dev_nonce = granted.0.dev_nonce;
+      activation = with_grant d.activation (session_of granted.1);
+    }
 
--- the Join-Accept is sent by the gateway that heard the request best, 5 s after it at its frequency and data rate, or a
--- second later in RX2 (TS001-1.0.4 §6.2.6)
+-- the Join-Accept is sent by the gateway that heard the request best, 5 s after it at its frequency
+-- and data rate, or a second later in RX2 (TS001-1.0.4 §6.2.6)
 abbrev pub accept_downlink : Hearing → List ℕ → Downlink
 accept_downlink best frame =
     record {
@@ -91,16 +100,21 @@ session_name dev_eui grant = record { dev_eui = dev_eui; join_nonce = grant.join
 
 abbrev pub accept_effects : Eui → JoinGrant → Option Hearing → List Effect
 accept_effects dev_eui grant None = []
-accept_effects dev_eui grant (Some best) = Accept (session_name dev_eui grant) (accept_downlink best grant.accept) ∷ []
+accept_effects dev_eui grant (Some best) =
+    Accept (session_name dev_eui grant) (accept_downlink best grant.accept) ∷ []
 
-abbrev pub granted_to : Device → List Hearing → JoinState × JoinGrant → Outcome
-granted_to d hearings granted = outcome (with_session d granted) (accept_effects d.dev_eui granted.1 (best_of hearings))
+abbrev pub grant_step : Device → List Hearing → JoinState × JoinGrant → DeviceStep
+grant_step d hearings granted =
+    device_step (with_session d granted) (accept_effects d.dev_eui granted.1 (best_of hearings))
 
 -- what comes of the answer to a question
-abbrev pub joined_by : Device → List Hearing → JoinAsk → Result Outcome Refusal
-joined_by d hearings ask = answered (join_state d) ask >>= λ granted. Ok (granted_to d hearings granted)
+abbrev pub join_step : Device → List Hearing → JoinAsk → Result DeviceStep Refusal
+join_step d hearings ask =
+    answer_to (join_state d) ask >>= λ granted. Ok (grant_step d hearings granted)
 
--- the device that asks is granted a session, or refused one; the number of the question has no part in it
-abbrev pub join_at : ℕ → ℕ → Device → List Hearing → List ℕ → Result Outcome Refusal
+-- the device that asks is granted a session, or refused one; the number of the question has no part
+-- in it
+abbrev pub join_at : ℕ → ℕ → Device → List Hearing → List ℕ → Result DeviceStep Refusal
 join_at net_id slot d hearings request =
-    if dev_eui_of request == d.dev_eui.0 then joined_by d hearings (join_ask net_id slot d request 0) else Err UnknownDevEui
+    if dev_eui_of request == d.dev_eui.0 then join_step d hearings
+    (join_ask net_id slot d request 0) else Err UnknownDevEui

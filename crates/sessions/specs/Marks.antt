@@ -1,5 +1,6 @@
 -- What has left a network, and that no mark is there twice.
-use Rattle.std.specs.Prelude.{◌≡◌, ◌≢◌, ◌≤◌, ◌<◌, ◌⊎◌, ℕ, List, [], ◌∷◌, Some, IfSome, All, slice_get, unwrap_or}
+use Rattle.std.specs.Prelude.{◌≡◌, ◌≢◌, ◌≤◌, ◌<◌, ◌⊎◌, ℕ, List, [], ◌∷◌, Some, IfSome, All}
+use Rattle.std.specs.Prelude.{slice_get, unwrap_or}
 use Rattle.std.specs.List.{AllByRecursion, filter_map}
 use Rattle.devices.specs.declared.activation.CurrentSession.{CurrentSession}
 use Rattle.devices.specs.declared.device.Device.{Device}
@@ -15,7 +16,8 @@ use Rattle.sessions.specs.Table.{TableState, slot_of}
 -- one list is what is left of the other when some of it is dropped
 abbrev pub IsSubsequence : {A : Type 0} → List A → List A → Type 0
 IsSubsequence xs [] = xs ≡ []
-IsSubsequence {A} xs (y ∷ ys) = IsSubsequence xs ys ⊎ ((rest : List A) × (xs ≡ y ∷ rest) × IsSubsequence rest ys)
+IsSubsequence {A} xs (y ∷ ys) =
+    IsSubsequence xs ys ⊎ ((rest : List A) × (xs ≡ y ∷ rest) × IsSubsequence rest ys)
 
 -- the marks that effects use up, in order
 abbrev pub marks_of : List Effect → List Mark
@@ -38,8 +40,8 @@ session_in (Forwarded session counter) = session
 session_in (Granted session) = session
 session_in (Sent session counter) = session
 
--- the JoinNonce was granted and its session doesn't wait for its first uplink; where it is the one in use, this much of
--- it is past
+-- the JoinNonce was granted and its session isn't pending; where it is the current one, this much
+-- of it is past
 pub record IsPast (g : Grants) (join_nonce : ℕ) (Past : CurrentSession → Type 0) : Type 0 where
   pub granted : join_nonce ≤ unwrap_or g.granted 0
   pub begun : IfSome g.pending (λ s. s.join_nonce ≢ join_nonce)

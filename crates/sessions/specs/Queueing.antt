@@ -1,10 +1,12 @@
 -- An application queues an item, or MAC commands, for its device (TS001-1.0.4 §4.3.2, §5).
-use Rattle.std.specs.Prelude.{◌==◌, ◌&&◌, ◌+◌, ℕ, Bool, nat_lt, if◌then◌else◌, List, [], ◌∷◌, ◌++◌, Result, Ok, Err, length}
+use Rattle.std.specs.Prelude.{◌==◌, ◌&&◌, ◌+◌, ℕ, Bool, nat_lt, if◌then◌else◌, List, [], ◌∷◌, ◌++◌}
+use Rattle.std.specs.Prelude.{Result, Ok, Err, length}
 use Rattle.lw_types.specs.declared.identifiers.Eui.{Eui}
 use Rattle.lw_types.specs.declared.refusal.Refusal.{Refusal}
-use Rattle.lw_types.specs.declared.refusal.Refusal.TheVariants.{UnknownDevEui, TooLong, BadPort, QueueFull, BadMac, MacQueueFull}
+use Rattle.lw_types.specs.declared.refusal.Refusal.TheVariants.{UnknownDevEui, TooLong, BadPort}
+use Rattle.lw_types.specs.declared.refusal.Refusal.TheVariants.{QueueFull, BadMac, MacQueueFull}
 use Rattle.devices.specs.MacQueue.{may_queue}
-use Rattle.devices.specs.Outcome.{Outcome, outcome, told}
+use Rattle.devices.specs.DeviceStep.{DeviceStep, device_step, report_effects}
 use Rattle.devices.specs.declared.command.Queueing.{Queueing}
 use Rattle.devices.specs.declared.command.MacQueueing.{MacQueueing}
 use Rattle.devices.specs.declared.device.Device.{Device}
@@ -24,23 +26,23 @@ item_of q = record { tag = q.tag; port = q.port; confirmed = q.confirmed; payloa
 abbrev pub with_item : Device → Queueing → Device
 with_item d q = record d { items = d.items ++ item_of q ∷ [] }
 
-abbrev pub item_queued : Device → Queueing → Outcome
-item_queued d q = outcome (with_item d q) (told d (Queued q.tag))
+abbrev pub item_queued : Device → Queueing → DeviceStep
+item_queued d q = device_step (with_item d q) (report_effects d (Queued q.tag))
 
 -- at most 16 items wait
-abbrev pub if_room : Device → Queueing → Result Outcome Refusal
+abbrev pub if_room : Device → Queueing → Result DeviceStep Refusal
 if_room d q = if nat_lt (length d.items) 16 then Ok (item_queued d q) else Err QueueFull
 
 -- the port is from 1 to 223
-abbrev pub if_port : Device → Queueing → Result Outcome Refusal
+abbrev pub if_port : Device → Queueing → Result DeviceStep Refusal
 if_port d q = if nat_lt 0 q.port && nat_lt q.port 224 then if_room d q else Err BadPort
 
 -- the payload has at most 242 bytes
-abbrev pub if_short : Device → Queueing → Result Outcome Refusal
+abbrev pub if_short : Device → Queueing → Result DeviceStep Refusal
 if_short d q = if nat_lt 242 (length q.payload) then Err TooLong else if_port d q
 
 -- an item is queued for a device, or refused
-abbrev pub queue_at : Device → Queueing → Result Outcome Refusal
+abbrev pub queue_at : Device → Queueing → Result DeviceStep Refusal
 queue_at d q = if is_theirs q.application q.dev_eui d then if_short d q else Err UnknownDevEui
 
 -- ---- MAC commands
@@ -49,17 +51,22 @@ queue_at d q = if is_theirs q.application q.dev_eui d then if_short d q else Err
 abbrev pub with_commands : Device → List ℕ → Device
 with_commands d commands = record d { mac_queue = d.mac_queue ++ commands }
 
-abbrev pub commands_queued : Device → List ℕ → Outcome
-commands_queued d commands = outcome (with_commands d commands) (told d (MacQueued commands))
+abbrev pub commands_queued : Device → List ℕ → DeviceStep
+commands_queued d commands =
+    device_step (with_commands d commands) (report_effects d (MacQueued commands))
 
 -- at most 64 bytes wait
-abbrev pub if_mac_room : Device → List ℕ → Result Outcome Refusal
-if_mac_room d commands = if nat_lt 64 (length d.mac_queue + length commands) then Err MacQueueFull else Ok (commands_queued d commands)
+abbrev pub if_mac_room : Device → List ℕ → Result DeviceStep Refusal
+if_mac_room d commands =
+    if nat_lt 64 (length d.mac_queue + length commands)
+    then Err MacQueueFull
+    else Ok (commands_queued d commands)
 
 -- the bytes are whole commands that may be queued
-abbrev pub if_commands : Device → List ℕ → Result Outcome Refusal
+abbrev pub if_commands : Device → List ℕ → Result DeviceStep Refusal
 if_commands d commands = if may_queue commands then if_mac_room d commands else Err BadMac
 
 -- MAC commands are queued for a device, or refused
-abbrev pub queue_mac_at : Device → MacQueueing → Result Outcome Refusal
-queue_mac_at d q = if is_theirs q.application q.dev_eui d then if_commands d q.commands else Err UnknownDevEui
+abbrev pub queue_mac_at : Device → MacQueueing → Result DeviceStep Refusal
+queue_mac_at d q =
+    if is_theirs q.application q.dev_eui d then if_commands d q.commands else Err UnknownDevEui

@@ -6,7 +6,7 @@ use Rattle.phy_payload.specs.declared.phy.Phy.{Phy}
 use Rattle.phy_payload.specs.declared.phy.Phy.TheVariants.{JoinRequest, JoinAccept, DataFrame}
 use Rattle.phy_payload.specs.Reading.{phy_at}
 use Rattle.devices.specs.Address.{slot_at}
-use Rattle.devices.specs.Outcome.{Outcome}
+use Rattle.devices.specs.DeviceStep.{DeviceStep}
 use Rattle.devices.specs.declared.device.Device.{Device}
 use Rattle.devices.specs.declared.heard.Heard.{Heard}
 use Rattle.devices.specs.declared.heard.Hearing.{Hearing}
@@ -27,12 +27,14 @@ served_in bytes (DataFrame frame) = uplink_of frame >>= λ u. Ok (Uplink u)
 abbrev pub frame_in : List ℕ → Result Served Refusal
 frame_in bytes = phy_at bytes >>= served_in bytes
 
--- what the device at a slot does of a frame: an uplink is its own only where the address leads to the slot
-abbrev pub served_at : ℕ → ℕ → Device → List Hearing → Served → Result Outcome Refusal
+-- what the device at a slot does of a frame: an uplink is its own only where the address leads to
+-- the slot
+abbrev pub served_at : ℕ → ℕ → Device → List Hearing → Served → Result DeviceStep Refusal
 served_at net_id slot d hearings (Request bytes) = join_at net_id slot d hearings bytes
 served_at net_id slot d hearings (Uplink u) =
-    if slot_at u.frame.dev_addr.0 == slot then uplink_at net_id slot d hearings u else Err UnknownDevAddr
+    if slot_at u.frame.dev_addr.0
+    == slot then uplink_at net_id slot d hearings u else Err UnknownDevAddr
 
 -- what the device at a slot does of a frame that was heard
-abbrev pub heard_at : ℕ → ℕ → Device → Heard → Result Outcome Refusal
+abbrev pub heard_at : ℕ → ℕ → Device → Heard → Result DeviceStep Refusal
 heard_at net_id slot d h = frame_in h.phy_payload >>= served_at net_id slot d h.hearings

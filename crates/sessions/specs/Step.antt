@@ -2,8 +2,8 @@
 use Rattle.std.specs.Prelude.{ℕ, List, [], ◌∷◌, Option, Some, None, Result, Ok, Err}
 use Rattle.lw_types.specs.declared.refusal.Refusal.{Refusal}
 use Rattle.lw_types.specs.declared.refusal.Refusal.TheVariants.{DevEuiTaken, UnknownDevEui}
-use Rattle.devices.specs.Device.{provisioned}
-use Rattle.devices.specs.Outcome.{Outcome, outcome}
+use Rattle.devices.specs.Device.{new_device}
+use Rattle.devices.specs.DeviceStep.{DeviceStep, device_step}
 use Rattle.devices.specs.declared.device.Device.{Device}
 use Rattle.devices.specs.declared.command.Provisioning.{Provisioning}
 use Rattle.devices.specs.declared.command.Command.{Command}
@@ -14,14 +14,14 @@ use Rattle.devices.specs.declared.effect.Report.TheVariants.{Provisioned}
 use Rattle.sessions.specs.Served.{heard_at}
 use Rattle.sessions.specs.Queueing.{queue_at, queue_mac_at}
 
--- a new device's application is told the slot
+-- the slot of a new device is reported
 abbrev pub provisioned_effects : ℕ → Provisioning → List Effect
 provisioned_effects slot p = Report p.application p.dev_eui (Provisioned slot) ∷ []
 
 -- what a command does to the record of a slot, or to an empty slot, in a network
-abbrev pub step1 : ℕ → ℕ → Option Device → Command → Result Outcome Refusal
--- a device is brought to an empty slot
-step1 net_id slot None (Provision p) = Ok (outcome (provisioned p) (provisioned_effects slot p))
+abbrev pub step1 : ℕ → ℕ → Option Device → Command → Result DeviceStep Refusal
+-- a device is provisioned at an empty slot
+step1 net_id slot None (Provision p) = Ok (device_step (new_device p) (provisioned_effects slot p))
 step1 net_id slot (Some device) (Provision p) = Err DevEuiTaken
 -- a frame is of a device that is there
 step1 net_id slot None (Heard h) = Err UnknownDevEui

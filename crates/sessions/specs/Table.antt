@@ -1,15 +1,17 @@
 -- The table of a network's devices, and what commands do to it.
-use Rattle.std.specs.Prelude.{◌≡◌, ◌==◌, ◌<◌, ◌≤◌, ℕ, List, [], ◌∷◌, ◌++◌, length, take, drop, suc, nat_lt, if◌then◌else◌, Option, Some, None, Result, Ok, Err, slice_get}
+use Rattle.std.specs.Prelude.{◌≡◌, ◌==◌, ◌<◌, ◌≤◌, ℕ, List, [], ◌∷◌, ◌++◌, length, take, drop, suc}
+use Rattle.std.specs.Prelude.{nat_lt, if◌then◌else◌, Option, Some, None, Result, Ok, Err, slice_get}
 use Rattle.std.specs.List.{position_from}
 use Rattle.std.specs.Option.{MatchOption}
 use Rattle.lw_types.specs.declared.refusal.Refusal.{Refusal}
-use Rattle.lw_types.specs.declared.refusal.Refusal.TheVariants.{DevEuiTaken, TableFull, UnknownDevAddr, UnknownDevEui}
+use Rattle.lw_types.specs.declared.refusal.Refusal.TheVariants.{DevEuiTaken, TableFull}
+use Rattle.lw_types.specs.declared.refusal.Refusal.TheVariants.{UnknownDevAddr, UnknownDevEui}
 use Rattle.devices.specs.declared.device.Device.{Device}
 use Rattle.devices.specs.declared.command.Command.{Command}
 use Rattle.devices.specs.declared.command.Command.TheVariants.{Provision, Heard, Queue, QueueMac}
 use Rattle.devices.specs.declared.effect.Effect.{Effect}
 use Rattle.devices.specs.Address.{slot_at}
-use Rattle.devices.specs.Outcome.{Outcome}
+use Rattle.devices.specs.DeviceStep.{DeviceStep}
 use Rattle.join_server.specs.Request.{dev_eui_of}
 use Rattle.uplinks.specs.Chain.{◌>>=◌}
 use Rattle.sessions.specs.Served.{frame_in}
@@ -50,13 +52,15 @@ abbrev pub used_slot : ℕ → Option Device → Result ℕ Refusal
 used_slot slot (Some device) = Ok slot
 used_slot slot None = Err UnknownDevAddr
 
--- the slot of the device that sent a frame: that of the DevEUI of a Join-Request, and that to which the address of an
--- uplink leads
+-- the slot of the device that sent a frame: that of the DevEUI of a Join-Request, and that to which
+-- the address of an uplink leads
 abbrev pub sender_slot : TableState → Served → Result ℕ Refusal
 sender_slot t (Request bytes) = known_slot (slot_of (dev_eui_of bytes) t.devices)
-sender_slot t (Uplink u) = used_slot (slot_at u.frame.dev_addr.0) (slice_get t.devices (slot_at u.frame.dev_addr.0))
+sender_slot t (Uplink u) =
+    used_slot (slot_at u.frame.dev_addr.0) (slice_get t.devices (slot_at u.frame.dev_addr.0))
 
--- the slot at which a command works: the next one for a new device, else that of the device for which or from which it is
+-- the slot at which a command works: the next one for a new device, else that of the device for
+-- which or from which it is
 abbrev pub place_for : TableState → Command → Result ℕ Refusal
 place_for t (Provision p) = new_slot t (slot_of p.dev_eui.0 t.devices)
 place_for t (Heard h) = frame_in h.phy_payload >>= sender_slot t
@@ -69,53 +73,61 @@ with_device slot device devices = take slot devices ++ device ∷ drop (suc slot
 
 -- the next slot, where there is one, takes a device whose DevEUI no other has
 abbrev pub TakesNext : TableState → ℕ → Device → Type 0
-TakesNext t slot device = (slot ≡ length t.devices) × (slot < t.slots) × (slot_of device.dev_eui.0 t.devices ≡ None)
+TakesNext t slot device =
+    (slot ≡ length t.devices) × (slot < t.slots) × (slot_of device.dev_eui.0 t.devices ≡ None)
 
--- a slot in use takes a record of its own device, and the next slot one of a device that isn't there yet
+-- a slot in use takes a record of its own device, and the next slot one of a device that isn't
+-- there yet
 abbrev pub CanPlace : TableState → ℕ → Device → Type 0
-CanPlace t slot device = MatchOption (slice_get t.devices slot) (TakesNext t slot device) (λ old. old.dev_eui ≡ device.dev_eui)
+CanPlace t slot device =
+    MatchOption (slice_get t.devices slot) (TakesNext t slot device)
+    (λ old. old.dev_eui ≡ device.dev_eui)
 
--- an image may put a record at a slot in use or at the next one, under a name that no other slot has
+-- an image may put a record at a slot in use or at the next one, under a name that no other slot
+-- has
 abbrev pub CanPut : TableState → ℕ → Device → Type 0
 CanPut t slot device =
-    (slot ≤ length t.devices) × (slot < t.slots) × MatchOption (slot_of device.dev_eui.0 t.devices) (Unit {0}) (λ own. own ≡ slot)
+    (slot ≤ length t.devices) × (slot < t.slots)
+    × MatchOption (slot_of device.dev_eui.0 t.devices) (Unit {0}) (λ own. own ≡ slot)
 
 -- the table with this record at this slot
-abbrev pub placed : TableState → ℕ → Device → TableState
-placed t slot device = record t { devices = with_device slot device t.devices }
+abbrev pub with_record : TableState → ℕ → Device → TableState
+with_record t slot device = record t { devices = with_device slot device t.devices }
 
 -- a command's slot, the record there before it, and what it does there
-pub record Step : Type 0 where
+pub record TableStep : Type 0 where
   pub slot : ℕ
   pub before : Option Device
   pub after : Device
   pub effects : List Effect
 
-abbrev pub step_at : ℕ → Option Device → Outcome → Step
-step_at slot before o = record { slot = slot; before = before; after = o.device; effects = o.effects }
+abbrev pub step_at : ℕ → Option Device → DeviceStep → TableStep
+step_at slot before o =
+    record { slot = slot; before = before; after = o.device; effects = o.effects }
 
 -- what a command does in a table
-abbrev pub step : TableState → Command → Result Step Refusal
+abbrev pub step : TableState → Command → Result TableStep Refusal
 step t command = do
   slot ← place_for t command
   outcome ← step1 t.net_id slot (slice_get t.devices slot) command
   Ok (step_at slot (slice_get t.devices slot) outcome)
 
 -- the table with a step's record
-abbrev pub stepped : TableState → Result Step Refusal → TableState
-stepped t (Ok s) = placed t s.slot s.after
-stepped t (Err e) = t
+abbrev pub with_step : TableState → Result TableStep Refusal → TableState
+with_step t (Ok s) = with_record t s.slot s.after
+with_step t (Err e) = t
 
-abbrev pub step_effects : Result Step Refusal → List Effect
+abbrev pub step_effects : Result TableStep Refusal → List Effect
 step_effects (Ok s) = s.effects
 step_effects (Err e) = []
 
 -- the table after these commands; one that is refused changes nothing
-abbrev pub folded : TableState → List Command → TableState
-folded t [] = t
-folded t (command ∷ commands) = folded (stepped t (step t command)) commands
+abbrev pub fold_of : TableState → List Command → TableState
+fold_of t [] = t
+fold_of t (command ∷ commands) = fold_of (with_step t (step t command)) commands
 
 -- the effects of these commands, in order
 abbrev pub effects_of : TableState → List Command → List Effect
 effects_of t [] = []
-effects_of t (command ∷ commands) = step_effects (step t command) ++ effects_of (stepped t (step t command)) commands
+effects_of t (command ∷ commands) =
+    step_effects (step t command) ++ effects_of (with_step t (step t command)) commands

@@ -1,12 +1,19 @@
 // Decisions that are committed together.
-ghost use Rattle.std.specs.Prelude.{◌≡◌, ◌≤◌, ◌<◌, [], ◌∷◌, ◌++◌, length, map, OnOk, OnErr, MatchResult, IsTrue, ◌↔◌};
+ghost use Rattle.std.specs.Prelude.{◌≡◌, ◌≤◌, ◌<◌, [], ◌∷◌, ◌++◌, length, map, OnOk, OnErr};
+ghost use Rattle.std.specs.Prelude.{MatchResult, IsTrue, ◌↔◌};
 ghost use Rattle.lw_types.specs.declared.refusal.Refusal.TheVariants.{OutOfMemory};
 
 use crate::Decision;
 use devices::Device;
-use lw_types::Refusal;
+use lw_types::{Ranged, Refusal};
 use std::alloc::Global;
 use std::marker::Model;
+
+/// The decisions of the largest batch.
+const LARGEST: u64 = Batch::MOST as u64;
+
+/// How many decisions are asked for at most, from 1 to 64.
+pub type Most = Ranged<1, LARGEST>;
 
 /// At most 64 decisions, in order, with room for all of them. In contracts it is the list of them.
 pub struct Batch {

@@ -3,15 +3,15 @@ ghost use Rattle.std.specs.Prelude.{◌≡◌, ◌<◌, ◌↔◌, IsTrue, Match
 ghost use Rattle.std.specs.Option.{option_copied};
 ghost use Rattle.lw_types.specs.declared.refusal.Refusal.TheVariants.{OutOfMemory};
 ghost use Rattle.sessions.specs.Table.{TakesNext};
-ghost use Rattle.sessions.specs.Decision.{Fits, HasPlace, Continues, applied};
+ghost use Rattle.sessions.specs.Decision.{FitsTable, HasPlace, Continues, with_decision};
 
 use crate::{Decision, Table};
 use devices::Device;
 use lw_types::Refusal;
 
 impl Table {
-    /// Whether the decision was made of this table and has the sequence number after `seq`. The cost
-    /// doesn't grow with the number of devices.
+    /// Whether the decision was made of this table and has the sequence number after `seq`. The
+    /// cost doesn't grow with the number of devices.
     pub fn admits(&self, seq: u64, decision: &Decision) -> bool
         ensures { IsTrue result ↔ Continues self.now seq decision.now }
     {
@@ -20,7 +20,7 @@ impl Table {
 
     // Whether the decision was made of this table.
     fn fits(&self, decision: &Decision) -> bool
-        ensures { IsTrue result ↔ Fits self.now decision.now }
+        ensures { IsTrue result ↔ FitsTable self.now decision.now }
     {
         self.has_slot(decision)
             && is_record(&decision.before, self.devices().get(decision.slot as usize))
@@ -29,14 +29,16 @@ impl Table {
 
     // Whether the decision is of this network, at one of its slots.
     pub(crate) fn has_slot(&self, decision: &Decision) -> bool
-        ensures { IsTrue result ↔ ((decision.now.net_id ≡ self.now.net_id) × (decision.now.slot < self.now.slots)) }
+        ensures { IsTrue result ↔ ((decision.now.net_id ≡ self.now.net_id)
+            × (decision.now.slot < self.now.slots)) }
     {
         self.net_id() == decision.net_id && u64::from(decision.slot) < self.slots().get()
     }
 
     // Whether the record that the decision leaves has its place here.
     fn has_place(&self, decision: &Decision) -> bool
-        ensures { IsTrue result ↔ HasPlace self.now decision.now.slot decision.now.after decision.now.before }
+        ensures { IsTrue result ↔ HasPlace self.now decision.now.slot decision.now.after
+            decision.now.before }
     {
         match &decision.before {
             Some(device) => self.slot_of(device.dev_eui) == Some(decision.slot),
@@ -53,12 +55,12 @@ impl Table {
             && self.slot_of(device.dev_eui).is_none()
     }
 
-    /// Puts the record of a decision that was made of this table into its slot. After an `Err`, which
-    /// is want of memory, the table is as before.
+    /// Puts the record of a decision that was made of this table into its slot. After an `Err`,
+    /// which is want of memory, the table is as before.
     pub fn apply(&mut self, decision: &Decision) -> Result<(), Refusal>
-        requires { Fits self.old decision.now }
+        requires { FitsTable self.old decision.now }
         ensures { MatchResult result
-            (λ _. self.new ≡ applied self.old decision.now)
+            (λ _. self.new ≡ with_decision self.old decision.now)
             (λ e. (e ≡ OutOfMemory) × (self.new ≡ self.old)) }
     {
         let after = decision.after.copy()?;

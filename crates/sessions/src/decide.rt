@@ -5,7 +5,7 @@ ghost use Rattle.lw_types.specs.Answer.{Answers};
 ghost use Rattle.devices.specs.declared.command.Command.{Command};
 ghost use Rattle.sessions.specs.Step.{provisioned_effects};
 ghost use Rattle.sessions.specs.Table.{new_slot, slot_of, step};
-ghost use Rattle.sessions.specs.Decision.{AnswersTo, Decides, Fits, IsStepped};
+ghost use Rattle.sessions.specs.Decision.{AnswersTo, Decides, FitsTable, IsStepped};
 
 use crate::{Decision, Table};
 use devices::{Command, Device, Effect, Effects, Provisioning, Report};
@@ -21,12 +21,12 @@ pub(crate) struct Stepped {
 }
 
 impl Table {
-    /// Decides a command on this table, as the decision of this sequence number. A refusal of the command is
-    /// answered where its step is refused; for want of memory `OutOfMemory` is, for a frame that was heard also
-    /// where another refusal is due.
+    /// Decides a command on this table, as the decision of this sequence number. A refusal of the
+    /// command is answered where its step is refused; for want of memory `OutOfMemory` is, for a
+    /// frame that was heard also where another refusal is due.
     pub fn decide(&self, alloc: Global, seq: u64, command: Command) -> Result<Decision, Refusal>
         ensures decides { Decides self.now seq command result }
-        ensures fits { IfOk result (λ decision. Fits self.now decision) }
+        ensures fits { IfOk result (λ decision. FitsTable self.now decision) }
     {
         let Stepped {
             slot,
@@ -47,9 +47,9 @@ impl Table {
         })
     }
 
-    /// Whether the command would be decided under this sequence number; nothing is decided. A refusal of the command
-    /// is answered as [`Table::decide`] answers it.
-    pub fn weigh(&self, alloc: Global, seq: u64, command: &Command) -> Result<(), Refusal>
+    /// Whether the command would be decided under this sequence number; nothing is decided. A
+    /// refusal of the command is answered as [`Table::decide`] answers it.
+    pub fn check(&self, alloc: Global, seq: u64, command: &Command) -> Result<(), Refusal>
         ensures { AnswersTo command.now (step self.now command.now) (λ _ _. Unit {0}) result }
     {
         let _stepped = self.step(alloc, seq, command)?;
@@ -80,7 +80,7 @@ impl Table {
         }
     }
 
-    // A device is brought.
+    // A device is provisioned.
     fn provision(&self, alloc: Global, provisioning: &Provisioning) -> Result<Stepped, Refusal>
         ensures { Answers (step self.now (Command.Provision provisioning.now)) IsStepped result }
     {
@@ -107,7 +107,7 @@ impl Table {
     }
 }
 
-// The application is told the slot of its device.
+// The slot of a device is reported to its application.
 fn provisioned(alloc: Global, slot: u16, provisioning: &Provisioning) -> Result<Effects, Refusal>
     ensures { MatchResult result
         (λ effects. effects ≡ provisioned_effects slot provisioning.now)

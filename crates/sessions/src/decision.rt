@@ -1,6 +1,6 @@
 // One command, carried out on one device.
 ghost use Rattle.std.specs.Prelude.{◌≡◌, Ok};
-ghost use Rattle.devices.specs.Outcome.{outcome};
+ghost use Rattle.devices.specs.DeviceStep.{device_step};
 ghost use Rattle.sessions.specs.Step.{step1};
 
 use devices::{Command, Device, Effects};
@@ -17,7 +17,7 @@ pub struct Decision {
     pub command: Command,
     pub after: Device,
     pub effects: Effects,
-    pub ghost is_step: { step1 net_id slot before command ≡ Ok (outcome after effects) },
+    pub ghost is_step: { step1 net_id slot before command ≡ Ok (device_step after effects) },
 }
 
 // By hand, so that its proof is done once: a derived drop is proved anew wherever a value goes.

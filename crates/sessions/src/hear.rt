@@ -1,7 +1,7 @@
 // A frame that gateways heard becomes a step of the device that sent it.
 ghost use Rattle.std.specs.Prelude.{◌≡◌, None, Ok, Some, MatchOption, slice_get};
 ghost use Rattle.lw_types.specs.Answer.{AnswersWithMemory};
-ghost use Rattle.phy_payload.specs.Frame.{data_message};
+ghost use Rattle.phy_payload.specs.Frame.{data_mic_input};
 ghost use Rattle.devices.specs.declared.command.Command.{Command};
 ghost use Rattle.sessions.specs.Served.{frame_in};
 ghost use Rattle.sessions.specs.Table.{slot_of, step};
@@ -93,7 +93,8 @@ impl Table {
         ensures { MatchOption result
             (slot_of dev_eui.0 self.now.devices ≡ None)
             (λ found. (slot_of dev_eui.0 self.now.devices ≡ Some found.0)
-            × (slice_get self.now.devices found.0 ≡ Some found.1.now) × (found.1.now.dev_eui.0 ≡ dev_eui.0)) }
+            × (slice_get self.now.devices found.0 ≡ Some found.1.now)
+            × (found.1.now.dev_eui.0 ≡ dev_eui.0)) }
     {
         let slot = self.slot_of(dev_eui)?;
         Some((slot, &self.devices()[slot as usize]))
@@ -121,10 +122,10 @@ fn read_frame(alloc: Global, bytes: &[u8]) -> Result<Served, Refusal>
 // All of an uplink's frame but its MIC.
 fn message_of<'a>(bytes: &'a [u8], uplink: &Uplink) -> &'a [u8]
     requires { frame_in bytes.now ≡ Ok (Served.Uplink uplink.now) }
-    ensures { result.now ≡ data_message uplink.now.frame }
+    ensures { result.now ≡ data_mic_input uplink.now.frame }
 {
     phy_payload::laws::reading_is_the_grammar();
     phy_payload::laws::frames_are_short();
-    phy_payload::laws::a_mic_stands_behind_its_message();
+    phy_payload::laws::a_mic_stands_behind_its_input();
     &bytes[..bytes.len() - 4]
 }

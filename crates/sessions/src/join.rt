@@ -2,17 +2,19 @@
 ghost use Rattle.std.specs.Prelude.{◌≡◌, ◌<◌, Some, MatchResult, unwrap_or};
 ghost use Rattle.lw_types.specs.Answer.{AnswersWithMemory};
 ghost use Rattle.lw_types.specs.declared.refusal.Refusal.TheVariants.{OutOfMemory};
-ghost use Rattle.join_server.specs.Join.{answered};
+ghost use Rattle.join_server.specs.Join.{answer_to};
 ghost use Rattle.join_server.specs.Request.{dev_eui_of};
 ghost use Rattle.backend_json.specs.Messages.{IsAsk};
 ghost use Rattle.backend_json.specs.Replies.{accepted_of, reply};
-ghost use Rattle.devices.specs.Outcome.{IsOutcome};
-ghost use Rattle.sessions.specs.Join.{accept_downlink, accept_effects, granted_to, join_ask, join_state, joined_by, refusal_of, transaction_of, with_session};
+ghost use Rattle.devices.specs.DeviceStep.{IsDeviceStep};
+ghost use Rattle.sessions.specs.Join.{accept_downlink, accept_effects, grant_step, join_ask};
+ghost use Rattle.sessions.specs.Join.{join_state, join_step, refusal_of, transaction_of};
+ghost use Rattle.sessions.specs.Join.{with_session};
 
 use backend_json::{Accepted, Cause, JoinAns, answer_text, join_req_text, read_join_ans};
 use devices::{
-    Device, Downlink, Effect, Effects, Hearing, Hearings, RxDelay, Session, SessionName, Windows,
-    dev_addr,
+    Device, Downlink, Effect, Effects, Hearing, Hearings, ReceiveWindows, RxDelay, Session,
+    SessionName, dev_addr,
 };
 use join_server::{JoinAsk, JoinGrant, JoinRequest, JoinState, SealedAccept};
 use lw_types::{Eui, JoinNonce, NetId, PhyPayload, Refusal};
@@ -63,7 +65,7 @@ pub(crate) fn join(
     hearings: &Hearings,
 ) -> Result<(Device, Effects), Refusal>
     requires { dev_eui_of ask.now.request ≡ device.now.dev_eui.0 }
-    ensures { AnswersWithMemory (joined_by device.now hearings.now ask.now) IsOutcome result }
+    ensures { AnswersWithMemory (join_step device.now hearings.now ask.now) IsDeviceStep result }
 {
     match ask_join_server(alloc, &join_state(device), ask) {
         Ok((state, grant)) => grant_to(alloc, device, hearings, &state, &grant),
@@ -81,7 +83,7 @@ fn grant_to(
 ) -> Result<(Device, Effects), Refusal>
     requires { unwrap_or device.now.activation.granted 0 < grant.now.join_nonce }
     ensures { MatchResult result
-        (IsOutcome (granted_to device.now hearings.now (state.now, grant.now)))
+        (IsDeviceStep (grant_step device.now hearings.now (state.now, grant.now)))
         (λ e. e ≡ OutOfMemory) }
 {
     let effects = accept_effects(alloc, device.dev_eui, grant, hearings.best())?;
@@ -95,7 +97,8 @@ fn ask_join_server(
     ask: &JoinAsk,
 ) -> Result<(JoinState, JoinGrant), Refusal>
     requires { dev_eui_of ask.now.request ≡ state.now.dev_eui.0 }
-    ensures { AnswersWithMemory (answered state.now ask.now) (λ granted found. found ≡ granted) result }
+    ensures { AnswersWithMemory (answer_to state.now ask.now)
+        (λ granted found. found ≡ granted) result }
 {
     let (ans, after) = exchange(alloc, state, ask)?;
     match ans.result {
@@ -201,7 +204,7 @@ fn accept_downlink(alloc: Global, best: Hearing, frame: &SealedAccept) -> Result
         frequency: best.reception.frequency,
         data_rate: best.reception.data_rate,
         delay: RxDelay::new(JOIN_ACCEPT_DELAY).unwrap(),
-        windows: Windows::Rx1OrRx2,
+        windows: ReceiveWindows::Rx1OrRx2,
         frame: PhyPayload::from_slice(alloc, frame)?,
     })
 }

@@ -1,11 +1,13 @@
-//! Laws on the definitions that the contracts of this crate cite. Nothing here is of use but its contracts.
+//! Laws on the definitions that the contracts of this crate cite. Nothing here is of use but its
+//! contracts.
 ghost use Rattle.std.specs.Prelude.{◌≡◌, ◌++◌, ◌↔◌, ◌≤◌, ◌+◌, ℕ, List, [], SomeIff, length};
 ghost use Rattle.devices.specs.declared.command.Command.{Command};
 ghost use Rattle.devices.specs.declared.effect.Effect.{Effect};
 ghost use Rattle.devices.specs.declared.mark.Mark.{Mark};
 ghost use Rattle.sessions.specs.Marks.{AreOnce, HasUsedUp, IsSound, IsSubsequence, marks_of};
-ghost use Rattle.sessions.specs.Table.{TableState, CanPut, empty_table, folded, effects_of};
-ghost use Rattle.sessions.specs.Decision.{Fits, FitAll, ContinueAll, applied_all, taken_back_all, commands_of, effects_in};
+ghost use Rattle.sessions.specs.Table.{TableState, CanPut, empty_table, fold_of, effects_of};
+ghost use Rattle.sessions.specs.Decision.{FitsTable, FitAll, ContinueAll, with_decisions};
+ghost use Rattle.sessions.specs.Decision.{without_decisions, commands_of, effects_in};
 ghost use Rattle.sessions.specs.declared.decision.Decision.{Decision};
 
 use crate::Slots;
@@ -14,23 +16,24 @@ use crate::Slots;
 /// the commands.
 pub fn folding()
     ensures table { (t : TableState) (ds : List Decision) → FitAll t ds →
-        folded t (commands_of ds) ≡ applied_all t ds }
+        fold_of t (commands_of ds) ≡ with_decisions t ds }
     ensures effects { (t : TableState) (ds : List Decision) → FitAll t ds →
         effects_of t (commands_of ds) ≡ effects_in ds }
 {}
 
-/// Two runs of commands, one after the other, leave the table that the second leaves on the table of
-/// the first, and have the effects of both in order.
+/// Two runs of commands, one after the other, leave the table that the second leaves on the table
+/// of the first, and have the effects of both in order.
 pub fn composing()
     ensures table { (t : TableState) (first second : List Command) →
-        folded t (first ++ second) ≡ folded (folded t first) second }
+        fold_of t (first ++ second) ≡ fold_of (fold_of t first) second }
     ensures effects { (t : TableState) (first second : List Command) →
-        effects_of t (first ++ second) ≡ effects_of t first ++ effects_of (folded t first) second }
+        effects_of t (first ++ second) ≡ effects_of t first ++ effects_of (fold_of t first) second }
 {}
 
 /// A part of a list is one of a longer list too, and with the same behind both.
 pub fn parts_of_longer_lists()
-    ensures longer { (left whole more : List Effect) → IsSubsequence left whole → IsSubsequence left (whole ++ more) }
+    ensures longer { (left whole more : List Effect) → IsSubsequence left whole
+        → IsSubsequence left (whole ++ more) }
     ensures extended { (left whole more : List Effect) → IsSubsequence left whole
         → IsSubsequence (left ++ more) (whole ++ more) }
 {}
@@ -40,36 +43,42 @@ pub fn parts_of_longer_lists()
 pub fn joining()
     ensures continues { (t : TableState) (seq : ℕ) (first second : List Decision) →
         ContinueAll t seq (first ++ second)
-        ↔ (ContinueAll t seq first × ContinueAll (applied_all t first) (seq + length first) second) }
+        ↔ (ContinueAll t seq first × ContinueAll (with_decisions t first)
+        (seq + length first) second) }
     ensures table { (t : TableState) (first second : List Decision) →
-        applied_all t (first ++ second) ≡ applied_all (applied_all t first) second }
+        with_decisions t (first ++ second) ≡ with_decisions (with_decisions t first) second }
 {}
 
 /// The record of a decision that was made of a table may be put there as an image has it.
 pub fn decided_records_may_be_put()
-    ensures { (t : TableState) (d : Decision) → Fits t d → CanPut t d.slot d.after }
+    ensures { (t : TableState) (d : Decision) → FitsTable t d → CanPut t d.slot d.after }
 {}
 
-/// The decisions that continue a table can be taken back from what they leave: the records that they
-/// found are those of the table.
+/// The decisions that continue a table can be taken back from what they leave: the records that
+/// they found are those of the table.
 pub fn taking_back()
-    ensures { (t : TableState) (ds : List Decision) → FitAll t ds → taken_back_all (applied_all t ds) ds ≡ t }
+    ensures { (t : TableState) (ds : List Decision) → FitAll t ds
+        → without_decisions (with_decisions t ds) ds ≡ t }
 {}
 
-/// No mark is used up twice by the effects of commands, where the table is sound: a session that waits under a JoinNonce
-/// that isn't the last one granted would be granted, and used, again. Commands use up none of the marks that a network
-/// has used up before, which is none at first. And of effects that use up marks once, a part does.
+/// No mark is used up twice by the effects of commands, where the table is sound: a session that is
+/// pending under a JoinNonce that isn't the last one granted would be granted, and used, again.
+/// Commands use up none of the marks that a network has used up before, which is none at first. And
+/// of effects that use up marks once, a part does.
 pub fn no_mark_stands_twice()
-    ensures commands { (t : TableState) (commands : List Command) → IsSound t → AreOnce (effects_of t commands) }
+    ensures commands { (t : TableState) (commands : List Command) → IsSound t
+        → AreOnce (effects_of t commands) }
     ensures from_empty { (net_id slots : ℕ) (commands : List Command) →
         AreOnce (effects_of (empty_table net_id slots) commands) }
     ensures at_first { (net_id slots : ℕ) → HasUsedUp (empty_table net_id slots) [] }
-    ensures after { (t : TableState) (marks : List Mark) (commands : List Command) → HasUsedUp t marks →
-        HasUsedUp (folded t commands) (marks ++ marks_of (effects_of t commands)) }
+    ensures after { (t : TableState) (marks : List Mark) (commands : List Command)
+        → HasUsedUp t marks →
+        HasUsedUp (fold_of t commands) (marks ++ marks_of (effects_of t commands)) }
     ensures what_left { (t : TableState) (marks : List Mark) (effects left : List Effect) →
         IsSubsequence left effects → HasUsedUp t (marks ++ marks_of effects) →
         HasUsedUp t (marks ++ marks_of left) }
-    ensures part { (effects left : List Effect) → IsSubsequence left effects → AreOnce effects → AreOnce left }
+    ensures part { (effects left : List Effect) → IsSubsequence left effects → AreOnce effects
+        → AreOnce left }
 {
     uplinks::laws::a_fit_is_of_its_device();
 }

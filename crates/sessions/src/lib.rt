@@ -17,7 +17,7 @@ mod records;
 mod served;
 mod table;
 
-pub use batch::Batch;
+pub use batch::{Batch, Most};
 pub use decision::Decision;
 pub use records::Records;
 pub use table::{MOST_SLOTS, Slots, Table};

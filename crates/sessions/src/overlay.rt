@@ -1,8 +1,10 @@
 // Decisions on a table, without their records being put there.
-ghost use Rattle.std.specs.Prelude.{◌≡◌, ◌≤◌, ◌+◌, ◌↔◌, IsTrue, MatchOption, None, length, slice_get};
+ghost use Rattle.std.specs.Prelude.{◌≡◌, ◌≤◌, ◌+◌, ◌↔◌, IsTrue, MatchOption, None, length};
+ghost use Rattle.std.specs.Prelude.{slice_get};
 ghost use Rattle.std.specs.Option.{option_copied};
 ghost use Rattle.sessions.specs.Table.{TakesNext, slot_of};
-ghost use Rattle.sessions.specs.Decision.{Fits, FitAll, HasPlace, Continues, ContinueAll, applied_all};
+ghost use Rattle.sessions.specs.Decision.{FitsTable, FitAll, HasPlace, Continues, ContinueAll};
+ghost use Rattle.sessions.specs.Decision.{with_decisions};
 
 use crate::continuation::is_record;
 use crate::{Decision, Table};
@@ -10,10 +12,10 @@ use devices::Device;
 use lw_types::Eui;
 
 impl Table {
-    /// The number of the last of decisions that continue the table, the first of them under the number
-    /// after `seq`; `None` exactly where they don't. Each is tried on what those before it leave, which
-    /// is looked up among them before the table. Takes no memory. The cost grows with the square of the
-    /// number of decisions, and not with the devices.
+    /// The number of the last of decisions that continue the table, the first of them under the
+    /// number after `seq`; `None` exactly where they don't. Each is tried on what those before it
+    /// leave, which is looked up among them before the table. Takes no memory. The cost grows with
+    /// the square of the number of decisions, and not with the devices.
     pub fn continuation_end(&self, seq: u64, decisions: &[Decision]) -> Option<u64>
         ensures { MatchOption result
             (¬ (ContinueAll self.now seq decisions.now))
@@ -29,11 +31,11 @@ impl Table {
         Some(last)
     }
 
-    // Whether the decision was made of what earlier ones leave of this table, and has the number after
-    // `seq`.
+    // Whether the decision was made of what earlier ones leave of this table, and has the number
+    // after `seq`.
     fn admits_behind(&self, earlier: &[Decision], seq: u64, decision: &Decision) -> bool
         requires { FitAll self.now earlier.now }
-        ensures { IsTrue result ↔ Continues (applied_all self.now earlier.now) seq decision.now }
+        ensures { IsTrue result ↔ Continues (with_decisions self.now earlier.now) seq decision.now }
     {
         seq < decision.seq && decision.seq - seq == 1 && self.fits_behind(earlier, decision)
     }
@@ -42,19 +44,22 @@ impl Table {
     #[tactic(auto, using(crate::proofs::Placing::same_net, crate::proofs::Placing::same_slots))]
     fn fits_behind(&self, earlier: &[Decision], decision: &Decision) -> bool
         requires { FitAll self.now earlier.now }
-        ensures { IsTrue result ↔ Fits (applied_all self.now earlier.now) decision.now }
+        ensures { IsTrue result ↔ FitsTable (with_decisions self.now earlier.now) decision.now }
     {
         self.has_slot(decision)
             && is_record(&decision.before, self.device_behind(earlier, decision.slot))
             && self.has_place_behind(earlier, decision)
     }
 
-    // Whether the record that the decision leaves has its place in what earlier ones leave of this table, where it
-    // was made on the record there.
+    // Whether the record that the decision leaves has its place in what earlier ones leave of this
+    // table, where it was made on the record there.
     fn has_place_behind(&self, earlier: &[Decision], decision: &Decision) -> bool
         requires fit { FitAll self.now earlier.now }
-        requires found { decision.now.before ≡ slice_get (applied_all self.now earlier.now).devices decision.now.slot }
-        ensures { IsTrue result ↔ HasPlace (applied_all self.now earlier.now) decision.now.slot decision.now.after decision.now.before }
+        requires found { decision.now.before
+            ≡ slice_get (with_decisions self.now earlier.now).devices decision.now.slot }
+        ensures { IsTrue result ↔ HasPlace
+            (with_decisions self.now earlier.now) decision.now.slot decision.now.after
+            decision.now.before }
     {
         self.devices_are_apart();
         match &decision.before {
@@ -66,7 +71,8 @@ impl Table {
     // What earlier decisions leave at a slot of this table.
     fn device_behind<'a>(&'a self, earlier: &'a [Decision], slot: u16) -> Option<&'a Device>
         requires { FitAll self.now earlier.now }
-        ensures { option_copied result ≡ slice_get (applied_all self.now earlier.now).devices slot }
+        ensures { option_copied result
+            ≡ slice_get (with_decisions self.now earlier.now).devices slot }
     {
         let mut found = self.devices().get(slot as usize);
         for decision in earlier {
@@ -81,7 +87,7 @@ impl Table {
     #[tactic(auto, using(crate::proofs::Placing::same_slots))]
     fn takes_next_behind(&self, earlier: &[Decision], slot: u16, device: &Device) -> bool
         requires { FitAll self.now earlier.now }
-        ensures { IsTrue result ↔ TakesNext (applied_all self.now earlier.now) slot device.now }
+        ensures { IsTrue result ↔ TakesNext (with_decisions self.now earlier.now) slot device.now }
     {
         slot as usize == self.len_behind(earlier)
             && u64::from(slot) < self.slots().get()
@@ -91,7 +97,7 @@ impl Table {
     // How many devices earlier decisions leave in this table.
     fn len_behind(&self, earlier: &[Decision]) -> usize
         requires { FitAll self.now earlier.now }
-        ensures { result ≡ length (applied_all self.now earlier.now).devices }
+        ensures { result ≡ length (with_decisions self.now earlier.now).devices }
     {
         let mut len = self.devices().len();
         for decision in earlier {
@@ -105,7 +111,8 @@ impl Table {
     // Whether no device has this DevEUI in what earlier decisions leave of this table.
     fn is_new_behind(&self, earlier: &[Decision], dev_eui: Eui) -> bool
         requires { FitAll self.now earlier.now }
-        ensures { IsTrue result ↔ (slot_of dev_eui.0 (applied_all self.now earlier.now).devices ≡ None) }
+        ensures { IsTrue result ↔ (slot_of dev_eui.0 (with_decisions self.now earlier.now).devices
+            ≡ None) }
     {
         let mut is_new = self.slot_of(dev_eui).is_none();
         for decision in earlier {

@@ -3,7 +3,7 @@ ghost use Rattle.std.specs.Prelude.{◌≡◌, ◌≤◌, ◌<◌, ◌+◌, Matc
 ghost use Rattle.lw_types.specs.Answer.{Answers};
 ghost use Rattle.lw_types.specs.declared.refusal.Refusal.TheVariants.{OutOfMemory};
 ghost use Rattle.devices.specs.MacQueue.{may_queue};
-ghost use Rattle.devices.specs.Outcome.{IsOutcome, told};
+ghost use Rattle.devices.specs.DeviceStep.{IsDeviceStep, report_effects};
 ghost use Rattle.devices.specs.declared.command.Command.{Command};
 ghost use Rattle.sessions.specs.Queueing.{commands_queued, if_room, queue_at, queue_mac_at};
 ghost use Rattle.sessions.specs.Table.{step};
@@ -65,7 +65,7 @@ fn queue_at(
     queueing: &Queueing,
 ) -> Result<(Device, Effects), Refusal>
     requires { queueing.now.dev_eui.0 ≡ device.now.dev_eui.0 }
-    ensures { Answers (queue_at device.now queueing.now) IsOutcome result }
+    ensures { Answers (queue_at device.now queueing.now) IsDeviceStep result }
 {
     if queueing.application != device.application {
         return Err(Refusal::UnknownDevEui);
@@ -88,7 +88,7 @@ fn with_item(
 ) -> Result<(Device, Effects), Refusal>
     requires port { port ≡ queueing.now.port }
     requires short { length queueing.now.payload ≤ LONGEST_PAYLOAD }
-    ensures { Answers (if_room device.now queueing.now) IsOutcome result }
+    ensures { Answers (if_room device.now queueing.now) IsDeviceStep result }
 {
     if device.items.as_slice().len() >= ItemQueue::MOST {
         return Err(Refusal::QueueFull);
@@ -112,7 +112,7 @@ fn queue_mac_at(
     queueing: &MacQueueing,
 ) -> Result<(Device, Effects), Refusal>
     requires { queueing.now.dev_eui.0 ≡ device.now.dev_eui.0 }
-    ensures { Answers (queue_mac_at device.now queueing.now) IsOutcome result }
+    ensures { Answers (queue_mac_at device.now queueing.now) IsDeviceStep result }
 {
     let commands = queueing.commands.as_slice();
     if queueing.application != device.application {
@@ -137,7 +137,7 @@ fn with_commands(
     requires whole { may_queue commands.now ≡ true }
     requires room { length device.now.mac_queue + length commands.now ≤ MacQueue.MOST }
     ensures { MatchResult result
-        (IsOutcome (commands_queued device.now commands.now))
+        (IsDeviceStep (commands_queued device.now commands.now))
         (λ e. e ≡ OutOfMemory) }
 {
     let report = Report::MacQueued {
@@ -151,7 +151,8 @@ fn with_commands(
 
 // The report, for the device's application.
 fn told(alloc: Global, device: &Device, report: Report) -> Result<Effects, Refusal>
-    ensures { MatchResult result (λ effects. effects ≡ told device.now report) (λ e. e ≡ OutOfMemory) }
+    ensures { MatchResult result (λ effects. effects ≡ report_effects device.now report)
+        (λ e. e ≡ OutOfMemory) }
 {
     let mut effects = Effects::empty(alloc);
     effects.push(Effect::Report {

@@ -1,7 +1,7 @@
 // The records that a batch leaves, copied before they are placed.
 ghost use Rattle.std.specs.Prelude.{◌≡◌, [], ◌∷◌, ◌++◌, MatchResult};
 ghost use Rattle.lw_types.specs.declared.refusal.Refusal.TheVariants.{OutOfMemory};
-ghost use Rattle.sessions.specs.Decision.{FitAll, afters_of, applied_all};
+ghost use Rattle.sessions.specs.Decision.{FitAll, afters_of, with_decisions};
 
 use crate::{Batch, Decision, Table};
 use devices::Device;
@@ -68,7 +68,7 @@ impl Table {
     pub fn place_all(&mut self, batch: &Batch, records: Records)
         requires fit { FitAll self.old batch.now }
         requires copies { records ≡ afters_of batch.now }
-        ensures { self.new ≡ applied_all self.old batch.now }
+        ensures { self.new ≡ with_decisions self.old batch.now }
     {
         let Records { mut records } = records;
         for decision in batch.as_slice() {

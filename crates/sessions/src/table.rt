@@ -51,7 +51,7 @@ impl Model for Table {
 
 impl Table {
     ghost use Rattle.sessions.specs.Index.{HaveOwnSlots};
-    ghost use Rattle.sessions.specs.Table.{empty_table, slot_of, placed, CanPlace, CanPut};
+    ghost use Rattle.sessions.specs.Table.{empty_table, slot_of, with_record, CanPlace, CanPut};
 
     /// A table without devices.
     pub fn new(alloc: Global, net_id: NetId, slots: Slots) -> Result<Self, Refusal>
@@ -104,11 +104,11 @@ impl Table {
         let _ = &self.index;
     }
 
-    /// Puts a record at a slot: of its own device at a slot in use, of a new device at the next slot.
-    /// Takes no memory.
+    /// Puts a record at a slot: of its own device at a slot in use, of a new device at the next
+    /// slot. Takes no memory.
     pub fn place(&mut self, slot: u16, device: Device)
         requires { CanPlace self.old slot device }
-        ensures { self.new ≡ placed self.old slot device }
+        ensures { self.new ≡ with_record self.old slot device }
     {
         let at = slot as usize;
         if at < self.devices.len() {
@@ -144,13 +144,14 @@ impl Table {
         })
     }
 
-    /// Puts a record at a slot as an image of a store has it: at a slot in use or the next one, under
-    /// a DevEUI that no other slot has. Refused with `Damaged` exactly where that doesn't hold, and
-    /// with `OutOfMemory` for want of memory. A refusal changes nothing.
+    /// Puts a record at a slot as an image of a store has it: at a slot in use or the next one,
+    /// under a DevEUI that no other slot has. Refused with `Damaged` exactly where that doesn't
+    /// hold, and with `OutOfMemory` for want of memory. A refusal changes nothing.
     pub fn put(&mut self, slot: u16, device: Device) -> Result<(), Refusal>
         ensures { MatchResult result
-            (λ _. CanPut self.old slot device × (self.new ≡ placed self.old slot device))
-            (λ e. (self.new ≡ self.old) × (e ≢ OutOfMemory → (e ≡ Damaged) × ¬ (CanPut self.old slot device))) }
+            (λ _. CanPut self.old slot device × (self.new ≡ with_record self.old slot device))
+            (λ e. (self.new ≡ self.old)
+            × (e ≢ OutOfMemory → (e ≡ Damaged) × ¬ (CanPut self.old slot device))) }
     {
         let at = slot as usize;
         let next = self.devices().len();
@@ -172,7 +173,7 @@ impl Table {
         requires used { slot < length self.old.devices }
         requires new_name { slot_of device.dev_eui.0 self.old.devices ≡ None }
         ensures { MatchResult result
-            (λ _. self.new ≡ placed self.old slot device)
+            (λ _. self.new ≡ with_record self.old slot device)
             (λ e. (e ≡ OutOfMemory) × (self.new ≡ self.old)) }
     {
         let at = slot as usize;

@@ -1,10 +1,10 @@
 -- The batch of a legal continuation, as the journal has it.
 use Rattle.std.proofs.Common.{◌≡◌, ◌≢◌, ◌≤◌, ◌+◌, ◌∙◌, ℕ, List, [], ◌∷◌, length, Some, sym, ap, subst, refl, arith}
-use Rattle.gate_log.specs.Areas.{batched}
+use Rattle.gate_log.specs.Areas.{contents_with_batch}
 use Rattle.gate_log.specs.Layout.{BatchValue}
 use Rattle.gate_log.specs.Phases.{IsBegun}
 use Rattle.sessions.specs.Table.{TableState}
-use Rattle.sessions.specs.Decision.{FitAll, applied_all}
+use Rattle.sessions.specs.Decision.{FitAll, with_decisions}
 use Rattle.sessions.specs.declared.decision.Decision.{Decision}
 use Rattle.store_layout.specs.declared.entries.Entry.{Entry}
 use Rattle.store_layout.specs.declared.version.RecordVersion.{RecordVersion}
@@ -19,7 +19,7 @@ use Rattle.store.proofs.Restoring.{says_more}
 -- the laws of entries that this file stands on
 pub record EntryLaws : Type 0 where
   pub replay : (v : RecordVersion) (t : TableState) (ds : List Decision) → FitAll t ds → AreEntries v (entries_of ds)
-      → Replay v t (entries v (entries_of ds)) (length ds) (entries_of ds) (applied_all t ds)
+      → Replay v t (entries v (entries_of ds)) (length ds) (entries_of ds) (with_decisions t ds)
   pub net_id : (t u : TableState) (es : List Entry) → put_all t es ≡ Some u → u.net_id ≡ t.net_id
   pub slots : (t u : TableState) (es : List Entry) → put_all t es ≡ Some u → u.slots ≡ t.slots
 
@@ -33,7 +33,7 @@ pub begun_on : EntryLaws → {b : BatchValue} (s : StoreState) (begun : Begun) (
 begun_on laws {b} s begun ds bytes settled fit each some few spelled count last decisions seq =
     let t = s.table in
     let es = entries_of ds in
-    let u = applied_all t ds in
+    let u = with_decisions t ds in
     let v = s.version in
     let long = some_decisions ds some in
     let replay : Replay v t b.entries b.entry_count es u =
@@ -41,7 +41,7 @@ begun_on laws {b} s begun ds bytes settled fit each some few spelled count last 
     (subst (λ (l : List ℕ). Replay v t l (length ds) es u) (sym spelled) (laws.replay v t ds fit each)) in
     let is : IsBatchOn v t s.seq b es u =
     record { replay = replay; some = omega arith; few = omega arith; number = last ∙ ap (λ n. s.seq + n) (sym count) } in
-    let same : u ≡ table_after s (begun_change begun) = ap (applied_all t) (sym decisions) in
+    let same : u ≡ table_after s (begun_change begun) = ap (with_decisions t) (sym decisions) in
     let slots = laws.slots t u es replay.leads in
     record {
       contents = settled.contents;
@@ -50,8 +50,8 @@ begun_on laws {b} s begun ds bytes settled fit each some few spelled count last 
         slots = ap (λ (x : TableState). x.slots) (sym same) ∙ slots;
         before = settled.says;
         after =
-            subst (Says v (batched settled.contents b) (table_after s (begun_change begun))) (sym seq)
-            (subst (λ (x : TableState). Says v (batched settled.contents b) x b.last_sequence) same
+            subst (Says v (contents_with_batch settled.contents b) (table_after s (begun_change begun))) (sym seq)
+            (subst (λ (x : TableState). Says v (contents_with_batch settled.contents b) x b.last_sequence) same
             (says_more v settled.contents t s.seq b es u settled.says is (laws.net_id t u es replay.leads) slots));
       };
       rest = settled.rest;

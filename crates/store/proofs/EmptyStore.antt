@@ -2,7 +2,7 @@
 use Rattle.std.proofs.Common.{◌≡◌, ◌<◌, ◌≤◌, ◌+◌, ◌-◌, ◌∙◌, ℕ, List, [], ◌∷◌, ◌++◌, Result, Ok, Err, OnOk, false, length, take, drop, get_or, sym, ap, refl, arith, inl, inr, ◌≢◌, append_assoc}
 use Rattle.std.proofs.lemmas.List.{drop-drop, drop_at, drop-take, take_at, take-take, length-take-le, get_or-take, get_or-drop}
 use Rattle.std.specs.List.{slice_range}
-use Rattle.disk.specs.State.{IsPermitted, IsTorn, NothingOpen, Opens, State, written}
+use Rattle.disk.specs.State.{IsPermitted, IsTorn, NothingOpen, IsWrite, State, bytes_after_write}
 use Rattle.gate_log.specs.declared.layout.Area.{Area}
 use Rattle.std.proofs.lemmas.Bool.{cases_eq}
 use Rattle.gate_log.specs.declared.layout.Areas.{Areas}
@@ -27,7 +27,7 @@ OnOk-of (Ok x) p = p
 OnOk-of (Err e) p = tt
 
 -- what was written behind the superblock's gate stays there
-pub front_after : (at : ℕ) (c1 c2 c3 c4 body : List ℕ) → 32 ≤ at → length body ≡ 31 → 1 ≤ length c1 → c2 ≡ written c1 1 body
+pub front_after : (at : ℕ) (c1 c2 c3 c4 body : List ℕ) → 32 ≤ at → length body ≡ 31 → 1 ≤ length c1 → c2 ≡ bytes_after_write c1 1 body
     → IsTorn at 1 c2 c3 → IsTorn 32 31 c3 c4 → drop 1 (take 32 c4) ≡ body
 front_after at c1 c2 c3 c4 body far size some is one two =
     let first : take 32 c3 ≡ take 32 c2 = sym (take-take 32 at c3 far) ∙ (ap (take 32) one.before ∙ take-take 32 at c2 far) in
@@ -39,10 +39,10 @@ front_after at c1 c2 c3 c4 body far size some is one two =
     ∙ (ap (take 31) (drop_at (take 1 c1) (body ++ rest) 1 gate) ∙ take_at body rest 31 size)))
 
 -- the superblock's gate is opened
-pub opened_front : (c4 c5 : List ℕ) → c5 ≡ written c4 0 (OPEN ∷ []) → take 32 c5 ≡ OPEN ∷ drop 1 (take 32 c4)
+pub opened_front : (c4 c5 : List ℕ) → c5 ≡ bytes_after_write c4 0 (OPEN ∷ []) → take 32 c5 ≡ OPEN ∷ drop 1 (take 32 c4)
 opened_front c4 c5 is = ap (take 32) is ∙ ap (λ (l : List ℕ). OPEN ∷ l) (sym (drop-take 1 31 c4))
 
-pub opened_range : (c4 c5 : List ℕ) (end : ℕ) → c5 ≡ written c4 0 (OPEN ∷ []) → slice_range c5 32 end ≡ slice_range c4 32 end
+pub opened_range : (c4 c5 : List ℕ) (end : ℕ) → c5 ≡ bytes_after_write c4 0 (OPEN ∷ []) → slice_range c5 32 end ≡ slice_range c4 32 end
 opened_range c4 c5 end is = ap (λ (l : List ℕ). slice_range l 32 end) is ∙ ap (take (end - 32)) (drop-drop 31 1 c4)
 
 -- a closed area is older than any other
@@ -98,7 +98,7 @@ pub shut_images : (state : State) → IsShut state → (image : List ℕ) → Is
 shut_images state shut image permitted same = shut.closed (sym (permitted.kept 0 shut.settled) ∙ same)
 
 -- a write behind the first byte leaves it
-pub shut_after : (at n : ℕ) (old new : State) → 1 ≤ at → Opens at n old new → IsShut old → IsShut new
+pub shut_after : (at n : ℕ) (old new : State) → 1 ≤ at → IsWrite at n old new → IsShut old → IsShut new
 shut_after at n old new behind opens shut = record {
   settled = opens.others 0 (inl (omega arith)) ∙ shut.settled;
   closed = λ same. shut.closed (sym (first_kept at old.content new.content behind opens.torn.before) ∙ same);
@@ -109,7 +109,7 @@ shut_after at n old new behind opens shut = record {
         sym (get_or-take at ys 0 0 (omega arith)) ∙ (ap (λ (l : List ℕ). get_or l 0 0) same ∙ get_or-take at xs 0 0 (omega arith))
 
 -- a torn gate that reads open is the open one
-opened_image : (old image : List ℕ) → IsTorn 0 1 old image → 1 ≤ length old → get_or image 0 0 ≡ OPEN → image ≡ written old 0 (OPEN ∷ [])
+opened_image : (old image : List ℕ) → IsTorn 0 1 old image → 1 ≤ length old → get_or image 0 0 ≡ OPEN → image ≡ bytes_after_write old 0 (OPEN ∷ [])
 opened_image old [] torn some is = absurd (omega (arith, torn.same_length))
 opened_image old (x ∷ image) torn some is = (λ i. is i ∷ torn.after i)
 

@@ -6,7 +6,7 @@ use Rattle.gate_log.specs.declared.layout.Area.{Area}
 use Rattle.gate_log.specs.declared.layout.Header.{Header}
 use Rattle.gate_log.specs.declared.recover.Recovered.{Recovered}
 use Rattle.gate_log.specs.declared.layout.Areas.{Areas}
-use Rattle.gate_log.specs.Areas.{AreOf, Contents, Holds, IsLive as IsLiveArea, NoneLive as NoLiveArea}
+use Rattle.gate_log.specs.Areas.{AreOf, LogContents, Holds, IsLiveArea, NoLiveArea}
 use Rattle.gate_log.specs.Layout.{BatchValue, HasRoomFor}
 use Rattle.gate_log.specs.Live.{IsLiveAs}
 use Rattle.gate_log.specs.Recovered.{IsRecovered, contents_of}
@@ -25,11 +25,11 @@ use Rattle.store.proofs.Holding.{front_is, store_of}
 
 -- the laws of areas that this file stands on
 pub record AreaLaws : Type 0 where
-  pub live : (disk : List ℕ) (c : Contents) → Holds c disk → IsLiveArea c.areas c.journal.header disk
-  pub room : (disk : List ℕ) (c : Contents) → Holds c disk → HasRoomFor c.areas.live c.journal.header
+  pub live : (disk : List ℕ) (c : LogContents) → Holds c disk → IsLiveArea c.areas c.journal.header disk
+  pub room : (disk : List ℕ) (c : LogContents) → Holds c disk → HasRoomFor c.areas.live c.journal.header
   pub one : (a b : Area) (disk : List ℕ) (areas others : Areas) (h k : Header) → AreOf a b areas → AreOf a b others → IsLiveArea areas h disk → IsLiveArea others k disk → (areas ≡ others) × (h ≡ k)
-  pub none : (a b : Area) (disk : List ℕ) (c : Contents) → NoLiveArea a b disk → AreOf a b c.areas → ¬ (Holds c disk)
-  pub same : (a b : Area) (disk : List ℕ) (c d : Contents) → AreOf a b c.areas → AreOf a b d.areas → Holds c disk → Holds d disk → c ≡ d
+  pub none : (a b : Area) (disk : List ℕ) (c : LogContents) → NoLiveArea a b disk → AreOf a b c.areas → ¬ (Holds c disk)
+  pub same : (a b : Area) (disk : List ℕ) (c d : LogContents) → AreOf a b c.areas → AreOf a b d.areas → Holds c disk → Holds d disk → c ≡ d
 
 -- entries that are put keep the network and the number of slots
 pub record KeepLaws : Type 0 where
@@ -100,7 +100,7 @@ module _ (content : List ℕ) (net slots : ℕ) (store : IsStoreOf content net s
       first = inr (net, slots, store, long, inr (areas, h, live, inr (version, is)));
     }
 
-    pub area_fault : (e : Refusal) → IsKnown h.version → e ≡ Damaged → ((c : Contents) → AreAreas slots c.areas → ¬ (Holds c content)) → IsFault content e
+    pub area_fault : (e : Refusal) → IsKnown h.version → e ≡ Damaged → ((c : LogContents) → AreAreas slots c.areas → ¬ (Holds c content)) → IsFault content e
     area_fault e version is nothing = record {
       none = λ t seq x. nothing x.contents (in_areas t seq x) x.holds;
       first = inr (net, slots, store, long, inr (areas, h, live, inr (version, is)));
@@ -111,7 +111,7 @@ module _ (content : List ℕ) (net slots : ℕ) (store : IsStoreOf content net s
       journal_is t seq x =
           let same = only t.net_id t.slots (store_of t seq content x) in
           let says : Says x.version (contents_of areas content r) t seq =
-          subst (λ (c : Contents). Says x.version c t seq) (laws.same (area_a slots) (area_b slots) content x.contents (contents_of areas content r) (in_areas t seq x) live.place x.holds recovered.holds) x.says in
+          subst (λ (c : LogContents). Says x.version c t seq) (laws.same (area_a slots) (area_b slots) content x.contents (contents_of areas content r) (in_areas t seq x) live.place x.holds recovered.holds) x.says in
           subst (λ w. Restores w net slots r.header r.records.items r.batches.items t seq) (one_version x.version v (sym (known t seq x) ∙ version))
           (subst (λ k. Restores x.version k slots r.header r.records.items r.batches.items t seq) same.0
           (subst (λ k. Restores x.version t.net_id k r.header r.records.items r.batches.items t seq) same.1 says.journal))

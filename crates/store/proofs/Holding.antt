@@ -1,13 +1,13 @@
 -- What an image holds, from what is in it.
 use Rattle.std.proofs.Common.{◌≡◌, ◌≢◌, ◌↔◌, ◌⊎◌, inl, inr, ◌≤◌, ◌+◌, ◌∙◌, ℕ, List, [], ◌∷◌, length, get_or, min, take, sym, ap, subst, refl, arith}
 use Rattle.gate_log.specs.declared.layout.Areas.{Areas}
-use Rattle.gate_log.specs.Areas.{AreLaidOut, Contents, Holds, HoldsEither as LogHoldsEither, batched, front_len}
+use Rattle.gate_log.specs.Areas.{AreLaidOut, LogContents, Holds, HoldsOneOf as LogHoldsEither, contents_with_batch, front_len}
 use Rattle.gate_log.specs.Layout.{BatchValue}
 use Rattle.lw_types.specs.declared.refusal.Refusal.{Refusal}
 use Rattle.lw_types.specs.declared.refusal.Refusal.TheVariants.{NotFormatted, Damaged, WrongVersion, WrongSize}
-use Rattle.sessions.specs.Decision.{applied_all}
+use Rattle.sessions.specs.Decision.{with_decisions}
 use Rattle.sessions.specs.declared.decision.Decision.{Decision}
-use Rattle.sessions.specs.Table.{TableState, placed}
+use Rattle.sessions.specs.Table.{TableState, with_record}
 use Rattle.store_layout.specs.Superblock.{area_len, disk_len}
 use Rattle.store.specs.Commit.{Change, table_after}
 use Rattle.store.specs.Faults.{IsStoreOf, IsFault, IsNamed, IsNoSuperblock, SuperblockFault}
@@ -15,14 +15,14 @@ use Rattle.store.specs.Image.{AreAreas, HaveLength, HoldsTable, area_a, area_b}
 use Rattle.store.specs.Phases.{HoldsEither, Journals}
 use Rattle.store.specs.State.{StoreState}
 
-module _ (s : StoreState) (change : Change) (c : Contents) (b : BatchValue) (journals : Journals s change c b) (image : List ℕ) where
+module _ (s : StoreState) (change : Change) (c : LogContents) (b : BatchValue) (journals : Journals s change c b) (image : List ℕ) where
   pub held : Holds c image → HoldsTable s.table s.seq image
   held holds = record { version = s.version; contents = c; holds = holds; says = journals.before }
 
-  pub held_with : Holds (batched c b) image → HoldsTable (table_after s change) change.seq image
-  held_with holds = record { version = s.version; contents = batched c b; holds = holds; says = journals.after }
+  pub held_with : Holds (contents_with_batch c b) image → HoldsTable (table_after s change) change.seq image
+  held_with holds = record { version = s.version; contents = contents_with_batch c b; holds = holds; says = journals.after }
 
-  pub held_either : LogHoldsEither c (batched c b) image → HoldsEither s change image
+  pub held_either : LogHoldsEither c (contents_with_batch c b) image → HoldsEither s change image
   held_either (inl without) = inl (held without)
   held_either (inr with_it) = inr (held_with with_it)
 
@@ -37,12 +37,12 @@ have_length slots areas (inl is) = subst (HaveLength slots) (sym is) (record { l
 have_length slots areas (inr is) = subst (HaveLength slots) (sym is) (record { live = refl; other = refl })
 
 -- decisions leave the number of slots
-slots_after : (t : TableState) (ds : List Decision) → (applied_all t ds).slots ≡ t.slots
+slots_after : (t : TableState) (ds : List Decision) → (with_decisions t ds).slots ≡ t.slots
 slots_after t [] = refl
-slots_after t (d ∷ ds) = slots_after (placed t d.slot d.after) ds
+slots_after t (d ∷ ds) = slots_after (with_record t d.slot d.after) ds
 
 -- so the areas have their length still
-pub have_length_after : (t u : TableState) (ds : List Decision) (areas : Areas) → u ≡ applied_all t ds → HaveLength t.slots areas → HaveLength u.slots areas
+pub have_length_after : (t u : TableState) (ds : List Decision) (areas : Areas) → u ≡ with_decisions t ds → HaveLength t.slots areas → HaveLength u.slots areas
 have_length_after t u ds areas is long = subst (λ n. HaveLength n areas) (sym (ap (λ (x : TableState). x.slots) is ∙ slots_after t ds)) long
 
 -- the areas of a store lie on its disk

@@ -3,7 +3,7 @@ use Rattle.std.proofs.Common.{◌≡◌, inl, inr, ◌<◌, ◌≤◌, ◌+◌, 
 use Rattle.gate_log.specs.declared.layout.Area.{Area}
 use Rattle.gate_log.specs.declared.layout.Areas.{Areas}
 use Rattle.gate_log.specs.declared.layout.Header.{Header}
-use Rattle.gate_log.specs.Areas.{AreOf, Contents, Holds, HoldsEither, published, swapped}
+use Rattle.gate_log.specs.Areas.{AreOf, LogContents, Holds, HoldsOneOf, contents_with_checkpoint, exchanged_areas}
 use Rattle.gate_log.specs.Layout.{IsHeader}
 use Rattle.sessions.specs.Index.{HaveOwnSlots}
 use Rattle.sessions.specs.Table.{TableState, empty_table}
@@ -20,9 +20,9 @@ TableLaw = (version : RecordVersion) (t : TableState) → HaveOwnSlots t.devices
     → AreEntries version (entries_of_table t)
     → Replay version (empty_table t.net_id t.slots) (entries version (entries_of_table t)) (length t.devices) (entries_of_table t) t
 
-swapped_are : (a b : Area) (areas : Areas) → AreOf a b areas → AreOf a b (swapped areas)
-swapped_are a b areas (inl is) = inr (ap swapped is)
-swapped_are a b areas (inr is) = inl (ap swapped is)
+swapped_are : (a b : Area) (areas : Areas) → AreOf a b areas → AreOf a b (exchanged_areas areas)
+swapped_are a b areas (inl is) = inr (ap exchanged_areas is)
+swapped_are a b areas (inr is) = inl (ap exchanged_areas is)
 
 pub republishes : TableLaw → (s : StoreState) (settled : IsSettled s) → HaveOwnSlots s.table.devices → length s.table.devices ≤ s.table.slots
     → AreEntries s.version (entries_of_table s.table) → s.log.generation < LAST_GENERATION
@@ -56,10 +56,10 @@ republishes law s settled own few each early records spelled in_range =
       next = ap (λ n. n + 1) generation;
     }
 
-module _ {version : RecordVersion} {t : TableState} {seq : ℕ} {c : Contents} {header : Header} {records : List ℕ} (r : Republishes version t seq c header records) (image : List ℕ) where
+module _ {version : RecordVersion} {t : TableState} {seq : ℕ} {c : LogContents} {header : Header} {records : List ℕ} (r : Republishes version t seq c header records) (image : List ℕ) where
   pub same_table : Holds c image → HoldsTable t seq image
   same_table holds = record { version = version; contents = c; holds = holds; says = r.before }
 
-  pub same_table_either : HoldsEither c (published c header records) image → HoldsTable t seq image
+  pub same_table_either : HoldsOneOf c (contents_with_checkpoint c header records) image → HoldsTable t seq image
   same_table_either (inl without) = same_table without
-  same_table_either (inr with_it) = record { version = version; contents = published c header records; holds = with_it; says = r.after }
+  same_table_either (inr with_it) = record { version = version; contents = contents_with_checkpoint c header records; holds = with_it; says = r.after }

@@ -1,12 +1,12 @@
 -- Batches that lead from one table to another.
 use Rattle.std.proofs.Common.{◌≡◌, ◌↔◌, ◌<◌, ◌≤◌, ◌∙◌, ℕ, List, [], ◌∷◌, ◌++◌, sym, ap, subst, refl}
-use Rattle.gate_log.specs.Areas.{Contents, batched}
+use Rattle.gate_log.specs.Areas.{LogContents, contents_with_batch}
 use Rattle.gate_log.specs.Layout.{BatchValue}
 use Rattle.sessions.specs.Table.{TableState}
 use Rattle.store_layout.specs.declared.entries.Entry.{Entry}
 use Rattle.store_layout.specs.declared.version.RecordVersion.{RecordVersion}
 use Rattle.store_layout.specs.Superblock.{disk_len, superblock}
-use Rattle.store.specs.Image.{AreAreas, IsBatchOn, IsCheckpoint, Lead, Says}
+use Rattle.store.specs.Image.{AreAreas, IsBatchOn, IsCheckpointOf, Lead, Says}
 
 -- one batch is put on the table, and there is one way to do that
 pub lead_on : (v : RecordVersion) (t t' : TableState) (seq : ℕ) (b : BatchValue) (batches : List BatchValue) (es : List Entry) → IsBatchOn v t seq b es t'
@@ -25,11 +25,11 @@ lead_push v t seq (x ∷ batches) u n b es w lead is =
     (lead.0, lead.1, lead.2, lead_push v lead.1 x.last_sequence batches u n b es w lead.3 is)
 
 -- contents with a batch more say the table that its entries lead to
-pub says_more : (v : RecordVersion) (c : Contents) (t : TableState) (seq : ℕ) (b : BatchValue) (es : List Entry) (u : TableState) → Says v c t seq → IsBatchOn v t seq b es u
-    → u.net_id ≡ t.net_id → u.slots ≡ t.slots → Says v (batched c b) u b.last_sequence
+pub says_more : (v : RecordVersion) (c : LogContents) (t : TableState) (seq : ℕ) (b : BatchValue) (es : List Entry) (u : TableState) → Says v c t seq → IsBatchOn v t seq b es u
+    → u.net_id ≡ t.net_id → u.slots ≡ t.slots → Says v (contents_with_batch c b) u b.last_sequence
 says_more v c t seq b es u says is net slots =
     let j = c.journal in
-    let checkpoint_of : ℕ → ℕ → Type 0 = λ n k. IsCheckpoint v n k j.records j.header.record_count says.journal.base in
+    let checkpoint_of : ℕ → ℕ → Type 0 = λ n k. IsCheckpointOf v n k j.records j.header.record_count says.journal.base in
     record {
       net_id = subst (λ k. k < 64) (sym net) says.net_id;
       slots = subst (λ k. (1 ≤ k) × (k ≤ 4096)) (sym slots) says.slots;

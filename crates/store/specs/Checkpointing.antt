@@ -1,8 +1,14 @@
--- What the disk of a store holds while a checkpoint is under way: the same table and number throughout.
+-- What the disk of a store holds while a checkpoint is under way: the same table and number
+-- throughout.
 use Rattle.std.specs.Prelude.{◌≡◌, ◌≤◌, ℕ, ◌+◌, List, length}
 use Rattle.gate_log.specs.declared.layout.Header.{Header}
-use Rattle.gate_log.specs.Areas.{Contents, MayFollow, published}
-use Rattle.gate_log.specs.Checkpointing.{IsCheckpoint as IsLogCheckpoint, IsRetiring as IsLogRetiring, IsCheckpointWritten as IsLogWritten, IsCheckpointSynced as IsLogSynced, IsCheckpointOpened as IsLogOpened, checkpoint_bytes, written_front, synced_front, opened_front}
+use Rattle.gate_log.specs.Areas.{LogContents, MayFollowContents, contents_with_checkpoint}
+use Rattle.gate_log.specs.Checkpointing.{IsCheckpoint as IsLogCheckpoint}
+use Rattle.gate_log.specs.Checkpointing.{IsRetiring as IsLogRetiring}
+use Rattle.gate_log.specs.Checkpointing.{IsCheckpointWritten as IsLogWritten}
+use Rattle.gate_log.specs.Checkpointing.{IsCheckpointSynced as IsLogSynced}
+use Rattle.gate_log.specs.Checkpointing.{IsCheckpointOpened as IsLogOpened, checkpoint_bytes}
+use Rattle.gate_log.specs.Checkpointing.{written_front, synced_front, opened_front}
 use Rattle.gate_log.specs.Log.{IsAtRest}
 use Rattle.sessions.specs.Table.{TableState}
 use Rattle.store_layout.specs.declared.version.RecordVersion.{RecordVersion}
@@ -36,7 +42,8 @@ checkpoint_opened_size opened = (opened_front opened.phase).len
 abbrev pub FitsOther : StoreState → ℕ → Type 0
 FitsOther s size = s.log.areas.other.start + size + LARGEST_BATCH ≤ s.log.areas.other.end
 
--- the header of a checkpoint of a store's table, with so many bytes of records: the next generation
+-- the header of a checkpoint of a store's table, with `records_len` bytes of records: the next
+-- generation
 abbrev pub next_header : StoreState → ℕ → Header
 next_header s records_len = record {
   version = version_byte s.version;
@@ -46,16 +53,18 @@ next_header s records_len = record {
   records_len = records_len;
 }
 
--- the contents say a table and a number, and so does the checkpoint that may follow them, of the next generation
-pub record Republishes (version : RecordVersion) (t : TableState) (seq : ℕ) (c : Contents) (header : Header) (records : List ℕ) : Type 0 where
+-- the contents say a table and a number, and so does the checkpoint that may follow them, of the
+-- next generation
+pub record Republishes (version : RecordVersion) (t : TableState) (seq : ℕ) (c : LogContents)
+    (header : Header) (records : List ℕ) : Type 0 where
   pub before : Says version c t seq
-  pub after : Says version (published c header records) t seq
-  pub follows : MayFollow c header records
+  pub after : Says version (contents_with_checkpoint c header records) t seq
+  pub follows : MayFollowContents c header records
   pub next : header.generation ≡ c.journal.header.generation + 1
 
 -- nothing of the checkpoint is written
 pub record IsCheckpointOn (s : StoreState) (begun : Checkpoint) : Type 0 where
-  pub contents : Contents
+  pub contents : LogContents
   pub header : Header
   pub records : List ℕ
   pub republishes : Republishes s.version s.table s.seq contents header records
@@ -64,7 +73,7 @@ pub record IsCheckpointOn (s : StoreState) (begun : Checkpoint) : Type 0 where
 
 -- the other area's gate is closed, and may be torn
 pub record IsRetiringOn (s : StoreState) (retiring : Retiring) : Type 0 where
-  pub contents : Contents
+  pub contents : LogContents
   pub header : Header
   pub records : List ℕ
   pub republishes : Republishes s.version s.table s.seq contents header records
@@ -73,7 +82,7 @@ pub record IsRetiringOn (s : StoreState) (retiring : Retiring) : Type 0 where
 
 -- the checkpoint is written, and may be torn
 pub record IsCheckpointWrittenOn (s : StoreState) (written : CheckpointWritten) : Type 0 where
-  pub contents : Contents
+  pub contents : LogContents
   pub header : Header
   pub records : List ℕ
   pub republishes : Republishes s.version s.table s.seq contents header records
@@ -81,7 +90,7 @@ pub record IsCheckpointWrittenOn (s : StoreState) (written : CheckpointWritten) 
 
 -- it is on the disk
 pub record IsCheckpointSyncedOn (s : StoreState) (synced : CheckpointSynced) : Type 0 where
-  pub contents : Contents
+  pub contents : LogContents
   pub header : Header
   pub records : List ℕ
   pub republishes : Republishes s.version s.table s.seq contents header records
@@ -89,7 +98,7 @@ pub record IsCheckpointSyncedOn (s : StoreState) (synced : CheckpointSynced) : T
 
 -- its gate is open, and may be torn
 pub record IsCheckpointOpenedOn (s : StoreState) (opened : CheckpointOpened) : Type 0 where
-  pub contents : Contents
+  pub contents : LogContents
   pub header : Header
   pub records : List ℕ
   pub republishes : Republishes s.version s.table s.seq contents header records

@@ -1,7 +1,10 @@
 -- Why an image holds no store. Of several reasons the first one here is answered.
-use Rattle.std.specs.Prelude.{◌≡◌, ◌≢◌, ◌<◌, ◌≤◌, ◌⊎◌, ◌↔◌, ℕ, List, ◌∷◌, length, take, slice_index, codes}
+use Rattle.std.specs.Prelude.{◌≡◌, ◌≢◌, ◌<◌, ◌≤◌, ◌⊎◌, ◌↔◌, ℕ, List, ◌∷◌, length, take, slice_index}
+use Rattle.std.specs.Prelude.{codes}
 use Rattle.lw_types.specs.declared.refusal.Refusal.{Refusal}
-use Rattle.lw_types.specs.declared.refusal.Refusal.TheVariants.{NotFormatted, Damaged, WrongVersion, WrongSize, DeviceFailed, OutOfMemory}
+use Rattle.lw_types.specs.declared.refusal.Refusal.TheVariants.{NotFormatted, Damaged, WrongVersion}
+use Rattle.lw_types.specs.declared.refusal.Refusal.TheVariants.{WrongSize, DeviceFailed}
+use Rattle.lw_types.specs.declared.refusal.Refusal.TheVariants.{OutOfMemory}
 use Rattle.gate_log.specs.declared.layout.Area.{Area}
 use Rattle.gate_log.specs.declared.layout.Areas.{Areas}
 use Rattle.gate_log.specs.declared.layout.Header.{Header}
@@ -21,9 +24,11 @@ IsNamed bytes = take 8 bytes ≡ OPEN ∷ codes "LNSTORE"
 
 -- no store has these 32 bytes in front
 abbrev pub IsNoSuperblock : List ℕ → Type 0
-IsNoSuperblock bytes = (net_id slots : ℕ) → net_id < 64 → 1 ≤ slots → slots ≤ 4096 → bytes ≢ superblock net_id slots
+IsNoSuperblock bytes =
+    (net_id slots : ℕ) → net_id < 64 → 1 ≤ slots → slots ≤ 4096 → bytes ≢ superblock net_id slots
 
--- what is wrong with them: a closed gate or another name, else another version, else any other field
+-- what is wrong with them: a closed gate or another name, else another version, else any other
+-- field
 pub record SuperblockFault (bytes : List ℕ) (e : Refusal) : Type 0 where
   pub none : IsNoSuperblock bytes
   pub not_formatted : (e ≡ NotFormatted) ↔ (¬ (IsNamed bytes))
@@ -41,13 +46,16 @@ abbrev pub FrontFault : List ℕ → Refusal → Type 0
 FrontFault image e =
     ((length image < LEN) × (e ≡ WrongSize))
     ⊎ ((LEN ≤ length image)
-    × (SuperblockFault (take LEN image) e ⊎ ((net_id slots : ℕ) × IsStoreOf image net_id slots × (length image ≢ disk_len slots) × (e ≡ WrongSize))))
+    × (SuperblockFault (take LEN image) e
+    ⊎ ((net_id slots : ℕ) × IsStoreOf image net_id slots × (length image ≢ disk_len slots)
+    × (e ≡ WrongSize))))
 
 -- a version of records that is read
 abbrev pub IsKnown : ℕ → Type 0
 IsKnown byte = (version : RecordVersion) × (byte ≡ version_byte version)
 
--- a header of a version that is read, of a generation that may be, and with records that fit the area
+-- a header of a version that is read, of a generation that may be, and with records that fit the
+-- area
 pub record IsUsable (area : Area) (h : Header) : Type 0 where
   pub version : IsKnown h.version
   pub generation : h.generation ≤ LAST_GENERATION
@@ -69,7 +77,8 @@ abbrev pub HeaderFault : List ℕ → ℕ → Refusal → Type 0
 HeaderFault image slots e =
     (NoneLive image slots × (e ≡ Damaged))
     ⊎ ((areas : Areas) × (h : Header) × IsLive image slots areas h
-    × (((¬ (IsKnown h.version)) × (e ≡ WrongVersion)) ⊎ (IsKnown h.version × ((¬ (IsUsable areas.live h)) × (e ≡ Damaged)))))
+    × (((¬ (IsKnown h.version)) × (e ≡ WrongVersion))
+    ⊎ (IsKnown h.version × ((¬ (IsUsable areas.live h)) × (e ≡ Damaged)))))
 
 -- what is wrong with the areas
 abbrev pub AreaFault : List ℕ → ℕ → Refusal → Type 0
@@ -81,13 +90,15 @@ AreaFault image slots e =
 -- what is wrong with an image that holds no table
 pub record IsFault (image : List ℕ) (e : Refusal) : Type 0 where
   pub none : (t : TableState) (seq : ℕ) → ¬ (HoldsTable t seq image)
-  pub first : FrontFault image e ⊎ ((net_id slots : ℕ) × IsStoreOf image net_id slots × (length image ≡ disk_len slots) × AreaFault image slots e)
+  pub first : FrontFault image e
+      ⊎ ((net_id slots : ℕ) × IsStoreOf image net_id slots × (length image ≡ disk_len slots)
+      × AreaFault image slots e)
 
 -- a store has this many slots
 abbrev pub IsSlots : ℕ → Type 0
 IsSlots slots = (1 ≤ slots) × (slots ≤ 4096)
 
--- why no store of so many slots is made on a disk of this length
+-- why no store of this number of slots is made on a disk of this length
 pub record IsFormatRefusal (slots len : ℕ) (e : Refusal) : Type 0 where
   pub slots_range : (e ≡ Damaged) ↔ (¬ (IsSlots slots))
   pub size : (e ≡ WrongSize) ↔ (IsSlots slots × (len ≢ disk_len slots))

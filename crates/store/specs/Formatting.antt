@@ -10,7 +10,8 @@ pub record IsShut (state : State) : Type 0 where
   pub settled : state.is_open 0 ≡ false
   pub closed : slice_index state.content 0 ≢ OPEN
 
--- no store is there, or the new one without devices, or all behind the superblock's gate is as it was
+-- no store is there, or the new one without devices, or all behind the superblock's gate is as it
+-- was
 abbrev pub IsFormatImage : ℕ → ℕ → List ℕ → List ℕ → Type 0
 IsFormatImage net_id slots old image =
     (slice_index image 0 ≢ OPEN)

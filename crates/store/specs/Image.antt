@@ -3,7 +3,7 @@ use Rattle.std.specs.Prelude.{◌≡◌, ◌<◌, ◌≤◌, ℕ, ◌+◌, List,
 use Rattle.gate_log.specs.declared.layout.Area.{Area}
 use Rattle.gate_log.specs.declared.layout.Areas.{Areas}
 use Rattle.gate_log.specs.declared.layout.Header.{Header}
-use Rattle.gate_log.specs.Areas.{AreOf, Contents, Holds, IsLive as IsLiveArea, NoneLive as NoLiveArea}
+use Rattle.gate_log.specs.Areas.{AreOf, LogContents, Holds, IsLiveArea, NoLiveArea}
 use Rattle.gate_log.specs.Layout.{BatchValue}
 use Rattle.sessions.specs.Table.{TableState, empty_table}
 use Rattle.sessions.specs.declared.batch.TheConstants.Batch.{MOST}
@@ -22,16 +22,16 @@ area_a slots = record { start = LEN; end = LEN + area_len slots }
 abbrev pub area_b : ℕ → Area
 area_b slots = record { start = LEN + area_len slots; end = LEN + area_len slots + area_len slots }
 
--- the two areas of a store with so many slots, one of them the live one
+-- the two areas of a store with this number of slots, one of them the live one
 abbrev pub AreAreas : ℕ → Areas → Type 0
 AreAreas slots areas = AreOf (area_a slots) (area_b slots) areas
 
--- each of the two areas has the length of one for so many slots
+-- each of the two areas has the length of one for this number of slots
 pub record HaveLength (slots : ℕ) (areas : Areas) : Type 0 where
   pub live : areas.live.start + area_len slots ≡ areas.live.end
   pub other : areas.other.start + area_len slots ≡ areas.other.end
 
--- the live area of a store with so many slots, and its header
+-- the live area of a store with this number of slots, and its header
 pub record IsLive (image : List ℕ) (slots : ℕ) (areas : Areas) (header : Header) : Type 0 where
   pub place : AreAreas slots areas
   pub at : IsLiveArea areas header image
@@ -40,14 +40,16 @@ pub record IsLive (image : List ℕ) (slots : ℕ) (areas : Areas) (header : Hea
 abbrev pub NoneLive : List ℕ → ℕ → Type 0
 NoneLive image slots = NoLiveArea (area_a slots) (area_b slots) image
 
--- so many records, each of a slot of its own, that put this table together
-pub record IsCheckpoint (version : RecordVersion) (net_id slots : ℕ) (records : List ℕ) (count : ℕ) (t : TableState) : Type 0 where
+-- `count` records, each of a slot of its own, that put this table together
+pub record IsCheckpointOf (version : RecordVersion) (net_id slots : ℕ) (records : List ℕ)
+    (count : ℕ) (t : TableState) : Type 0 where
   pub entries : List Entry
   pub replay : Replay version (empty_table net_id slots) records count entries t
   pub own_slots : length t.devices ≡ count
 
 -- a batch of 1 to 64 entries that lead from one table to another, numbered on from a number
-pub record IsBatchOn (version : RecordVersion) (t : TableState) (seq : ℕ) (b : BatchValue) (entries : List Entry) (u : TableState) : Type 0 where
+pub record IsBatchOn (version : RecordVersion) (t : TableState) (seq : ℕ) (b : BatchValue)
+    (entries : List Entry) (u : TableState) : Type 0 where
   pub replay : Replay version t b.entries b.entry_count entries u
   pub some : 1 ≤ b.entry_count
   pub few : b.entry_count ≤ MOST
@@ -57,17 +59,20 @@ pub record IsBatchOn (version : RecordVersion) (t : TableState) (seq : ℕ) (b :
 abbrev pub Lead : RecordVersion → TableState → ℕ → List BatchValue → TableState → ℕ → Type 0
 Lead version t seq [] u n = (u ≡ t) × (n ≡ seq)
 Lead version t seq (b ∷ batches) u n =
-    (entries : List Entry) × (next : TableState) × IsBatchOn version t seq b entries next × Lead version next b.last_sequence batches u n
+    (entries : List Entry) × (next : TableState) × IsBatchOn version t seq b entries next
+    × Lead version next b.last_sequence batches u n
 
 -- the table and number that a checkpoint and the batches behind it lead to
-pub record Restores (version : RecordVersion) (net_id slots : ℕ) (header : Header) (records : List ℕ) (later : List BatchValue) (t : TableState) (seq : ℕ) : Type 0 where
+pub record Restores (version : RecordVersion) (net_id slots : ℕ) (header : Header)
+    (records : List ℕ) (later : List BatchValue) (t : TableState) (seq : ℕ) : Type 0 where
   pub base : TableState
-  pub checkpoint : IsCheckpoint version net_id slots records header.record_count base
+  pub checkpoint : IsCheckpointOf version net_id slots records header.record_count base
   pub batches : Lead version base header.sequence later t seq
 
--- the contents of a disk, with records of a version, are those of a store with this table and number: its superblock is in
--- front, and its journal leads there
-pub record Says (version : RecordVersion) (c : Contents) (t : TableState) (seq : ℕ) : Type 0 where
+-- the contents of a disk, with records of a version, are those of a store with this table and
+-- number: its superblock is in front, and its journal leads there
+pub record Says (version : RecordVersion) (c : LogContents) (t : TableState)
+    (seq : ℕ) : Type 0 where
   pub net_id : t.net_id < 64
   pub slots : (1 ≤ t.slots) × (t.slots ≤ 4096)
   pub areas : AreAreas t.slots c.areas
@@ -75,11 +80,12 @@ pub record Says (version : RecordVersion) (c : Contents) (t : TableState) (seq :
   pub size : c.size ≡ disk_len t.slots
   pub of_version : c.journal.header.version ≡ version_byte version
   pub generation : c.journal.header.generation ≤ LAST_GENERATION
-  pub journal : Restores version t.net_id t.slots c.journal.header c.journal.records c.journal.batches t seq
+  pub journal : Restores version t.net_id t.slots c.journal.header c.journal.records
+      c.journal.batches t seq
 
 -- the image of a disk holds a store with this table and number: its live area says so
 pub record HoldsTable (t : TableState) (seq : ℕ) (image : List ℕ) : Type 0 where
   pub version : RecordVersion
-  pub contents : Contents
+  pub contents : LogContents
   pub holds : Holds contents image
   pub says : Says version contents t seq

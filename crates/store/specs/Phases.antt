@@ -1,9 +1,12 @@
 -- What the disk of a store holds while one batch is under way.
 use Rattle.std.specs.Prelude.{◌≡◌, ◌⊎◌, ℕ, List, length}
-use Rattle.gate_log.specs.Areas.{Contents, batched}
+use Rattle.gate_log.specs.Areas.{LogContents, contents_with_batch}
 use Rattle.gate_log.specs.Layout.{BatchValue}
 use Rattle.gate_log.specs.Log.{IsAtRest}
-use Rattle.gate_log.specs.Phases.{IsBegun, IsWritten, IsBodySynced, IsGateWritten, bytes_of, written_size as log_written_size, synced_size as log_synced_size, opened_size as log_opened_size}
+use Rattle.gate_log.specs.Phases.{IsBegun, IsWritten, IsBodySynced, IsGateWritten, bytes_of}
+use Rattle.gate_log.specs.Phases.{written_size as log_written_size}
+use Rattle.gate_log.specs.Phases.{body_synced_size as log_body_synced_size}
+use Rattle.gate_log.specs.Phases.{gate_written_size as log_gate_written_size}
 use Rattle.sessions.specs.declared.decision.Decision.{Decision}
 use Rattle.store.specs.declared.phases.Begun.{Begun}
 use Rattle.store.specs.declared.phases.Written.{Written}
@@ -27,34 +30,37 @@ written_change written = change_of written.commit
 abbrev pub written_size : Written → ℕ
 written_size written = log_written_size written.phase
 
-abbrev pub synced_change : BodySynced → Change
-synced_change synced = change_of synced.commit
+abbrev pub body_synced_change : BodySynced → Change
+body_synced_change phase = change_of phase.commit
 
-abbrev pub synced_size : BodySynced → ℕ
-synced_size synced = log_synced_size synced.phase
+abbrev pub body_synced_size : BodySynced → ℕ
+body_synced_size phase = log_body_synced_size phase.phase
 
-abbrev pub opened_change : GateWritten → Change
-opened_change opened = change_of opened.commit
+abbrev pub gate_written_change : GateWritten → Change
+gate_written_change phase = change_of phase.commit
 
-abbrev pub opened_size : GateWritten → ℕ
-opened_size opened = log_opened_size opened.phase
+abbrev pub gate_written_size : GateWritten → ℕ
+gate_written_size phase = log_gate_written_size phase.phase
 
 abbrev pub durable_decisions : Durable → List Decision
 durable_decisions durable = durable.batch
 
--- the batch as the journal has it: without it the contents say the store's table and number, and with it the change's
-pub record Journals (s : StoreState) (change : Change) (c : Contents) (b : BatchValue) : Type 0 where
+-- the batch as the journal has it: without it the contents say the store's table and number, and
+-- with it the change's
+pub record Journals (s : StoreState) (change : Change) (c : LogContents)
+    (b : BatchValue) : Type 0 where
   pub slots : (table_after s change).slots ≡ s.table.slots
   pub before : Says s.version c s.table s.seq
-  pub after : Says s.version (batched c b) (table_after s change) change.seq
+  pub after : Says s.version (contents_with_batch c b) (table_after s change) change.seq
 
 -- an image holds the table and number from before the change, or those that it leaves
 abbrev pub HoldsEither : StoreState → Change → List ℕ → Type 0
-HoldsEither s change image = HoldsTable s.table s.seq image ⊎ HoldsTable (table_after s change) change.seq image
+HoldsEither s change image =
+    HoldsTable s.table s.seq image ⊎ HoldsTable (table_after s change) change.seq image
 
 -- nothing of the batch is written
 pub record IsBegunOn (s : StoreState) (begun : Begun) : Type 0 where
-  pub contents : Contents
+  pub contents : LogContents
   pub batch : BatchValue
   pub journals : Journals s (begun_change begun) contents batch
   pub rest : IsAtRest s.log contents
@@ -62,21 +68,21 @@ pub record IsBegunOn (s : StoreState) (begun : Begun) : Type 0 where
 
 -- its body is written, and may be torn
 pub record IsWrittenOn (s : StoreState) (written : Written) : Type 0 where
-  pub contents : Contents
+  pub contents : LogContents
   pub batch : BatchValue
   pub journals : Journals s (written_change written) contents batch
   pub log : IsWritten s.log contents batch (written_size written)
 
 -- its body is on the disk
-pub record IsSyncedOn (s : StoreState) (synced : BodySynced) : Type 0 where
-  pub contents : Contents
+pub record IsBodySyncedOn (s : StoreState) (phase : BodySynced) : Type 0 where
+  pub contents : LogContents
   pub batch : BatchValue
-  pub journals : Journals s (synced_change synced) contents batch
-  pub log : IsBodySynced s.log contents batch (synced_size synced)
+  pub journals : Journals s (body_synced_change phase) contents batch
+  pub log : IsBodySynced s.log contents batch (body_synced_size phase)
 
 -- its gate is open, and may be torn
-pub record IsOpenedOn (s : StoreState) (opened : GateWritten) : Type 0 where
-  pub contents : Contents
+pub record IsGateWrittenOn (s : StoreState) (phase : GateWritten) : Type 0 where
+  pub contents : LogContents
   pub batch : BatchValue
-  pub journals : Journals s (opened_change opened) contents batch
-  pub log : IsGateWritten s.log contents batch (opened_size opened)
+  pub journals : Journals s (gate_written_change phase) contents batch
+  pub log : IsGateWritten s.log contents batch (gate_written_size phase)

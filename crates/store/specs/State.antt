@@ -4,8 +4,8 @@ use Rattle.lw_types.specs.declared.refusal.Refusal.{Refusal}
 use Rattle.lw_types.specs.declared.refusal.Refusal.TheVariants.{DeviceFailed}
 use Rattle.disk.specs.Outlook.{Outlook, HasCause, IsForeseen}
 use Rattle.disk.specs.State.{State}
-use Rattle.gate_log.specs.Areas.{Contents}
-use Rattle.gate_log.specs.Log.{LogState, IsAtRest, seen as seen_log, disk_of as disk_of_log}
+use Rattle.gate_log.specs.Areas.{LogContents}
+use Rattle.gate_log.specs.Log.{LogState, IsAtRest, log_state, disk_of as disk_of_log}
 use Rattle.sessions.specs.Table.{TableState}
 use Rattle.store_layout.specs.declared.version.RecordVersion.{RecordVersion}
 use Rattle.store.specs.declared.store.Store.{Store}
@@ -25,8 +25,15 @@ pub record StoreState : Type 0 where
 abbrev pub disk_of : {D : Type 0} {g : _} → Store D g → D
 disk_of store = disk_of_log store.log
 
-abbrev pub seen : {D : Type 0} {g : _} → (D → State) → Store D g → StoreState
-seen state store = record { log = seen_log state store.log; table = store.table; seq = store.seq; version = store.version; failed = store.failed }
+abbrev pub store_state : {D : Type 0} {g : _} → (D → State) → Store D g → StoreState
+store_state state store =
+    record {
+      log = log_state state store.log;
+      table = store.table;
+      seq = store.seq;
+      version = store.version;
+      failed = store.failed;
+    }
 
 -- the largest batch fits behind the next gate
 abbrev pub IsRoomy : StoreState → Type 0
@@ -34,7 +41,7 @@ IsRoomy s = s.log.next + LARGEST_BATCH ≤ s.log.areas.live.end
 
 -- nothing is under way: the disk holds the store's table and number, and a crash changes nothing
 pub record IsSettled (s : StoreState) : Type 0 where
-  pub contents : Contents
+  pub contents : LogContents
   pub rest : IsAtRest s.log contents
   pub says : Says s.version contents s.table s.seq
 
@@ -44,9 +51,11 @@ pub record IsOpened (content : List ℕ) (s : StoreState) : Type 0 where
   pub same : s.log.disk.content ≡ content
   pub only : (t : TableState) (seq : ℕ) → HoldsTable t seq content → (t ≡ s.table) × (seq ≡ s.seq)
 
--- one call of the store's disk: an error is the device's, comes exactly where that failed, and fails the store
+-- one call of the store's disk: an error is the device's, comes exactly where that failed, and
+-- fails the store
 pub record IsOneCall {D : Type 0} {g : _} {T : Type 0} (failures : D → ℕ) (outlook : D → Outlook)
     (old new : Store D g) (result : Result T Refusal) : Type 0 where
   pub cause : HasCause (failures (disk_of old)) (failures (disk_of new)) result
   pub foreseen : IsForeseen (outlook (disk_of old)) (is_ok result) (outlook (disk_of new))
-  pub failed : MatchResult result (λ _. new.failed ≡ old.failed) (λ e. (e ≡ DeviceFailed) × (new.failed ≡ true))
+  pub failed : MatchResult result (λ _. new.failed ≡ old.failed)
+      (λ e. (e ≡ DeviceFailed) × (new.failed ≡ true))

@@ -35,7 +35,10 @@ pub(crate) fn second_area(superblock: &Superblock) -> Area
 
 /// Both areas, as they lie on a new disk: the first one is the live one.
 pub(crate) fn both_areas(superblock: &Superblock) -> Areas
-    ensures { result ≡ record { live = area_a superblock.now.slots; other = area_b superblock.now.slots } }
+    ensures { result ≡ record {
+      live = area_a superblock.now.slots;
+      other = area_b superblock.now.slots;
+    } }
 {
     Areas {
         live: first_area(superblock),

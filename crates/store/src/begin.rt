@@ -1,6 +1,7 @@
 // Begins the commit of a batch.
 ghost use Rattle.std.specs.Prelude.{◌≡◌, ◌≢◌, ◌⊎◌, ◌+◌, Err, MatchBool, MatchResult, IfOk, length};
-ghost use Rattle.lw_types.specs.declared.refusal.Refusal.TheVariants.{Failed, OutOfMemory, OutOfStep};
+ghost use Rattle.lw_types.specs.declared.refusal.Refusal.TheVariants.{Failed, OutOfMemory};
+ghost use Rattle.lw_types.specs.declared.refusal.Refusal.TheVariants.{OutOfStep};
 ghost use Rattle.sessions.specs.Decision.{IsLegalContinuation};
 ghost use Rattle.store.specs.Commit.{IsUnderWay, MayFollow, tip_of};
 ghost use Rattle.store.specs.Phases.{IsBegunOn, begun_change, begun_size};
@@ -14,28 +15,32 @@ use std::alloc::Global;
 use store_layout::{batch_entries, laws};
 
 impl<D: Disk> Store<D> {
-    ghost use Rattle.store.specs.State.{seen, disk_of, IsRoomy, IsSettled};
+    ghost use Rattle.store.specs.State.{store_state, disk_of, IsRoomy, IsSettled};
 
-    /// Begins the commit of a batch, on a store with room for it and nothing under way. Refused with
-    /// `Failed` exactly where an earlier call of the disk failed, else with `OutOfStep` exactly where
-    /// the batch is no legal continuation of the durable table, and with `OutOfMemory` for want of
-    /// memory, where it is one. A refusal gives the batch up and leaves the store and the disk. All the
-    /// memory that the commit needs is taken here. The cost doesn't grow with the number of devices.
+    /// Begins the commit of a batch, on a store with room for it and nothing under way. Refused
+    /// with `Failed` exactly where an earlier call of the disk failed, else with `OutOfStep`
+    /// exactly where the batch is no legal continuation of the durable table, and with
+    /// `OutOfMemory` for want of memory, where it is one. A refusal gives the batch up and leaves
+    /// the store and the disk. All the memory that the commit needs is taken here. The cost doesn't
+    /// grow with the number of devices.
     pub fn begin(&mut self, alloc: Global, batch: Batch) -> Result<Begun, Refusal>
-        requires roomy { IsRoomy (seen D.state self.old) }
-        ensures same { seen D.state self.new ≡ seen D.state self.old }
+        requires roomy { IsRoomy (store_state D.state self.old) }
+        ensures same { store_state D.state self.new ≡ store_state D.state self.old }
         ensures disk { disk_of self.new ≡ disk_of self.old }
-        ensures answer { MatchBool (seen D.state self.old).failed
+        ensures answer { MatchBool (store_state D.state self.old).failed
             (result ≡ Err Failed)
             (MatchResult result
-            (λ begun. MayFollow (tip_of (seen D.state self.old)) (begun_change begun) (begun_size begun))
+            (λ begun. MayFollow (tip_of (store_state D.state self.old)) (begun_change begun)
+            (begun_size begun))
             (λ e. e ≢ OutOfMemory → (e ≡ OutOfStep)
-            × ¬ (IsLegalContinuation (seen D.state self.old).table (seen D.state self.old).seq batch))) }
+            × ¬ (IsLegalContinuation (store_state D.state self.old).table
+            (store_state D.state self.old).seq batch))) }
         ensures memory { result ≡ Err OutOfMemory
-            → IsLegalContinuation (seen D.state self.old).table (seen D.state self.old).seq batch }
+            → IsLegalContinuation (store_state D.state self.old).table
+            (store_state D.state self.old).seq batch }
         ensures batch { IfOk result (λ begun. (begun_change begun).decisions ≡ batch) }
-        ensures begun { IsSettled (seen D.state self.old)
-            → IfOk result (IsBegunOn (seen D.state self.old)) }
+        ensures begun { IsSettled (store_state D.state self.old)
+            → IfOk result (IsBegunOn (store_state D.state self.old)) }
     {
         if self.failed {
             return Err(Refusal::Failed);
@@ -52,12 +57,16 @@ impl<D: Disk> Store<D> {
     // The batch with its last number, and copies of its records.
     fn commit_of(&self, alloc: Global, batch: Batch) -> Result<Commit, Refusal>
         ensures { MatchResult result
-            (λ commit. IsLegalContinuation (seen D.state self.now).table (seen D.state self.now).seq batch
-            × ((commit.batch ≡ batch) × (commit.last ≡ (seen D.state self.now).seq + length batch)))
+            (λ commit. IsLegalContinuation (store_state D.state self.now).table
+            (store_state D.state self.now).seq batch
+            × ((commit.batch ≡ batch) × (commit.last
+            ≡ (store_state D.state self.now).seq + length batch)))
             (λ e. ((e ≡ OutOfMemory)
-            × IsLegalContinuation (seen D.state self.now).table (seen D.state self.now).seq batch)
+            × IsLegalContinuation (store_state D.state self.now).table
+            (store_state D.state self.now).seq batch)
             ⊎ ((e ≡ OutOfStep)
-            × ¬ (IsLegalContinuation (seen D.state self.now).table (seen D.state self.now).seq batch))) }
+            × ¬ (IsLegalContinuation (store_state D.state self.now).table
+            (store_state D.state self.now).seq batch))) }
     {
         if batch.is_empty() {
             return Err(Refusal::OutOfStep);

@@ -1,9 +1,13 @@
 // The phases of a checkpoint, each spent by one call of the disk.
 ghost use Rattle.std.specs.Prelude.{◌≡◌, ◌≤◌, ◌+◌, true, false, IfOk, OnOk};
 ghost use Rattle.disk.specs.State.{EveryImage};
-ghost use Rattle.store.specs.Checkpointing.{FitsOther, IsCheckpointOn, IsCheckpointOpenedOn, IsCheckpointSyncedOn, IsCheckpointWrittenOn, IsRetiringOn, checkpoint_opened_size, checkpoint_size, checkpoint_synced_size, checkpoint_written_size, retiring_size};
+ghost use Rattle.store.specs.Checkpointing.{FitsOther, IsCheckpointOn, IsCheckpointOpenedOn};
+ghost use Rattle.store.specs.Checkpointing.{IsCheckpointSyncedOn, IsCheckpointWrittenOn};
+ghost use Rattle.store.specs.Checkpointing.{IsRetiringOn, checkpoint_opened_size, checkpoint_size};
+ghost use Rattle.store.specs.Checkpointing.{checkpoint_synced_size, checkpoint_written_size};
+ghost use Rattle.store.specs.Checkpointing.{retiring_size};
 ghost use Rattle.store.specs.Image.{HoldsTable};
-ghost use Rattle.store.specs.State.{seen, disk_of, IsOneCall, IsRoomy, IsSettled};
+ghost use Rattle.store.specs.State.{store_state, disk_of, IsOneCall, IsRoomy, IsSettled};
 
 use crate::Store;
 use disk::Disk;
@@ -36,19 +40,21 @@ pub struct CheckpointOpened {
 }
 
 impl Checkpoint {
-    /// Closes the other area's gate, which is open. Refused with `DeviceFailed` exactly where the disk failed; then the
-    /// store has failed.
+    /// Closes the other area's gate, which is open. Refused with `DeviceFailed` exactly where the
+    /// disk failed; then the store has failed.
     pub fn retire<D: Disk>(self, store: &mut Store<D>) -> Result<Retiring, Refusal>
-        requires open { (seen D.state store.old).log.other_open ≡ true }
-        requires fits { FitsOther (seen D.state store.old) (checkpoint_size self) }
-        ensures next { D.honest → IsCheckpointOn (seen D.state store.old) self
-            → IfOk result (IsRetiringOn (seen D.state store.new)) }
-        ensures images { D.honest → IsCheckpointOn (seen D.state store.old) self
+        requires open { (store_state D.state store.old).log.other_open ≡ true }
+        requires fits { FitsOther (store_state D.state store.old) (checkpoint_size self) }
+        ensures next { D.honest → IsCheckpointOn (store_state D.state store.old) self
+            → IfOk result (IsRetiringOn (store_state D.state store.new)) }
+        ensures images { D.honest → IsCheckpointOn (store_state D.state store.old) self
             → EveryImage (D.state (disk_of store.new))
-            (HoldsTable (seen D.state store.old).table (seen D.state store.old).seq) }
-        ensures fits { IfOk result (λ phase. FitsOther (seen D.state store.new) (retiring_size phase)) }
-        ensures table { (seen D.state store.new).table ≡ (seen D.state store.old).table }
-        ensures seq { (seen D.state store.new).seq ≡ (seen D.state store.old).seq }
+            (HoldsTable (store_state D.state store.old).table (store_state D.state store.old).seq) }
+        ensures fits { IfOk result (λ phase. FitsOther (store_state D.state store.new)
+            (retiring_size phase)) }
+        ensures table { (store_state D.state store.new).table
+            ≡ (store_state D.state store.old).table }
+        ensures seq { (store_state D.state store.new).seq ≡ (store_state D.state store.old).seq }
         ensures call { IsOneCall D.failures D.outlook store.old store.new result }
     {
         let Checkpoint { phase: checkpoint } = self;
@@ -61,20 +67,22 @@ impl Checkpoint {
         }
     }
 
-    /// Writes the checkpoint and the closed gate of its first batch into the other area, whose gate is
-    /// closed: so many bytes as the table has records, and no more. Refused with `DeviceFailed` exactly where the disk failed; then the
-    /// store has failed.
+    /// Writes the checkpoint and the closed gate of its first batch into the other area, whose gate
+    /// is closed: as many bytes as the table has records, and no more. Refused with `DeviceFailed`
+    /// exactly where the disk failed; then the store has failed.
     pub fn write<D: Disk>(self, store: &mut Store<D>) -> Result<CheckpointWritten, Refusal>
-        requires closed { (seen D.state store.old).log.other_open ≡ false }
-        requires fits { FitsOther (seen D.state store.old) (checkpoint_size self) }
-        ensures next { D.honest → IsCheckpointOn (seen D.state store.old) self
-            → IfOk result (IsCheckpointWrittenOn (seen D.state store.new)) }
-        ensures images { D.honest → IsCheckpointOn (seen D.state store.old) self
+        requires closed { (store_state D.state store.old).log.other_open ≡ false }
+        requires fits { FitsOther (store_state D.state store.old) (checkpoint_size self) }
+        ensures next { D.honest → IsCheckpointOn (store_state D.state store.old) self
+            → IfOk result (IsCheckpointWrittenOn (store_state D.state store.new)) }
+        ensures images { D.honest → IsCheckpointOn (store_state D.state store.old) self
             → EveryImage (D.state (disk_of store.new))
-            (HoldsTable (seen D.state store.old).table (seen D.state store.old).seq) }
-        ensures fits { IfOk result (λ phase. FitsOther (seen D.state store.new) (checkpoint_written_size phase)) }
-        ensures table { (seen D.state store.new).table ≡ (seen D.state store.old).table }
-        ensures seq { (seen D.state store.new).seq ≡ (seen D.state store.old).seq }
+            (HoldsTable (store_state D.state store.old).table (store_state D.state store.old).seq) }
+        ensures fits { IfOk result (λ phase. FitsOther (store_state D.state store.new)
+            (checkpoint_written_size phase)) }
+        ensures table { (store_state D.state store.new).table
+            ≡ (store_state D.state store.old).table }
+        ensures seq { (store_state D.state store.new).seq ≡ (store_state D.state store.old).seq }
         ensures call { IsOneCall D.failures D.outlook store.old store.new result }
     {
         let Checkpoint { phase } = self;
@@ -92,19 +100,21 @@ impl Checkpoint {
 }
 
 impl Retiring {
-    /// Syncs the other area's closed gate. Afterwards the checkpoint may be written. Refused with `DeviceFailed` exactly where the disk failed; then the
-    /// store has failed.
+    /// Syncs the other area's closed gate. Afterwards the checkpoint may be written. Refused with
+    /// `DeviceFailed` exactly where the disk failed; then the store has failed.
     pub fn sync<D: Disk>(self, store: &mut Store<D>) -> Result<Checkpoint, Refusal>
-        requires fits { FitsOther (seen D.state store.old) (retiring_size self) }
-        ensures next { D.honest → IsRetiringOn (seen D.state store.old) self
-            → IfOk result (IsCheckpointOn (seen D.state store.new)) }
-        ensures images { D.honest → IsRetiringOn (seen D.state store.old) self
+        requires fits { FitsOther (store_state D.state store.old) (retiring_size self) }
+        ensures next { D.honest → IsRetiringOn (store_state D.state store.old) self
+            → IfOk result (IsCheckpointOn (store_state D.state store.new)) }
+        ensures images { D.honest → IsRetiringOn (store_state D.state store.old) self
             → EveryImage (D.state (disk_of store.new))
-            (HoldsTable (seen D.state store.old).table (seen D.state store.old).seq) }
-        ensures fits { IfOk result (λ phase. FitsOther (seen D.state store.new) (checkpoint_size phase)) }
-        ensures closed { OnOk result ((seen D.state store.new).log.other_open ≡ false) }
-        ensures table { (seen D.state store.new).table ≡ (seen D.state store.old).table }
-        ensures seq { (seen D.state store.new).seq ≡ (seen D.state store.old).seq }
+            (HoldsTable (store_state D.state store.old).table (store_state D.state store.old).seq) }
+        ensures fits { IfOk result (λ phase. FitsOther (store_state D.state store.new)
+            (checkpoint_size phase)) }
+        ensures closed { OnOk result ((store_state D.state store.new).log.other_open ≡ false) }
+        ensures table { (store_state D.state store.new).table
+            ≡ (store_state D.state store.old).table }
+        ensures seq { (store_state D.state store.new).seq ≡ (store_state D.state store.old).seq }
         ensures call { IsOneCall D.failures D.outlook store.old store.new result }
     {
         let Retiring { phase, checkpoint } = self;
@@ -129,15 +139,17 @@ impl CheckpointWritten {
     /// Syncs the checkpoint. Refused with `DeviceFailed` exactly where the disk failed; then the
     /// store has failed.
     pub fn sync<D: Disk>(self, store: &mut Store<D>) -> Result<CheckpointSynced, Refusal>
-        requires fits { FitsOther (seen D.state store.old) (checkpoint_written_size self) }
-        ensures next { D.honest → IsCheckpointWrittenOn (seen D.state store.old) self
-            → IfOk result (IsCheckpointSyncedOn (seen D.state store.new)) }
-        ensures images { D.honest → IsCheckpointWrittenOn (seen D.state store.old) self
+        requires fits { FitsOther (store_state D.state store.old) (checkpoint_written_size self) }
+        ensures next { D.honest → IsCheckpointWrittenOn (store_state D.state store.old) self
+            → IfOk result (IsCheckpointSyncedOn (store_state D.state store.new)) }
+        ensures images { D.honest → IsCheckpointWrittenOn (store_state D.state store.old) self
             → EveryImage (D.state (disk_of store.new))
-            (HoldsTable (seen D.state store.old).table (seen D.state store.old).seq) }
-        ensures fits { IfOk result (λ phase. FitsOther (seen D.state store.new) (checkpoint_synced_size phase)) }
-        ensures table { (seen D.state store.new).table ≡ (seen D.state store.old).table }
-        ensures seq { (seen D.state store.new).seq ≡ (seen D.state store.old).seq }
+            (HoldsTable (store_state D.state store.old).table (store_state D.state store.old).seq) }
+        ensures fits { IfOk result (λ phase. FitsOther (store_state D.state store.new)
+            (checkpoint_synced_size phase)) }
+        ensures table { (store_state D.state store.new).table
+            ≡ (store_state D.state store.old).table }
+        ensures seq { (store_state D.state store.new).seq ≡ (store_state D.state store.old).seq }
         ensures call { IsOneCall D.failures D.outlook store.old store.new result }
     {
         let CheckpointWritten { phase } = self;
@@ -155,18 +167,20 @@ impl CheckpointWritten {
 }
 
 impl CheckpointSynced {
-    /// Opens the checkpoint's gate. Refused with `DeviceFailed` exactly where the disk failed; then the
-    /// store has failed.
+    /// Opens the checkpoint's gate. Refused with `DeviceFailed` exactly where the disk failed; then
+    /// the store has failed.
     pub fn open_gate<D: Disk>(self, store: &mut Store<D>) -> Result<CheckpointOpened, Refusal>
-        requires fits { FitsOther (seen D.state store.old) (checkpoint_synced_size self) }
-        ensures next { D.honest → IsCheckpointSyncedOn (seen D.state store.old) self
-            → IfOk result (IsCheckpointOpenedOn (seen D.state store.new)) }
-        ensures images { D.honest → IsCheckpointSyncedOn (seen D.state store.old) self
+        requires fits { FitsOther (store_state D.state store.old) (checkpoint_synced_size self) }
+        ensures next { D.honest → IsCheckpointSyncedOn (store_state D.state store.old) self
+            → IfOk result (IsCheckpointOpenedOn (store_state D.state store.new)) }
+        ensures images { D.honest → IsCheckpointSyncedOn (store_state D.state store.old) self
             → EveryImage (D.state (disk_of store.new))
-            (HoldsTable (seen D.state store.old).table (seen D.state store.old).seq) }
-        ensures fits { IfOk result (λ phase. FitsOther (seen D.state store.new) (checkpoint_opened_size phase)) }
-        ensures table { (seen D.state store.new).table ≡ (seen D.state store.old).table }
-        ensures seq { (seen D.state store.new).seq ≡ (seen D.state store.old).seq }
+            (HoldsTable (store_state D.state store.old).table (store_state D.state store.old).seq) }
+        ensures fits { IfOk result (λ phase. FitsOther (store_state D.state store.new)
+            (checkpoint_opened_size phase)) }
+        ensures table { (store_state D.state store.new).table
+            ≡ (store_state D.state store.old).table }
+        ensures seq { (store_state D.state store.new).seq ≡ (store_state D.state store.old).seq }
         ensures call { IsOneCall D.failures D.outlook store.old store.new result }
     {
         let CheckpointSynced { phase } = self;
@@ -184,21 +198,24 @@ impl CheckpointSynced {
 }
 
 impl CheckpointOpened {
-    /// Syncs the checkpoint's gate. Afterwards its area is the live one, and has room for the largest batch.
-    /// Refused with `DeviceFailed` exactly where the disk failed; then the
+    /// Syncs the checkpoint's gate. Afterwards its area is the live one, and has room for the
+    /// largest batch. Refused with `DeviceFailed` exactly where the disk failed; then the
     /// store has failed.
     pub fn sync<D: Disk>(self, store: &mut Store<D>) -> Result<(), Refusal>
-        requires fits { FitsOther (seen D.state store.old) (checkpoint_opened_size self) }
-        ensures settled { D.honest → IsCheckpointOpenedOn (seen D.state store.old) self
-            → OnOk result (IsSettled (seen D.state store.new)) }
-        ensures roomy { OnOk result (IsRoomy (seen D.state store.new)) }
-        ensures generation { D.honest → IsCheckpointOpenedOn (seen D.state store.old) self → OnOk result
-            ((seen D.state store.new).log.generation ≡ (seen D.state store.old).log.generation + 1) }
-        ensures images { D.honest → IsCheckpointOpenedOn (seen D.state store.old) self
+        requires fits { FitsOther (store_state D.state store.old) (checkpoint_opened_size self) }
+        ensures settled { D.honest → IsCheckpointOpenedOn (store_state D.state store.old) self
+            → OnOk result (IsSettled (store_state D.state store.new)) }
+        ensures roomy { OnOk result (IsRoomy (store_state D.state store.new)) }
+        ensures generation { D.honest → IsCheckpointOpenedOn (store_state D.state store.old) self
+            → OnOk result
+            ((store_state D.state store.new).log.generation
+            ≡ (store_state D.state store.old).log.generation + 1) }
+        ensures images { D.honest → IsCheckpointOpenedOn (store_state D.state store.old) self
             → EveryImage (D.state (disk_of store.new))
-            (HoldsTable (seen D.state store.old).table (seen D.state store.old).seq) }
-        ensures table { (seen D.state store.new).table ≡ (seen D.state store.old).table }
-        ensures seq { (seen D.state store.new).seq ≡ (seen D.state store.old).seq }
+            (HoldsTable (store_state D.state store.old).table (store_state D.state store.old).seq) }
+        ensures table { (store_state D.state store.new).table
+            ≡ (store_state D.state store.old).table }
+        ensures seq { (store_state D.state store.new).seq ≡ (store_state D.state store.old).seq }
         ensures call { IsOneCall D.failures D.outlook store.old store.new result }
     {
         let CheckpointOpened { phase } = self;

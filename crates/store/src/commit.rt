@@ -4,8 +4,8 @@ ghost use Rattle.sessions.specs.Decision.{afters_of};
 
 use sessions::{Batch, Records};
 
-/// A batch on its way, the number of its last decision, and copies of its records, with which it is put
-/// on the table without memory.
+/// A batch on its way, the number of its last decision, and copies of its records, with which it is
+/// put on the table without memory.
 #[derive(Drop)]
 pub(crate) struct Commit {
     pub(crate) batch: Batch,

@@ -1,18 +1,20 @@
 // Makes a store on a new disk.
-ghost use Rattle.std.specs.Prelude.{◌≡◌, ◌≢◌, ◌<◌, ◌≤◌, ◌+◌, false, [], ◌∷◌, length, take, drop, IfOk, IfErr, OnOk, MatchResult, IsTrue, is_ok};
+ghost use Rattle.std.specs.Prelude.{◌≡◌, ◌≢◌, ◌<◌, ◌≤◌, ◌+◌, false, [], ◌∷◌, length, take, drop};
+ghost use Rattle.std.specs.Prelude.{IfOk, IfErr, OnOk, MatchResult, IsTrue, is_ok};
 ghost use Rattle.lw_types.specs.declared.refusal.Refusal.TheVariants.{DeviceFailed, OutOfMemory};
 ghost use Rattle.disk.specs.Outlook.{HasCause};
 ghost use Rattle.disk.specs.Outlook.Outlook.{AllSucceed};
-ghost use Rattle.disk.specs.State.{EveryImage, IsTorn, NothingOpen, written};
+ghost use Rattle.disk.specs.State.{EveryImage, IsTorn, NothingOpen, bytes_after_write};
 ghost use Rattle.gate_log.specs.declared.layout.TheConstants.{RECORDS_AT};
 ghost use Rattle.gate_log.specs.Areas.{HoldsIn, IsClosedArea};
 ghost use Rattle.gate_log.specs.Layout.{checkpoint, fresh_header};
 ghost use Rattle.sessions.specs.Table.{empty_table};
-ghost use Rattle.store_layout.specs.Superblock.{disk_len, superblock as superblock_bytes, superblock_body};
+ghost use Rattle.store_layout.specs.Superblock.{disk_len, superblock as superblock_bytes};
+ghost use Rattle.store_layout.specs.Superblock.{superblock_body};
 ghost use Rattle.store.specs.Faults.{IsFormatRefusal, IsSlots};
 ghost use Rattle.store.specs.Formatting.{IsFormatImage, IsShut};
 ghost use Rattle.store.specs.Image.{area_a, area_b};
-ghost use Rattle.store.specs.State.{seen, disk_of, IsSettled};
+ghost use Rattle.store.specs.State.{store_state, disk_of, IsSettled};
 
 use crate::Store;
 use crate::areas::{RECORD_VERSION, both_areas, first_area, second_area};
@@ -23,7 +25,7 @@ use sessions::{Slots, Table};
 use std::alloc::Global;
 use store_layout::{RecordVersion, Superblock};
 
-/// The length in bytes of the disk of a store with so many slots.
+/// The length in bytes of the disk of a store with `slots` slots.
 pub fn disk_len(slots: Slots) -> u64
     ensures { result ≡ disk_len slots }
 {
@@ -38,14 +40,16 @@ pub fn format<D: Disk + Drop>(
     net_id: NetId,
     slots: u64,
 ) -> Result<Store<D>, Refusal>
-    ensures empty { IfOk result (λ store. ((seen D.state store).table ≡ empty_table net_id slots)
-        × ((seen D.state store).seq ≡ 0)) }
-    ensures healthy { IfOk result (λ store. ((seen D.state store).failed ≡ false)
+    ensures empty { IfOk result (λ store.
+        ((store_state D.state store).table ≡ empty_table net_id slots)
+        × ((store_state D.state store).seq ≡ 0)) }
+    ensures healthy { IfOk result (λ store. ((store_state D.state store).failed ≡ false)
         × (D.failures (disk_of store) ≡ D.failures disk)) }
-    ensures settled { D.honest → IfOk result (λ store. IsSettled (seen D.state store)) }
+    ensures settled { D.honest → IfOk result (λ store. IsSettled (store_state D.state store)) }
     ensures other_area { D.honest → IfOk result
         (λ store. IsClosedArea (area_b slots) (D.state (disk_of store)).content) }
-    ensures fits { IfOk result (λ _. IsSlots slots × (length (D.state disk).content ≡ disk_len slots)) }
+    ensures fits { IfOk result (λ _. IsSlots slots
+        × (length (D.state disk).content ≡ disk_len slots)) }
     ensures refused { IfErr result (IsFormatRefusal slots (length (D.state disk).content)) }
     ensures unarmed { D.outlook disk ≡ AllSucceed → MatchResult result
         (λ store. D.outlook (disk_of store) ≡ AllSucceed)
@@ -59,27 +63,30 @@ pub fn format<D: Disk + Drop>(
 
 /// Makes a store without devices. Refused with `Damaged` exactly where `slots` is not from 1 to
 /// 4,096, else with `WrongSize` exactly where the disk hasn't the length of such a store, else with
-/// `DeviceFailed` exactly where a call of the disk failed, and with `OutOfMemory` for want of memory,
-/// before any call. With a refusal the disk comes back. It makes eight calls of the disk, and its cost
-/// grows with the number of slots.
+/// `DeviceFailed` exactly where a call of the disk failed, and with `OutOfMemory` for want of
+/// memory, before any call. With a refusal the disk comes back. It makes eight calls of the disk,
+/// and its cost grows with the number of slots.
 ///
-/// Whatever a crash leaves of a disk on which it failed, or was cut between two calls: no store, the new
-/// one, or all but the first byte as it was.
+/// Whatever a crash leaves of a disk on which it failed, or was cut between two calls: no store,
+/// the new one, or all but the first byte as it was.
 pub fn format_back<D: Disk>(
     alloc: Global,
     disk: D,
     net_id: NetId,
     slots: u64,
 ) -> Result<Store<D>, (D, Refusal)>
-    ensures empty { IfOk result (λ store. ((seen D.state store).table ≡ empty_table net_id slots)
-        × ((seen D.state store).seq ≡ 0)) }
-    ensures healthy { IfOk result (λ store. ((seen D.state store).failed ≡ false)
+    ensures empty { IfOk result (λ store.
+        ((store_state D.state store).table ≡ empty_table net_id slots)
+        × ((store_state D.state store).seq ≡ 0)) }
+    ensures healthy { IfOk result (λ store. ((store_state D.state store).failed ≡ false)
         × (D.failures (disk_of store) ≡ D.failures disk)) }
-    ensures settled { D.honest → IfOk result (λ store. IsSettled (seen D.state store)) }
+    ensures settled { D.honest → IfOk result (λ store. IsSettled (store_state D.state store)) }
     ensures other_area { D.honest → IfOk result
         (λ store. IsClosedArea (area_b slots) (D.state (disk_of store)).content) }
-    ensures fits { IfOk result (λ _. IsSlots slots × (length (D.state disk).content ≡ disk_len slots)) }
-    ensures refused { IfErr result (λ e. IsFormatRefusal slots (length (D.state disk).content) e.1) }
+    ensures fits { IfOk result (λ _. IsSlots slots
+        × (length (D.state disk).content ≡ disk_len slots)) }
+    ensures refused { IfErr result
+        (λ e. IsFormatRefusal slots (length (D.state disk).content) e.1) }
     ensures unarmed { D.outlook disk ≡ AllSucceed → MatchResult result
         (λ store. D.outlook (disk_of store) ≡ AllSucceed)
         (λ e. e.1 ≢ DeviceFailed) }
@@ -111,8 +118,8 @@ pub fn format_back<D: Disk>(
     }
 }
 
-// Writes a store without devices, and gives the place of the first batch's gate. The superblock's gate
-// is closed first and opened last, when all else is on the disk.
+// Writes a store without devices, and gives the place of the first batch's gate. The superblock's
+// gate is closed first and opened last, when all else is on the disk.
 fn write_empty<D: Disk>(disk: &mut D, superblock: &Superblock) -> Result<u64, disk::DeviceFailed>
     requires { length (D.state disk.old).content ≡ disk_len superblock.now.slots }
     ensures area { D.honest → OnOk result (HoldsIn (area_a superblock.now.slots)
@@ -128,7 +135,8 @@ fn write_empty<D: Disk>(disk: &mut D, superblock: &Superblock) -> Result<u64, di
     ensures next { IfOk result (λ next. next ≡ (area_a superblock.now.slots).start + RECORDS_AT) }
     ensures same_length { length (D.state disk.new).content ≡ length (D.state disk.old).content }
     ensures cause { HasCause (D.failures disk.old) (D.failures disk.new) result }
-    ensures unarmed { D.outlook disk.old ≡ AllSucceed → IsTrue (is_ok result) × (D.outlook disk.new ≡ AllSucceed) }
+    ensures unarmed { D.outlook disk.old ≡ AllSucceed
+        → IsTrue (is_ok result) × (D.outlook disk.new ≡ AllSucceed) }
 {
     laws::a_journal_stays_where_others_change();
     laws::a_closed_area_is_older();
@@ -147,7 +155,8 @@ fn shut<D: Disk>(disk: &mut D) -> Result<(), disk::DeviceFailed>
         (λ image. drop 1 image ≡ drop 1 (D.state disk.old).content) }
     ensures same_length { length (D.state disk.new).content ≡ length (D.state disk.old).content }
     ensures cause { HasCause (D.failures disk.old) (D.failures disk.new) result }
-    ensures unarmed { D.outlook disk.old ≡ AllSucceed → IsTrue (is_ok result) × (D.outlook disk.new ≡ AllSucceed) }
+    ensures unarmed { D.outlook disk.old ≡ AllSucceed
+        → IsTrue (is_ok result) × (D.outlook disk.new ≡ AllSucceed) }
 {
     disk::laws::one_write_tears_its_range();
     disk::laws::settled_disk_keeps_its_content();
@@ -159,13 +168,14 @@ fn shut<D: Disk>(disk: &mut D) -> Result<(), disk::DeviceFailed>
 fn open_front<D: Disk>(disk: &mut D) -> Result<(), disk::DeviceFailed>
     requires { 1 ≤ length (D.state disk.old).content }
     ensures opened { D.honest → OnOk result ((D.state disk.new).content
-        ≡ written (D.state disk.old).content 0 (OPEN ∷ [])) }
+        ≡ bytes_after_write (D.state disk.old).content 0 (OPEN ∷ [])) }
     ensures settled { D.honest → OnOk result (NothingOpen (D.state disk.new)) }
     ensures images { D.honest → NothingOpen (D.state disk.old) → EveryImage (D.state disk.new)
         (IsTorn 0 1 (D.state disk.old).content) }
     ensures same_length { length (D.state disk.new).content ≡ length (D.state disk.old).content }
     ensures cause { HasCause (D.failures disk.old) (D.failures disk.new) result }
-    ensures unarmed { D.outlook disk.old ≡ AllSucceed → IsTrue (is_ok result) × (D.outlook disk.new ≡ AllSucceed) }
+    ensures unarmed { D.outlook disk.old ≡ AllSucceed
+        → IsTrue (is_ok result) × (D.outlook disk.new ≡ AllSucceed) }
 {
     disk::laws::one_write_tears_its_range();
     disk::laws::settled_disk_keeps_its_content();
@@ -187,7 +197,8 @@ fn write_closed<D: Disk>(disk: &mut D, superblock: &Superblock) -> Result<u64, d
     ensures next { IfOk result (λ next. next ≡ (area_a superblock.now.slots).start + RECORDS_AT) }
     ensures same_length { length (D.state disk.new).content ≡ length (D.state disk.old).content }
     ensures cause { HasCause (D.failures disk.old) (D.failures disk.new) result }
-    ensures unarmed { D.outlook disk.old ≡ AllSucceed → IsTrue (is_ok result) × (D.outlook disk.new ≡ AllSucceed) }
+    ensures unarmed { D.outlook disk.old ≡ AllSucceed
+        → IsTrue (is_ok result) × (D.outlook disk.new ≡ AllSucceed) }
 {
     let bytes = superblock.to_bytes();
     disk.write_at(1, &bytes[1..])?;

@@ -1,4 +1,5 @@
-//! What follows from a store's definitions alone. The functions do nothing: their contracts are the laws.
+//! What follows from a store's definitions alone. The functions do nothing: their contracts are the
+//! laws.
 ghost use Rattle.disk.specs.State.{EveryImage};
 ghost use Rattle.store.specs.Image.{HoldsTable};
 ghost use Rattle.store.specs.State.{StoreState, IsSettled};

@@ -1,5 +1,5 @@
-//! The durable state of a network: a table of devices and the number of its last decision, kept on a
-//! disk as a checkpoint and batches of decisions behind it.
+//! The durable state of a network: a table of devices and the number of its last decision, kept on
+//! a disk as a checkpoint and batches of decisions behind it.
 //!
 //! Whatever a crash leaves, the disk holds the table that a beginning of the committed decisions
 //! leaves, and it ends where a batch ended.

@@ -1,14 +1,15 @@
 // Opens a store.
-ghost use Rattle.std.specs.Prelude.{◌≡◌, ◌≢◌, ◌≤◌, ◌+◌, ◌⊎◌, Err, IsErrAnd, false, length, take, drop, IfOk, IfErr, OnOk, MatchResult};
+ghost use Rattle.std.specs.Prelude.{◌≡◌, ◌≢◌, ◌≤◌, ◌+◌, ◌⊎◌, Err, IsErrAnd, false, length, take};
+ghost use Rattle.std.specs.Prelude.{drop, IfOk, IfErr, OnOk, MatchResult};
 ghost use Rattle.lw_types.specs.declared.refusal.Refusal.TheVariants.{DeviceFailed, OutOfMemory};
 ghost use Rattle.disk.specs.Outlook.{IsArmed};
 ghost use Rattle.disk.specs.Outlook.Outlook.{AllSucceed, FailsAfter};
 ghost use Rattle.disk.specs.State.{NothingOpen};
 ghost use Rattle.gate_log.specs.Areas.{AreLaidOut};
-ghost use Rattle.gate_log.specs.Opening.{opened};
+ghost use Rattle.gate_log.specs.Opening.{disk_in_opening};
 ghost use Rattle.store.specs.Faults.{HasGoodFront, IsFault};
 ghost use Rattle.store.specs.Found.{IsFound};
-ghost use Rattle.store.specs.State.{seen, disk_of, IsOpened};
+ghost use Rattle.store.specs.State.{store_state, disk_of, IsOpened};
 
 use crate::Store;
 use crate::found::Found;
@@ -20,8 +21,9 @@ use std::alloc::Global;
 
 /// Opens the store on a disk, as [`open_back`] does.
 pub fn open<D: Disk + Drop>(alloc: Global, disk: D) -> Result<Store<D>, Refusal>
-    ensures opened { D.honest → IfOk result (λ store. IsOpened (D.state disk).content (seen D.state store)) }
-    ensures healthy { IfOk result (λ store. ((seen D.state store).failed ≡ false)
+    ensures opened { D.honest → IfOk result
+        (λ store. IsOpened (D.state disk).content (store_state D.state store)) }
+    ensures healthy { IfOk result (λ store. ((store_state D.state store).failed ≡ false)
         × (D.failures (disk_of store) ≡ D.failures disk)) }
     ensures refused { D.honest → IfErr result (λ e. e ≢ DeviceFailed → e ≢ OutOfMemory
         → IsFault (D.state disk).content e) }
@@ -37,20 +39,21 @@ pub fn open<D: Disk + Drop>(alloc: Global, disk: D) -> Result<Store<D>, Refusal>
     }
 }
 
-/// Opens the store on a disk. The disk is synced first, so that opening it again after a fault is like
-/// opening it after a crash that leaves the content. Refused with `DeviceFailed` exactly where a call
-/// of the disk failed; else the store has the table and the number that the disk holds, or, exactly
-/// where it holds none, the refusal is the first of these: `WrongSize` below 32 bytes, `NotFormatted`
-/// for a closed gate or another name, `WrongVersion` for another version, `Damaged` for another field
-/// out of range, `WrongSize` for another length than the superblock's, `Damaged` where no area is live
-/// (the gates of both are closed, or both are open with one generation), `WrongVersion` for another
-/// version of the live area's records, and `Damaged` for all else that is wrong there; of the other
-/// area only the gate and the generation count. `OutOfMemory` comes for want of memory, and only where
-/// the superblock and the live area's header are in order. With a refusal the disk comes back. The
-/// cost grows with the bytes of the live area's journal.
+/// Opens the store on a disk. The disk is synced first, so that opening it again after a fault is
+/// like opening it after a crash that leaves the content. Refused with `DeviceFailed` exactly where
+/// a call of the disk failed; else the store has the table and the number that the disk holds, or,
+/// exactly where it holds none, the refusal is the first of these: `WrongSize` below 32 bytes,
+/// `NotFormatted` for a closed gate or another name, `WrongVersion` for another version, `Damaged`
+/// for another field out of range, `WrongSize` for another length than the superblock's, `Damaged`
+/// where no area is live (the gates of both are closed, or both are open with one generation),
+/// `WrongVersion` for another version of the live area's records, and `Damaged` for all else that
+/// is wrong there; of the other area only the gate and the generation count. `OutOfMemory` comes
+/// for want of memory, and only where the superblock and the live area's header are in order. With
+/// a refusal the disk comes back. The cost grows with the bytes of the live area's journal.
 pub fn open_back<D: Disk>(alloc: Global, disk: D) -> Result<Store<D>, (D, Refusal)>
-    ensures opened { D.honest → IfOk result (λ store. IsOpened (D.state disk).content (seen D.state store)) }
-    ensures healthy { IfOk result (λ store. ((seen D.state store).failed ≡ false)
+    ensures opened { D.honest → IfOk result
+        (λ store. IsOpened (D.state disk).content (store_state D.state store)) }
+    ensures healthy { IfOk result (λ store. ((store_state D.state store).failed ≡ false)
         × (D.failures (disk_of store) ≡ D.failures disk)) }
     ensures device { IfErr result (λ e. (e.1 ≡ DeviceFailed → D.failures e.0 ≡ D.failures disk + 1)
         × (e.1 ≢ DeviceFailed → D.failures e.0 ≡ D.failures disk)) }
@@ -70,12 +73,14 @@ pub fn open_back<D: Disk>(alloc: Global, disk: D) -> Result<Store<D>, (D, Refusa
         (λ e. (e.1 ≡ DeviceFailed → D.outlook e.0 ≡ AllSucceed)
         × (e.1 ≢ DeviceFailed → IsArmed (D.outlook e.0))) }
     ensures same { D.honest → IfErr result (λ e. (D.state e.0).content ≡ (D.state disk).content) }
-    ensures still { D.honest → NothingOpen (D.state disk) → IfErr result (λ e. NothingOpen (D.state e.0)) }
+    ensures still { D.honest → NothingOpen (D.state disk)
+        → IfErr result (λ e. NothingOpen (D.state e.0)) }
 
     // Nothing is open, once the sync has succeeded.
     ensures settled { D.honest → IfErr result (λ e. NothingOpen (D.state e.0)
         ⊎ ((e.1 ≡ DeviceFailed) × (D.state e.0 ≡ D.state disk))) }
-    ensures same_length { IfErr result (λ e. length (D.state e.0).content ≡ length (D.state disk).content) }
+    ensures same_length { IfErr result
+        (λ e. length (D.state e.0).content ≡ length (D.state disk).content) }
 {
     let mut opening = match Opening::new(disk) {
         Ok(opening) => opening,
@@ -90,11 +95,11 @@ pub fn open_back<D: Disk>(alloc: Global, disk: D) -> Result<Store<D>, (D, Refusa
 impl Found {
     /// The store with what was found on this disk.
     pub(crate) fn into_store<D: Disk>(self, opening: Opening<D>) -> Store<D>
-        requires { AreLaidOut self.live.areas (length (D.state (opened opening)).content) }
-        ensures opened { D.honest → IsFound (D.state (opened opening)).content self
-            → IsOpened (D.state (opened opening)).content (seen D.state result) }
-        ensures healthy { (seen D.state result).failed ≡ false }
-        ensures disk { disk_of result ≡ opened opening }
+        requires { AreLaidOut self.live.areas (length (D.state (disk_in_opening opening)).content) }
+        ensures opened { D.honest → IsFound (D.state (disk_in_opening opening)).content self
+            → IsOpened (D.state (disk_in_opening opening)).content (store_state D.state result) }
+        ensures healthy { (store_state D.state result).failed ≡ false }
+        ensures disk { disk_of result ≡ disk_in_opening opening }
     {
         let Found {
             table,

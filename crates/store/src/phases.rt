@@ -4,8 +4,11 @@ ghost use Rattle.disk.specs.State.{EveryImage};
 ghost use Rattle.sessions.specs.Decision.{effects_in};
 ghost use Rattle.store.specs.Commit.{IsUnderWay, table_after};
 ghost use Rattle.store.specs.Image.{HoldsTable};
-ghost use Rattle.store.specs.Phases.{HoldsEither, IsBegunOn, IsWrittenOn, IsSyncedOn, IsOpenedOn, begun_change, begun_size, written_change, written_size, synced_change, synced_size, opened_change, opened_size, durable_decisions};
-ghost use Rattle.store.specs.State.{seen, disk_of, IsSettled, IsOneCall};
+ghost use Rattle.store.specs.Phases.{HoldsEither, IsBegunOn, IsWrittenOn, IsBodySyncedOn};
+ghost use Rattle.store.specs.Phases.{IsGateWrittenOn, begun_change, begun_size, written_change};
+ghost use Rattle.store.specs.Phases.{written_size, body_synced_change, body_synced_size};
+ghost use Rattle.store.specs.Phases.{gate_written_change, gate_written_size, durable_decisions};
+ghost use Rattle.store.specs.State.{store_state, disk_of, IsSettled, IsOneCall};
 
 use crate::Store;
 use crate::commit::Commit;
@@ -46,17 +49,19 @@ impl Begun {
     /// Writes the batch's body and the closed gate of the next batch. Refused with `DeviceFailed`
     /// exactly where the disk failed; then the store has failed.
     pub fn write<D: Disk>(self, store: &mut Store<D>) -> Result<Written, Refusal>
-        requires { IsUnderWay (seen D.state store.old) (begun_change self) (begun_size self) }
-        ensures next { D.honest → IsBegunOn (seen D.state store.old) self
-            → IfOk result (IsWrittenOn (seen D.state store.new)) }
-        ensures images { D.honest → IsBegunOn (seen D.state store.old) self
+        requires { IsUnderWay (store_state D.state store.old) (begun_change self)
+            (begun_size self) }
+        ensures next { D.honest → IsBegunOn (store_state D.state store.old) self
+            → IfOk result (IsWrittenOn (store_state D.state store.new)) }
+        ensures images { D.honest → IsBegunOn (store_state D.state store.old) self
             → EveryImage (D.state (disk_of store.new))
-            (HoldsTable (seen D.state store.old).table (seen D.state store.old).seq) }
-        ensures under_way { IfOk result (λ written. IsUnderWay (seen D.state store.new)
+            (HoldsTable (store_state D.state store.old).table (store_state D.state store.old).seq) }
+        ensures under_way { IfOk result (λ written. IsUnderWay (store_state D.state store.new)
             (written_change written) (written_size written)) }
         ensures change { IfOk result (λ written. written_change written ≡ begun_change self) }
-        ensures table { (seen D.state store.new).table ≡ (seen D.state store.old).table }
-        ensures seq { (seen D.state store.new).seq ≡ (seen D.state store.old).seq }
+        ensures table { (store_state D.state store.new).table
+            ≡ (store_state D.state store.old).table }
+        ensures seq { (store_state D.state store.new).seq ≡ (store_state D.state store.old).seq }
         ensures call { IsOneCall D.failures D.outlook store.old store.new result }
     {
         let Begun { phase, commit } = self;
@@ -77,17 +82,19 @@ impl Written {
     /// Syncs the batch's body. Refused with `DeviceFailed` exactly where the disk failed; then the
     /// store has failed.
     pub fn sync<D: Disk>(self, store: &mut Store<D>) -> Result<BodySynced, Refusal>
-        requires { IsUnderWay (seen D.state store.old) (written_change self) (written_size self) }
-        ensures next { D.honest → IsWrittenOn (seen D.state store.old) self
-            → IfOk result (IsSyncedOn (seen D.state store.new)) }
-        ensures images { D.honest → IsWrittenOn (seen D.state store.old) self
+        requires { IsUnderWay (store_state D.state store.old) (written_change self)
+            (written_size self) }
+        ensures next { D.honest → IsWrittenOn (store_state D.state store.old) self
+            → IfOk result (IsBodySyncedOn (store_state D.state store.new)) }
+        ensures images { D.honest → IsWrittenOn (store_state D.state store.old) self
             → EveryImage (D.state (disk_of store.new))
-            (HoldsTable (seen D.state store.old).table (seen D.state store.old).seq) }
-        ensures under_way { IfOk result (λ synced. IsUnderWay (seen D.state store.new)
-            (synced_change synced) (synced_size synced)) }
-        ensures change { IfOk result (λ synced. synced_change synced ≡ written_change self) }
-        ensures table { (seen D.state store.new).table ≡ (seen D.state store.old).table }
-        ensures seq { (seen D.state store.new).seq ≡ (seen D.state store.old).seq }
+            (HoldsTable (store_state D.state store.old).table (store_state D.state store.old).seq) }
+        ensures under_way { IfOk result (λ synced. IsUnderWay (store_state D.state store.new)
+            (body_synced_change synced) (body_synced_size synced)) }
+        ensures change { IfOk result (λ synced. body_synced_change synced ≡ written_change self) }
+        ensures table { (store_state D.state store.new).table
+            ≡ (store_state D.state store.old).table }
+        ensures seq { (store_state D.state store.new).seq ≡ (store_state D.state store.old).seq }
         ensures call { IsOneCall D.failures D.outlook store.old store.new result }
     {
         let Written { phase, commit } = self;
@@ -108,17 +115,20 @@ impl BodySynced {
     /// Opens the batch's gate. Refused with `DeviceFailed` exactly where the disk failed; then the
     /// store has failed.
     pub fn open_gate<D: Disk>(self, store: &mut Store<D>) -> Result<GateWritten, Refusal>
-        requires { IsUnderWay (seen D.state store.old) (synced_change self) (synced_size self) }
-        ensures next { D.honest → IsSyncedOn (seen D.state store.old) self
-            → IfOk result (IsOpenedOn (seen D.state store.new)) }
-        ensures images { D.honest → IsSyncedOn (seen D.state store.old) self
+        requires { IsUnderWay (store_state D.state store.old) (body_synced_change self)
+            (body_synced_size self) }
+        ensures next { D.honest → IsBodySyncedOn (store_state D.state store.old) self
+            → IfOk result (IsGateWrittenOn (store_state D.state store.new)) }
+        ensures images { D.honest → IsBodySyncedOn (store_state D.state store.old) self
             → EveryImage (D.state (disk_of store.new))
-            (HoldsEither (seen D.state store.old) (synced_change self)) }
-        ensures under_way { IfOk result (λ opened. IsUnderWay (seen D.state store.new)
-            (opened_change opened) (opened_size opened)) }
-        ensures change { IfOk result (λ opened. opened_change opened ≡ synced_change self) }
-        ensures table { (seen D.state store.new).table ≡ (seen D.state store.old).table }
-        ensures seq { (seen D.state store.new).seq ≡ (seen D.state store.old).seq }
+            (HoldsEither (store_state D.state store.old) (body_synced_change self)) }
+        ensures under_way { IfOk result (λ opened. IsUnderWay (store_state D.state store.new)
+            (gate_written_change opened) (gate_written_size opened)) }
+        ensures change { IfOk result
+            (λ opened. gate_written_change opened ≡ body_synced_change self) }
+        ensures table { (store_state D.state store.new).table
+            ≡ (store_state D.state store.old).table }
+        ensures seq { (store_state D.state store.new).seq ≡ (store_state D.state store.old).seq }
         ensures call { IsOneCall D.failures D.outlook store.old store.new result }
     {
         let BodySynced { phase, commit } = self;
@@ -137,25 +147,28 @@ impl BodySynced {
 
 impl GateWritten {
     /// Syncs the batch's gate. Afterwards the batch is durable, and the store has its table and its
-    /// number. Refused with `DeviceFailed` exactly where the disk failed; then the store has failed,
-    /// and whether the batch is on the disk is found out by opening it again.
+    /// number. Refused with `DeviceFailed` exactly where the disk failed; then the store has
+    /// failed, and whether the batch is on the disk is found out by opening it again.
     pub fn sync<D: Disk>(self, store: &mut Store<D>) -> Result<Durable, Refusal>
-        requires { IsUnderWay (seen D.state store.old) (opened_change self) (opened_size self) }
-        ensures settled { D.honest → IsOpenedOn (seen D.state store.old) self
-            → OnOk result (IsSettled (seen D.state store.new)) }
-        ensures durable { D.honest → IsOpenedOn (seen D.state store.old) self
+        requires { IsUnderWay (store_state D.state store.old) (gate_written_change self)
+            (gate_written_size self) }
+        ensures settled { D.honest → IsGateWrittenOn (store_state D.state store.old) self
+            → OnOk result (IsSettled (store_state D.state store.new)) }
+        ensures durable { D.honest → IsGateWrittenOn (store_state D.state store.old) self
             → OnOk result (EveryImage (D.state (disk_of store.new))
-            (HoldsTable (table_after (seen D.state store.old) (opened_change self)) (opened_change self).seq)) }
-        ensures images { D.honest → IsOpenedOn (seen D.state store.old) self
+            (HoldsTable (table_after (store_state D.state store.old) (gate_written_change self)) (gate_written_change self).seq)) }
+        ensures images { D.honest → IsGateWrittenOn (store_state D.state store.old) self
             → EveryImage (D.state (disk_of store.new))
-            (HoldsEither (seen D.state store.old) (opened_change self)) }
-        ensures batch { IfOk result (λ durable. durable_decisions durable ≡ (opened_change self).decisions) }
+            (HoldsEither (store_state D.state store.old) (gate_written_change self)) }
+        ensures batch { IfOk result
+            (λ durable. durable_decisions durable ≡ (gate_written_change self).decisions) }
         ensures table { MatchResult result
-            (λ _. (seen D.state store.new).table ≡ table_after (seen D.state store.old) (opened_change self))
-            (λ _. (seen D.state store.new).table ≡ (seen D.state store.old).table) }
+            (λ _. (store_state D.state store.new).table
+            ≡ table_after (store_state D.state store.old) (gate_written_change self))
+            (λ _. (store_state D.state store.new).table ≡ (store_state D.state store.old).table) }
         ensures seq { MatchResult result
-            (λ _. (seen D.state store.new).seq ≡ (opened_change self).seq)
-            (λ _. (seen D.state store.new).seq ≡ (seen D.state store.old).seq) }
+            (λ _. (store_state D.state store.new).seq ≡ (gate_written_change self).seq)
+            (λ _. (store_state D.state store.new).seq ≡ (store_state D.state store.old).seq) }
         ensures call { IsOneCall D.failures D.outlook store.old store.new result }
     {
         let GateWritten { phase, commit } = self;
@@ -194,7 +207,8 @@ impl<D: Disk> Store<D> {
     // A call of the disk failed.
     pub(crate) fn fail(&mut self) -> Refusal
         ensures refusal { result ≡ DeviceFailed }
-        ensures store { seen D.state self.new ≡ record (seen D.state self.old) { failed = true } }
+        ensures store { store_state D.state self.new
+            ≡ record (store_state D.state self.old) { failed = true } }
         ensures disk { disk_of self.new ≡ disk_of self.old }
     {
         self.failed = true;
@@ -203,9 +217,9 @@ impl<D: Disk> Store<D> {
 
     // Puts the records of a batch that is on the disk on the table, and takes over its number.
     fn adopt(&mut self, commit: Commit) -> Durable
-        requires fit { FitAll (seen D.state self.old).table commit.batch }
-        ensures store { seen D.state self.new ≡ record (seen D.state self.old) {
-          table = table_after (seen D.state self.old) (change_of commit);
+        requires fit { FitAll (store_state D.state self.old).table commit.batch }
+        ensures store { store_state D.state self.new ≡ record (store_state D.state self.old) {
+          table = table_after (store_state D.state self.old) (change_of commit);
           seq = (change_of commit).seq;
         } }
         ensures disk { disk_of self.new ≡ disk_of self.old }

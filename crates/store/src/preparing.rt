@@ -1,8 +1,10 @@
 // Begins a checkpoint.
-ghost use Rattle.std.specs.Prelude.{◌≡◌, ◌⊎◌, ◌<◌, ◌≤◌, ◌+◌, Err, IfOk, MatchBool, MatchResult, drop, length};
+ghost use Rattle.std.specs.Prelude.{◌≡◌, ◌⊎◌, ◌<◌, ◌≤◌, ◌+◌, Err, IfOk, MatchBool, MatchResult};
+ghost use Rattle.std.specs.Prelude.{drop, length};
 ghost use Rattle.gate_log.specs.Layout.{IsHeader};
 ghost use Rattle.lw_types.specs.declared.refusal.Refusal.TheVariants.{Damaged, Failed, OutOfMemory};
-ghost use Rattle.store.specs.Checkpointing.{FitsOther, IsCheckpointOn, checkpoint_size, next_header};
+ghost use Rattle.store.specs.Checkpointing.{FitsOther, IsCheckpointOn, checkpoint_size};
+ghost use Rattle.store.specs.Checkpointing.{next_header};
 ghost use Rattle.store_layout.specs.Entries.{AreEntries, entries, entries_of_table};
 
 use crate::areas::LAST_GENERATION;
@@ -13,28 +15,33 @@ use lw_types::Refusal;
 use std::alloc::Global;
 use store_layout::{laws, put_table};
 
-/// An entry has at most so many bytes.
+/// The most bytes that an entry has.
 const LONGEST_ENTRY: usize = 4185;
 
 impl<D: Disk> Store<D> {
-    ghost use Rattle.store.specs.State.{seen, IsSettled};
+    ghost use Rattle.store.specs.State.{store_state, IsSettled};
 
-    /// Begins a checkpoint of the durable table, on a store with nothing under way. The other area then gets the
-    /// table's records alone, and the batches so far no longer count; the table and its number stay the same.
-    /// It takes four calls of the disk, or six where [`Store::must_retire`]. Refused with `Failed` exactly
-    /// where an earlier call of the disk failed, else with `Damaged` exactly where the live area has the last
-    /// generation, and with `OutOfMemory` for want of memory, before any call. All the memory that the checkpoint
-    /// needs is taken here, at most an area's length beside the table. The cost grows with the table's records.
+    /// Begins a checkpoint of the durable table, on a store with nothing under way. The other area
+    /// then gets the table's records alone, and the batches so far no longer count; the table and
+    /// its number stay the same. It takes four calls of the disk, or six where
+    /// [`Store::must_retire`]. Refused with `Failed` exactly where an earlier call of the disk
+    /// failed, else with `Damaged` exactly where the live area has the last generation, and with
+    /// `OutOfMemory` for want of memory, before any call. All the memory that the checkpoint needs
+    /// is taken here, at most an area's length beside the table. The cost grows with the table's
+    /// records.
     pub fn checkpoint(&self, alloc: Global) -> Result<Checkpoint, Refusal>
-        ensures answer { MatchBool (seen D.state self.now).failed
+        ensures answer { MatchBool (store_state D.state self.now).failed
             (result ≡ Err Failed)
             (MatchResult result
-            (λ _. (seen D.state self.now).log.generation < LAST_GENERATION)
-            (λ e. ((e ≡ Damaged) × (LAST_GENERATION ≤ (seen D.state self.now).log.generation))
-            ⊎ ((e ≡ OutOfMemory) × ((seen D.state self.now).log.generation < LAST_GENERATION)))) }
-        ensures fits { IfOk result (λ begun. FitsOther (seen D.state self.now) (checkpoint_size begun)) }
-        ensures begun { IsSettled (seen D.state self.now)
-            → IfOk result (IsCheckpointOn (seen D.state self.now)) }
+            (λ _. (store_state D.state self.now).log.generation < LAST_GENERATION)
+            (λ e. ((e ≡ Damaged) × (LAST_GENERATION
+            ≤ (store_state D.state self.now).log.generation))
+            ⊎ ((e ≡ OutOfMemory) × ((store_state D.state self.now).log.generation
+            < LAST_GENERATION)))) }
+        ensures fits { IfOk result (λ begun. FitsOther (store_state D.state self.now)
+            (checkpoint_size begun)) }
+        ensures begun { IsSettled (store_state D.state self.now)
+            → IfOk result (IsCheckpointOn (store_state D.state self.now)) }
     {
         if self.failed {
             return Err(Refusal::Failed);
@@ -50,21 +57,25 @@ impl<D: Disk> Store<D> {
         Ok(Checkpoint { phase })
     }
 
-    /// Whether the other area's gate is open, so that a checkpoint has to close it before it is written.
+    /// Whether the other area's gate is open, so that a checkpoint has to close it before it is
+    /// written.
     pub fn must_retire(&self) -> bool
-        ensures { result ≡ (seen D.state self.now).log.other_open }
+        ensures { result ≡ (store_state D.state self.now).log.other_open }
     {
         self.log.is_other_open()
     }
 
-    // The durable table's records, behind room for a header. The other area has room for them, and for the largest batch.
+    // The durable table's records, behind room for a header. The other area has room for them, and
+    // for the largest batch.
     fn checkpoint_records(&self, alloc: Global) -> Result<Vec<u8>, Refusal>
         ensures { MatchResult result
             (λ bytes. (Header.LEN ≤ length bytes.items)
             × ((drop Header.LEN bytes.items
-            ≡ entries (seen D.state self.now).version (entries_of_table (seen D.state self.now).table))
-            × (AreEntries (seen D.state self.now).version (entries_of_table (seen D.state self.now).table)
-            × FitsOther (seen D.state self.now) (length bytes.items + 1))))
+            ≡ entries (store_state D.state self.now).version
+            (entries_of_table (store_state D.state self.now).table))
+            × (AreEntries (store_state D.state self.now).version
+            (entries_of_table (store_state D.state self.now).table)
+            × FitsOther (store_state D.state self.now) (length bytes.items + 1))))
             (λ e. e ≡ OutOfMemory) }
     {
         // A table has at most 4,096 slots.
@@ -77,10 +88,10 @@ impl<D: Disk> Store<D> {
         Ok(bytes)
     }
 
-    // The header of a checkpoint of the durable table with so many bytes of records.
+    // The header of a checkpoint of the durable table with `records_len` bytes of records.
     fn checkpoint_header(&self, records_len: u64) -> Header
-        requires { (seen D.state self.now).log.generation < LAST_GENERATION }
-        ensures header { result ≡ next_header (seen D.state self.now) records_len }
+        requires { (store_state D.state self.now).log.generation < LAST_GENERATION }
+        ensures header { result ≡ next_header (store_state D.state self.now) records_len }
         ensures in_range { IsHeader result }
     {
         // A table has at most 4,096 slots.

@@ -1,16 +1,19 @@
 // Reads what the disk of a store holds.
-ghost use Rattle.std.specs.Prelude.{◌≡◌, ◌≢◌, ◌<◌, ◌≤◌, ◌+◌, ◌⊎◌, ℕ, length, take, IfOk, IfErr, MatchResult};
-ghost use Rattle.lw_types.specs.declared.refusal.Refusal.TheVariants.{Damaged, DeviceFailed, OutOfMemory, WrongVersion};
+ghost use Rattle.std.specs.Prelude.{◌≡◌, ◌≢◌, ◌<◌, ◌≤◌, ◌+◌, ◌⊎◌, ℕ, length, take, IfOk, IfErr};
+ghost use Rattle.std.specs.Prelude.{MatchResult};
+ghost use Rattle.lw_types.specs.declared.refusal.Refusal.TheVariants.{Damaged, DeviceFailed};
+ghost use Rattle.lw_types.specs.declared.refusal.Refusal.TheVariants.{OutOfMemory, WrongVersion};
 ghost use Rattle.gate_log.specs.declared.layout.TheConstants.{EMPTY_AREA_LEN};
 ghost use Rattle.gate_log.specs.declared.layout.Area.{Area};
-ghost use Rattle.gate_log.specs.Areas.{AreLaidOut, AreOf, Contents, Holds};
+ghost use Rattle.gate_log.specs.Areas.{AreLaidOut, AreOf, LogContents, Holds};
 ghost use Rattle.gate_log.specs.Live.{IsLiveAs};
-ghost use Rattle.gate_log.specs.Opening.{opened};
+ghost use Rattle.gate_log.specs.Opening.{disk_in_opening};
 ghost use Rattle.gate_log.specs.Recover.{OnlyReads};
 ghost use Rattle.gate_log.specs.Recovered.{IsRecovered};
 ghost use Rattle.store_layout.specs.Entries.{version_byte};
 ghost use Rattle.store_layout.specs.Superblock.{disk_len};
-ghost use Rattle.store.specs.Faults.{HasGoodFront, HeaderFault, IsFault, IsKnown, IsStoreOf, IsUsable};
+ghost use Rattle.store.specs.Faults.{HasGoodFront, HeaderFault, IsFault, IsKnown, IsStoreOf};
+ghost use Rattle.store.specs.Faults.{IsUsable};
 ghost use Rattle.store.specs.Found.{IsFound, is_device_refusal};
 ghost use Rattle.store.specs.Image.{AreAreas};
 
@@ -23,9 +26,10 @@ use lw_types::Refusal;
 use std::alloc::Global;
 use store_layout::{RecordVersion, Superblock, laws};
 
-/// What stands in front of a store's disk: its superblock, the live area, and the version of the records there.
+/// What stands in front of a store's disk: its superblock, the live area, and the version of the
+/// records there.
 #[derive(Clone, Copy)]
-struct Front {
+struct StoreFront {
     superblock: Superblock,
     live: Live,
     version: RecordVersion,
@@ -33,14 +37,17 @@ struct Front {
 
 /// Reads the store on a disk.
 pub(crate) fn read_store<D: Disk>(alloc: Global, opening: &mut Opening<D>) -> Result<Found, Refusal>
-    ensures found { D.honest → IfOk result (IsFound (D.state (opened opening.old)).content) }
-    ensures layout { IfOk result (λ found. AreLaidOut found.live.areas (length (D.state (opened opening.old)).content)) }
+    ensures found { D.honest → IfOk result
+        (IsFound (D.state (disk_in_opening opening.old)).content) }
+    ensures layout { IfOk result
+        (λ found. AreLaidOut found.live.areas
+        (length (D.state (disk_in_opening opening.old)).content)) }
     ensures refused { D.honest → IfErr result (λ e. e ≢ DeviceFailed → e ≢ OutOfMemory
-        → IsFault (D.state (opened opening.old)).content e) }
+        → IsFault (D.state (disk_in_opening opening.old)).content e) }
     ensures memory { D.honest → IfErr result (λ e. e ≡ OutOfMemory
-        → HasGoodFront (D.state (opened opening.old)).content) }
+        → HasGoodFront (D.state (disk_in_opening opening.old)).content) }
     ensures reads { OnlyReads D.honest D.state D.failures D.outlook
-        (opened opening.old) (opened opening.new) (is_device_refusal result) }
+        (disk_in_opening opening.old) (disk_in_opening opening.new) (is_device_refusal result) }
 {
     gate_log::laws::what_is_held_is_live();
     gate_log::laws::one_area_is_live();
@@ -60,24 +67,28 @@ pub(crate) fn read_store<D: Disk>(alloc: Global, opening: &mut Opening<D>) -> Re
 }
 
 // The superblock, and the area that counts. Takes no memory.
-fn read_front<D: Disk>(opening: &mut Opening<D>) -> Result<Front, Refusal>
+fn read_front<D: Disk>(opening: &mut Opening<D>) -> Result<StoreFront, Refusal>
     ensures store { D.honest → IfOk result
-        (λ f. IsStoreOf (D.state (opened opening.old)).content f.superblock.net_id f.superblock.slots) }
+        (λ f. IsStoreOf (D.state (disk_in_opening opening.old)).content f.superblock.net_id
+        f.superblock.slots) }
     ensures only { D.honest → IfOk result (λ f. (net_id slots : ℕ)
-        → IsStoreOf (D.state (opened opening.old)).content net_id slots
+        → IsStoreOf (D.state (disk_in_opening opening.old)).content net_id slots
         → (net_id ≡ f.superblock.net_id) × (slots ≡ f.superblock.slots)) }
     ensures long { IfOk result
-        (λ f. length (D.state (opened opening.old)).content ≡ disk_len f.superblock.slots) }
-    ensures layout { IfOk result (λ f. AreLaidOut f.live.areas (length (D.state (opened opening.old)).content)) }
+        (λ f. length (D.state (disk_in_opening opening.old)).content
+        ≡ disk_len f.superblock.slots) }
+    ensures layout { IfOk result
+        (λ f. AreLaidOut f.live.areas (length (D.state (disk_in_opening opening.old)).content)) }
     ensures areas { IfOk result (λ f. AreAreas f.superblock.slots f.live.areas) }
-    ensures live { D.honest → IfOk result (λ f. IsLiveAs f.live (D.state (opened opening.old)).content) }
+    ensures live { D.honest → IfOk result
+        (λ f. IsLiveAs f.live (D.state (disk_in_opening opening.old)).content) }
     ensures version { IfOk result (λ f. f.live.header.version ≡ version_byte f.version) }
     ensures usable { IfOk result (λ f. IsUsable f.live.areas.live f.live.header) }
     ensures refused { D.honest → IfErr result (λ e. e ≢ DeviceFailed
-        → IsFault (D.state (opened opening.old)).content e) }
+        → IsFault (D.state (disk_in_opening opening.old)).content e) }
     ensures memory { IfErr result (λ e. e ≢ OutOfMemory) }
     ensures reads { OnlyReads D.honest D.state D.failures D.outlook
-        (opened opening.old) (opened opening.new) (is_device_refusal result) }
+        (disk_in_opening opening.old) (disk_in_opening opening.new) (is_device_refusal result) }
 {
     gate_log::laws::what_is_held_is_live();
     gate_log::laws::one_area_is_live();
@@ -85,7 +96,7 @@ fn read_front<D: Disk>(opening: &mut Opening<D>) -> Result<Front, Refusal>
     gate_log::laws::a_disk_holds_one_contents();
     let superblock = read_superblock(opening)?;
     let (live, version) = read_live(opening, &superblock)?;
-    Ok(Front {
+    Ok(StoreFront {
         superblock,
         live,
         version,
@@ -95,17 +106,17 @@ fn read_front<D: Disk>(opening: &mut Opening<D>) -> Result<Front, Refusal>
 // The superblock of a store whose disk has its length.
 fn read_superblock<D: Disk>(opening: &mut Opening<D>) -> Result<Superblock, Refusal>
     ensures found { D.honest → IfOk result
-        (λ s. IsStoreOf (D.state (opened opening.old)).content s.net_id s.slots) }
+        (λ s. IsStoreOf (D.state (disk_in_opening opening.old)).content s.net_id s.slots) }
     ensures only { D.honest → IfOk result (λ s. (net_id slots : ℕ)
-        → IsStoreOf (D.state (opened opening.old)).content net_id slots
+        → IsStoreOf (D.state (disk_in_opening opening.old)).content net_id slots
         → (net_id ≡ s.net_id) × (slots ≡ s.slots)) }
     ensures length { IfOk result
-        (λ s. length (D.state (opened opening.old)).content ≡ disk_len s.slots) }
+        (λ s. length (D.state (disk_in_opening opening.old)).content ≡ disk_len s.slots) }
     ensures refused { D.honest → IfErr result (λ e. e ≢ DeviceFailed
-        → IsFault (D.state (opened opening.old)).content e) }
+        → IsFault (D.state (disk_in_opening opening.old)).content e) }
     ensures memory { IfErr result (λ e. e ≢ OutOfMemory) }
     ensures reads { OnlyReads D.honest D.state D.failures D.outlook
-        (opened opening.old) (opened opening.new) (is_device_refusal result) }
+        (disk_in_opening opening.old) (disk_in_opening opening.new) (is_device_refusal result) }
 {
     if opening.len() < Superblock::LEN as u64 {
         return Err(Refusal::WrongSize);
@@ -120,12 +131,12 @@ fn read_superblock<D: Disk>(opening: &mut Opening<D>) -> Result<Superblock, Refu
 
 // The first bytes of the disk.
 fn read_bytes<D: Disk>(opening: &mut Opening<D>) -> Result<[u8; 32], Refusal>
-    requires { Superblock.LEN ≤ length (D.state (opened opening.old)).content }
+    requires { Superblock.LEN ≤ length (D.state (disk_in_opening opening.old)).content }
     ensures bytes { D.honest → IfOk result
-        (λ bytes. bytes ≡ take Superblock.LEN (D.state (opened opening.old)).content) }
+        (λ bytes. bytes ≡ take Superblock.LEN (D.state (disk_in_opening opening.old)).content) }
     ensures refused { IfErr result (λ e. e ≡ DeviceFailed) }
     ensures reads { OnlyReads D.honest D.state D.failures D.outlook
-        (opened opening.old) (opened opening.new) (is_device_refusal result) }
+        (disk_in_opening opening.old) (disk_in_opening opening.new) (is_device_refusal result) }
 {
     let mut bytes = [0; Superblock::LEN];
     match opening.read_at(0, &mut bytes) {
@@ -139,17 +150,20 @@ fn read_live<D: Disk>(
     opening: &mut Opening<D>,
     superblock: &Superblock,
 ) -> Result<(Live, RecordVersion), Refusal>
-    requires { length (D.state (opened opening.old)).content ≡ disk_len superblock.now.slots }
-    ensures layout { IfOk result (λ r. AreLaidOut r.0.areas (length (D.state (opened opening.old)).content)) }
+    requires { length (D.state (disk_in_opening opening.old)).content
+        ≡ disk_len superblock.now.slots }
+    ensures layout { IfOk result
+        (λ r. AreLaidOut r.0.areas (length (D.state (disk_in_opening opening.old)).content)) }
     ensures areas { IfOk result (λ r. AreAreas superblock.now.slots r.0.areas) }
-    ensures live { D.honest → IfOk result (λ r. IsLiveAs r.0 (D.state (opened opening.old)).content) }
+    ensures live { D.honest → IfOk result
+        (λ r. IsLiveAs r.0 (D.state (disk_in_opening opening.old)).content) }
     ensures version { IfOk result (λ r. r.0.header.version ≡ version_byte r.1) }
     ensures usable { IfOk result (λ r. IsUsable r.0.areas.live r.0.header) }
     ensures refused { D.honest → IfErr result (λ e. e ≢ DeviceFailed
-        → HeaderFault (D.state (opened opening.old)).content superblock.now.slots e) }
+        → HeaderFault (D.state (disk_in_opening opening.old)).content superblock.now.slots e) }
     ensures memory { IfErr result (λ e. e ≢ OutOfMemory) }
     ensures reads { OnlyReads D.honest D.state D.failures D.outlook
-        (opened opening.old) (opened opening.new) (is_device_refusal result) }
+        (disk_in_opening opening.old) (disk_in_opening opening.new) (is_device_refusal result) }
 {
     match opening.live(first_area(superblock), second_area(superblock)) {
         Ok(Some(live)) => {
@@ -184,18 +198,19 @@ fn recover<D: Disk>(
     opening: &mut Opening<D>,
     live: Live,
 ) -> Result<Recovered, Refusal>
-    requires layout { AreLaidOut live.areas (length (D.state (opened opening.old)).content) }
+    requires layout { AreLaidOut live.areas
+        (length (D.state (disk_in_opening opening.old)).content) }
     requires usable { IsUsable live.areas.live live.header }
-    ensures recovered { D.honest → IsLiveAs live (D.state (opened opening.old)).content
-        → IfOk result (IsRecovered live.areas (D.state (opened opening.old)).content) }
+    ensures recovered { D.honest → IsLiveAs live (D.state (disk_in_opening opening.old)).content
+        → IfOk result (IsRecovered live.areas (D.state (disk_in_opening opening.old)).content) }
     ensures header { IfOk result (λ recovered. recovered.header ≡ live.header) }
     ensures next { IfOk result (λ recovered. recovered.next < live.areas.live.end) }
-    ensures refused { D.honest → IsLiveAs live (D.state (opened opening.old)).content
+    ensures refused { D.honest → IsLiveAs live (D.state (disk_in_opening opening.old)).content
         → IfErr result (λ e. e ≢ DeviceFailed → e ≢ OutOfMemory → (e ≡ Damaged)
-        × ((a b : Area) → AreOf a b live.areas → (c : Contents) → AreOf a b c.areas
-        → ¬ Holds c (D.state (opened opening.old)).content)) }
+        × ((a b : Area) → AreOf a b live.areas → (c : LogContents) → AreOf a b c.areas
+        → ¬ Holds c (D.state (disk_in_opening opening.old)).content)) }
     ensures reads { OnlyReads D.honest D.state D.failures D.outlook
-        (opened opening.old) (opened opening.new) (is_device_refusal result) }
+        (disk_in_opening opening.old) (disk_in_opening opening.new) (is_device_refusal result) }
 {
     match opening.recover(alloc, live) {
         Ok(recovered) => Ok(recovered),

@@ -3,7 +3,7 @@ ghost use Rattle.std.specs.Prelude.{◌≡◌, ◌≢◌, ◌↔◌, ℕ, List, 
 ghost use Rattle.lw_types.specs.declared.refusal.Refusal.TheVariants.{Damaged, OutOfMemory};
 ghost use Rattle.sessions.specs.Table.{TableState};
 ghost use Rattle.store_layout.specs.declared.entries.Entry.{Entry};
-ghost use Rattle.store.specs.Image.{IsBatchOn, IsCheckpoint, Lead, Restores};
+ghost use Rattle.store.specs.Image.{IsBatchOn, IsCheckpointOf, Lead, Restores};
 
 use gate_log::{Batch, Recovered};
 use lw_types::Refusal;
@@ -21,10 +21,12 @@ pub(crate) fn restore(
 ) -> Result<(Table, u64), Refusal>
     ensures { MatchResult result
         (λ r. (t : TableState) (seq : ℕ)
-        → Restores version superblock.now.net_id superblock.now.slots recovered.now.header recovered.now.records.items recovered.now.batches.items t seq
+        → Restores version superblock.now.net_id superblock.now.slots recovered.now.header
+        recovered.now.records.items recovered.now.batches.items t seq
         ↔ ((t ≡ r.0) × (seq ≡ r.1)))
         (λ e. e ≢ OutOfMemory → (e ≡ Damaged) × ((t : TableState) (seq : ℕ)
-        → ¬ Restores version superblock.now.net_id superblock.now.slots recovered.now.header recovered.now.records.items recovered.now.batches.items t seq)) }
+        → ¬ Restores version superblock.now.net_id superblock.now.slots recovered.now.header
+        recovered.now.records.items recovered.now.batches.items t seq)) }
 {
     let header = recovered.header;
     let mut table = checkpoint(
@@ -53,9 +55,11 @@ fn checkpoint(
     count: u32,
 ) -> Result<Table, Refusal>
     ensures { MatchResult result
-        (λ table. (t : TableState) → IsCheckpoint version superblock.now.net_id superblock.now.slots records.now count t ↔ (t ≡ table))
+        (λ table. (t : TableState) → IsCheckpointOf version superblock.now.net_id
+        superblock.now.slots records.now count t ↔ (t ≡ table))
         (λ e. e ≢ OutOfMemory → (e ≡ Damaged) × ((t : TableState)
-        → ¬ IsCheckpoint version superblock.now.net_id superblock.now.slots records.now count t)) }
+        → ¬ IsCheckpointOf version superblock.now.net_id superblock.now.slots records.now count
+        t)) }
 {
     laws::bytes_replay_in_one_way();
     let mut table = Table::new(alloc, superblock.net_id, superblock.slots)?;
@@ -75,7 +79,8 @@ fn replay_batches(
     batches: &[Batch],
 ) -> Result<u64, Refusal>
     ensures { MatchResult result
-        (λ last. (u : TableState) (n : ℕ) → Lead version table.old seq batches.now u n ↔ ((u ≡ table.new) × (n ≡ last)))
+        (λ last. (u : TableState) (n : ℕ) → Lead version table.old seq batches.now u n
+        ↔ ((u ≡ table.new) × (n ≡ last)))
         (λ e. e ≢ OutOfMemory → (e ≡ Damaged)
         × ((u : TableState) (n : ℕ) → ¬ Lead version table.old seq batches.now u n)) }
 {
@@ -97,7 +102,8 @@ fn replay_batch(
 ) -> Result<(), Refusal>
     ensures { MatchResult result
         (λ _. (es : List Entry) × IsBatchOn version table.old seq batch.now es table.new
-        × ((fs : List Entry) (u : TableState) → IsBatchOn version table.old seq batch.now fs u → u ≡ table.new))
+        × ((fs : List Entry) (u : TableState) → IsBatchOn version table.old seq batch.now fs u
+        → u ≡ table.new))
         (λ e. e ≢ OutOfMemory → (e ≡ Damaged)
         × ((es : List Entry) (u : TableState) → ¬ IsBatchOn version table.old seq batch.now es u)) }
 {

@@ -1,7 +1,7 @@
 // The store, and what it tells of itself.
 ghost use Rattle.std.specs.Prelude.{◌≡◌, ◌<◌, ◌+◌, ◌-◌, ◌^◌, ◌↔◌, IsTrue, false};
 ghost use Rattle.disk.specs.Outlook.Outlook.{FailsAfter};
-ghost use Rattle.gate_log.specs.Log.{seen as seen_log, disk_of as disk_of_log};
+ghost use Rattle.gate_log.specs.Log.{log_state, disk_of as disk_of_log};
 ghost use Rattle.store.specs.Image.{HaveLength};
 
 use disk::{Disk, Sim};
@@ -26,13 +26,20 @@ pub struct Store<D: Disk> {
 }
 
 impl<D: Disk> Store<D> {
-    ghost use Rattle.store.specs.State.{seen, disk_of, IsRoomy};
+    ghost use Rattle.store.specs.State.{store_state, disk_of, IsRoomy};
 
-    /// The store of a table and the number of its last decision, in an area with records of a version.
+    /// The store of a table and the number of its last decision, in an area with records of a
+    /// version.
     pub(crate) fn new(log: Log<D>, table: Table, seq: u64, version: RecordVersion) -> Self
         requires { HaveLength table.slots log.areas }
-        ensures store { seen D.state result
-            ≡ record { log = seen_log D.state log; table = table; seq = seq; version = version; failed = false } }
+        ensures store { store_state D.state result
+            ≡ record {
+              log = log_state D.state log;
+              table = table;
+              seq = seq;
+              version = version;
+              failed = false;
+            } }
         ensures disk { disk_of result ≡ disk_of_log log }
     {
         Store {
@@ -46,21 +53,21 @@ impl<D: Disk> Store<D> {
 
     /// The durable table.
     pub fn table(&self) -> &Table
-        ensures { result.now ≡ (seen D.state self.now).table }
+        ensures { result.now ≡ (store_state D.state self.now).table }
     {
         &self.table
     }
 
     /// The number of the last durable decision.
     pub fn seq(&self) -> u64
-        ensures { result ≡ (seen D.state self.now).seq }
+        ensures { result ≡ (store_state D.state self.now).seq }
     {
         self.seq
     }
 
     /// Whether the largest batch fits into the journal: [`LARGEST_BATCH`] bytes are left in it.
     pub fn roomy(&self) -> bool
-        ensures { IsTrue result ↔ IsRoomy (seen D.state self.now) }
+        ensures { IsTrue result ↔ IsRoomy (store_state D.state self.now) }
     {
         self.log.room() >= LARGEST_BATCH
     }
@@ -74,14 +81,14 @@ impl<D: Disk> Store<D> {
 }
 
 impl<D: Sim> Store<D> {
-    ghost use Rattle.store.specs.State.{seen, disk_of};
+    ghost use Rattle.store.specs.State.{store_state, disk_of};
 
     /// Makes the nth call of the disk from now fail.
     pub fn arm(&mut self, n: u64)
         requires { 0 < n }
         ensures armed { D.failures (disk_of self.old) + 1 < 2 ^ 64
             → D.outlook (disk_of self.new) ≡ FailsAfter (n - 1) }
-        ensures same { seen D.state self.new ≡ seen D.state self.old }
+        ensures same { store_state D.state self.new ≡ store_state D.state self.old }
         ensures failures { D.failures (disk_of self.new) ≡ D.failures (disk_of self.old) }
     {
         self.log.arm(n);

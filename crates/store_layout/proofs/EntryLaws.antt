@@ -8,12 +8,12 @@ use Rattle.std.specs.Option.{MatchOption, option_and_then}
 use Rattle.std.proofs.lemmas.Nat.{from_be_bytes-to_be_bytes_2}
 use Rattle.devices.specs.declared.device.Device.{Device}
 use Rattle.record_codec.specs.DeviceRecord.{spelling, IsDevice}
-use Rattle.sessions.specs.Table.{TableState, CanPut, placed, slot_of}
+use Rattle.sessions.specs.Table.{TableState, CanPut, with_record, slot_of}
 use Rattle.store_layout.specs.declared.entries.Entry.{Entry}
 use Rattle.store_layout.specs.declared.entries.Entry.TheVariants.{Whole}
 use Rattle.store_layout.specs.declared.version.RecordVersion.{RecordVersion}
 use Rattle.store_layout.specs.declared.version.RecordVersion.TheVariants.{V1}
-use Rattle.store_layout.specs.Entries.{IsRecordIn, record_in, entry, entries, IsEntry, AreEntries, Replay, can_put, is_own, put_one, put_all, Lacks}
+use Rattle.store_layout.specs.Entries.{IsRecordIn, record_in, entry, entries, IsEntry, AreEntries, Replay, can_put, is_own, put_one, put_all, NoEntry}
 
 -- the parts of two lists that begin alike
 parts : (a b x y : List ℕ) → length a ≡ length b → a ++ x ≡ b ++ y → (a ≡ b) × (x ≡ y)
@@ -76,7 +76,7 @@ record_cut v bytes rest slot device cut len short is cut_is len_is =
 -- no entry stands in front of bytes whose length cuts off no record
 pub no_record : (v : RecordVersion) (bytes cut : List ℕ) (len : ℕ) → ((a : Device) → IsRecordIn v a → length (record_in v a) ≤ 4180)
     → ((device : Device) → IsRecordIn v device → cut ≡ record_in v device → ⊥)
-    → cut ≡ take len (take (length bytes - 5) (drop 5 bytes)) → len ≡ get_or bytes 3 0 * 256 + get_or bytes 4 0 → Lacks v bytes
+    → cut ≡ take len (take (length bytes - 5) (drop 5 bytes)) → len ≡ get_or bytes 3 0 * 256 + get_or bytes 4 0 → NoEntry v bytes
 no_record v bytes cut len short none cut_is len_is (Whole slot device) rest is_entry is =
     none device is_entry.1 (record_cut v bytes rest slot device cut len (short device is_entry.1) is cut_is len_is)
 
@@ -109,13 +109,13 @@ true_can t slot device h =
     (leb-true slot (length t.devices) first.0, ltb-true slot t.slots second.0, true_own slot (slot_of device.dev_eui.0 t.devices) second.1)
 
 -- an entry that may be put is put
-pub put_one-can : (t : TableState) (slot : ℕ) (device : Device) → CanPut t slot device → put_one t (Whole slot device) ≡ Some (placed t slot device)
-put_one-can t slot device can = ap (λ b. cond b (Some (placed t slot device)) None) (can_true t slot device can)
+pub put_one-can : (t : TableState) (slot : ℕ) (device : Device) → CanPut t slot device → put_one t (Whole slot device) ≡ Some (with_record t slot device)
+put_one-can t slot device can = ap (λ b. cond b (Some (with_record t slot device)) None) (can_true t slot device can)
 
 pub put_one-cannot : (t : TableState) (slot : ℕ) (device : Device) → ¬ (CanPut t slot device) → put_one t (Whole slot device) ≡ None
 put_one-cannot t slot device cannot = at (can_put t slot device) refl
   where
-    at : (b : Bool) → can_put t slot device ≡ b → cond b (Some (placed t slot device)) None ≡ None
+    at : (b : Bool) → can_put t slot device ≡ b → cond b (Some (with_record t slot device)) None ≡ None
     at true can = absurd (cannot (true_can t slot device can))
     at false other = refl
 
@@ -123,8 +123,8 @@ put_one-cannot t slot device cannot = at (can_put t slot device) refl
 pub put_one-keeps : (t : TableState) (e : Entry) (u : TableState) → put_one t e ≡ Some u → (u.net_id ≡ t.net_id) × (u.slots ≡ t.slots)
 put_one-keeps t (Whole slot device) u h = at (can_put t slot device) h
   where
-    at : (b : Bool) → cond b (Some (placed t slot device)) None ≡ Some u → (u.net_id ≡ t.net_id) × (u.slots ≡ t.slots)
-    at true is = let same = same_Some (placed t slot device) u is in (ap (λ (x : TableState). x.net_id) (sym same), ap (λ (x : TableState). x.slots) (sym same))
+    at : (b : Bool) → cond b (Some (with_record t slot device)) None ≡ Some u → (u.net_id ≡ t.net_id) × (u.slots ≡ t.slots)
+    at true is = let same = same_Some (with_record t slot device) u is in (ap (λ (x : TableState). x.net_id) (sym same), ap (λ (x : TableState). x.slots) (sym same))
     at false is = absurd (none-some u is)
 
 pub put_all-append : (t : TableState) (front es : List Entry) → put_all t (front ++ es) ≡ option_and_then (λ u. put_all u es) (put_all t front)
@@ -220,7 +220,7 @@ next_entry {v} laws t bytes n count now_table rest es u so less r =
 
 -- where no entry stands, or the one that stands there may not be put, nothing replays
 pub no_entry : {v : RecordVersion} → RecordLaws v → (t : TableState) (bytes : List ℕ) (n count : ℕ) (now_table : TableState) (rest : List ℕ)
-    → ReadSo v t bytes n now_table rest → n < count → Lacks v rest → (es : List Entry) (u : TableState) → Replay v t bytes count es u → ⊥
+    → ReadSo v t bytes n now_table rest → n < count → NoEntry v rest → (es : List Entry) (u : TableState) → Replay v t bytes count es u → ⊥
 no_entry laws t bytes n count now_table rest so less lacks es u r =
     let e = next_entry laws t bytes n count now_table rest es u so less r in
     lacks e.0 e.1 e.2 e.3

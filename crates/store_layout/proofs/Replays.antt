@@ -5,7 +5,7 @@ use Rattle.std.proofs.lemmas.Option.{none-some, same_Some}
 use Rattle.std.specs.Option.{option_and_then}
 use Rattle.devices.specs.declared.device.Device.{Device}
 use Rattle.sessions.specs.Table.{TableState, CanPut}
-use Rattle.sessions.specs.Decision.{Fits, FitAll, applied, applied_all}
+use Rattle.sessions.specs.Decision.{FitsTable, FitAll, with_decision, with_decisions}
 use Rattle.sessions.specs.declared.decision.Decision.{Decision}
 use Rattle.store_layout.specs.declared.entries.Entry.{Entry}
 use Rattle.store_layout.specs.declared.entries.Entry.TheVariants.{Whole}
@@ -14,12 +14,12 @@ use Rattle.store_layout.specs.Entries.{entry, entries, entries_of, AreEntries, R
 use Rattle.store_layout.proofs.EntryLaws.{RecordLaws, entry-one, put_one-can, put_one-keeps}
 
 -- the records of decisions may be put, one after another
-pub put_all-entries : ((t : TableState) (d : Decision) → Fits t d → CanPut t d.slot d.after)
-    → (t : TableState) (ds : List Decision) → FitAll t ds → put_all t (entries_of ds) ≡ Some (applied_all t ds)
+pub put_all-entries : ((t : TableState) (d : Decision) → FitsTable t d → CanPut t d.slot d.after)
+    → (t : TableState) (ds : List Decision) → FitAll t ds → put_all t (entries_of ds) ≡ Some (with_decisions t ds)
 put_all-entries put t [] fit = refl
 put_all-entries put t (d ∷ ds) fit =
     ap (option_and_then (λ u. put_all u (entries_of ds))) (put_one-can t d.slot d.after (put t d fit.0))
-    ∙ put_all-entries put (applied t d) ds fit.1
+    ∙ put_all-entries put (with_decision t d) ds fit.1
 
 pub length-entries_of : (ds : List Decision) → length (entries_of ds) ≡ length ds
 length-entries_of [] = refl

@@ -15,7 +15,8 @@ disk_len slots = 32 + 2 * area_len slots
 abbrev pub superblock_body : ℕ → ℕ → List ℕ
 superblock_body net_id slots =
     codes "LNSTORE"
-    ++ (1 ∷ (bytes_high_first 3 net_id ++ (bytes_high_first 4 slots ++ (bytes_high_first 8 (area_len slots) ++ replicate 8 0))))
+    ++ (1 ∷ (bytes_high_first 3 net_id
+    ++ (bytes_high_first 4 slots ++ (bytes_high_first 8 (area_len slots) ++ replicate 8 0))))
 
 -- the superblock of a formatted store: an open gate and its body
 abbrev pub superblock : ℕ → ℕ → List ℕ

@@ -1,10 +1,12 @@
 // Entries, written and replayed.
-ghost use Rattle.std.specs.Prelude.{◌≡◌, ◌≤◌, ◌*◌, ◌≢◌, ◌++◌, ℕ, List, IfOk, MatchResult, Some, None, length, ◌<◌, ◌^◌, ◌∷◌};
+ghost use Rattle.std.specs.Prelude.{◌≡◌, ◌≤◌, ◌*◌, ◌≢◌, ◌++◌, ℕ, List, IfOk, MatchResult, Some};
+ghost use Rattle.std.specs.Prelude.{None, length, ◌<◌, ◌^◌, ◌∷◌};
 ghost use Rattle.std.specs.Int.{to_be_bytes, w16};
 ghost use Rattle.lw_types.specs.declared.refusal.Refusal.TheVariants.{OutOfMemory, Damaged};
 ghost use Rattle.sessions.specs.Table.{TableState};
 ghost use Rattle.store_layout.specs.declared.entries.Entry.TheVariants.{Whole};
-ghost use Rattle.store_layout.specs.Entries.{AreEntries, IsEntry, Lacks, Replay, entries, entries_of, entries_of_table, entry, put_one};
+ghost use Rattle.store_layout.specs.Entries.{AreEntries, IsEntry, NoEntry, Replay, entries};
+ghost use Rattle.store_layout.specs.Entries.{entries_of, entries_of_table, entry, put_one};
 
 use crate::version::RecordVersion;
 use devices::Device;
@@ -24,8 +26,8 @@ pub enum Entry {
 }
 
 impl Entry {
-    /// Puts the entry on a table. Refused with `Damaged` exactly where it may not be put there, and with
-    /// `OutOfMemory` for want of memory. A refusal changes nothing.
+    /// Puts the entry on a table. Refused with `Damaged` exactly where it may not be put there, and
+    /// with `OutOfMemory` for want of memory. A refusal changes nothing.
     pub fn put_on(self, table: &mut Table) -> Result<(), Refusal>
         ensures { MatchResult result
             (λ _. put_one table.old self ≡ Some table.new)
@@ -94,8 +96,8 @@ pub fn batch_entries(
     Ok(bytes)
 }
 
-/// Appends the entries of a table: the record of each device under its slot, in order of slots. After an `Err`, which is
-/// want of memory, a beginning of them was appended.
+/// Appends the entries of a table: the record of each device under its slot, in order of slots.
+/// After an `Err`, which is want of memory, a beginning of them was appended.
 pub fn put_table(
     alloc: Global,
     version: RecordVersion,
@@ -125,7 +127,7 @@ fn read_entry(
 ) -> Result<(Entry, &[u8]), Refusal>
     ensures { MatchResult result
         (λ read. (bytes.now ≡ entry version read.0 ++ read.1.now) × IsEntry version read.0)
-        (λ e. (e ≢ OutOfMemory → (e ≡ Damaged) × Lacks version bytes.now)) }
+        (λ e. (e ≢ OutOfMemory → (e ≡ Damaged) × NoEntry version bytes.now)) }
 {
     laws::records_are_short();
     let [WHOLE, s1, s0, l1, l0, rest @ ..] = bytes else {
@@ -141,9 +143,9 @@ fn read_entry(
     Ok((Entry::Whole { slot, device }, behind))
 }
 
-/// Puts so many entries on a table, which are all of the bytes. Refused with `Damaged` exactly where
-/// the bytes aren't so many entries, or one of them may not be put; with `OutOfMemory` for want of
-/// memory. After an `Err` the table has a beginning of the entries, and is of no use.
+/// Puts so many entries on a table, which are all of the bytes. Refused with `Damaged` exactly
+/// where the bytes aren't so many entries, or one of them may not be put; with `OutOfMemory` for
+/// want of memory. After an `Err` the table has a beginning of the entries, and is of no use.
 pub fn replay(
     alloc: Global,
     version: RecordVersion,
@@ -154,7 +156,8 @@ pub fn replay(
     ensures { MatchResult result
         (λ _. (es : List Entry) × Replay version table.old bytes.now count es table.new)
         (λ e. e ≢ OutOfMemory → (e ≡ Damaged)
-        × ((es : List Entry) (u : TableState) → Replay version table.old bytes.now count es u → ⊥)) }
+        × ((es : List Entry) (u : TableState) → Replay version table.old bytes.now count es u
+        → ⊥)) }
 {
     laws::each_record_is_of_one_device();
     laws::records_are_short();

@@ -2,11 +2,12 @@
 ghost use Rattle.std.specs.Prelude.{◌≡◌, ◌≤◌, ◌*◌, ℕ, List, Some, length};
 ghost use Rattle.sessions.specs.Index.{HaveOwnSlots};
 ghost use Rattle.sessions.specs.Table.{TableState, empty_table};
-ghost use Rattle.sessions.specs.Decision.{FitAll, applied_all};
+ghost use Rattle.sessions.specs.Decision.{FitAll, with_decisions};
 ghost use Rattle.sessions.specs.declared.decision.Decision.{Decision};
 ghost use Rattle.store_layout.specs.declared.entries.Entry.{Entry};
 ghost use Rattle.store_layout.specs.declared.version.RecordVersion.{RecordVersion};
-ghost use Rattle.store_layout.specs.Entries.{AreEntries, Replay, entries, entries_of, entries_of_table, put_all};
+ghost use Rattle.store_layout.specs.Entries.{AreEntries, Replay, entries, entries_of};
+ghost use Rattle.store_layout.specs.Entries.{entries_of_table, put_all};
 
 use record_codec::laws;
 
@@ -15,26 +16,32 @@ use record_codec::laws;
 pub fn decisions_replay()
     ensures replay { (version : RecordVersion) (t : TableState) (ds : List Decision) → FitAll t ds
         → AreEntries version (entries_of ds)
-        → Replay version t (entries version (entries_of ds)) (length ds) (entries_of ds) (applied_all t ds) }
+        → Replay version t (entries version (entries_of ds)) (length ds) (entries_of ds)
+        (with_decisions t ds) }
     ensures number { (ds : List Decision) → length (entries_of ds) ≡ length ds }
 {
     sessions::laws::decided_records_may_be_put();
 }
 
-/// The entries of a table in which no two devices have one DevEUI replay on the table without devices, and lead to it.
+/// The entries of a table in which no two devices have one DevEUI replay on the table without
+/// devices, and lead to it.
 pub fn a_table_replays()
-    ensures replay { (version : RecordVersion) (t : TableState) → HaveOwnSlots t.devices → length t.devices ≤ t.slots
+    ensures replay { (version : RecordVersion) (t : TableState) → HaveOwnSlots t.devices
+        → length t.devices ≤ t.slots
         → AreEntries version (entries_of_table t)
-        → Replay version (empty_table t.net_id t.slots) (entries version (entries_of_table t)) (length t.devices)
+        → Replay version (empty_table t.net_id t.slots) (entries version (entries_of_table t))
+        (length t.devices)
         (entries_of_table t) t }
     ensures number { (t : TableState) → length (entries_of_table t) ≡ length t.devices }
 {}
 
 /// Bytes are so many entries in one way at most, and lead to one table.
 pub fn bytes_replay_in_one_way()
-    ensures entries { (version : RecordVersion) (t t' u u' : TableState) (bytes : List ℕ) (count : ℕ) (es fs : List Entry)
+    ensures entries { (version : RecordVersion) (t t' u u' : TableState) (bytes : List ℕ)
+        (count : ℕ) (es fs : List Entry)
         → Replay version t bytes count es u → Replay version t' bytes count fs u' → es ≡ fs }
-    ensures table { (version : RecordVersion) (t u u' : TableState) (bytes : List ℕ) (count : ℕ) (es fs : List Entry)
+    ensures table { (version : RecordVersion) (t u u' : TableState) (bytes : List ℕ) (count : ℕ)
+        (es fs : List Entry)
         → Replay version t bytes count es u → Replay version t bytes count fs u' → u ≡ u' }
 {
     laws::each_record_is_of_one_device();
@@ -51,6 +58,8 @@ pub fn entries_are_short()
 
 /// Entries that are put on a table leave its network and its number of slots.
 pub fn entries_keep_the_network()
-    ensures net_id { (t u : TableState) (es : List Entry) → put_all t es ≡ Some u → u.net_id ≡ t.net_id }
-    ensures slots { (t u : TableState) (es : List Entry) → put_all t es ≡ Some u → u.slots ≡ t.slots }
+    ensures net_id { (t u : TableState) (es : List Entry) → put_all t es ≡ Some u
+        → u.net_id ≡ t.net_id }
+    ensures slots { (t u : TableState) (es : List Entry) → put_all t es ≡ Some u
+        → u.slots ≡ t.slots }
 {}

@@ -1,6 +1,8 @@
 // The first bytes of a store.
-ghost use Rattle.std.specs.Prelude.{◌≡◌, ◌≢◌, ◌<◌, ◌≤◌, ◌^◌, ◌↔◌, ℕ, ◌∷◌, Ok, Err, IfOk, IfErr, ◌⊎◌, codes, take, slice_index};
-ghost use Rattle.lw_types.specs.declared.refusal.Refusal.TheVariants.{NotFormatted, WrongVersion, Damaged};
+ghost use Rattle.std.specs.Prelude.{◌≡◌, ◌≢◌, ◌<◌, ◌≤◌, ◌^◌, ◌↔◌, ℕ, ◌∷◌, Ok, Err, IfOk, IfErr};
+ghost use Rattle.std.specs.Prelude.{◌⊎◌, codes, take, slice_index};
+ghost use Rattle.lw_types.specs.declared.refusal.Refusal.TheVariants.{NotFormatted, WrongVersion};
+ghost use Rattle.lw_types.specs.declared.refusal.Refusal.TheVariants.{Damaged};
 ghost use Rattle.store_layout.specs.Superblock.{superblock, area_len, disk_len};
 
 use gate_log::OPEN;
@@ -21,7 +23,8 @@ impl Superblock {
     /// The bytes, with an open gate in front.
     pub fn to_bytes(&self) -> [u8; 32]
         ensures bytes { result ≡ superblock self.now.net_id self.now.slots }
-        ensures in_range { (self.now.net_id < 64) × ((1 ≤ self.now.slots) × (self.now.slots ≤ 4096)) }
+        ensures in_range { (self.now.net_id < 64)
+            × ((1 ≤ self.now.slots) × (self.now.slots ≤ 4096)) }
     {
         let [_, n2, n1, n0] = u32::from(self.net_id.get()).to_be_bytes();
         let [s3, s2, s1, s0] = (self.slots.get() as u32).to_be_bytes();
@@ -48,17 +51,19 @@ impl Superblock {
     }
 
     /// The superblock that these bytes are. Refused with `NotFormatted` where the gate is closed or
-    /// the name isn't there, else with `WrongVersion` where the version isn't 1, else with `Damaged`
-    /// where another field is out of its range.
+    /// the name isn't there, else with `WrongVersion` where the version isn't 1, else with
+    /// `Damaged` where another field is out of its range.
     pub fn from_bytes(bytes: &[u8; 32]) -> Result<Self, Refusal>
         ensures found { IfOk result (λ s. bytes.now ≡ superblock s.net_id s.slots) }
         ensures in_range { IfOk result (λ s. (s.net_id < 64) × ((1 ≤ s.slots) × (s.slots ≤ 4096))) }
-        ensures only { (net_id slots : ℕ) → net_id < 64 → 1 ≤ slots → slots ≤ 4096 → bytes.now ≡ superblock net_id slots
+        ensures only { (net_id slots : ℕ) → net_id < 64 → 1 ≤ slots → slots ≤ 4096
+            → bytes.now ≡ superblock net_id slots
             → result ≡ Ok (record { net_id = net_id; slots = slots }) }
         ensures not_formatted { (result ≡ Err NotFormatted) ↔ (take 8 bytes.now ≢ OPEN ∷ codes "LNSTORE") }
         ensures version { (result ≡ Err WrongVersion)
             ↔ ((take 8 bytes.now ≡ OPEN ∷ codes "LNSTORE") × (slice_index bytes.now 8 ≢ 1)) }
-        ensures refused { IfErr result (λ e. (e ≡ NotFormatted) ⊎ ((e ≡ WrongVersion) ⊎ (e ≡ Damaged))) }
+        ensures refused { IfErr result
+            (λ e. (e ≡ NotFormatted) ⊎ ((e ≡ WrongVersion) ⊎ (e ≡ Damaged))) }
     {
         if bytes[..8] != [OPEN, b'L', b'N', b'S', b'T', b'O', b'R', b'E'] {
             return Err(Refusal::NotFormatted);
@@ -78,7 +83,8 @@ impl Superblock {
     fn checked(self, bytes: &[u8; 32]) -> Result<Self, Refusal>
         ensures same { (bytes.now ≡ superblock self.net_id self.slots) → result ≡ Ok self }
         ensures other { (bytes.now ≢ superblock self.net_id self.slots) → result ≡ Err Damaged }
-        ensures found { IfOk result (λ s. (s ≡ self) × (bytes.now ≡ superblock self.net_id self.slots)) }
+        ensures found { IfOk result
+            (λ s. (s ≡ self) × (bytes.now ≡ superblock self.net_id self.slots)) }
         ensures refused { IfErr result (λ e. e ≡ Damaged) }
     {
         if bytes.as_slice() == self.to_bytes().as_slice() {

@@ -36,7 +36,8 @@ impl RecordVersion {
         }
     }
 
-    // Appends the record of a device. After an `Err`, which is want of memory, nothing was appended.
+    // Appends the record of a device. After an `Err`, which is want of memory, nothing was
+    // appended.
     pub(crate) fn write(
         self,
         alloc: Global,
@@ -44,7 +45,8 @@ impl RecordVersion {
         out: &mut Vec<u8>,
     ) -> Result<(), Refusal>
         ensures { MatchResult result
-            (λ _. (out.new.items ≡ out.old.items ++ record_in self device.now) × IsRecordIn self device.now)
+            (λ _. (out.new.items ≡ out.old.items ++ record_in self device.now)
+            × IsRecordIn self device.now)
             (λ e. (e ≡ OutOfMemory) × (out.new.items ≡ out.old.items)) }
     {
         match self {
@@ -54,8 +56,10 @@ impl RecordVersion {
 
     // The device of a record, which is all of the bytes.
     pub(crate) fn read(self, alloc: Global, bytes: &[u8]) -> Result<Device, Refusal>
-        ensures found { IfOk result (λ device. IsRecordIn self device × (bytes.now ≡ record_in self device)) }
-        ensures only { (device : Device) → IsRecordIn self device → bytes.now ≡ record_in self device
+        ensures found { IfOk result
+            (λ device. IsRecordIn self device × (bytes.now ≡ record_in self device)) }
+        ensures only { (device : Device) → IsRecordIn self device
+            → bytes.now ≡ record_in self device
             → MatchResult result (λ found. found ≡ device) (λ e. e ≡ OutOfMemory) }
         ensures refused { IfErr result (λ e. (e ≡ OutOfMemory) ⊎ (e ≡ Damaged)) }
     {

@@ -75,8 +75,8 @@ fn provisioning(dev_eui: u64, app_key: Key) -> Option<Provisioning> {
     })
 }
 
-/// Provisionings of new devices, each decided on the table that those before it leave. The DevEUI of a device
-/// is the number of its decision.
+/// Provisionings of new devices, each decided on the table that those before it leave. The DevEUI
+/// of a device is the number of its decision.
 pub fn provisionings(alloc: Global, table: &Table, seq: u64, count: u64) -> Result<Batch, Refusal> {
     let mut batch = Batch::new(alloc)?;
     let mut table = table.copy()?;
@@ -108,8 +108,8 @@ fn add_provisionings(
     Ok(())
 }
 
-/// Decides a command on the table, under the number after `seq`, and adds the decision to the batch, which is thrown away
-/// where the table doesn't admit it.
+/// Decides a command on the table, under the number after `seq`, and adds the decision to the
+/// batch, which is thrown away where the table doesn't admit it.
 pub fn add(
     alloc: Global,
     table: &mut Table,

@@ -86,7 +86,8 @@ fn brought(released: &[Released]) -> Option<usize> {
     Some(released.len())
 }
 
-// How many of the provisionings of a batch leave in order. Those of another batch are lost, as at a crash.
+// How many of the provisionings of a batch leave in order. Those of another batch are lost, as at a
+// crash.
 fn leave(alloc: Global, count: u64) -> Result<Option<usize>, Refusal> {
     durable(alloc, count)?.lose();
     let released = durable(alloc, count)?.release();
@@ -181,8 +182,9 @@ const THREE: Round = (Ok(3), Leaves::Brought(3));
 
 const ALL: Round = (Ok(64), Leaves::Brought(64));
 
-// Two rounds on a disk whose call of this number fails, or none where it is 0; the second batch is made of the empty table
-// too. How many devices each batch brings, what comes of the rounds, and how many decisions are durable after them.
+// Two rounds on a disk whose call of this number fails, or none where it is 0; the second batch is
+// made of the empty table too. How many devices each batch brings, what comes of the rounds, and
+// how many decisions are durable after them.
 const ROUNDS: &[(u64, (u64, u64), (Round, Round), u64)] = &[
     // an empty batch
     (0, (0, 0), (NOTHING, NOTHING), 0),
@@ -315,21 +317,22 @@ fn request(alloc: Global, dev_nonce: u16, mic: u32) -> Result<Command, Refusal> 
     heard(alloc, &digits)
 }
 
-// How many accepts leave and how many checkpoints are written, and the last number, where the device joins with each
-// of these MICs, the DevNonces from 1 on.
+// How many accepts leave and how many checkpoints are written, and the last number, where the
+// device joins with each of these MICs, the DevNonces from 1 on.
 fn joins(alloc: Global, mics: &[u32]) -> Result<(usize, usize, u64), Refusal> {
     let mut flushed = Flushed::new(alloc)?;
     flushed.join_all(alloc, mics)
 }
 
-// A record with sixteen such items has some 4,200 bytes, of which 807,510 fit into an area's journal.
+// A record with sixteen such items has some 4,200 bytes, of which 807,510 fit into an area's
+// journal.
 #[test]
 fn a_store_never_fills(rt: HostRuntime) {
     assert!(rt; joins(rt.alloc(), mics()) == Ok((400, 2, 417)));
 }
 
-// What comes of a round that has to write a checkpoint, where a call of the disk fails: its refusal, how many accepts left
-// by it, and whether the store kept its number.
+// What comes of a round that has to write a checkpoint, where a call of the disk fails: its
+// refusal, how many accepts left by it, and whether the store kept its number.
 type Checkpointing = (Option<Refusal>, usize, bool);
 
 fn failing_checkpoint(alloc: Global, call: u64) -> Result<Checkpointing, Refusal> {
@@ -390,7 +393,8 @@ fn nothing_leaves_where_a_checkpoint_fails(rt: HostRuntime) {
     assert!(rt; failing_checkpoint(rt.alloc(), 9) == Ok((None, 1, false)));
 }
 
-// The MICs of the Join-Requests with the DevNonces from 1 to 400. (Whoever calls this has no list of 400 in its proof.)
+// The MICs of the Join-Requests with the DevNonces from 1 to 400. (Whoever calls this has no list
+// of 400 in its proof.)
 fn mics() -> &'static [u32] {
     MICS
 }

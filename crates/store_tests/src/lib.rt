@@ -1,5 +1,5 @@
-//! Tests of the public calls of the store's layout, the store and the flusher. They stand above those
-//! crates, so that each of these is proved once.
+//! Tests of the public calls of the store's layout, the store and the flusher. They stand above
+//! those crates, so that each of these is proved once.
 #![tactic(auto)]
 
 #[cfg(test)]

@@ -9,13 +9,14 @@ use lw_types::Refusal;
 use std::alloc::Global;
 use store::{Store, open};
 
-// The front of the second area after a checkpoint of one device: its gate, version, generation, sequence number, number
-// of records and their length.
+// The front of the second area after a checkpoint of one device: its gate, version, generation,
+// sequence number, number of records and their length.
 const CHECKPOINT: [u8; 30] = [
     0xA5, 1, 0, 0, 0, 0, 0, 0, 0, 2, 0, 0, 0, 0, 0, 0, 0, 1, 0, 0, 0, 1, 0, 0, 0, 0, 0, 0, 0, 55,
 ];
 
-// Whether the second area has the entry that the batch of the first one has, and behind it a closed gate.
+// Whether the second area has the entry that the batch of the first one has, and behind it a closed
+// gate.
 fn has_checkpoint(content: &[u8]) -> bool {
     if content.len() != LEN {
         return false;
@@ -53,8 +54,8 @@ fn begin_again(alloc: Global, store: &mut Store<MemDisk>, calls: u64) -> Result<
     begin_checkpoint(alloc, store, calls)
 }
 
-// What is found after a checkpoint whose first call a crash cut off to this image, so many calls of one that is begun
-// again, and another crash.
+// What is found after a checkpoint whose first call a crash cut off to this image, so many calls of
+// one that is begun again, and another crash.
 fn begun_again(alloc: Global, calls: u64, image: &Image) -> Result<(usize, u64), Refusal> {
     let mut disk = cut(alloc, "1", 'c', 1)?;
     disk.crash(image);
@@ -89,8 +90,8 @@ const DAMAGED: Answer = Err(Refusal::Damaged);
 
 const OTHER_VERSION: Answer = Err(Refusal::WrongVersion);
 
-// What other bytes of one disk, one after another, make an opening answer, where there is one. Each opening takes back what
-// the one before changed.
+// What other bytes of one disk, one after another, make an opening answer, where there is one. Each
+// opening takes back what the one before changed.
 const OPENINGS: &[(usize, u8, Option<Answer>)] = &[
     // Nothing is changed.
     (GATE_A, 0xA5, Some(FOUND)),
@@ -210,8 +211,8 @@ fn any_byte_of_a_front_has_an_answer(rt: HostRuntime) {
     assert!(rt; without == Ok(None), "{without:?}");
 }
 
-// The answers of two checkpoints and a commit in a store whose live area has a generation with these bytes; the number of
-// the store then, and what is found.
+// The answers of two checkpoints and a commit in a store whose live area has a generation with
+// these bytes; the number of the store then, and what is found.
 fn last(alloc: Global, generation: &[u8]) -> Result<Answers, Refusal> {
     let mut disk = two_generations(alloc)?;
     match put(&mut disk, HIGH_B, generation) {

@@ -14,7 +14,8 @@ type Change = (usize, u8, Option<Refusal>);
 
 // The faults in the order in which they count.
 const FAULTS: &[Change] = &[
-    // The superblock's gate, name, version, NetID, slots, area and zeros; and the length of the disk that it says.
+    // The superblock's gate, name, version, NetID, slots, area and zeros; and the length of the
+    // disk that it says.
     (0, 0x5A, Some(Refusal::NotFormatted)),
     (7, 0x46, Some(Refusal::NotFormatted)),
     (8, 2, Some(Refusal::WrongVersion)),
@@ -32,7 +33,8 @@ const FAULTS: &[Change] = &[
     (GATE_A, 0, None),
     (GATE_B, 0, Some(Refusal::Damaged)),
     (LOW_A, 2, Some(Refusal::Damaged)),
-    // The live one's version, generation, records, their number, and the first one's kind, slot and length.
+    // The live one's version, generation, records, their number, and the first one's kind, slot and
+    // length.
     (VERSION_B, 2, Some(Refusal::WrongVersion)),
     (HIGH_B, 0x80, Some(Refusal::Damaged)),
     (LEN_B, 0, None),
@@ -41,7 +43,8 @@ const FAULTS: &[Change] = &[
     (SECOND_AREA + 30, 2, Some(Refusal::Damaged)),
     (SECOND_AREA + 32, 1, Some(Refusal::Damaged)),
     (SECOND_AREA + 34, 51, Some(Refusal::Damaged)),
-    // Its batch's length, last sequence number and number of entries, the entry's slot and its DevEUI.
+    // Its batch's length, last sequence number and number of entries, the entry's slot and its
+    // DevEUI.
     (BATCH + 1, 1, Some(Refusal::Damaged)),
     (BATCH + 12, 3, Some(Refusal::Damaged)),
     (BATCH + 14, 0, Some(Refusal::Damaged)),
@@ -123,8 +126,8 @@ fn first_other(alloc: Global, disk: &mut MemDisk, image: &[u8]) -> Result<Option
     Ok(None)
 }
 
-// What an image answers that has an area of generation 1, and one of generation 2 with a checkpoint of one device and a
-// batch that brings another; and its first fault out of order.
+// What an image answers that has an area of generation 1, and one of generation 2 with a checkpoint
+// of one device and a batch that brings another; and its first fault out of order.
 type Order = ((usize, u64), Option<usize>);
 
 fn order(alloc: Global) -> Result<Order, Refusal> {

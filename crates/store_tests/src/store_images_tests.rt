@@ -15,8 +15,8 @@ fn image(alloc: Global) -> Result<Vec<u8>, Refusal> {
     Ok(disk.content().to_vec(alloc)?)
 }
 
-// The length of a disk, of whose bytes those from one place to another are this byte; the call of its opening that fails, if
-// any; and the answer.
+// The length of a disk, of whose bytes those from one place to another are this byte; the call of
+// its opening that fails, if any; and the answer.
 type Spoiled = (
     usize,
     (usize, usize),
@@ -69,7 +69,8 @@ const SPOILED: &[Spoiled] = &[
     (LEN, (34, 35), 0x80, 0, Err(Refusal::Damaged)),
     // The length of the records.
     (LEN, (54, 55), 0x01, 0, Err(Refusal::Damaged)),
-    // The batch's gate, behind which nothing counts, its length, last sequence number and number of entries.
+    // The batch's gate, behind which nothing counts, its length, last sequence number and number of
+    // entries.
     (LEN, (62, 63), 0x00, 0, Ok((0, 0))),
     (LEN, (63, 67), 0xFF, 0, Err(Refusal::Damaged)),
     (LEN, (74, 75), 0x02, 0, Err(Refusal::Damaged)),
@@ -164,7 +165,8 @@ fn add_batch(
     }
 }
 
-// A disk with these bytes in front, then a closed gate, and open gates behind it up to the second area, which is closed.
+// A disk with these bytes in front, then a closed gate, and open gates behind it up to the second
+// area, which is closed.
 fn disk_of(alloc: Global, mut bytes: Vec<u8>) -> Result<MemDisk, Refusal> {
     bytes.push(0x00)?;
     bytes.resize(SECOND_AREA, 0xA5)?;
@@ -201,8 +203,8 @@ const OTHER: &[Entry] = &[(1, 9, false)];
 
 const REPLACED: &[Entry] = &[(0, 1, true), (1, 9, false), (2, 3, true)];
 
-// A store with an idle device, a batch of more than 12,000 bytes that puts records at its slot and at new ones, and a
-// batch that gives the second slot to another device.
+// A store with an idle device, a batch of more than 12,000 bytes that puts records at its slot and
+// at new ones, and a batch that gives the second slot to another device.
 fn replaced(alloc: Global) -> Result<MemDisk, Refusal> {
     let mut bytes = checkpoint(alloc, 1, IDLE)?;
     let before = bytes.len();

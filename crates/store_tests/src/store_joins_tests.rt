@@ -1,4 +1,5 @@
-// Batches that replace the record of a slot in use. The frames were made by Python's `cryptography`.
+// Batches that replace the record of a slot in use. The frames were made by Python's
+// `cryptography`.
 use crate::devices_under_test::{add, heard, joining};
 use crate::stores_under_test::{ALL, begin_commit, new_store};
 use devices::Command;
@@ -15,7 +16,8 @@ const JOIN_2: &str = "00080706050403020118171615141312110200C13BE455";
 
 const JOIN_3: &str = "00080706050403020118171615141312110300E85E42DA";
 
-// What a letter asks for: `b` brings the device, and a digit is its Join-Request with this DevNonce.
+// What a letter asks for: `b` brings the device, and a digit is its Join-Request with this
+// DevNonce.
 fn command(alloc: Global, letter: char) -> Result<Command, Refusal> {
     match letter {
         '1' => heard(alloc, JOIN_1),

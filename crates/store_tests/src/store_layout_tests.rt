@@ -79,7 +79,8 @@ fn entries(alloc: Global, count: u64) -> Result<Vec<u8>, Refusal> {
 // How many devices a table has, and in which slot that of a DevEUI is.
 type Replayed = (usize, Option<u16>);
 
-// So many bytes of the entries are read as so many, on the table, which then has the device of that DevEUI.
+// So many bytes of the entries are read as so many, on the table, which then has the device of that
+// DevEUI.
 fn replayed(
     alloc: Global,
     table: &mut Table,
@@ -94,8 +95,8 @@ fn replayed(
     Ok((table.devices().len(), table.slot_of(Eui(u64::from(count)))))
 }
 
-// How many provisionings a batch has, and the length of their entries; how many bytes of them are read as how many entries,
-// on a table of how many slots; and what that leads to.
+// How many provisionings a batch has, and the length of their entries; how many bytes of them are
+// read as how many entries, on a table of how many slots; and what that leads to.
 type Replay = (u64, usize, usize, u32, u64, Result<Replayed, Refusal>);
 
 fn replays(alloc: Global, row: &Replay) -> Result<bool, Refusal> {

@@ -15,7 +15,8 @@ pub const FRONT: [u8; 62] = [
     // The superblock.
     0xA5, 0x4C, 0x4E, 0x53, 0x54, 0x4F, 0x52, 0x45, 1, 0, 0, 0x2A, 0, 0, 0, 8, 0, 0, 0, 0, 0, 0x10,
     0x86, 0xA6, 0, 0, 0, 0, 0, 0, 0, 0,
-    // The first area: its gate, version, generation, sequence number, number of records and their length.
+    // The first area: its gate, version, generation, sequence number, number of records and their
+    // length.
     0xA5, 1, 0, 0, 0, 0, 0, 0, 0, 1, 0, 0, 0, 0, 0, 0, 0, 0, 0, 0, 0, 0, 0, 0, 0, 0, 0, 0, 0, 0,
 ];
 
@@ -65,7 +66,8 @@ fn a_format_that_is_cut_leaves_no_store_or_a_new_one(rt: HostRuntime) {
     }
 }
 
-// Whether a new store has no devices, and its disk the length and the front of its layout with a closed gate in each area.
+// Whether a new store has no devices, and its disk the length and the front of its layout with a
+// closed gate in each area.
 fn is_new(alloc: Global) -> Result<bool, Refusal> {
     let store = new_store(alloc, 8)?;
     let is_empty = store.roomy() && store.seq() == 0 && store.table().devices().is_empty();
@@ -220,7 +222,8 @@ fn a_store_goes_on(rt: HostRuntime) {
     }
 }
 
-// Answers of a step, of the same step again and of a commit after it; the number of the store then, and what is found.
+// Answers of a step, of the same step again and of a commit after it; the number of the store then,
+// and what is found.
 pub type Answers = (Three, u64, (usize, u64));
 
 pub type Three = (
@@ -257,8 +260,8 @@ fn done_before(steps: u8) -> Three {
     }
 }
 
-// Steps, and the calls of commits behind them that go well; how many commits are done, the number then, and how many devices
-// are found.
+// Steps, and the calls of commits behind them that go well; how many commits are done, the number
+// then, and how many devices are found.
 const FAILURES: &[(&str, u8, u8, u64, u64)] = &[
     ("", 0, 0, 0, 0),
     // The sync of the body, and that of the gate.
@@ -303,7 +306,8 @@ enum Other {
     Jumping,
     /// There is none.
     Empty,
-    /// Two decisions that were made of one table, numbered on: the second was not made of what the first leaves.
+    /// Two decisions that were made of one table, numbered on: the second was not made of what the
+    /// first leaves.
     BothOfOneTable,
 }
 

@@ -1,9 +1,12 @@
 // The stores of these tests, steps on them, and what is found on their disks.
 ghost use Rattle.std.specs.Prelude.{◌≡◌, true, false};
-ghost use Rattle.store.specs.Checkpointing.{FitsOther, checkpoint_size, checkpoint_synced_size, checkpoint_written_size};
+ghost use Rattle.store.specs.Checkpointing.{FitsOther, checkpoint_size, checkpoint_synced_size};
+ghost use Rattle.store.specs.Checkpointing.{checkpoint_written_size};
 ghost use Rattle.store.specs.Commit.{IsUnderWay};
-ghost use Rattle.store.specs.Phases.{begun_change, begun_size, opened_change, opened_size, synced_change, synced_size, written_change, written_size};
-ghost use Rattle.store.specs.State.{seen};
+ghost use Rattle.store.specs.Phases.{begun_change, begun_size, gate_written_change};
+ghost use Rattle.store.specs.Phases.{gate_written_size, body_synced_change, body_synced_size};
+ghost use Rattle.store.specs.Phases.{written_change, written_size};
+ghost use Rattle.store.specs.State.{store_state};
 
 use crate::devices_under_test::{net_id, provisionings, slots};
 use disk::{Disk, Image, MemDisk, Sim};
@@ -21,8 +24,8 @@ pub const LEN: usize = 2_166_124;
 
 pub const SECOND_AREA: usize = 32 + 1_083_046;
 
-/// The gates of both areas, their versions, the first and the last byte of their generations, and the first bytes of the
-/// length of their records.
+/// The gates of both areas, their versions, the first and the last byte of their generations, and
+/// the first bytes of the length of their records.
 pub const GATE_A: usize = 32;
 
 pub const GATE_B: usize = SECOND_AREA;
@@ -52,7 +55,8 @@ pub fn new_store(alloc: Global, count: u64) -> Result<Store<MemDisk>, Refusal> {
     format(alloc, blank(alloc, len)?, net_id()?, count)
 }
 
-/// All calls of a commit, which has four, and of a checkpoint, which has four, or six where the other area is open.
+/// All calls of a commit, which has four, and of a checkpoint, which has four, or six where the
+/// other area is open.
 pub const ALL: u64 = 6;
 
 /// The first calls of a commit.
@@ -72,7 +76,7 @@ pub fn begin_commit(
 }
 
 fn write_batch<D: Disk>(begun: Begun, store: &mut Store<D>, calls: u64) -> Result<(), Refusal>
-    requires { IsUnderWay (seen D.state store.old) (begun_change begun) (begun_size begun) }
+    requires { IsUnderWay (store_state D.state store.old) (begun_change begun) (begun_size begun) }
 {
     match begun.write(store) {
         Ok(written) if calls == 1 => {
@@ -85,7 +89,8 @@ fn write_batch<D: Disk>(begun: Begun, store: &mut Store<D>, calls: u64) -> Resul
 }
 
 fn sync_batch<D: Disk>(written: Written, store: &mut Store<D>, calls: u64) -> Result<(), Refusal>
-    requires { IsUnderWay (seen D.state store.old) (written_change written) (written_size written) }
+    requires { IsUnderWay (store_state D.state store.old) (written_change written)
+        (written_size written) }
 {
     match written.sync(store) {
         Ok(synced) if calls == 2 => {
@@ -98,7 +103,8 @@ fn sync_batch<D: Disk>(written: Written, store: &mut Store<D>, calls: u64) -> Re
 }
 
 fn open_batch<D: Disk>(synced: BodySynced, store: &mut Store<D>, calls: u64) -> Result<(), Refusal>
-    requires { IsUnderWay (seen D.state store.old) (synced_change synced) (synced_size synced) }
+    requires { IsUnderWay (store_state D.state store.old) (body_synced_change synced)
+        (body_synced_size synced) }
 {
     match synced.open_gate(store) {
         Ok(opened) if calls == 3 => {
@@ -111,7 +117,8 @@ fn open_batch<D: Disk>(synced: BodySynced, store: &mut Store<D>, calls: u64) -> 
 }
 
 fn finish_batch<D: Disk>(opened: GateWritten, store: &mut Store<D>) -> Result<(), Refusal>
-    requires { IsUnderWay (seen D.state store.old) (opened_change opened) (opened_size opened) }
+    requires { IsUnderWay (store_state D.state store.old) (gate_written_change opened)
+        (gate_written_size opened) }
 {
     match opened.sync(store) {
         Ok(durable) => {
@@ -137,8 +144,8 @@ pub fn begin_checkpoint(
 }
 
 fn retire<D: Disk>(checkpoint: Checkpoint, store: &mut Store<D>, calls: u64) -> Result<(), Refusal>
-    requires open { (seen D.state store.old).log.other_open ≡ true }
-    requires fits { FitsOther (seen D.state store.old) (checkpoint_size checkpoint) }
+    requires open { (store_state D.state store.old).log.other_open ≡ true }
+    requires fits { FitsOther (store_state D.state store.old) (checkpoint_size checkpoint) }
 {
     let retiring = checkpoint.retire(store)?;
     if calls <= 1 {
@@ -154,8 +161,8 @@ fn retire<D: Disk>(checkpoint: Checkpoint, store: &mut Store<D>, calls: u64) -> 
 }
 
 fn write<D: Disk>(checkpoint: Checkpoint, store: &mut Store<D>, calls: u64) -> Result<(), Refusal>
-    requires closed { (seen D.state store.old).log.other_open ≡ false }
-    requires fits { FitsOther (seen D.state store.old) (checkpoint_size checkpoint) }
+    requires closed { (store_state D.state store.old).log.other_open ≡ false }
+    requires fits { FitsOther (store_state D.state store.old) (checkpoint_size checkpoint) }
 {
     match checkpoint.write(store) {
         Ok(written) if calls <= 1 => {
@@ -172,7 +179,7 @@ fn sync<D: Disk>(
     store: &mut Store<D>,
     calls: u64,
 ) -> Result<(), Refusal>
-    requires { FitsOther (seen D.state store.old) (checkpoint_written_size written) }
+    requires { FitsOther (store_state D.state store.old) (checkpoint_written_size written) }
 {
     match written.sync(store) {
         Ok(synced) if calls == 2 => {
@@ -189,7 +196,7 @@ fn open_gate<D: Disk>(
     store: &mut Store<D>,
     calls: u64,
 ) -> Result<(), Refusal>
-    requires { FitsOther (seen D.state store.old) (checkpoint_synced_size synced) }
+    requires { FitsOther (store_state D.state store.old) (checkpoint_synced_size synced) }
 {
     match synced.open_gate(store) {
         Ok(opened) if calls == 3 => {
@@ -201,8 +208,8 @@ fn open_gate<D: Disk>(
     }
 }
 
-/// The first calls of a step: `c` is a checkpoint; a digit, `x` and `m` are commits of so many provisionings, of ten, and
-/// of as many as a batch may have.
+/// The first calls of a step: `c` is a checkpoint; a digit, `x` and `m` are commits of so many
+/// provisionings, of ten, and of as many as a batch may have.
 pub fn take(
     alloc: Global,
     store: &mut Store<MemDisk>,
@@ -248,8 +255,8 @@ pub fn cut(alloc: Global, steps: &str, last: char, calls: u64) -> Result<MemDisk
     }
 }
 
-/// How many devices a store has, and its number. It is damaged where the device of the DevEUI 1 isn't in the first slot, or
-/// that of the number not in the last one.
+/// How many devices a store has, and its number. It is damaged where the device of the DevEUI 1
+/// isn't in the first slot, or that of the number not in the last one.
 pub fn state_of(store: &Store<MemDisk>) -> Result<(usize, u64), Refusal> {
     let (table, seq) = (store.table(), store.seq());
     let count = table.devices().len();

@@ -3,7 +3,7 @@ use Rattle.std.proofs.Common.{◌≡◌, ◌<◌, ℕ, Bool, true, false, cond, 
 use Rattle.lw_types.specs.declared.refusal.Refusal.{Refusal}
 use Rattle.counters.specs.declared.Rebuilt.{Rebuilt}
 use Rattle.counters.specs.declared.Rebuilt.TheVariants as counter
-use Rattle.counters.specs.Rebuilt.{rebuilt}
+use Rattle.counters.specs.Rebuilt.{rebuilt_counter}
 use Rattle.phy_payload.specs.declared.data_frame.DataFrame.{DataFrame}
 use Rattle.devices.specs.Activation.{Grants}
 use Rattle.devices.specs.declared.activation.Session.{Session}
@@ -11,45 +11,45 @@ use Rattle.devices.specs.declared.activation.CurrentSession.{CurrentSession}
 use Rattle.uplinks.specs.declared.fit.Fit.{Fit}
 use Rattle.uplinks.specs.declared.fit.Fit.TheVariants.{First, Next, Again}
 use Rattle.uplinks.specs.declared.fit.Trial.{Trial}
-use Rattle.uplinks.specs.declared.fit.Trial.TheVariants.{Elsewhere, TooFar, Forged, Fits}
-use Rattle.uplinks.specs.Fit.{current_at, fit_of, further, is_for, is_signed, try_current, try_waiting, verdict, waiting_at, IsOf}
+use Rattle.uplinks.specs.declared.fit.Trial.TheVariants.{OtherDevAddr, BadCounter, BadMic, Fits}
+use Rattle.uplinks.specs.Fit.{current_at, fit_of, later_trial, is_for, is_signed, try_current, try_pending, verdict, pending_at, IsOf}
 
 -- a new counter is above the last one
 abbrev Grow : Type 0
-Grow = (last low n : ℕ) → rebuilt (Some last) low ≡ counter.New n → last < n
+Grow = (last low n : ℕ) → rebuilt_counter (Some last) low ≡ counter.New n → last < n
 
-apart-elsewhere : (fit : Fit) → Elsewhere ≡ Fits fit → ⊥
+apart-elsewhere : (fit : Fit) → OtherDevAddr ≡ Fits fit → ⊥
 apart-elsewhere fit h = cc
 
-apart-far : (fit : Fit) → TooFar ≡ Fits fit → ⊥
+apart-far : (fit : Fit) → BadCounter ≡ Fits fit → ⊥
 apart-far fit h = cc
 
-apart-forged : (fit : Fit) → Forged ≡ Fits fit → ⊥
+apart-forged : (fit : Fit) → BadMic ≡ Fits fit → ⊥
 apart-forged fit h = cc
 
 same-fit : (a b : Fit) → Fits a ≡ Fits b → a ≡ b
 same-fit a b h = cc
 
 -- where a frame is signed or forged, it fits only so
-if_fits : (signed : Bool) (a b : Fit) → cond signed (Fits a) Forged ≡ Fits b → a ≡ b
+if_fits : (signed : Bool) (a b : Fit) → cond signed (Fits a) BadMic ≡ Fits b → a ≡ b
 if_fits true a b h = same-fit a b h
 if_fits false a b h = absurd (apart-forged b h)
 
 -- ---- the session that waits
 
-waiting_is : (net_id slot : ℕ) (g : Grants) (frame : DataFrame) (fit : Fit) → try_waiting net_id slot g.pending frame ≡ Fits fit → IsOf g fit
+waiting_is : (net_id slot : ℕ) (g : Grants) (frame : DataFrame) (fit : Fit) → try_pending net_id slot g.pending frame ≡ Fits fit → IsOf g fit
 waiting_is net_id slot g frame fit = at g.pending refl
   where
-    counted : (s : Session) → g.pending ≡ Some s → (r : Rebuilt) → waiting_at s frame r ≡ Fits fit → IsOf g fit
+    counted : (s : Session) → g.pending ≡ Some s → (r : Rebuilt) → pending_at s frame r ≡ Fits fit → IsOf g fit
     counted s is (counter.New n) h = subst (λ f. IsOf g f) (if_fits (is_signed s n frame) (First s n) fit h) is
     counted s is counter.Repeat h = absurd (apart-far fit h)
     counted s is counter.Gap h = absurd (apart-far fit h)
 
-    named : (s : Session) → g.pending ≡ Some s → (b : Bool) → cond b (waiting_at s frame (rebuilt None frame.f_cnt)) Elsewhere ≡ Fits fit → IsOf g fit
-    named s is true h = counted s is (rebuilt None frame.f_cnt) h
+    named : (s : Session) → g.pending ≡ Some s → (b : Bool) → cond b (pending_at s frame (rebuilt_counter None frame.f_cnt)) OtherDevAddr ≡ Fits fit → IsOf g fit
+    named s is true h = counted s is (rebuilt_counter None frame.f_cnt) h
     named s is false h = absurd (apart-elsewhere fit h)
 
-    at : (o : Option Session) → g.pending ≡ o → try_waiting net_id slot o frame ≡ Fits fit → IsOf g fit
+    at : (o : Option Session) → g.pending ≡ o → try_pending net_id slot o frame ≡ Fits fit → IsOf g fit
     at None is h = absurd (apart-elsewhere fit h)
     at (Some s) is h = named s is (is_for net_id slot s frame) h
 
@@ -58,14 +58,14 @@ waiting_is net_id slot g frame fit = at g.pending refl
 current_is : Grow → (net_id slot : ℕ) (g : Grants) (frame : DataFrame) (fit : Fit) → try_current net_id slot g.current frame ≡ Fits fit → IsOf g fit
 current_is grow net_id slot g frame fit = at g.current refl
   where
-    counted : (c : CurrentSession) → g.current ≡ Some c → (r : Rebuilt) → rebuilt (Some c.last_up) frame.f_cnt ≡ r → current_at c frame r ≡ Fits fit → IsOf g fit
+    counted : (c : CurrentSession) → g.current ≡ Some c → (r : Rebuilt) → rebuilt_counter (Some c.last_up) frame.f_cnt ≡ r → current_at c frame r ≡ Fits fit → IsOf g fit
     counted c is (counter.New n) by h =
         subst (λ f. IsOf g f) (if_fits (is_signed c.session n frame) (Next c n) fit h) (is, grow c.last_up frame.f_cnt n by)
     counted c is counter.Repeat by h = subst (λ f. IsOf g f) (if_fits (is_signed c.session c.last_up frame) (Again c) fit h) is
     counted c is counter.Gap by h = absurd (apart-far fit h)
 
-    named : (c : CurrentSession) → g.current ≡ Some c → (b : Bool) → cond b (current_at c frame (rebuilt (Some c.last_up) frame.f_cnt)) Elsewhere ≡ Fits fit → IsOf g fit
-    named c is true h = counted c is (rebuilt (Some c.last_up) frame.f_cnt) refl h
+    named : (c : CurrentSession) → g.current ≡ Some c → (b : Bool) → cond b (current_at c frame (rebuilt_counter (Some c.last_up) frame.f_cnt)) OtherDevAddr ≡ Fits fit → IsOf g fit
+    named c is true h = counted c is (rebuilt_counter (Some c.last_up) frame.f_cnt) refl h
     named c is false h = absurd (apart-elsewhere fit h)
 
     at : (o : Option CurrentSession) → g.current ≡ o → try_current net_id slot o frame ≡ Fits fit → IsOf g fit
@@ -81,24 +81,24 @@ ok_fit : (a b : Fit) → ◌≡◌ {A = Result Fit Refusal} (Ok a) (Ok b) → a 
 ok_fit a b h = cc
 
 -- one of two trials is the fit
-either : (P : Type 0) (a b : Trial) (fit : Fit) → (a ≡ Fits fit → P) → (b ≡ Fits fit → P) → verdict (further a b) ≡ Ok fit → P
+either : (P : Type 0) (a b : Trial) (fit : Fit) → (a ≡ Fits fit → P) → (b ≡ Fits fit → P) → verdict (later_trial a b) ≡ Ok fit → P
 either P (Fits f) b fit one other h = one (ap Fits (ok_fit f fit h))
-either P Elsewhere (Fits f) fit one other h = other (ap Fits (ok_fit f fit h))
-either P Elsewhere Elsewhere fit one other h = absurd (no_fit _ fit h)
-either P Elsewhere TooFar fit one other h = absurd (no_fit _ fit h)
-either P Elsewhere Forged fit one other h = absurd (no_fit _ fit h)
-either P TooFar (Fits f) fit one other h = other (ap Fits (ok_fit f fit h))
-either P TooFar Elsewhere fit one other h = absurd (no_fit _ fit h)
-either P TooFar TooFar fit one other h = absurd (no_fit _ fit h)
-either P TooFar Forged fit one other h = absurd (no_fit _ fit h)
-either P Forged (Fits f) fit one other h = other (ap Fits (ok_fit f fit h))
-either P Forged Elsewhere fit one other h = absurd (no_fit _ fit h)
-either P Forged TooFar fit one other h = absurd (no_fit _ fit h)
-either P Forged Forged fit one other h = absurd (no_fit _ fit h)
+either P OtherDevAddr (Fits f) fit one other h = other (ap Fits (ok_fit f fit h))
+either P OtherDevAddr OtherDevAddr fit one other h = absurd (no_fit _ fit h)
+either P OtherDevAddr BadCounter fit one other h = absurd (no_fit _ fit h)
+either P OtherDevAddr BadMic fit one other h = absurd (no_fit _ fit h)
+either P BadCounter (Fits f) fit one other h = other (ap Fits (ok_fit f fit h))
+either P BadCounter OtherDevAddr fit one other h = absurd (no_fit _ fit h)
+either P BadCounter BadCounter fit one other h = absurd (no_fit _ fit h)
+either P BadCounter BadMic fit one other h = absurd (no_fit _ fit h)
+either P BadMic (Fits f) fit one other h = other (ap Fits (ok_fit f fit h))
+either P BadMic OtherDevAddr fit one other h = absurd (no_fit _ fit h)
+either P BadMic BadCounter fit one other h = absurd (no_fit _ fit h)
+either P BadMic BadMic fit one other h = absurd (no_fit _ fit h)
 
 pub fit_is : Grow → (net_id slot : ℕ) (g : Grants) (frame : DataFrame) (fit : Fit) → fit_of net_id slot g frame ≡ Ok fit → IsOf g fit
 fit_is grow net_id slot g frame fit h =
-    either (IsOf g fit) (try_waiting net_id slot g.pending frame) (try_current net_id slot g.current frame) fit
+    either (IsOf g fit) (try_pending net_id slot g.pending frame) (try_current net_id slot g.current frame) fit
     (waiting_is net_id slot g frame fit) (current_is grow net_id slot g frame fit) h
 
 -- so it is of a result that is one

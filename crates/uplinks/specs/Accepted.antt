@@ -1,12 +1,13 @@
 -- What a new uplink does (TS001-1.0.4 §4.3, §5).
-use Rattle.std.specs.Prelude.{ℕ, ◌==◌, ◌&&◌, Bool, false, nat_lt, if◌then◌else◌, List, [], ◌∷◌, ◌++◌, Option, Some, None}
+use Rattle.std.specs.Prelude.{ℕ, ◌==◌, ◌&&◌, Bool, false, nat_lt, if◌then◌else◌, List, [], ◌∷◌}
+use Rattle.std.specs.Prelude.{◌++◌, Option, Some, None}
 use Rattle.lw_types.specs.declared.direction.Direction.TheVariants.{Up}
 use Rattle.lw_types.specs.declared.identifiers.DevAddr.{DevAddr}
-use Rattle.frame_crypt.specs.Frames.{crypted}
-use Rattle.mac_commands.specs.Reading.{asks_link_check, told_bytes}
-use Rattle.phy_payload.specs.declared.contents.Message.{Message}
-use Rattle.devices.specs.Activation.{Grants, advanced, begun}
-use Rattle.devices.specs.Outcome.{Outcome, outcome, told}
+use Rattle.frame_crypt.specs.Frames.{crypted_payload}
+use Rattle.mac_commands.specs.Reading.{asks_link_check, reported_bytes}
+use Rattle.phy_payload.specs.declared.contents.PortPayload.{PortPayload}
+use Rattle.devices.specs.Activation.{Grants, with_last_up, with_current}
+use Rattle.devices.specs.DeviceStep.{DeviceStep, device_step, report_effects}
 use Rattle.devices.specs.declared.activation.CurrentSession.{CurrentSession}
 use Rattle.devices.specs.declared.device.Device.{Device}
 use Rattle.devices.specs.declared.effect.Effect.{Effect}
@@ -14,8 +15,8 @@ use Rattle.devices.specs.declared.effect.Effect.TheVariants.{Forward}
 use Rattle.devices.specs.declared.effect.Report.TheVariants.{Acked, Lost, Mac}
 use Rattle.devices.specs.declared.heard.Hearing.{Hearing}
 use Rattle.devices.specs.declared.Tag.{Tag}
-use Rattle.downlinks.specs.declared.load.Asked.{Asked}
-use Rattle.downlinks.specs.Reply.{answered, name_of}
+use Rattle.downlinks.specs.declared.load.Demand.{Demand}
+use Rattle.downlinks.specs.Reply.{answer_step, name_of}
 use Rattle.uplinks.specs.declared.fit.Fit.{Fit}
 use Rattle.uplinks.specs.declared.fit.Fit.TheVariants.{First, Next, Again}
 use Rattle.uplinks.specs.declared.uplink.Uplink.{Uplink}
@@ -28,10 +29,10 @@ session_after (First s counter) = record { session = s; last_up = counter; next_
 session_after (Next c counter) = record c { last_up = counter }
 session_after (Again c) = c
 
--- the device's sessions after an uplink: one that waited is in use from now on
+-- the device's sessions after an uplink: a pending one is current from now on
 abbrev pub grants_after : Grants → Fit → Grants
-grants_after g (First s counter) = begun g s counter
-grants_after g (Next c counter) = advanced g c counter
+grants_after g (First s counter) = with_current g s counter
+grants_after g (Next c counter) = with_last_up g c counter
 grants_after g (Again c) = g
 
 -- the device's record with the uplink's session and counter; no item is awaited any more
@@ -41,30 +42,32 @@ with_uplink d fit = record d { activation = grants_after d.activation fit; await
 -- ---- the item that was awaited
 
 -- whether the uplink acknowledges the last confirmed downlink, which was of the same session
-abbrev pub acknowledges : Fit → Uplink → Bool
-acknowledges (First s counter) u = false
-acknowledges (Next c counter) u = u.ack
-acknowledges (Again c) u = false
+abbrev pub is_acknowledgement : Fit → Uplink → Bool
+is_acknowledgement (First s counter) u = false
+is_acknowledgement (Next c counter) u = u.ack
+is_acknowledgement (Again c) u = false
 
-abbrev pub of_awaited : Device → Bool → Option Tag → List Effect
-of_awaited d acked None = []
-of_awaited d acked (Some tag) = told d (if acked then Acked tag else Lost tag)
+abbrev pub awaited_report : Device → Bool → Option Tag → List Effect
+awaited_report d acked None = []
+awaited_report d acked (Some tag) = report_effects d (if acked then Acked tag else Lost tag)
 
 -- ---- MAC commands
 
--- the MAC commands of the uplink: on port 0 they are encrypted under the NwkSKey (§4.3.2), else they stand in FOpts
-abbrev pub mac_bytes : DevAddr → CurrentSession → List ℕ → Option Message → List ℕ
+-- the MAC commands of the uplink: on port 0 they are encrypted under the NwkSKey (§4.3.2), else
+-- they stand in FOpts
+abbrev pub mac_bytes : DevAddr → CurrentSession → List ℕ → Option PortPayload → List ℕ
 mac_bytes addr c opts None = opts
 mac_bytes addr c opts (Some sent) =
-    if sent.f_port == 0 then crypted c.session.nwk_skey.0 Up addr.0 c.last_up sent.frm_payload else opts
+    if sent.f_port == 0 then crypted_payload c.session.nwk_skey.0 Up addr.0 c.last_up
+    sent.frm_payload else opts
 
 abbrev pub commands_of : CurrentSession → Uplink → List ℕ
 commands_of c u = mac_bytes u.frame.dev_addr c u.frame.contents.f_opts u.frame.contents.message
 
--- the application is told of those that the network doesn't answer itself, if there are any
+-- those that the network doesn't answer itself are reported, if there are any
 abbrev pub mac_report : Device → CurrentSession → List ℕ → List Effect
 mac_report d c [] = []
-mac_report d c (byte ∷ bytes) = told d (Mac c.session.join_nonce (byte ∷ bytes))
+mac_report d c (byte ∷ bytes) = report_effects d (Mac c.session.join_nonce (byte ∷ bytes))
 
 -- ---- the payload
 
@@ -72,13 +75,15 @@ mac_report d c (byte ∷ bytes) = told d (Mac c.session.join_nonce (byte ∷ byt
 abbrev pub is_application : ℕ → Bool
 is_application port = nat_lt 0 port && nat_lt port 224
 
--- the payload on an application's port is decrypted under the AppSKey and handed on, with the number of copies and the
--- best of them
-abbrev pub forwarded : DevAddr → Device → CurrentSession → ℕ → Hearing → Option Message → List Effect
-forwarded addr d c copies best None = []
-forwarded addr d c copies best (Some sent) =
+-- the payload on an application's port is decrypted under the AppSKey and handed on, with the
+-- number of copies and the best of them
+abbrev pub forward_effects : DevAddr → Device → CurrentSession → ℕ → Hearing → Option PortPayload
+    → List Effect
+forward_effects addr d c copies best None = []
+forward_effects addr d c copies best (Some sent) =
     if is_application sent.f_port
-    then Forward d.application (name_of d c) c.last_up sent.f_port (crypted c.session.app_skey.0 Up addr.0 c.last_up sent.frm_payload) copies
+    then Forward d.application (name_of d c) c.last_up sent.f_port
+    (crypted_payload c.session.app_skey.0 Up addr.0 c.last_up sent.frm_payload) copies
     best.reception
     ∷ []
     else []
@@ -86,8 +91,8 @@ forwarded addr d c copies best (Some sent) =
 -- ---- all of it
 
 -- what the uplink asks of the network
-abbrev pub asked_by : CurrentSession → Uplink → ℕ → Hearing → Asked
-asked_by c u heard by =
+abbrev pub demand_of : CurrentSession → Uplink → ℕ → Hearing → Demand
+demand_of c u heard by =
     record {
       confirmed = u.frame.confirmed;
       adr_ack_req = u.adr_ack_req;
@@ -97,18 +102,19 @@ asked_by c u heard by =
     }
 
 -- the effects before the answer, in their order
-abbrev pub told_by : Device → Fit → Uplink → ℕ → Hearing → List Effect
-told_by d fit u copies best =
+abbrev pub effects_before_answer : Device → Fit → Uplink → ℕ → Hearing → List Effect
+effects_before_answer d fit u copies best =
     let c = session_after fit in
-    of_awaited d (acknowledges fit u) d.awaited
-    ++ (mac_report d c (told_bytes (commands_of c u))
-    ++ forwarded u.frame.dev_addr d c copies best u.frame.contents.message)
+    awaited_report d (is_acknowledgement fit u) d.awaited
+    ++ (mac_report d c (reported_bytes (commands_of c u))
+    ++ forward_effects u.frame.dev_addr d c copies best u.frame.contents.message)
 
-abbrev pub with_effects : List Effect → Outcome → Outcome
-with_effects before o = outcome o.device (before ++ o.effects)
+abbrev pub with_effects : List Effect → DeviceStep → DeviceStep
+with_effects before o = device_step o.device (before ++ o.effects)
 
 -- a new uplink is taken: its session and counter are kept, then the device is answered
-abbrev pub taken : ℕ → ℕ → Device → Fit → Uplink → ℕ → Hearing → Outcome
-taken net_id slot d fit u copies best =
+abbrev pub uplink_step : ℕ → ℕ → Device → Fit → Uplink → ℕ → Hearing → DeviceStep
+uplink_step net_id slot d fit u copies best =
     let c = session_after fit in
-    with_effects (told_by d fit u copies best) (answered net_id slot (with_uplink d fit) c (asked_by c u copies best))
+    with_effects (effects_before_answer d fit u copies best)
+    (answer_step net_id slot (with_uplink d fit) c (demand_of c u copies best))

@@ -1,20 +1,21 @@
 -- Data frames from devices (TS001-1.0.4 §4.3).
-use Rattle.std.specs.Prelude.{ℕ, ◌==◌, Bool, false, if◌then◌else◌, List, [], ◌∷◌, Option, Some, None, Result, Ok, Err}
+use Rattle.std.specs.Prelude.{ℕ, ◌==◌, Bool, false, if◌then◌else◌, List, [], ◌∷◌, Option, Some}
+use Rattle.std.specs.Prelude.{None, Result, Ok, Err}
 use Rattle.lw_types.specs.declared.refusal.Refusal.{Refusal}
 use Rattle.lw_types.specs.declared.refusal.Refusal.TheVariants.{NotServed, MacBoth}
-use Rattle.phy_payload.specs.declared.contents.Message.{Message}
+use Rattle.phy_payload.specs.declared.contents.PortPayload.{PortPayload}
 use Rattle.phy_payload.specs.declared.control.Control.{Control}
 use Rattle.phy_payload.specs.declared.control.Control.TheVariants.{Uplink, Downlink}
 use Rattle.phy_payload.specs.declared.data_frame.DataFrame.{DataFrame}
 use Rattle.uplinks.specs.declared.uplink.Uplink as declared
 
 -- whether a message is on port 0, which is that of MAC commands (§4.3.2)
-abbrev pub is_on_port_0 : Option Message → Bool
+abbrev pub is_on_port_0 : Option PortPayload → Bool
 is_on_port_0 None = false
 is_on_port_0 (Some sent) = sent.f_port == 0
 
 -- whether MAC commands stand in FOpts and on port 0 at once, which is forbidden (§4.3.1.6)
-abbrev pub has_both : List ℕ → Option Message → Bool
+abbrev pub has_both : List ℕ → Option PortPayload → Bool
 has_both [] message = false
 has_both (byte ∷ opts) message = is_on_port_0 message
 

@@ -2,25 +2,27 @@
 ghost use Rattle.std.specs.Prelude.{◌≡◌, ◌≤◌, ◌<◌, ◌+◌, ◌++◌, [], length, IfOk, MatchResult, OnOk};
 ghost use Rattle.lw_types.specs.declared.refusal.Refusal.TheVariants.{OutOfMemory};
 ghost use Rattle.lw_types.specs.declared.direction.Direction.TheVariants.{Up};
-ghost use Rattle.frame_crypt.specs.Frames.{crypted};
-ghost use Rattle.mac_commands.specs.Reading.{asks_link_check, told_bytes};
+ghost use Rattle.frame_crypt.specs.Frames.{crypted_payload};
+ghost use Rattle.mac_commands.specs.Reading.{asks_link_check, reported_bytes};
 ghost use Rattle.devices.specs.Heard.{IsReceivable};
 ghost use Rattle.uplinks.specs.Fit.{IsOf};
-ghost use Rattle.uplinks.specs.Accepted.{acknowledges, forwarded, mac_bytes, mac_report, of_awaited, session_after, taken, with_uplink};
+ghost use Rattle.uplinks.specs.Accepted.{is_acknowledgement, forward_effects, mac_bytes};
+ghost use Rattle.uplinks.specs.Accepted.{mac_report, awaited_report, session_after, uplink_step};
+ghost use Rattle.uplinks.specs.Accepted.{with_uplink};
 
-use crate::arrival::{Place, Reach};
+use crate::arrival::{NetworkSlot, Reach};
 use crate::{Fit, Uplink};
 use devices::{
     CurrentSession, Device, Effect, Effects, NextDown, Payload, Port, Report, SessionName,
 };
-use downlinks::{Asked, answer};
+use downlinks::{Demand, answer};
 use frame_crypt::crypt_payload;
 use lw_types::{Direction, Key, Refusal};
-use mac_commands::{asks_link_check, read_told};
-use phy_payload::{DataFrame, Message};
+use mac_commands::{asks_link_check, read_reported};
+use phy_payload::{DataFrame, PortPayload};
 use std::alloc::{AllocError, Global};
 
-impl Place {
+impl NetworkSlot {
     // A new uplink is taken: its session and counter are kept, and the device is answered.
     pub fn take(
         &self,
@@ -35,7 +37,8 @@ impl Place {
         requires heard { IsReceivable reach.now.best.reception }
         requires none { effects.old ≡ [] }
         ensures { MatchResult result
-            (λ _. let o = taken self.now.net_id self.now.slot device.old fit uplink.now reach.now.copies reach.now.best in
+            (λ _. let o = uplink_step self.now.net_id self.now.slot device.old fit uplink.now
+            reach.now.copies reach.now.best in
             (device.new ≡ o.device) × (effects.new ≡ o.effects))
             (λ e. e ≡ OutOfMemory) }
     {
@@ -79,7 +82,7 @@ impl Fit {
 
     // Whether the uplink acknowledges the last confirmed downlink, which was of the same session.
     fn acknowledges(&self, uplink: &Uplink) -> bool
-        ensures { result ≡ acknowledges self.now uplink.now }
+        ensures { result ≡ is_acknowledgement self.now uplink.now }
     {
         match *self {
             Fit::First { .. } => false,
@@ -105,7 +108,8 @@ impl Fit {
 // The item that was awaited is acknowledged, or lost.
 fn tell_awaited(device: &Device, effects: &mut Effects, acked: bool) -> Result<(), AllocError>
     requires { length effects.old < Effects.MOST }
-    ensures told { OnOk result (effects.new ≡ effects.old ++ of_awaited device.now acked device.now.awaited) }
+    ensures told { OnOk result (effects.new
+        ≡ effects.old ++ awaited_report device.now acked device.now.awaited) }
     ensures one { OnOk result (length effects.new ≤ length effects.old + 1) }
 {
     match device.awaited {
@@ -123,7 +127,9 @@ fn commands(
     session: &CurrentSession,
     frame: &DataFrame,
 ) -> Result<Payload, AllocError>
-    ensures { IfOk result (λ bytes. bytes ≡ mac_bytes frame.now.dev_addr session.now frame.now.contents.f_opts frame.now.contents.message) }
+    ensures { IfOk result (λ bytes. bytes
+        ≡ mac_bytes frame.now.dev_addr session.now frame.now.contents.f_opts
+        frame.now.contents.message) }
 {
     match frame.contents.message() {
         Some(message) if message.f_port == 0 => {
@@ -140,9 +146,11 @@ fn decrypted(
     key: &Key,
     session: &CurrentSession,
     frame: &DataFrame,
-    message: &Message,
+    message: &PortPayload,
 ) -> Result<Payload, AllocError>
-    ensures { IfOk result (λ bytes. bytes ≡ crypted key.now.0 Up frame.now.dev_addr.0 session.now.last_up message.now.frm_payload) }
+    ensures { IfOk result (λ bytes. bytes
+        ≡ crypted_payload key.now.0 Up frame.now.dev_addr.0 session.now.last_up
+        message.now.frm_payload) }
 {
     let mut bytes = message.frm_payload.clone()?.into_vec();
     crypt_payload(
@@ -155,7 +163,7 @@ fn decrypted(
     Ok(Payload::new(bytes).unwrap())
 }
 
-// The application is told of the commands that the network doesn't answer itself, if there are any.
+// The commands that the network doesn't answer itself are reported, if there are any.
 fn report_commands(
     alloc: Global,
     device: &Device,
@@ -165,10 +173,11 @@ fn report_commands(
 ) -> Result<(), AllocError>
     requires room { length effects.old < Effects.MOST }
     requires short { length commands.now ≤ 242 }
-    ensures told { OnOk result (effects.new ≡ effects.old ++ mac_report device.now session.now (told_bytes commands.now)) }
+    ensures told { OnOk result (effects.new
+        ≡ effects.old ++ mac_report device.now session.now (reported_bytes commands.now)) }
     ensures one { OnOk result (length effects.new ≤ length effects.old + 1) }
 {
-    let told = read_told(alloc, commands)?;
+    let told = read_reported(alloc, commands)?;
     if told.is_empty() {
         return Ok(());
     }
@@ -182,7 +191,7 @@ fn report_commands(
 }
 
 // What the uplink with these MAC commands asks of the network.
-fn asked(uplink: &Uplink, commands: &[u8], reach: &Reach) -> Asked
+fn asked(uplink: &Uplink, commands: &[u8], reach: &Reach) -> Demand
     ensures { result ≡ record {
       confirmed = uplink.now.frame.confirmed;
       adr_ack_req = uplink.now.adr_ack_req;
@@ -191,7 +200,7 @@ fn asked(uplink: &Uplink, commands: &[u8], reach: &Reach) -> Asked
       copies = reach.now.copies;
     } }
 {
-    Asked {
+    Demand {
         confirmed: uplink.frame.confirmed,
         adr_ack_req: uplink.adr_ack_req,
         link_check: asks_link_check(commands),
@@ -213,7 +222,8 @@ fn forward(
 ) -> Result<(), AllocError>
     requires { length effects.old < Effects.MOST }
     ensures told { OnOk result (effects.new ≡ effects.old
-        ++ forwarded frame.now.dev_addr device.now session.now reach.now.copies reach.now.best frame.now.contents.message) }
+        ++ forward_effects frame.now.dev_addr device.now session.now reach.now.copies reach.now.best
+        frame.now.contents.message) }
     ensures one { OnOk result (length effects.new ≤ length effects.old + 1) }
 {
     let Some(message) = frame.contents.message() else {

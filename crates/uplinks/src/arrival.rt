@@ -4,7 +4,7 @@ use lw_types::NetId;
 
 /// A slot of a network.
 #[derive(Clone, Copy)]
-pub(crate) struct Place {
+pub(crate) struct NetworkSlot {
     pub net_id: NetId,
     pub slot: u16,
 }

@@ -1,10 +1,11 @@
 // Which session an uplink is of, and under which counter (TS001-1.0.4 §4.3.1.5, §4.4).
 ghost use Rattle.std.specs.Prelude.{◌≡◌, IfOk, None, Some};
-ghost use Rattle.counters.specs.Rebuilt.{rebuilt};
-ghost use Rattle.uplinks.specs.Fit.{current_at, fit_of, further, if_signed, is_for, try_current, try_waiting, verdict, waiting_at, IsOf};
+ghost use Rattle.counters.specs.Rebuilt.{rebuilt_counter};
+ghost use Rattle.uplinks.specs.Fit.{current_at, fit_of, later_trial, if_signed, is_for};
+ghost use Rattle.uplinks.specs.Fit.{try_current, try_pending, verdict, pending_at, IsOf};
 ghost use Rattle.uplinks.specs.Arrival.{IsMessageOf};
 
-use crate::arrival::Place;
+use crate::arrival::NetworkSlot;
 use crate::laws::a_fit_is_of_its_device;
 use counters::{Rebuilt, rebuild};
 use devices::{Activation, CurrentSession, Session, dev_addr};
@@ -15,17 +16,17 @@ use phy_payload::DataFrame;
 /// The session of which an uplink is.
 #[derive(Clone, Copy)]
 pub enum Fit {
-    /// The session that waited for its first uplink, and the uplink's counter.
+    /// The session that was pending, and the uplink's counter.
     First {
         session: Session,
         counter: u32,
     },
-    /// The session in use, and the uplink's counter, which is a later one.
+    /// The current session, and the uplink's counter, which is a later one.
     Next {
         session: CurrentSession,
         counter: u32,
     },
-    /// The session in use: its last uplink comes again.
+    /// The current session: its last uplink comes again.
     Again {
         session: CurrentSession,
     },
@@ -35,24 +36,24 @@ pub enum Fit {
 #[derive(Clone, Copy)]
 pub enum Trial {
     /// It has another address.
-    Elsewhere,
-    /// Its counter is too far above the last one.
-    TooFar,
+    OtherDevAddr,
+    /// Its counter is the last one or too far above it.
+    BadCounter,
     /// Its MIC isn't the session's.
-    Forged,
+    BadMic,
     /// It is of the session.
     Fits(Fit),
 }
 
 impl Trial {
     // The first that fits, else the one that came further.
-    fn further(self, other: Trial) -> Trial
-        ensures { result ≡ further self other }
+    fn later_trial(self, other: Trial) -> Trial
+        ensures { result ≡ later_trial self other }
     {
         match (self, other) {
             (Trial::Fits(_), _) => self,
-            (_, Trial::Elsewhere) => self,
-            (Trial::Forged, Trial::TooFar) => self,
+            (_, Trial::OtherDevAddr) => self,
+            (Trial::BadMic, Trial::BadCounter) => self,
             (_, _) => other,
         }
     }
@@ -62,16 +63,16 @@ impl Trial {
         ensures { result ≡ verdict self }
     {
         match self {
-            Trial::Elsewhere => Err(Refusal::UnknownDevAddr),
-            Trial::TooFar => Err(Refusal::CounterGap),
-            Trial::Forged => Err(Refusal::BadMic),
+            Trial::OtherDevAddr => Err(Refusal::UnknownDevAddr),
+            Trial::BadCounter => Err(Refusal::CounterGap),
+            Trial::BadMic => Err(Refusal::BadMic),
             Trial::Fits(fit) => Ok(fit),
         }
     }
 }
 
-impl Place {
-    // The session of the device of which the uplink is: the one that waits, or the one in use.
+impl NetworkSlot {
+    // The session of the device of which the uplink is: the pending or the current one.
     pub fn fit(
         &self,
         activation: &Activation,
@@ -84,24 +85,24 @@ impl Place {
     {
         a_fit_is_of_its_device();
         let (waiting, current) = (activation.pending(), activation.current());
-        let first = self.try_waiting(waiting, frame, message);
+        let first = self.try_pending(waiting, frame, message);
         let next = self.try_current(current, frame, message);
-        first.further(next).verdict()
+        first.later_trial(next).verdict()
     }
 
-    // How far the uplink comes into the session that waits, which has had no counter yet.
-    fn try_waiting(&self, waiting: Option<Session>, frame: &DataFrame, message: &[u8]) -> Trial
+    // How far the uplink comes into the pending session, which has had no counter yet.
+    fn try_pending(&self, waiting: Option<Session>, frame: &DataFrame, message: &[u8]) -> Trial
         requires { IsMessageOf frame.now message.now }
-        ensures { result ≡ try_waiting self.now.net_id self.now.slot waiting frame.now }
+        ensures { result ≡ try_pending self.now.net_id self.now.slot waiting frame.now }
     {
         match waiting {
             Some(session) if self.is_of(&session, frame) => try_first(session, frame, message),
-            Some(_) => Trial::Elsewhere,
-            None => Trial::Elsewhere,
+            Some(_) => Trial::OtherDevAddr,
+            None => Trial::OtherDevAddr,
         }
     }
 
-    // How far the uplink comes into the session in use.
+    // How far the uplink comes into the current session.
     fn try_current(
         &self,
         current: Option<CurrentSession>,
@@ -115,8 +116,8 @@ impl Place {
             Some(session) if self.is_of(&session.session, frame) => {
                 try_next(session, frame, message)
             }
-            Some(_) => Trial::Elsewhere,
-            None => Trial::Elsewhere,
+            Some(_) => Trial::OtherDevAddr,
+            None => Trial::OtherDevAddr,
         }
     }
 
@@ -128,25 +129,27 @@ impl Place {
     }
 }
 
-// How far an uplink comes into a session that waits and has its address.
+// How far an uplink comes into a pending session that has its address.
 fn try_first(session: Session, frame: &DataFrame, message: &[u8]) -> Trial
     requires { IsMessageOf frame.now message.now }
-    ensures { result ≡ waiting_at session frame.now (rebuilt None frame.now.f_cnt) }
+    ensures { result ≡ pending_at session frame.now (rebuilt_counter None frame.now.f_cnt) }
 {
     match rebuild(None, frame.f_cnt) {
         Rebuilt::New(counter) => {
             let fit = Fit::First { session, counter };
             if_signed(&session, counter, frame, message, fit)
         }
-        Rebuilt::Repeat => Trial::TooFar,
-        Rebuilt::Gap => Trial::TooFar,
+        Rebuilt::Repeat => Trial::BadCounter,
+        Rebuilt::Gap => Trial::BadCounter,
     }
 }
 
-// How far an uplink comes into a session in use that has its address. One that comes again has the last counter.
+// How far an uplink comes into a current session that has its address. One that comes again has the
+// last counter.
 fn try_next(current: CurrentSession, frame: &DataFrame, message: &[u8]) -> Trial
     requires { IsMessageOf frame.now message.now }
-    ensures { result ≡ current_at current frame.now (rebuilt (Some current.last_up) frame.now.f_cnt) }
+    ensures { result ≡ current_at current frame.now
+        (rebuilt_counter (Some current.last_up) frame.now.f_cnt) }
 {
     match rebuild(Some(current.last_up), frame.f_cnt) {
         Rebuilt::New(counter) => {
@@ -160,7 +163,7 @@ fn try_next(current: CurrentSession, frame: &DataFrame, message: &[u8]) -> Trial
             let fit = Fit::Again { session: current };
             if_signed(&current.session, current.last_up, frame, message, fit)
         }
-        Rebuilt::Gap => Trial::TooFar,
+        Rebuilt::Gap => Trial::BadCounter,
     }
 }
 
@@ -174,6 +177,6 @@ fn if_signed(session: &Session, counter: u32, frame: &DataFrame, message: &[u8],
     if frame.mic.0 == mic {
         Trial::Fits(fit)
     } else {
-        Trial::Forged
+        Trial::BadMic
     }
 }

@@ -4,7 +4,7 @@ ghost use Rattle.std.specs.Option.{option_copied};
 ghost use Rattle.uplinks.specs.Uplink.{has_both, is_on_port_0, uplink_of};
 
 use lw_types::Refusal;
-use phy_payload::{Control, DataFrame, Message};
+use phy_payload::{Control, DataFrame, PortPayload};
 
 /// A data frame from a device. Its MAC commands stand in FOpts or on port 0, and not in both.
 #[derive(Drop)]
@@ -17,8 +17,8 @@ pub struct Uplink {
 }
 
 impl Uplink {
-    /// The uplink that a data frame is. A downlink is refused as `NotServed`, and then FOpts together with port 0
-    /// as `MacBoth` (TS001-1.0.4 §4.3.1.6).
+    /// The uplink that a data frame is. A downlink is refused as `NotServed`, and then FOpts
+    /// together with port 0 as `MacBoth` (TS001-1.0.4 §4.3.1.6).
     pub fn new(frame: DataFrame) -> Result<Self, Refusal>
         ensures { result ≡ uplink_of frame }
     {
@@ -46,7 +46,7 @@ fn has_both(frame: &DataFrame) -> bool
 }
 
 // Whether a message is on port 0.
-fn is_on_port_0(message: Option<&Message>) -> bool
+fn is_on_port_0(message: Option<&PortPayload>) -> bool
     ensures { result ≡ is_on_port_0 (option_copied message.entry) }
 {
     match message {

@@ -7,59 +7,59 @@ use Rattle.lw_types.specs.Answer.{Answers, AnswersWithMemory}
 use Rattle.lw_types.specs.declared.refusal.Refusal.{Refusal}
 use Rattle.lw_types.specs.declared.refusal.Refusal.TheVariants.{Backlog, OutOfMemory}
 use Rattle.devices.specs.declared.command.Command.{Command}
-use Rattle.sessions.specs.Table.{TableState, Step, folded, step}
+use Rattle.sessions.specs.Table.{TableState, TableStep, fold_of, step}
 use Rattle.sessions.specs.Decision.{AnswersTo, is_frugal}
 use Rattle.sessions.specs.declared.decision.Decision.{Decision}
 use Rattle.world.specs.Folding.{RunLaws}
 use Rattle.session_core.specs.declared.decisions.TheConstants.{MOST_UNTAKEN, LAST_NUMBER}
 use Rattle.session_core.specs.State.{DecisionsState, IsLawful, now_of, last_number}
-use Rattle.session_core.specs.Deciding.{Keeps, Makes, has_room as core_has_room, wanted as core_wanted}
+use Rattle.session_core.specs.Deciding.{Keeps, Makes, has_room as core_has_room, step_if_room as core_wanted}
 use Rattle.store.specs.State.{StoreState}
-use Rattle.world.specs.declared.commit.Commit.{Commit}
-use Rattle.world.specs.Course.{Origin, Course, decided, flying, table_from, number_from, has_room, wanted, went}
-use Rattle.world.specs.Follows.{IsLife, taken}
+use Rattle.world.specs.declared.commit.UnderWay.{UnderWay}
+use Rattle.world.specs.Course.{Origin, Course, decided_commands, commands_in_flight, table_from, number_from, has_room, wanted, after_command}
+use Rattle.world.specs.Follows.{IsLife, taken_commands}
 
 not_refused : (why : Refusal) → ◌≡◌ {A = Result (Unit {0}) Refusal} (Ok tt) (Err why) → ⊥
 not_refused why h = cc
 
-no_step : (st : Step) (why : Refusal) → ◌≡◌ {A = Result Step Refusal} (Ok st) (Err why) → ⊥
+no_step : (st : TableStep) (why : Refusal) → ◌≡◌ {A = Result TableStep Refusal} (Ok st) (Err why) → ⊥
 no_step st why h = cc
 
-pub decided_is : (c : Course) → taken c ++ c.untaken ≡ decided c
+pub decided_is : (c : Course) → taken_commands c ++ c.untaken ≡ decided_commands c
 decided_is c =
-    append_assoc c.settled (flying c.flights ++ c.given_up) c.untaken ∙ ap (λ l. c.settled ++ l) (append_assoc (flying c.flights) c.given_up c.untaken)
+    append_assoc c.settled (commands_in_flight c.flights ++ c.given_up) c.untaken ∙ ap (λ l. c.settled ++ l) (append_assoc (commands_in_flight c.flights) c.given_up c.untaken)
 
 -- the course after a command that was to get this, and was answered so
-abbrev pub answered : Course → Command → Result Step Refusal → Result (Unit {0}) Refusal → Course
+abbrev pub answered : Course → Command → Result TableStep Refusal → Result (Unit {0}) Refusal → Course
 answered c command outcome (Err OutOfMemory) = c
-answered c command outcome result = went c command outcome
+answered c command outcome result = after_command c command outcome
 
 refused_stays : (c : Course) (command : Command) (why e : Refusal) → c ≡ answered c command (Err why) (Err e)
 refused_stays c command why OutOfMemory = refl
 refused_stays c command why e = refl
 
-pub with-memory : (c : Course) (command : Command) (outcome : Result Step Refusal) (result : Result (Unit {0}) Refusal) → result ≢ Err OutOfMemory
-    → answered c command outcome result ≡ went c command outcome
+pub with-memory : (c : Course) (command : Command) (outcome : Result TableStep Refusal) (result : Result (Unit {0}) Refusal) → result ≢ Err OutOfMemory
+    → answered c command outcome result ≡ after_command c command outcome
 with-memory c command outcome (Ok done) memory = refl
 with-memory c command outcome (Err OutOfMemory) memory = absurd (memory refl)
 with-memory c command outcome (Err e) memory = refl
 
-module _ (laws : RunLaws) (origin : Origin) (c : Course) (s : StoreState) (core : DecisionsState) (commit : Commit) (lawful : IsLawful core)
+module _ (laws : RunLaws) (origin : Origin) (c : Course) (s : StoreState) (core : DecisionsState) (commit : UnderWay) (lawful : IsLawful core)
     (f : IsLife origin c s core commit) where
   pub waiting : length core.log ≡ length c.untaken
   waiting = sym (length-map core.log (λ (d : Decision). d.command)) ∙ ap length f.untaken
 
-  pub last : last_number core ≡ number_from origin (decided c)
+  pub last : last_number core ≡ number_from origin (decided_commands c)
   last =
-      let whole : length (decided c) ≡ length (taken c) + length c.untaken = sym (ap length (decided_is c)) ∙ length-append (taken c) c.untaken in
+      let whole : length (decided_commands c) ≡ length (taken_commands c) + length c.untaken = sym (ap length (decided_is c)) ∙ length-append (taken_commands c) c.untaken in
       let log = waiting in
       omega (arith, lawful.count, f.number, log, whole)
 
-  pub now_is : now_of core ≡ table_from origin (decided c)
+  pub now_is : now_of core ≡ table_from origin (decided_commands c)
   now_is =
       sym (laws.folding core.base core.log lawful.continues.fit)
-      ∙ (ap (folded core.base) f.untaken
-      ∙ (ap (λ t. folded t c.untaken) f.base ∙ (sym (laws.joined origin.table (taken c) c.untaken) ∙ ap (table_from origin) (decided_is c))))
+      ∙ (ap (fold_of core.base) f.untaken
+      ∙ (ap (λ t. fold_of t c.untaken) f.base ∙ (sym (laws.joined origin.table (taken_commands c) c.untaken) ∙ ap (table_from origin) (decided_is c))))
 
   room_is : core_has_room core ≡ has_room origin c
   room_is =
@@ -72,10 +72,10 @@ module _ (laws : RunLaws) (origin : Origin) (c : Course) (s : StoreState) (core 
       ∙ ap (λ (t : TableState). cond (has_room origin c) (step t command) (Err Backlog)) now_is
 
   -- a command was decided
-  made : (command : Command) (st : Step) (new : DecisionsState) → Makes core command st new → IsLife origin (went c command (Ok st)) s new commit
+  made : (command : Command) (st : TableStep) (new : DecisionsState) → Makes core command st new → IsLife origin (after_command c command (Ok st)) s new commit
   made command st new makes =
       let d = makes.decision in
-      subst (λ n. IsLife origin (went c command (Ok st)) s n commit) (sym makes.new_is) (record {
+      subst (λ n. IsLife origin (after_command c command (Ok st)) s n commit) (sym makes.new_is) (record {
         table = f.table;
         seq = f.seq;
         base = f.base;
@@ -96,26 +96,26 @@ module _ (laws : RunLaws) (origin : Origin) (c : Course) (s : StoreState) (core 
   abbrev Verdict : {A B : Type 0} → Bool → Result A Refusal → (A → B → Type 0) → Result B Refusal → Type 0
   Verdict frugal outcome Is result = MatchBool frugal (Answers outcome Is result) (AnswersWithMemory outcome Is result)
 
-  abbrev Became : Bool → Command → DecisionsState → Result Step Refusal → Result (Unit {0}) Refusal → Type 0
+  abbrev Became : Bool → Command → DecisionsState → Result TableStep Refusal → Result (Unit {0}) Refusal → Type 0
   Became frugal command new outcome result =
       Verdict frugal outcome (λ _ _. Unit {0}) result × IsLife origin (answered c command outcome result) s new commit
 
   -- memory was out
-  became_out : (frugal : Bool) (command : Command) (new : DecisionsState) (st : Step) (e : Refusal) → e ≡ OutOfMemory → new ≡ core
-      → Verdict frugal (Ok st) (λ (_ : Step) (_ : Unit {0}). Unit {0}) (Err OutOfMemory) → Became frugal command new (Ok st) (Err e)
+  became_out : (frugal : Bool) (command : Command) (new : DecisionsState) (st : TableStep) (e : Refusal) → e ≡ OutOfMemory → new ≡ core
+      → Verdict frugal (Ok st) (λ (_ : TableStep) (_ : Unit {0}). Unit {0}) (Err OutOfMemory) → Became frugal command new (Ok st) (Err e)
   became_out frugal command new st e is kept verdict =
       subst (λ e. Became frugal command new (Ok st) (Err e)) (sym is) (verdict, same new kept)
 
   -- or the command was refused
   became_err : (frugal : Bool) (command : Command) (new : DecisionsState) (why e : Refusal) → new ≡ core
-      → Verdict frugal (Err why) (λ (_ : Step) (_ : Unit {0}). Unit {0}) (Err e) → Became frugal command new (Err why) (Err e)
+      → Verdict frugal (Err why) (λ (_ : TableStep) (_ : Unit {0}). Unit {0}) (Err e) → Became frugal command new (Err why) (Err e)
   became_err frugal command new why e kept verdict =
       (verdict, subst (λ k. IsLife origin k s new commit) (refused_stays c command why e) (same new kept))
 
-  became_by : (frugal : Bool) (command : Command) (new : DecisionsState) (outcome : Result Step Refusal) (result : Result (Unit {0}) Refusal)
+  became_by : (frugal : Bool) (command : Command) (new : DecisionsState) (outcome : Result TableStep Refusal) (result : Result (Unit {0}) Refusal)
       → Verdict frugal outcome (λ st _. Makes core command st new) result → OnErr result (new ≡ core) → Became frugal command new outcome result
-  became_by true command new (Ok st) (Ok done) decided kept = (tt, made command st new decided)
-  became_by false command new (Ok st) (Ok done) decided kept = (tt, made command st new decided)
+  became_by true command new (Ok st) (Ok done) decided_commands kept = (tt, made command st new decided_commands)
+  became_by false command new (Ok st) (Ok done) decided_commands kept = (tt, made command st new decided_commands)
   became_by true command new (Ok st) (Err e) is kept = became_out true command new st e is kept refl
   became_by false command new (Ok st) (Err e) (inl is) kept = became_out false command new st e is kept (inl refl)
   became_by false command new (Ok st) (Err e) (inr other) kept = absurd (no_step st e other)

@@ -5,14 +5,14 @@ use Rattle.devices.specs.declared.command.Command.{Command}
 use Rattle.devices.specs.declared.effect.Effect.{Effect}
 use Rattle.sessions.specs.Table.{effects_of}
 use Rattle.world.specs.Folding.{RunLaws}
-use Rattle.world.specs.Course.{Origin, Course, Flight, Stage, decided, flying, moved_on, table_from, effects_from}
+use Rattle.world.specs.Course.{Origin, Course, Flight, Stage, decided_commands, commands_in_flight, with_oldest_stage, table_from, effects_from}
 use Rattle.world.specs.Course.Stage.{Opened, Durable, Unsure}
 use Rattle.world.specs.Answers.{ByStage, Leaves, MayLeave}
-use Rattle.world.specs.Commits.{stored, with_durable}
+use Rattle.world.specs.Commits.{durable_commands, with_durable}
 use Rattle.sessions.specs.Marks.{IsSubsequence}
 
 -- a call changes no commands
-pub flying_moved : (move : Stage → Stage) (flights : List Flight) → flying (moved_on move flights) ≡ flying flights
+pub flying_moved : (move : Stage → Stage) (flights : List Flight) → commands_in_flight (with_oldest_stage move flights) ≡ commands_in_flight flights
 flying_moved move [] = refl
 flying_moved move (flight ∷ flights) = refl
 
@@ -20,14 +20,14 @@ with_behind : (stage : Stage) (a b more rest : List Command) → more ≡ a ++ r
 with_behind Durable a b more rest is = is
 with_behind stage a b more rest is = refl
 
-stored_behind : (a b : List Command) (flights : List Flight) → stored (a ++ b) flights ≡ a ++ stored b flights
+stored_behind : (a b : List Command) (flights : List Flight) → durable_commands (a ++ b) flights ≡ a ++ durable_commands b flights
 stored_behind a b [] = refl
 stored_behind a b (flight ∷ flights) =
-    with_behind flight.stage a b _ _ (ap (λ l. stored l flights) (append_assoc a b flight.commands) ∙ stored_behind a (b ++ flight.commands) flights)
+    with_behind flight.stage a b _ _ (ap (λ l. durable_commands l flights) (append_assoc a b flight.commands) ∙ stored_behind a (b ++ flight.commands) flights)
 
 -- what is stored, behind what is settled
-pub stored_from : (settled : List Command) (flights : List Flight) → stored settled flights ≡ settled ++ stored [] flights
-stored_from settled flights = ap (λ l. stored l flights) (sym (append-nil settled)) ∙ stored_behind settled [] flights
+pub stored_from : (settled : List Command) (flights : List Flight) → durable_commands settled flights ≡ settled ++ durable_commands [] flights
+stored_from settled flights = ap (λ l. durable_commands l flights) (sym (append-nil settled)) ∙ stored_behind settled [] flights
 
 by_stage : (stage : Stage) (X Y Z X' Y' Z' : Type 0) → (X → X') → (Y → Y') → (Z → Z') → ByStage stage X Y Z → ByStage stage X' Y' Z'
 by_stage Durable X Y Z X' Y' Z' f g h x = f x
@@ -52,11 +52,11 @@ pub leaves_from : (settled : List Command) (flights : List Flight) (kept : List 
 leaves_from settled flights kept h = subst (λ l. MayLeave l flights (settled ++ kept)) (append-nil settled) (leaves_behind settled [] flights kept h)
 
 -- what is left are the settled commands and a beginning of those under way
-pub record Beginning (settled flying kept : List Command) : Type 0 where
+pub record Beginning (settled commands_in_flight kept : List Command) : Type 0 where
   pub more : List Command
   pub rest : List Command
   pub kept_is : kept ≡ settled ++ more
-  pub flying_is : flying ≡ more ++ rest
+  pub flying_is : commands_in_flight ≡ more ++ rest
 
 by_case : (stage : Stage) (X Y Z P : Type 0) → (X → P) → (Y → P) → (Z → P) → ByStage stage X Y Z → P
 by_case Durable X Y Z P f g h x = f x
@@ -75,23 +75,23 @@ behind settled first others kept found = record {
   flying_is = ap (λ l. first ++ l) found.flying_is ∙ sym (append_assoc first found.more found.rest);
 }
 
-begins : (settled : List Command) (flights : List Flight) (kept : List Command) → MayLeave settled flights kept → Beginning settled (flying flights) kept
+begins : (settled : List Command) (flights : List Flight) (kept : List Command) → MayLeave settled flights kept → Beginning settled (commands_in_flight flights) kept
 begins settled [] kept is = record { more = []; rest = []; kept_is = is ∙ sym (append-nil settled); flying_is = refl }
 begins settled (flight ∷ flights) kept h =
-    by_case flight.stage _ _ _ (Beginning settled (flight.commands ++ flying flights) kept)
-    (λ there. behind settled flight.commands (flying flights) kept (begins (settled ++ flight.commands) flights kept there))
+    by_case flight.stage _ _ _ (Beginning settled (flight.commands ++ commands_in_flight flights) kept)
+    (λ there. behind settled flight.commands (commands_in_flight flights) kept (begins (settled ++ flight.commands) flights kept there))
     (λ doubtful. elim doubtful [
-      | inl is ↦ without settled flight.commands (flying flights) kept is
-      | inr is ↦ record { more = flight.commands; rest = flying flights; kept_is = is; flying_is = refl }
+      | inl is ↦ without settled flight.commands (commands_in_flight flights) kept is
+      | inr is ↦ record { more = flight.commands; rest = commands_in_flight flights; kept_is = is; flying_is = refl }
     ])
-    (without settled flight.commands (flying flights) kept) h
+    (without settled flight.commands (commands_in_flight flights) kept) h
 
 -- what a crash leaves is a beginning of the decided commands
-pub kept_front : (c : Course) (kept : List Command) → Leaves c kept → take (length kept) (decided c) ≡ kept
+pub kept_front : (c : Course) (kept : List Command) → Leaves c kept → take (length kept) (decided_commands c) ≡ kept
 kept_front c kept leaves =
     let found = begins c.settled c.flights kept leaves in
     let lost = c.given_up ++ c.untaken in
-    let whole : decided c ≡ kept ++ (found.rest ++ lost) =
+    let whole : decided_commands c ≡ kept ++ (found.rest ++ lost) =
     ap (λ l. c.settled ++ (l ++ lost)) found.flying_is
     ∙ (ap (λ l. c.settled ++ l) (append_assoc found.more found.rest lost)
     ∙ (sym (append_assoc c.settled found.more (found.rest ++ lost)) ∙ ap (λ l. l ++ (found.rest ++ lost)) (sym found.kept_is))) in

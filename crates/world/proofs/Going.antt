@@ -12,7 +12,7 @@ use Rattle.world.specs.declared.answer.Answer.TheVariants as answers
 use Rattle.world.specs.declared.event.Event.{Event}
 use Rattle.world.specs.declared.step.Step.{Step}
 use Rattle.world.specs.declared.step.Step.TheVariants as steps
-use Rattle.world.specs.Course.{Origin, Course, Flight, after, effects_from, pieced, released, table_from, told_more, turned, turned_all}
+use Rattle.world.specs.Course.{Origin, Course, Flight, course_after, effects_from, after_piece, after_release, table_from, with_piece, after_event, after_events}
 use Rattle.world.specs.Answers.{AnswersOpen, AnswersClosed, IsRight}
 use Rattle.sessions.specs.Marks.{IsSubsequence}
 use Rattle.world.specs.Follows.{IsOwn}
@@ -52,7 +52,7 @@ keeps_on origin a b c first second = record {
   );
 }
 
-released_keeps : (laws : RunLaws) (origin : Origin) (c : Course) (flights : List Flight) → Keeps origin c (released origin c flights)
+released_keeps : (laws : RunLaws) (origin : Origin) (c : Course) (flights : List Flight) → Keeps origin c (after_release origin c flights)
 released_keeps laws origin c [] = same_keeps origin c
 released_keeps laws origin c (flight ∷ flights) =
     let more = effects_of (table_from origin c.settled) flight.commands in
@@ -67,21 +67,21 @@ released_keeps laws origin c (flight ∷ flights) =
       grown = (more, refl);
     }
 
-refusal_keeps : (origin : Origin) (c : Course) (most : ℕ) (e : Refusal) → Keeps origin c (after origin c (steps.Take most) (answers.Refused e))
+refusal_keeps : (origin : Origin) (c : Course) (most : ℕ) (e : Refusal) → Keeps origin c (course_after origin c (steps.Take most) (answers.Refused e))
 refusal_keeps origin c most OutOfStep = keeps origin c _ refl refl refl refl
 refusal_keeps origin c most e = same_keeps origin c
 
-take_keeps : (origin : Origin) (c : Course) (most : ℕ) (answer : Answer) → Keeps origin c (after origin c (steps.Take most) answer)
+take_keeps : (origin : Origin) (c : Course) (most : ℕ) (answer : Answer) → Keeps origin c (course_after origin c (steps.Take most) answer)
 take_keeps origin c most (answers.Taken n) = keeps origin c _ refl refl refl refl
 take_keeps origin c most (answers.GivenUp n) = keeps origin c _ refl refl refl refl
 take_keeps origin c most (answers.Refused e) = refusal_keeps origin c most e
 take_keeps origin c most answer = same_keeps origin c
 
-checkpoint_keeps : (origin : Origin) (c : Course) (answer : Answer) → Keeps origin c (after origin c steps.Checkpoint answer)
+checkpoint_keeps : (origin : Origin) (c : Course) (answer : Answer) → Keeps origin c (course_after origin c steps.Checkpoint answer)
 checkpoint_keeps origin c (answers.Begun calls) = keeps origin c _ refl refl refl refl
 checkpoint_keeps origin c answer = same_keeps origin c
 
-call_keeps : (origin : Origin) (c : Course) (answer : Answer) → Keeps origin c (after origin c steps.Call answer)
+call_keeps : (origin : Origin) (c : Course) (answer : Answer) → Keeps origin c (course_after origin c steps.Call answer)
 call_keeps origin c answers.Called = keeps origin c _ refl refl refl refl
 call_keeps origin c (answers.Refused e) = keeps origin c _ refl refl refl refl
 call_keeps origin c answer = same_keeps origin c
@@ -91,23 +91,23 @@ news_keeps : (origin : Origin) (c next : Course) → next ≡ with_news_of c nex
 news_keeps origin c next is =
     keeps origin c next (ap (λ (k : Course). k.emitted) is) (ap (λ (k : Course). k.is_open) is) (ap (λ (k : Course). k.settled) is) (ap (λ (k : Course). k.left) is)
 
-event_keeps : (origin : Origin) (c : Course) (moment : ℕ) (event : Event) (answer : Answer) → Keeps origin c (after origin c (steps.Event moment event) answer)
+event_keeps : (origin : Origin) (c : Course) (moment : ℕ) (event : Event) (answer : Answer) → Keeps origin c (course_after origin c (steps.Event moment event) answer)
 event_keeps origin c moment event (answers.Turn turn closings) =
-    news_keeps origin c (turned origin c moment event turn.refused closings) (turned-shape origin c moment event turn.refused closings)
+    news_keeps origin c (after_event origin c moment event turn.refused closings) (turned-shape origin c moment event turn.refused closings)
 event_keeps origin c moment event answer = same_keeps origin c
 
-piece_keeps : (origin : Origin) (c : Course) (link moment : ℕ) (bytes : List ℕ) (answer : Answer) → Keeps origin c (pieced origin c link moment bytes answer)
+piece_keeps : (origin : Origin) (c : Course) (link moment : ℕ) (bytes : List ℕ) (answer : Answer) → Keeps origin c (after_piece origin c link moment bytes answer)
 piece_keeps origin c link moment bytes (answers.Turns turns fault) =
-    let told = told_more c link bytes in
-    let next = turned_all origin told moment turns.items in
+    let told = with_piece c link bytes in
+    let next = after_events origin told moment turns.items in
     keeps_on origin c told next (keeps origin c told refl refl refl refl) (news_keeps origin told next (turned_all-shape origin told moment turns.items))
 piece_keeps origin c link moment bytes answer = same_keeps origin c
 
-release_keeps : (laws : RunLaws) (origin : Origin) (c : Course) (answer : Answer) → Keeps origin c (after origin c steps.Release answer)
+release_keeps : (laws : RunLaws) (origin : Origin) (c : Course) (answer : Answer) → Keeps origin c (course_after origin c steps.Release answer)
 release_keeps laws origin c (answers.Released n) = released_keeps laws origin c c.flights
 release_keeps laws origin c answer = same_keeps origin c
 
-pub step_keeps : (laws : RunLaws) (origin : Origin) (c : Course) (step : Step) (answer : Answer) → IsOwn step → Keeps origin c (after origin c step answer)
+pub step_keeps : (laws : RunLaws) (origin : Origin) (c : Course) (step : Step) (answer : Answer) → IsOwn step → Keeps origin c (course_after origin c step answer)
 step_keeps laws origin c (steps.Event moment event) answer own = event_keeps origin c moment event answer
 step_keeps laws origin c (steps.Piece link moment bytes) answer own = piece_keeps origin c link moment bytes.items answer
 step_keeps laws origin c (steps.Take most) answer own = take_keeps origin c most answer

@@ -6,24 +6,24 @@ use Rattle.lw_types.specs.declared.refusal.Refusal.{Refusal}
 use Rattle.lw_types.specs.declared.frame_copy.FrameCopy.{FrameCopy}
 use Rattle.devices.specs.declared.command.Command.{Command}
 use Rattle.dedup.specs.Groups.{Arrival, arrival}
-use Rattle.dedup.specs.Windows.{Window, StandFor, added}
+use Rattle.dedup.specs.Windows.{Window, StandFor, windows_with}
 use Rattle.session_core.specs.Deciding.{verdict_of}
-use Rattle.session_core.specs.Core.{CoreState, IsLawfulCore, begun}
-use Rattle.session_core.specs.Events.{Asks, Hears, Starves, Ticks, has_due, IsTurn as IsCoreTurn}
+use Rattle.session_core.specs.Core.{CoreState, IsLawfulCore, new_core}
+use Rattle.session_core.specs.Events.{Asks, Hears, Starves, Ticks, has_due, IsTurnAnswer as IsCoreTurn}
 use Rattle.session_core.specs.Standing.{with_copy}
 use Rattle.session_core.specs.declared.turn.Turn.{Turn}
 use Rattle.sessions.specs.Table.{TableState}
 use Rattle.store.specs.State.{StoreState}
 use Rattle.world.specs.Folding.{RunLaws}
-use Rattle.world.specs.declared.commit.Commit.{Commit}
+use Rattle.world.specs.declared.commit.UnderWay.{UnderWay}
 use Rattle.world.specs.declared.event.Event.{Event}
 use Rattle.world.specs.declared.event.Event.TheVariants as events
 use Rattle.world.specs.declared.step.Step.TheVariants as steps
-use Rattle.world.specs.Course.{Origin, Course, Flight, admit, at_moment, commands_of, gone, listened, released, shutting, turned}
+use Rattle.world.specs.Course.{Origin, Course, Flight, after_commands, at_moment, commands_of, handed_in_count, after_copy, after_release, with_closings, after_event}
 use Rattle.world.specs.Answers.{IsTurn}
 use Rattle.world.specs.Links.{HasSaid, Piece, heard_on, stream_on}
 use Rattle.world.specs.declared.links.Links.{Links}
-use Rattle.link_messages.specs.Feeding.{Heard, nothing_heard}
+use Rattle.link_messages.specs.Feeding.{FeedState, new_feed}
 use Rattle.world.specs.Follows.{IsLife, IsListening}
 use Rattle.world.proofs.Shapes.{admit-shape}
 use Rattle.world.proofs.Turning.{admit-arrivals, admit-clock, admit-shut, closed, outcome-clock, turns-asked, turns-heard, turns-missed, turns-ticked}
@@ -44,13 +44,13 @@ listens-on c c' core core' links links' clock arrivals shut pieces core_clock wi
     }
 
 pub listens-released : (origin : Origin) (c : Course) (flights : List Flight) (core : CoreState) (links : Links) → IsListening c core links
-    → IsListening (released origin c flights) core links
+    → IsListening (after_release origin c flights) core links
 listens-released origin c [] core links f = f
 listens-released origin c (flight ∷ flights) core links f =
-    listens-on c (released origin c (flight ∷ flights)) core core links links refl refl refl refl refl refl refl f
+    listens-on c (after_release origin c (flight ∷ flights)) core core links links refl refl refl refl refl refl refl f
 
 -- a core that begins hears nothing yet
-pub listens-first : (c : Course) (core : CoreState) (links : Links) (table : TableState) (seq : ℕ) → core ≡ begun table seq → ((link : ℕ) → heard_on links link ≡ nothing_heard)
+pub listens-first : (c : Course) (core : CoreState) (links : Links) (table : TableState) (seq : ℕ) → core ≡ new_core table seq → ((link : ℕ) → heard_on links link ≡ new_feed)
     → StandFor [] [] 0 0 → c.clock ≡ 0 → c.arrivals ≡ [] → c.shut ≡ 0 → c.pieces ≡ [] → IsListening c core links
 listens-first c core links table seq is silent none clock arrivals shut pieces =
     record {
@@ -61,13 +61,13 @@ listens-first c core links table seq is silent none clock arrivals shut pieces =
           (subst (λ n. StandFor [] [] n c.clock) (sym shut) (subst (λ now. StandFor [] [] 0 now) (sym clock) none)));
       said = λ link.
           subst (λ (k : List Piece). HasSaid (stream_on link k) (heard_on links link)) (sym pieces)
-          (subst (λ (h : Heard). HasSaid [] h) (sym (silent link)) ([], (refl, tt), refl));
+          (subst (λ (h : FeedState). HasSaid [] h) (sym (silent link)) ([], (refl, tt), refl));
     }
 
 module _ (origin : Origin) (c : Course) (moment : ℕ) (commands : List Command) (new : CoreState) (links : Links) (m : ℕ) (clock : new.clock ≡ (at_moment c moment).clock)
     (said : (link : ℕ) → HasSaid (stream_on link c.pieces) (heard_on links link)) where
   abbrev next : Course
-  next = shutting m (admit origin (at_moment c moment) commands)
+  next = with_closings m (after_commands origin (at_moment c moment) commands)
 
   next_clock : new.clock ≡ next.clock
   next_clock = clock ∙ sym (admit-clock origin (at_moment c moment) commands)
@@ -95,7 +95,7 @@ module _ (origin : Origin) (c : Course) (moment : ℕ) (commands : List Command)
 
   -- a copy was accepted, or refused
   pub listens-heard : (copy : FrameCopy) (refused : Option Refusal) → StandFor new.windows (with_copy refused new.clock copy c.arrivals) (c.shut + m) new.clock
-      → IsListening (listened copy refused next) new links
+      → IsListening (after_copy copy refused next) new links
   listens-heard copy (Some e) stand = listens-then stand
   listens-heard copy None stand =
       record {
@@ -115,7 +115,7 @@ clock_by between new refused X false own kept = kept own
 
 heard_clock : (copy : FrameCopy) (s : CoreState) (refused : Option Refusal) (new : CoreState) → Hears copy s refused new → new.clock ≡ s.clock
 heard_clock copy s (Some e) new own = ap (λ (k : CoreState). k.clock) own.same
-heard_clock copy s None new own = by (added s.windows s.clock copy) (own.receivable own.known)
+heard_clock copy s None new own = by (windows_with s.windows s.clock copy) (own.receivable own.known)
   where
     by : (found : Result (List Window) Refusal) → Answers {A = List Window} {B = Unit {0}} found (λ ws _. new ≡ record s { windows = ws }) (Ok tt) → new.clock ≡ s.clock
     by (Ok ws) h = ap (λ (k : CoreState). k.clock) h
@@ -124,14 +124,14 @@ heard_clock copy s None new own = by (added s.windows s.clock copy) (own.receiva
         no_refusal : (e : Refusal) → ◌≡◌ {A = Result (Unit {0}) Refusal} (Ok tt) (Err e) → ⊥
         no_refusal e h = cc
 
-module _ (laws : RunLaws) (origin : Origin) (s : StoreState) (commit : Commit) (c : Course) (moment : ℕ) (old new : CoreState) (links : Links) (turn : Turn)
+module _ (laws : RunLaws) (origin : Origin) (s : StoreState) (commit : UnderWay) (c : Course) (moment : ℕ) (old new : CoreState) (links : Links) (turn : Turn)
     (f : IsLife origin c s old.decisions commit) (listens : IsListening c old links) (lawful : IsLawfulCore old) where
   -- the answer to an event, and where its life is then
   abbrev Does : Event → Type 0
   Does event =
       IsTurn origin c moment event turn new.closings
-      × (IsLife origin (turned origin c moment event turn.refused new.closings) s new.decisions commit
-      × IsListening (turned origin c moment event turn.refused new.closings) new links)
+      × (IsLife origin (after_event origin c moment event turn.refused new.closings) s new.decisions commit
+      × IsListening (after_event origin c moment event turn.refused new.closings) new links)
 
   old_stands : StandFor old.windows c.arrivals c.shut old.clock
   old_stands = subst (λ now. StandFor old.windows c.arrivals c.shut now) (sym listens.clock) listens.windows
@@ -142,7 +142,7 @@ module _ (laws : RunLaws) (origin : Origin) (s : StoreState) (commit : Commit) (
       let k = closed laws origin s commit c old links moment Ticks turn new f listens lawful.decisions h in
       let done = turns-ticked laws origin s commit c moment h.between k new turn h.own (h.from ∙ f.made) h.to in
       let clock = clock_by h.between new turn.refused (Ticks h.between turn.refused new) (has_due h.between) h.own (λ own. ap (λ (k : CoreState). k.clock) own.1) ∙ k.clock in
-      (done.0, (done.1, listens-then origin c moment (take (gone events.Tick turn.refused new.closings) (commands_of c (steps.Event moment events.Tick))) new links new.closings clock listens.said (law old_stands)))
+      (done.0, (done.1, listens-then origin c moment (take (handed_in_count events.Tick turn.refused new.closings) (commands_of c (steps.Event moment events.Tick))) new links new.closings clock listens.said (law old_stands)))
 
   pub does-ask : (command : Command) → IsCoreTurn old moment (Asks command) turn new
       → (StandFor old.windows c.arrivals c.shut old.clock → StandFor new.windows c.arrivals (c.shut + new.closings) new.clock) → Does (events.Ask command)
@@ -152,7 +152,7 @@ module _ (laws : RunLaws) (origin : Origin) (s : StoreState) (commit : Commit) (
       let clock =
       clock_by h.between new turn.refused (Asks command h.between turn.refused new) (has_due h.between) h.own
       (λ own. ap (λ (k : CoreState). k.clock) own.new_is ∙ outcome-clock h.between own.decisions (verdict_of turn.refused)) ∙ k.clock in
-      (done.0, (done.1, listens-then origin c moment (take (gone (events.Ask command) turn.refused new.closings) (commands_of c (steps.Event moment (events.Ask command)))) new links new.closings clock listens.said (law old_stands)))
+      (done.0, (done.1, listens-then origin c moment (take (handed_in_count (events.Ask command) turn.refused new.closings) (commands_of c (steps.Event moment (events.Ask command)))) new links new.closings clock listens.said (law old_stands)))
 
   pub does-hear : (copy : FrameCopy) → IsCoreTurn old moment (Hears copy) turn new
       → (StandFor old.windows c.arrivals c.shut old.clock → StandFor new.windows (with_copy turn.refused new.clock copy c.arrivals) (c.shut + new.closings) new.clock) → Does (events.Hear copy)
@@ -161,7 +161,7 @@ module _ (laws : RunLaws) (origin : Origin) (s : StoreState) (commit : Commit) (
       let done = turns-heard laws origin s commit c moment h.between k copy new turn h.own (h.from ∙ f.made) h.to in
       let clock =
       clock_by h.between new turn.refused (Hears copy h.between turn.refused new) (has_due h.between) h.own (heard_clock copy h.between turn.refused new) ∙ k.clock in
-      (done.0, (done.1, listens-heard origin c moment (take (gone (events.Hear copy) turn.refused new.closings) (commands_of c (steps.Event moment (events.Hear copy)))) new links new.closings clock listens.said copy turn.refused (law old_stands)))
+      (done.0, (done.1, listens-heard origin c moment (take (handed_in_count (events.Hear copy) turn.refused new.closings) (commands_of c (steps.Event moment (events.Hear copy)))) new links new.closings clock listens.said copy turn.refused (law old_stands)))
 
   pub does-miss : (copy : FrameCopy) → IsCoreTurn old moment Starves turn new
       → (StandFor old.windows c.arrivals c.shut old.clock → StandFor new.windows (with_copy turn.refused new.clock copy c.arrivals) (c.shut + new.closings) new.clock) → Does (events.Hear copy)
@@ -170,4 +170,4 @@ module _ (laws : RunLaws) (origin : Origin) (s : StoreState) (commit : Commit) (
       let done = turns-missed laws origin s commit c moment h.between k copy new turn h.own (h.from ∙ f.made) h.to in
       let clock =
       clock_by h.between new turn.refused (Starves h.between turn.refused new) (has_due h.between) h.own (λ own. ap (λ (k : CoreState). k.clock) own.1) ∙ k.clock in
-      (done.0, (done.1, listens-heard origin c moment (take (gone (events.Hear copy) turn.refused new.closings) (commands_of c (steps.Event moment (events.Hear copy)))) new links new.closings clock listens.said copy turn.refused (law old_stands)))
+      (done.0, (done.1, listens-heard origin c moment (take (handed_in_count (events.Hear copy) turn.refused new.closings) (commands_of c (steps.Event moment (events.Hear copy)))) new links new.closings clock listens.said copy turn.refused (law old_stands)))

@@ -17,12 +17,12 @@ use Rattle.world.specs.declared.answer.Answer.TheVariants as answers
 use Rattle.world.specs.declared.step.Step.{Step}
 use Rattle.world.specs.declared.event.Event.{Event}
 use Rattle.world.specs.declared.step.Step.TheVariants as steps
-use Rattle.world.specs.Course.{Checkpoint, Course, Flight, Origin, Stage, after, beginning, course_of, decided, effects_from, number_from, pieced, released, table_from, told_more}
+use Rattle.world.specs.Course.{Checkpoint, Course, Flight, Origin, Stage, course_after, beginning, course_of, decided_commands, effects_from, number_from, after_piece, after_release, table_from, with_piece}
 use Rattle.world.specs.Course.Checkpoint.{NotUnderWay, CallsLeft, CallFailed}
 use Rattle.world.specs.Course.Stage.{Durable, Stopped, Unsure}
-use Rattle.world.specs.Answers.{AreRight, IsRight, AnswersOpen, AnswersClosed, AnswersTake, AnswersCall, AnswersCheckpoint, AnswersRelease, Behind, Beside, Calls, CallsFor, Checkpoints, IsCalled, Releases, Takes}
+use Rattle.world.specs.Answers.{AreRight, IsRight, AnswersOpen, AnswersClosed, AnswersTake, AnswersCall, AnswersCheckpoint, AnswersRelease, Behind, Beside, AnswersStage, CallsFor, Checkpoints, IsCalled, Releases, Takes}
 use Rattle.world.specs.Follows.{IsOwn}
-use Rattle.world.specs.OneLife.{HasNoCrash, NoneGivenUp, NoneOutOfStep, emitted, IsOneLife}
+use Rattle.world.specs.OneLife.{HasNoCrash, NoneGivenUp, NoneOutOfStep, emissions, IsOneLife}
 use Rattle.world.proofs.Shapes.{turned-shape, turned_all-shape}
 use Rattle.world.proofs.Going.{step_keeps}
 
@@ -39,7 +39,7 @@ abbrev told_by : Answer → List Emission
 told_by (answers.Emitted e) = e ∷ []
 told_by answer = []
 
-emitted_cons : (answer : Answer) (rest : List Answer) → emitted (answer ∷ rest) ≡ told_by answer ++ emitted rest
+emitted_cons : (answer : Answer) (rest : List Answer) → emissions (answer ∷ rest) ≡ told_by answer ++ emissions rest
 emitted_cons (answers.Emitted e) rest = refl
 emitted_cons answer rest = refl
 
@@ -73,7 +73,7 @@ called_quiet : (e : Emission) → IsCalled (answers.Emitted e) → ⊥
 called_quiet e (inl h) = apart e answers.Called refl h
 called_quiet e (inr h) = apart e (answers.Refused refusals.DeviceFailed) refl h
 
-calls_quiet : (stage : Stage) (e : Emission) → Calls stage (answers.Emitted e) → ⊥
+calls_quiet : (stage : Stage) (e : Emission) → AnswersStage stage (answers.Emitted e) → ⊥
 calls_quiet Durable e h = apart e answers.Idle refl h
 calls_quiet Stopped e h = apart e answers.Idle refl h
 calls_quiet Unsure e h = apart e answers.Idle refl h
@@ -108,13 +108,13 @@ quiet origin c steps.Checkpoint e own h = checkpoint_quiet c.flights c.checkpoin
 quiet origin c steps.Call e own h = call_quiet c.flights c.checkpoint e h
 quiet origin c steps.Fail e own h = apart e answers.Armed refl h
 quiet origin c steps.Release e own h = release_quiet origin c c.flights e h
-quiet origin c steps.List e own h = list_quiet e (answers.Listed (table_from origin (decided c)) (number_from origin (decided c))) refl h
+quiet origin c steps.List e own h = list_quiet e (answers.Listed (table_from origin (decided_commands c)) (number_from origin (decided_commands c))) refl h
 quiet origin c steps.Emit e own h = own
 quiet origin c (steps.Crash image) e own h = own
 
 -- a step of the life alone
 own_lives : (laws : RunLaws) (origin : Origin) (c : Course) (said : List Emission) (step : Step) (answer : Answer) → IsOwn step → told_by answer ≡ [] → Lives origin c said
-    → Lives origin (after origin c step answer) (said ++ told_by answer)
+    → Lives origin (course_after origin c step answer) (said ++ told_by answer)
 own_lives laws origin c said step answer own silent lives =
     let keeps = step_keeps laws origin c step answer own in
     let more = keeps.grown.0 in
@@ -130,7 +130,7 @@ own_lives laws origin c said step answer own silent lives =
           ∙ (lives.emitted
           ∙ ap (λ l. map emission (drop (length origin.left) l))
           (sym (take-append-le c.emitted c.left more lives.within)
-          ∙ (ap (take c.emitted) (sym keeps.grown.1) ∙ ap (λ n. take n (after origin c step answer).left) (sym same)))));
+          ∙ (ap (take c.emitted) (sym keeps.grown.1) ∙ ap (λ n. take n (course_after origin c step answer).left) (sym same)))));
       past = omega (arith, same, past);
       within = omega (arith, longer, same, before);
       is_open = keeps.is_open ∙ lives.is_open;
@@ -143,11 +143,11 @@ silent origin c step answer own right = refl
 -- an emit
 emit_lives : (origin : Origin) (c : Course) (said : List Emission) (answer : Answer) (o : Option Effect) → slice_get c.left c.emitted ≡ o
     → MatchOption o (answer ≡ answers.Idle) (λ effect. (answer ≡ answers.Emitted (emission effect)) ⊎ (answer ≡ answers.Refused refusals.OutOfMemory)) → Lives origin c said
-    → Lives origin (after origin c steps.Emit answer) (said ++ told_by answer)
+    → Lives origin (course_after origin c steps.Emit answer) (said ++ told_by answer)
 emit_lives origin c said answer None is right lives =
-    subst (λ a. Lives origin (after origin c steps.Emit a) (said ++ told_by a)) (sym right) (subst (Lives origin c) (sym (append-nil said)) lives)
+    subst (λ a. Lives origin (course_after origin c steps.Emit a) (said ++ told_by a)) (sym right) (subst (Lives origin c) (sym (append-nil said)) lives)
 emit_lives origin c said answer (Some effect) is (inr right) lives =
-    subst (λ a. Lives origin (after origin c steps.Emit a) (said ++ told_by a)) (sym right) (subst (Lives origin c) (sym (append-nil said)) lives)
+    subst (λ a. Lives origin (course_after origin c steps.Emit a) (said ++ told_by a)) (sym right) (subst (Lives origin c) (sym (append-nil said)) lives)
 emit_lives origin c said answer (Some effect) is (inl right) lives =
     let below = slice_get_within c.left c.emitted effect is in
     let before = length origin.left in
@@ -158,7 +158,7 @@ emit_lives origin c said answer (Some effect) is (inl right) lives =
     let count = length-take-le c.emitted c.left lives.within in
     let dropped : drop before (take c.emitted c.left) ++ effect ∷ [] ≡ drop before (take (c.emitted + 1) c.left) =
     sym (drop-append-le before (take c.emitted c.left) (effect ∷ []) (omega (arith, count, past))) ∙ ap (drop before) there in
-    subst (λ a. Lives origin (after origin c steps.Emit a) (said ++ told_by a)) (sym right) (record {
+    subst (λ a. Lives origin (course_after origin c steps.Emit a) (said ++ told_by a)) (sym right) (record {
       released = lives.released;
       emitted =
           ap (λ l. l ++ emission effect ∷ []) lives.emitted
@@ -181,7 +181,7 @@ open_right : (origin : Origin) (c : Course) (step : Step) (answer : Answer) → 
 open_right origin c step answer is right = subst (λ b. MatchBool b (AnswersOpen origin c step answer) (AnswersClosed origin c step answer)) is right
 
 step_lives : (laws : RunLaws) (origin : Origin) (c : Course) (said : List Emission) (step : Step) (answer : Answer) → IsCalm step → AnswersOpen origin c step answer → Lives origin c said
-    → Lives origin (after origin c step answer) (said ++ told_by answer)
+    → Lives origin (course_after origin c step answer) (said ++ told_by answer)
 step_lives laws origin c said steps.Emit answer calm right lives = emit_lives origin c said answer (slice_get c.left c.emitted) refl right lives
 step_lives laws origin c said (steps.Crash image) answer calm right lives = absurd calm
 step_lives laws origin c said (steps.Event moment event) answer calm right lives =
@@ -198,15 +198,15 @@ step_lives laws origin c said steps.Release answer calm right lives = own_lives 
 step_lives laws origin c said steps.List answer calm right lives = own_lives laws origin c said steps.List answer tt (silent origin c steps.List answer tt right) lives
 
 lives_on : (laws : RunLaws) (origin : Origin) (c : Course) (said : List Emission) (steps : List Step) (told : List Answer) → AreRight origin c steps told → HasNoCrash steps → Lives origin c said
-    → Lives origin (course_of origin c steps told) (said ++ emitted told)
+    → Lives origin (course_of origin c steps told) (said ++ emissions told)
 lives_on laws origin c said [] [] right still lives = subst (Lives origin c) (sym (append-nil said)) lives
 lives_on laws origin c said [] (a ∷ told) right still lives = absurd right
 lives_on laws origin c said (s ∷ steps) [] right still lives = absurd right
 lives_on laws origin c said (s ∷ steps) (a ∷ told) right still lives =
     let first = calm s steps still in
     let next = step_lives laws origin c said s a first.0 (open_right origin c s a lives.is_open right.0) lives in
-    let rest = lives_on laws origin (after origin c s a) (said ++ told_by a) steps told right.1 first.1 next in
-    subst (Lives origin (course_of origin (after origin c s a) steps told)) (append_assoc said (told_by a) (emitted told) ∙ ap (λ l. said ++ l) (sym (emitted_cons a told))) rest
+    let rest = lives_on laws origin (course_after origin c s a) (said ++ told_by a) steps told right.1 first.1 next in
+    subst (Lives origin (course_of origin (course_after origin c s a) steps told)) (append_assoc said (told_by a) (emissions told) ∙ ap (λ l. said ++ l) (sym (emitted_cons a told))) rest
 
 -- what is refused has its number, and nothing else has one
 abbrev refused_with : Answer → ℕ
@@ -237,50 +237,50 @@ none_before : (answer : Answer) (rest : List Answer) → NoneGivenUp (answer ∷
 none_before (answers.GivenUp n) rest h = absurd h
 none_before answer rest h = h
 
-event_given : (origin : Origin) (c : Course) (moment : ℕ) (event : Event) (answer : Answer) → (after origin c (steps.Event moment event) answer).given_up ≡ c.given_up
+event_given : (origin : Origin) (c : Course) (moment : ℕ) (event : Event) (answer : Answer) → (course_after origin c (steps.Event moment event) answer).given_up ≡ c.given_up
 event_given origin c moment event (answers.Turn turn closings) = ap (λ (k : Course). k.given_up) (turned-shape origin c moment event turn.refused closings)
 event_given origin c moment event answer = refl
 
-piece_given : (origin : Origin) (c : Course) (link moment : ℕ) (bytes : List ℕ) (answer : Answer) → (pieced origin c link moment bytes answer).given_up ≡ c.given_up
+piece_given : (origin : Origin) (c : Course) (link moment : ℕ) (bytes : List ℕ) (answer : Answer) → (after_piece origin c link moment bytes answer).given_up ≡ c.given_up
 piece_given origin c link moment bytes (answers.Turns turns fault) =
-    ap (λ (k : Course). k.given_up) (turned_all-shape origin (told_more c link bytes) moment turns.items)
+    ap (λ (k : Course). k.given_up) (turned_all-shape origin (with_piece c link bytes) moment turns.items)
 piece_given origin c link moment bytes answer = refl
 
-checkpoint_given : (origin : Origin) (c : Course) (answer : Answer) → (after origin c steps.Checkpoint answer).given_up ≡ c.given_up
+checkpoint_given : (origin : Origin) (c : Course) (answer : Answer) → (course_after origin c steps.Checkpoint answer).given_up ≡ c.given_up
 checkpoint_given origin c (answers.Begun calls) = refl
 checkpoint_given origin c answer = refl
 
-call_given : (origin : Origin) (c : Course) (answer : Answer) → (after origin c steps.Call answer).given_up ≡ c.given_up
+call_given : (origin : Origin) (c : Course) (answer : Answer) → (course_after origin c steps.Call answer).given_up ≡ c.given_up
 call_given origin c answers.Called = refl
 call_given origin c (answers.Refused e) = refl
 call_given origin c answer = refl
 
-released_given : (origin : Origin) (c : Course) (flights : List Flight) → (released origin c flights).given_up ≡ c.given_up
+released_given : (origin : Origin) (c : Course) (flights : List Flight) → (after_release origin c flights).given_up ≡ c.given_up
 released_given origin c [] = refl
 released_given origin c (flight ∷ flights) = refl
 
-release_given : (origin : Origin) (c : Course) (answer : Answer) → (after origin c steps.Release answer).given_up ≡ c.given_up
+release_given : (origin : Origin) (c : Course) (answer : Answer) → (course_after origin c steps.Release answer).given_up ≡ c.given_up
 release_given origin c (answers.Released n) = released_given origin c c.flights
 release_given origin c answer = refl
 
-emit_given : (origin : Origin) (c : Course) (answer : Answer) → (after origin c steps.Emit answer).given_up ≡ c.given_up
+emit_given : (origin : Origin) (c : Course) (answer : Answer) → (course_after origin c steps.Emit answer).given_up ≡ c.given_up
 emit_given origin c (answers.Emitted e) = refl
 emit_given origin c answer = refl
 
 refusal_given : (origin : Origin) (c : Course) (most : ℕ) (e : Refusal) → AnswersTake c.flights c most (answers.Refused e) → c.given_up ≡ []
-    → (after origin c (steps.Take most) (answers.Refused e)).given_up ≡ []
+    → (course_after origin c (steps.Take most) (answers.Refused e)).given_up ≡ []
 refusal_given origin c most OutOfStep right none = absurd (out_of_step c.flights c most right none)
 refusal_given origin c most e right none = none
 
 take_given : (origin : Origin) (c : Course) (most : ℕ) (answer : Answer) (rest : List Answer) → AnswersTake c.flights c most answer → NoneGivenUp (answer ∷ rest)
-    → c.given_up ≡ [] → (after origin c (steps.Take most) answer).given_up ≡ []
+    → c.given_up ≡ [] → (course_after origin c (steps.Take most) answer).given_up ≡ []
 take_given origin c most (answers.Taken n) rest right up none = none
 take_given origin c most (answers.GivenUp n) rest right up none = absurd up
 take_given origin c most (answers.Refused e) rest right up none = refusal_given origin c most e right none
 take_given origin c most answer rest right up none = none
 
 given_stays : (origin : Origin) (c : Course) (step : Step) (answer : Answer) (rest : List Answer) → IsCalm step → AnswersOpen origin c step answer
-    → NoneGivenUp (answer ∷ rest) → c.given_up ≡ [] → (after origin c step answer).given_up ≡ []
+    → NoneGivenUp (answer ∷ rest) → c.given_up ≡ [] → (course_after origin c step answer).given_up ≡ []
 given_stays origin c (steps.Event moment event) answer rest calm right up none = event_given origin c moment event answer ∙ none
 given_stays origin c (steps.Piece link moment bytes) answer rest calm right up none = piece_given origin c link moment bytes.items answer ∙ none
 given_stays origin c (steps.Take most) answer rest calm right up none = take_given origin c most answer rest right up none
@@ -307,11 +307,11 @@ step_in_step : (origin : Origin) (c : Course) (step : Step) (answer : Answer) (r
 step_in_step origin c (steps.Take most) answer rest others right none h = take_in_step c most answer rest others right none h
 step_in_step origin c step answer rest others right none h = h
 
-emit_open : (origin : Origin) (c : Course) (answer : Answer) → (after origin c steps.Emit answer).is_open ≡ c.is_open
+emit_open : (origin : Origin) (c : Course) (answer : Answer) → (course_after origin c steps.Emit answer).is_open ≡ c.is_open
 emit_open origin c (answers.Emitted e) = refl
 emit_open origin c answer = refl
 
-stays_open : (laws : RunLaws) (origin : Origin) (c : Course) (step : Step) (answer : Answer) → IsCalm step → c.is_open ≡ true → (after origin c step answer).is_open ≡ true
+stays_open : (laws : RunLaws) (origin : Origin) (c : Course) (step : Step) (answer : Answer) → IsCalm step → c.is_open ≡ true → (course_after origin c step answer).is_open ≡ true
 stays_open laws origin c steps.Emit answer calm is = emit_open origin c answer ∙ is
 stays_open laws origin c (steps.Crash image) answer calm is = absurd calm
 stays_open laws origin c (steps.Event moment event) answer calm is = (step_keeps laws origin c (steps.Event moment event) answer tt).is_open ∙ is
@@ -331,7 +331,7 @@ in_step_on laws origin c (s ∷ steps) (a ∷ told) right still up none is =
     let first = calm s steps still in
     let right0 = open_right origin c s a is right.0 in
     step_in_step origin c s a steps told right0 none
-    (in_step_on laws origin (after origin c s a) steps told right.1 first.1 (none_before a told up) (given_stays origin c s a told first.0 right0 up none)
+    (in_step_on laws origin (course_after origin c s a) steps told right.1 first.1 (none_before a told up) (given_stays origin c s a told first.0 right0 up none)
     (stays_open laws origin c s a first.0 is))
 
 -- what a world at its beginning gave, when no step was a crash

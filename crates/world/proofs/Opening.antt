@@ -8,16 +8,16 @@ use Rattle.lw_types.specs.declared.refusal.Refusal.TheVariants.{OutOfMemory, Dev
 use Rattle.lw_types.specs.Refusal.{number_of}
 use Rattle.devices.specs.declared.command.Command.{Command}
 use Rattle.world.specs.Folding.{RunLaws}
-use Rattle.session_core.specs.State.{opened}
+use Rattle.session_core.specs.State.{new_decisions}
 use Rattle.store.specs.Image.{HoldsTable}
 use Rattle.store.specs.State.{StoreState, IsSettled}
-use Rattle.world.specs.declared.commit.Commit.TheVariants as commits
+use Rattle.world.specs.declared.commit.UnderWay.TheVariants as commits
 use Rattle.world.specs.declared.place.Place.{Place}
 use Rattle.world.specs.declared.place.Place.TheVariants.{Open, Closed, Crashing}
 use Rattle.world.specs.declared.answer.Answer.{Answer}
 use Rattle.world.specs.declared.answer.Answer.TheVariants as answers
 use Rattle.world.specs.declared.step.Step.TheVariants as steps
-use Rattle.world.specs.Course.{Origin, Course, decided, reopened, after, table_from, number_from, effects_from}
+use Rattle.world.specs.Course.{Origin, Course, decided_commands, after_opening, course_after, table_from, number_from, effects_from}
 use Rattle.world.specs.Answers.{Leaves, AnswersCrash}
 use Rattle.world.specs.Sound.{HasDisk}
 use Rattle.sessions.specs.Marks.{IsSubsequence}
@@ -31,20 +31,20 @@ content_permitted s = record { same_length = refl; kept = λ i h. refl }
 
 -- what an opening that found this number cuts the decided list to
 pub cut_to : (origin : Origin) (c : Course) (kept : List Command) (n : ℕ) → Leaves c kept → n ≡ number_from origin kept
-    → kept ≡ take (n - origin.number) (decided c)
+    → kept ≡ take (n - origin.number) (decided_commands c)
 cut_to origin c kept n leaves is =
     let count : n - origin.number ≡ length kept = omega (arith, is) in
-    sym (ap (λ n. take n (decided c)) count ∙ kept_front c kept leaves)
+    sym (ap (λ n. take n (decided_commands c)) count ∙ kept_front c kept leaves)
 
 -- the life that begins with what a crash left
 pub life_opened : (origin : Origin) (c : Course) (kept : List Command) (n : ℕ) (s : StoreState) → Leaves c kept → n ≡ number_from origin kept → IsSettled s
     → s.failed ≡ false → s.table ≡ table_from origin kept → s.seq ≡ number_from origin kept → EveryImage s.log.disk (HoldsTable s.table s.seq)
-    → IsLife origin (reopened origin c n) s (opened s.table s.seq) commits.Idle
+    → IsLife origin (after_opening origin c n) s (new_decisions s.table s.seq) commits.Idle
 life_opened origin c kept n s leaves n_is settled healthy table seq holds =
     let front = cut_to origin c kept n leaves n_is in
     let table_is = table ∙ ap (table_from origin) front in
     let seq_is = seq ∙ ap (number_from origin) front in
-    let alone = append-nil (take (n - origin.number) (decided c)) in
+    let alone = append-nil (take (n - origin.number) (decided_commands c)) in
     let alone_length = ap length alone in
     record {
       table = table_is;
@@ -55,7 +55,7 @@ life_opened origin c kept n s leaves n_is settled healthy table seq holds =
       made = refl;
       under_way = (refl, (tt, (settled, refl)));
       healthy = healthy;
-      survives = λ image p. (take (n - origin.number) (decided c), refl, held s.table _ s.seq _ image table_is seq_is (holds image p));
+      survives = λ image p. (take (n - origin.number) (decided_commands c), refl, held s.table _ s.seq _ image table_is seq_is (holds image p));
     }
 
 -- an opening is refused for these two reasons, where others are ruled out
@@ -89,7 +89,7 @@ pub record Crashes (origin : Origin) (c next : Course) : Type 0 where
   pub once : IsSubsequence c.left (effects_from origin c.settled) → IsSubsequence next.left (effects_from origin next.settled)
 
 pub crash_keeps : (laws : RunLaws) (origin : Origin) (c : Course) (image : Image) (answer : Answer) → AnswersCrash origin c answer
-    → Crashes origin c (after origin c (steps.Crash image) answer)
+    → Crashes origin c (course_after origin c (steps.Crash image) answer)
 crash_keeps laws origin c image (answers.Opened devices seq) (kept, leaves, seq_is, count) = record {
   left = refl;
   emitted = refl;

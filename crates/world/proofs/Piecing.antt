@@ -5,20 +5,20 @@ use Rattle.world.specs.declared.answer.Answer.TheVariants as answers
 use Rattle.world.specs.declared.answer.EventTurn.{EventTurn}
 use Rattle.world.specs.declared.life.Life.{Life}
 use Rattle.world.specs.declared.step.Step.TheVariants as steps
-use Rattle.world.specs.Answers.{AreTurns, IsTurn}
+use Rattle.world.specs.Answers.{AreTurns, IsTurnAnswer}
 use Rattle.session_core.specs.Core.{CoreState}
 use Rattle.world.specs.declared.links.Links.{Links}
-use Rattle.world.specs.Course.{Origin, Course, told_more, turned, turned_all}
+use Rattle.world.specs.Course.{Origin, Course, with_piece, after_event, after_events}
 use Rattle.world.specs.Links.{HasSaid, heard_on, stream_on}
 use Rattle.world.specs.Follows.{FollowsLife, IsListening, MovesLife, MovesThrough}
 
 one_more : (origin : Origin) (c : Course) (moment : ℕ) (turns : List EventTurn) (t : EventTurn) → AreTurns origin c moment turns
-    → IsTurn origin (turned_all origin c moment turns) moment t.event t.turn t.closings
+    → IsTurnAnswer origin (after_events origin c moment turns) moment t.event t.turn t.closings
     → AreTurns origin c moment (turns ++ t ∷ [])
-    × (turned_all origin c moment (turns ++ t ∷ []) ≡ turned origin (turned_all origin c moment turns) moment t.event t.turn.refused t.closings)
+    × (after_events origin c moment (turns ++ t ∷ []) ≡ after_event origin (after_events origin c moment turns) moment t.event t.turn.refused t.closings)
 one_more origin c moment [] t before right = ((right, tt), refl)
 one_more origin c moment (first ∷ turns) t before right =
-    let rest = one_more origin (turned origin c moment first.event first.turn.refused first.closings) moment turns t before.1 right in
+    let rest = one_more origin (after_event origin c moment first.event first.turn.refused first.closings) moment turns t before.1 right in
     ((before.0, rest.0), rest.1)
 
 -- an event more
@@ -26,13 +26,13 @@ pub moves_on : {D : Type 0} {g : _} (state : D → State) (old mid new : Life D 
     → MovesLife state mid (steps.Event moment t.event) (answers.Turn t.turn t.closings) new → MovesThrough state old moment (turns ++ t ∷ []) new
 moves_on state old mid new moment turns t through move origin c f =
     let before = through origin c f in
-    let moved = move origin (turned_all origin c moment turns) before.1 in
+    let moved = move origin (after_events origin c moment turns) before.1 in
     let more = one_more origin c moment turns t before.0 moved.0 in
     (more.0, subst (λ k. FollowsLife state origin k new) (sym more.1) moved.1)
 
 -- what a core has heard once more came over a link
 pub listens-told : (c : Course) (core : CoreState) (links links' : Links) (link : ℕ) (bytes : List ℕ) → IsListening c core links
-    → ((l : ℕ) → HasSaid (stream_on l (c.pieces ++ record { link = link; bytes = bytes } ∷ [])) (heard_on links' l)) → IsListening (told_more c link bytes) core links'
+    → ((l : ℕ) → HasSaid (stream_on l (c.pieces ++ record { link = link; bytes = bytes } ∷ [])) (heard_on links' l)) → IsListening (with_piece c link bytes) core links'
 listens-told c core links links' link bytes f said = record { clock = f.clock; windows = f.windows; said = said }
 
 -- and where nothing of it counts

@@ -6,7 +6,7 @@ use Rattle.store.specs.State.{StoreState, IsSettled}
 use Rattle.store.specs.declared.checkpointing.Checkpoint.{Checkpoint}
 use Rattle.world.specs.declared.answer.Answer.TheVariants as answers
 use Rattle.world.specs.declared.checkpointing.Checkpointing.TheVariants.{Begun}
-use Rattle.world.specs.declared.commit.Commit.TheVariants as commits
+use Rattle.world.specs.declared.commit.UnderWay.TheVariants as commits
 use Rattle.world.specs.Answers.{AnswersCheckpoint, Beside, Checkpoints}
 use Rattle.world.specs.Checkpoints.{calls_left}
 use Rattle.world.specs.Course.{Origin, Course}

@@ -5,15 +5,15 @@ use Rattle.std.proofs.lemmas.List.{append-nil}
 use Rattle.lw_types.specs.declared.refusal.Refusal.{Refusal}
 use Rattle.link_messages.specs.declared.message.Peer.{Peer}
 use Rattle.link_messages.specs.declared.message.Message.{Message}
-use Rattle.link_messages.specs.Stream.{End, Rest, Fault, IsSaid, after, after_one}
-use Rattle.link_messages.specs.Feeding.{Adds, Heard}
+use Rattle.link_messages.specs.Stream.{End, Rest, Fault, IsSaid, peer_after, peer_after_one}
+use Rattle.link_messages.specs.Feeding.{Adds, FeedState}
 use Rattle.world.specs.declared.event.Event.{Event}
 use Rattle.world.specs.declared.links.Links.{Links}
 use Rattle.world.specs.Links.{before_others, AreHandedIn, Completes, HasSaid, Piece, SaysMore, heard_on, stream_on}
 
-after_append : (peer : Option Peer) (xs ys : List Message) → after peer (xs ++ ys) ≡ after (after peer xs) ys
+after_append : (peer : Option Peer) (xs ys : List Message) → peer_after peer (xs ++ ys) ≡ peer_after (peer_after peer xs) ys
 after_append peer [] ys = refl
-after_append peer (x ∷ xs) ys = after_append (after_one peer x) xs ys
+after_append peer (x ∷ xs) ys = after_append (peer_after_one peer x) xs ys
 
 -- a piece more belongs to its own link's stream
 stream_more : (l link : ℕ) (bytes : List ℕ) (pieces : List Piece)
@@ -40,7 +40,7 @@ before_append (Some event) others = refl
 abbrev pub RestLaw : Type 0
 RestLaw =
     (peer : Option Peer) (stream : List ℕ) (rest : List ℕ) (piece : List ℕ) (messages : List Message) (others : List Message) (end : End)
-    → IsSaid peer stream messages (Rest rest) → IsSaid (after peer messages) (rest ++ piece) others end → IsSaid peer (stream ++ piece) (messages ++ others) end
+    → IsSaid peer stream messages (Rest rest) → IsSaid (peer_after peer messages) (rest ++ piece) others end → IsSaid peer (stream ++ piece) (messages ++ others) end
 
 abbrev pub FaultLaw : Type 0
 FaultLaw =
@@ -48,17 +48,17 @@ FaultLaw =
     → IsSaid peer stream messages (Fault refusal) → IsSaid peer (stream ++ piece) messages (Fault refusal)
 
 module _ (rest_law : RestLaw) (fault_law : FaultLaw) where
-  says_on : (stream piece : List ℕ) (peer : Option Peer) (end : End) (before others : List Message) (new : Heard) → IsSaid None stream before end → peer ≡ after None before
-      → Adds peer end piece others new → IsSaid None (stream ++ piece) (before ++ others) new.end × (new.peer ≡ after None (before ++ others))
+  says_on : (stream piece : List ℕ) (peer : Option Peer) (end : End) (before others : List Message) (new : FeedState) → IsSaid None stream before end → peer ≡ peer_after None before
+      → Adds peer end piece others new → IsSaid None (stream ++ piece) (before ++ others) new.end × (new.peer ≡ peer_after None (before ++ others))
   says_on stream piece peer (Rest rest) before others new said is adds = (
     rest_law None stream rest piece before others new.end said (subst (λ p. IsSaid p (rest ++ piece) others new.end) is adds.1),
-    adds.0 ∙ (ap (λ p. after p others) is ∙ sym (after_append None before others)),
+    adds.0 ∙ (ap (λ p. peer_after p others) is ∙ sym (after_append None before others)),
   )
   says_on stream piece peer (Fault refusal) before others new said is adds =
       let none : before ++ others ≡ before = ap (λ l. before ++ l) adds.0 ∙ append-nil before in (
-        subst (λ e. IsSaid None (stream ++ piece) (before ++ others) e) (sym (ap (λ (h : Heard). h.end) adds.1))
+        subst (λ e. IsSaid None (stream ++ piece) (before ++ others) e) (sym (ap (λ (h : FeedState). h.end) adds.1))
             (subst (λ l. IsSaid None (stream ++ piece) l (Fault refusal)) (sym none) (fault_law None stream piece before refusal said)),
-        ap (λ (h : Heard). h.peer) adds.1 ∙ (is ∙ ap (after None) (sym none)),
+        ap (λ (h : FeedState). h.peer) adds.1 ∙ (is ∙ ap (peer_after None) (sym none)),
       )
 
   -- what a piece adds to what the links have said

@@ -3,21 +3,21 @@ use Rattle.std.proofs.Common.{◌≡◌, ◌∙◌, ℕ, List, [], ◌∷◌, ta
 use Rattle.lw_types.specs.declared.refusal.Refusal.{Refusal}
 use Rattle.lw_types.specs.declared.frame_copy.FrameCopy.{FrameCopy}
 use Rattle.devices.specs.declared.command.Command.{Command}
-use Rattle.sessions.specs.Table.{Step as TableStep}
+use Rattle.sessions.specs.Table.{TableStep}
 use Rattle.dedup.specs.Groups.{Arrival}
 use Rattle.session_core.specs.State.{DecisionsState}
 use Rattle.store.specs.State.{StoreState}
-use Rattle.world.specs.declared.commit.Commit.{Commit}
+use Rattle.world.specs.declared.commit.UnderWay.{UnderWay}
 use Rattle.world.specs.declared.answer.EventTurn.{EventTurn}
 use Rattle.world.specs.declared.event.Event.{Event}
 use Rattle.world.specs.declared.event.Event.TheVariants as events
 use Rattle.world.specs.declared.step.Step.TheVariants as steps
-use Rattle.world.specs.Course.{Origin, Course, accepted, admit, at_moment, commands_of, gone, listened, shutting, turned, turned_all, wanted, went}
+use Rattle.world.specs.Course.{Origin, Course, after_own_copy, after_commands, at_moment, commands_of, handed_in_count, after_copy, with_closings, after_event, after_events, step_if_room, after_command}
 use Rattle.world.specs.Follows.{IsLife}
 use Rattle.world.specs.Links.{Piece}
 
 -- the same life, whatever was heard, and however much was emitted
-pub same-life : {origin : Origin} {c : Course} {s : StoreState} {core : DecisionsState} {commit : Commit} {emitted clock shut : ℕ} {arrivals : List Arrival} {pieces : List Piece}
+pub same-life : {origin : Origin} {c : Course} {s : StoreState} {core : DecisionsState} {commit : UnderWay} {emitted clock shut : ℕ} {arrivals : List Arrival} {pieces : List Piece}
     → IsLife origin c s core commit → IsLife origin (record c { emitted = emitted; clock = clock; arrivals = arrivals; shut = shut; pieces = pieces }) s core commit
 same-life f =
     record { table = f.table; seq = f.seq; base = f.base; number = f.number; untaken = f.untaken; made = f.made; under_way = f.under_way; healthy = f.healthy; survives = f.survives }
@@ -31,36 +31,36 @@ abbrev pub with_news_of : Course → Course → Course
 with_news_of c other =
     record c { untaken = other.untaken; made = other.made; clock = other.clock; arrivals = other.arrivals; shut = other.shut }
 
-went_shape : (c : Course) (command : Command) (outcome : Result TableStep Refusal) → went c command outcome ≡ with_decisions_of c (went c command outcome)
+went_shape : (c : Course) (command : Command) (outcome : Result TableStep Refusal) → after_command c command outcome ≡ with_decisions_of c (after_command c command outcome)
 went_shape c command (Ok s) = refl
 went_shape c command (Err e) = refl
 
-pub admit-shape : (origin : Origin) (c : Course) (commands : List Command) → admit origin c commands ≡ with_decisions_of c (admit origin c commands)
+pub admit-shape : (origin : Origin) (c : Course) (commands : List Command) → after_commands origin c commands ≡ with_decisions_of c (after_commands origin c commands)
 admit-shape origin c [] = refl
 admit-shape origin c (command ∷ commands) =
-    let next = went c command (wanted origin c command) in
-    admit-shape origin next commands ∙ ap (λ k. with_decisions_of k (admit origin next commands)) (went_shape c command (wanted origin c command))
+    let next = after_command c command (step_if_room origin c command) in
+    admit-shape origin next commands ∙ ap (λ k. with_decisions_of k (after_commands origin next commands)) (went_shape c command (step_if_room origin c command))
 
-listened_shape : (c : Course) (copy : FrameCopy) (refused : Option Refusal) → listened copy refused c ≡ with_news_of c (listened copy refused c)
+listened_shape : (c : Course) (copy : FrameCopy) (refused : Option Refusal) → after_copy copy refused c ≡ with_news_of c (after_copy copy refused c)
 listened_shape c copy None = refl
 listened_shape c copy (Some e) = refl
 
-accepted_shape : (c : Course) (event : Event) (refused : Option Refusal) → accepted event refused c ≡ with_news_of c (accepted event refused c)
+accepted_shape : (c : Course) (event : Event) (refused : Option Refusal) → after_own_copy event refused c ≡ with_news_of c (after_own_copy event refused c)
 accepted_shape c (events.Hear copy) refused = listened_shape c copy refused
 accepted_shape c event refused = refl
 
 pub turned-shape : (origin : Origin) (c : Course) (moment : ℕ) (event : Event) (refused : Option Refusal) (closings : ℕ)
-    → turned origin c moment event refused closings ≡ with_news_of c (turned origin c moment event refused closings)
+    → after_event origin c moment event refused closings ≡ with_news_of c (after_event origin c moment event refused closings)
 turned-shape origin c moment event refused closings =
-    let commands = take (gone event refused closings) (commands_of c (steps.Event moment event)) in
+    let commands = take (handed_in_count event refused closings) (commands_of c (steps.Event moment event)) in
     let before = at_moment c moment in
-    let next = shutting closings (admit origin before commands) in
+    let next = with_closings closings (after_commands origin before commands) in
     accepted_shape next event refused
-    ∙ ap (λ k. with_news_of (shutting closings k) (accepted event refused next)) (admit-shape origin before commands)
+    ∙ ap (λ k. with_news_of (with_closings closings k) (after_own_copy event refused next)) (admit-shape origin before commands)
 
-pub turned_all-shape : (origin : Origin) (c : Course) (moment : ℕ) (turns : List EventTurn) → turned_all origin c moment turns ≡ with_news_of c (turned_all origin c moment turns)
+pub turned_all-shape : (origin : Origin) (c : Course) (moment : ℕ) (turns : List EventTurn) → after_events origin c moment turns ≡ with_news_of c (after_events origin c moment turns)
 turned_all-shape origin c moment [] = refl
 turned_all-shape origin c moment (t ∷ turns) =
-    let next = turned origin c moment t.event t.turn.refused t.closings in
+    let next = after_event origin c moment t.event t.turn.refused t.closings in
     turned_all-shape origin next moment turns
-    ∙ ap (λ k. with_news_of k (turned_all origin next moment turns)) (turned-shape origin c moment t.event t.turn.refused t.closings)
+    ∙ ap (λ k. with_news_of k (after_events origin next moment turns)) (turned-shape origin c moment t.event t.turn.refused t.closings)

@@ -5,21 +5,21 @@ use Rattle.lw_types.specs.Refusal.{number_of}
 use Rattle.lw_types.specs.declared.refusal.Refusal.{Refusal}
 use Rattle.lw_types.specs.declared.refusal.Refusal.TheVariants.{OutOfMemory, OutOfStep, DeviceFailed}
 use Rattle.devices.specs.declared.command.Command.{Command}
-use Rattle.sessions.specs.Table.{folded}
-use Rattle.sessions.specs.Decision.{ContinueAll, FitAll, AreNumbered, IsLegalContinuation, applied_all, commands_of}
+use Rattle.sessions.specs.Table.{fold_of}
+use Rattle.sessions.specs.Decision.{ContinueAll, FitAll, AreNumbered, IsLegalContinuation, with_decisions, commands_of}
 use Rattle.sessions.specs.declared.decision.Decision.{Decision}
 use Rattle.world.specs.Folding.{RunLaws}
 use Rattle.session_core.specs.State.{DecisionsState, IsLawful}
-use Rattle.session_core.specs.Deciding.{taken_from}
+use Rattle.session_core.specs.Deciding.{after_taking}
 use Rattle.store.specs.State.{StoreState}
 use Rattle.store.specs.declared.phases.Begun.{Begun}
 use Rattle.store.specs.Phases.{IsBegunOn, begun_change}
 use Rattle.flusher.specs.declared.room.Room.{Room}
 use Rattle.world.specs.declared.answer.Answer.{Answer}
 use Rattle.world.specs.declared.answer.Answer.TheVariants as answers
-use Rattle.world.specs.declared.commit.Commit.{Commit}
-use Rattle.world.specs.declared.commit.Commit.TheVariants as commits
-use Rattle.world.specs.Course.{Origin, Course, begun, gave_up, table_from, number_from}
+use Rattle.world.specs.declared.commit.UnderWay.{UnderWay}
+use Rattle.world.specs.declared.commit.UnderWay.TheVariants as commits
+use Rattle.world.specs.Course.{Origin, Course, after_take, after_give_up, table_from, number_from}
 use Rattle.world.specs.Course.Stage.{Begun as Began}
 use Rattle.world.specs.Answers.{AnswersTake, Beside, Takes}
 use Rattle.world.specs.Follows.{IsLife}
@@ -77,11 +77,11 @@ module _ (laws : RunLaws) (origin : Origin) (c : Course) (s : StoreState) (core 
       let P : List Decision → Type 0 = λ l. ContinueAll core.base (core.opening + core.taken) l in
       (laws.split core.base (core.opening + core.taken) (take most core.log) (drop most core.log) (subst P (sym (take-append-drop most core.log)) lawful.continues)).0
 
-  base : applied_all core.base (take most core.log) ≡ table_from origin ((c.settled ++ c.given_up) ++ take most c.untaken)
+  base : with_decisions core.base (take most core.log) ≡ table_from origin ((c.settled ++ c.given_up) ++ take most c.untaken)
   base =
       sym (laws.folding core.base (take most core.log) continues.fit)
-      ∙ (ap (folded core.base) commands
-      ∙ (ap (λ t. folded t (take most c.untaken)) f.base ∙ sym (laws.joined origin.table (c.settled ++ c.given_up) (take most c.untaken))))
+      ∙ (ap (fold_of core.base) commands
+      ∙ (ap (λ t. fold_of t (take most c.untaken)) f.base ∙ sym (laws.joined origin.table (c.settled ++ c.given_up) (take most c.untaken))))
 
   number : core.opening + (core.taken + length (take most core.log)) ≡ number_from origin ((c.settled ++ c.given_up) ++ take most c.untaken)
   number =
@@ -91,7 +91,7 @@ module _ (laws : RunLaws) (origin : Origin) (c : Course) (s : StoreState) (core 
       omega (arith, whole, before, size)
 
   -- the batch is lost
-  lost : IsLife origin (gave_up (record c { flights = [] }) most) s (taken_from core most) commits.Idle
+  lost : IsLife origin (after_give_up (record c { flights = [] }) most) s (after_taking core most) commits.Idle
   lost = record {
     table = f.table;
     seq = f.seq;
@@ -107,7 +107,7 @@ module _ (laws : RunLaws) (origin : Origin) (c : Course) (s : StoreState) (core 
   -- the batch is under way
   under_way : (phase : Begun) (room : Room) → c.given_up ≡ [] → (begun_change phase).decisions ≡ take most core.log
       → FitAll s.table (begun_change phase).decisions → IsBegunOn s phase
-      → IsLife origin (begun (record c { flights = [] }) most) s (taken_from core most) (commits.Begun phase room)
+      → IsLife origin (after_take (record c { flights = [] }) most) s (after_taking core most) (commits.Begun phase room)
   under_way phase room none decisions fit on = record {
     table = f.table;
     seq = f.seq;
@@ -166,40 +166,40 @@ module _ (laws : RunLaws) (origin : Origin) (c : Course) (s : StoreState) (core 
   counted : (n : ℕ) → n ≡ length (take most core.log) → n ≡ length (take most c.untaken)
   counted n is = is ∙ count laws origin c s core lawful most resting
 
-  gave : IsLife origin (gave_up c most) s (taken_from core most) commits.Idle
+  gave : IsLife origin (after_give_up c most) s (after_taking core most) commits.Idle
   gave =
-      at_rest (λ k. IsLife origin (gave_up k most) s (taken_from core most) commits.Idle) c f.under_way.0
+      at_rest (λ k. IsLife origin (after_give_up k most) s (after_taking core most) commits.Idle) c f.under_way.0
       (lost laws origin c s core lawful most resting)
 
   -- its batch begins
   pub takes : (phase : Begun) (room : Room) (n : ℕ) → (begun_change phase).decisions ≡ take most core.log
       → IsLegalContinuation s.table s.seq (begun_change phase).decisions → IsBegunOn s phase → n ≡ length (take most core.log)
       → AnswersTake c.flights c most (answers.Taken n)
-      × IsLife origin (begun c most) s (taken_from core most) (commits.Begun phase room)
+      × IsLife origin (after_take c most) s (after_taking core most) (commits.Begun phase room)
   takes phase room n decisions legal on is =
       let none = none_lost laws origin c s core lawful most resting (begun_change phase).decisions decisions legal in (
         answers_so (answers.Taken n) (waiting, (none, counted n is)),
-        at_rest (λ k. IsLife origin (begun k most) s (taken_from core most) (commits.Begun phase room)) c f.under_way.0
+        at_rest (λ k. IsLife origin (after_take k most) s (after_taking core most) (commits.Begun phase room)) c f.under_way.0
             (under_way laws origin c s core lawful most resting phase room none decisions legal.continues.fit on),
       )
 
   -- or is lost for want of memory
   pub loses : (n : ℕ) → IsLegalContinuation s.table s.seq (take most core.log) → n ≡ length (take most core.log)
-      → AnswersTake c.flights c most (answers.GivenUp n) × IsLife origin (gave_up c most) s (taken_from core most) commits.Idle
+      → AnswersTake c.flights c most (answers.GivenUp n) × IsLife origin (after_give_up c most) s (after_taking core most) commits.Idle
   loses n legal is =
       let none = none_lost laws origin c s core lawful most resting (take most core.log) refl legal in
       (answers_so (answers.GivenUp n) (waiting, (none, counted n is)), gave)
 
   -- or is out of step
   pub strays : 1 ≤ most → ¬ (IsLegalContinuation s.table s.seq (take most core.log))
-      → AnswersTake c.flights c most (answers.Refused OutOfStep) × IsLife origin (gave_up c most) s (taken_from core most) commits.Idle
+      → AnswersTake c.flights c most (answers.Refused OutOfStep) × IsLife origin (after_give_up c most) s (after_taking core most) commits.Idle
   strays asked illegal = (
     answers_so (answers.Refused OutOfStep) (waiting, inr (refl, λ none. illegal (is_legal laws origin c s core lawful most resting asked some none))),
     gave,
   )
 
 -- the same life, by equal parts
-pub moved : (origin : Origin) (c : Course) (s s' : StoreState) (core core' : DecisionsState) (commit commit' : Commit)
+pub moved : (origin : Origin) (c : Course) (s s' : StoreState) (core core' : DecisionsState) (commit commit' : UnderWay)
     → s' ≡ s → core' ≡ core → commit' ≡ commit → IsLife origin c s core commit → IsLife origin c s' core' commit'
 moved origin c s s' core core' commit commit' store core_is commit_is f =
     subst (λ s. IsLife origin c s core' commit') (sym store)

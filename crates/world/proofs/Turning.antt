@@ -12,19 +12,19 @@ use Rattle.lw_types.specs.declared.frame_copy.FrameCopy.{FrameCopy}
 use Rattle.devices.specs.declared.command.Command.{Command}
 use Rattle.devices.specs.declared.command.Command.TheVariants.{Heard}
 use Rattle.dedup.specs.Groups.{Arrival, groups}
-use Rattle.dedup.specs.Windows.{Window, added, gathered, is_due}
+use Rattle.dedup.specs.Windows.{Window, windows_with, window_of_group, is_due}
 use Rattle.session_core.specs.State.{DecisionsState, IsLawful}
 use Rattle.session_core.specs.Deciding.{verdict_of}
 use Rattle.session_core.specs.Core.{CoreState, with_outcome}
-use Rattle.session_core.specs.Events.{Asks, Closes, ClosesOldest, Hears, Starves, Ticks, has_due, moved, IsHeard as IsCoreHeard, IsTurn as IsCoreTurn}
+use Rattle.session_core.specs.Events.{Asks, Closes, ClosesOldest, Hears, Starves, Ticks, has_due, core_at_moment, IsCopyAnswer as IsCoreHeard, IsTurnAnswer as IsCoreTurn}
 use Rattle.session_core.specs.declared.turn.Turn.{Turn}
-use Rattle.sessions.specs.Table.{Step as TableStep}
+use Rattle.sessions.specs.Table.{TableStep}
 use Rattle.store.specs.State.{StoreState}
 use Rattle.world.specs.Folding.{RunLaws}
-use Rattle.world.specs.declared.commit.Commit.{Commit}
+use Rattle.world.specs.declared.commit.UnderWay.{UnderWay}
 use Rattle.world.specs.declared.event.Event.{Event}
 use Rattle.world.specs.declared.event.Event.TheVariants as events
-use Rattle.world.specs.Course.{Origin, Course, admit, at_moment, command_in, due_frames, listened, shutting, turned, wanted, went, windows_of}
+use Rattle.world.specs.Course.{Origin, Course, after_commands, at_moment, command_in, due_frames, after_copy, with_closings, after_event, step_if_room, after_command, windows_of}
 use Rattle.world.specs.Answers.{IsAsked, IsHeard, IsOwnRight, IsTurn}
 use Rattle.world.specs.declared.links.Links.{Links}
 use Rattle.world.specs.Follows.{IsLife, IsListening}
@@ -41,9 +41,9 @@ drop_front : {X : Type 0} (xs ys : List X) → drop (length xs) (xs ++ ys) ≡ y
 drop_front [] ys = refl
 drop_front (x ∷ xs) ys = drop_front xs ys
 
-admit_on : (origin : Origin) (c : Course) (first second : List Command) → admit origin c (first ++ second) ≡ admit origin (admit origin c first) second
+admit_on : (origin : Origin) (c : Course) (first second : List Command) → after_commands origin c (first ++ second) ≡ after_commands origin (after_commands origin c first) second
 admit_on origin c [] second = refl
-admit_on origin c (command ∷ first) second = admit_on origin (went c command (wanted origin c command)) first second
+admit_on origin c (command ∷ first) second = admit_on origin (after_command c command (step_if_room origin c command)) first second
 
 take_within : {X : Type 0} (n : ℕ) (xs ys : List X) → n ≤ length xs → take n (xs ++ ys) ≡ take n xs
 take_within zero xs ys within = refl
@@ -70,16 +70,16 @@ drop_sum {X} (suc a) b [] =
 drop_sum (suc a) b (x ∷ xs) = let next : suc a + b ≡ suc (a + b) = omega arith in ap (λ m. drop m (x ∷ xs)) next ∙ drop_sum a b xs
 
 -- commands change nothing of what a core hears
-pub admit-clock : (origin : Origin) (c : Course) (commands : List Command) → (admit origin c commands).clock ≡ c.clock
+pub admit-clock : (origin : Origin) (c : Course) (commands : List Command) → (after_commands origin c commands).clock ≡ c.clock
 admit-clock origin c commands = ap (λ (k : Course). k.clock) (admit-shape origin c commands)
 
-pub admit-shut : (origin : Origin) (c : Course) (commands : List Command) → (admit origin c commands).shut ≡ c.shut
+pub admit-shut : (origin : Origin) (c : Course) (commands : List Command) → (after_commands origin c commands).shut ≡ c.shut
 admit-shut origin c commands = ap (λ (k : Course). k.shut) (admit-shape origin c commands)
 
-pub admit-arrivals : (origin : Origin) (c : Course) (commands : List Command) → (admit origin c commands).arrivals ≡ c.arrivals
+pub admit-arrivals : (origin : Origin) (c : Course) (commands : List Command) → (after_commands origin c commands).arrivals ≡ c.arrivals
 admit-arrivals origin c commands = ap (λ (k : Course). k.arrivals) (admit-shape origin c commands)
 
-shut_then : (n : ℕ) (c : Course) (command : Command) (outcome : Result TableStep Refusal) → shutting n (went c command outcome) ≡ went (shutting n c) command outcome
+shut_then : (n : ℕ) (c : Course) (command : Command) (outcome : Result TableStep Refusal) → with_closings n (after_command c command outcome) ≡ after_command (with_closings n c) command outcome
 shut_then n c command (Ok st) = refl
 shut_then n c command (Err e) = refl
 
@@ -163,9 +163,9 @@ outcome_closings s d (Err refusal) = refl
 
 -- ---- closings
 
-module _ (laws : RunLaws) (origin : Origin) (s : StoreState) (commit : Commit) where
+module _ (laws : RunLaws) (origin : Origin) (s : StoreState) (commit : UnderWay) where
   -- the same life once a copy was accepted, or wasn't
-  pub at-listened : (c : Course) (core : DecisionsState) (copy : FrameCopy) (refused : Option Refusal) → IsLife origin c s core commit → IsLife origin (listened copy refused c) s core commit
+  pub at-listened : (c : Course) (core : DecisionsState) (copy : FrameCopy) (refused : Option Refusal) → IsLife origin c s core commit → IsLife origin (after_copy copy refused c) s core commit
   at-listened c core copy None f = same-life f
   at-listened c core copy (Some e) f = f
 
@@ -176,7 +176,7 @@ module _ (laws : RunLaws) (origin : Origin) (s : StoreState) (commit : Commit) w
     pub count : length front ≡ n
     pub due : filter (is_due old.clock) front ≡ front
     pub clock : new.clock ≡ old.clock
-    pub life : IsLife origin (admit origin c (map command_in front)) s new.decisions commit
+    pub life : IsLife origin (after_commands origin c (map command_in front)) s new.decisions commit
     pub lawful : IsLawful new.decisions
 
   shut_none : (c : Course) (old : CoreState) → IsLife origin c s old.decisions commit → IsLawful old.decisions → Shut c old old 0
@@ -189,12 +189,12 @@ module _ (laws : RunLaws) (origin : Origin) (s : StoreState) (commit : Commit) w
       let rest = hands.rest in
       let d = hands.handled.decisions in
       let command = command_in window in
-      let there = admit origin c (map command_in so.front) in
+      let there = after_commands origin c (map command_in so.front) in
       let is_command : Heard hands.heard ≡ command = ap Heard hands.oldest.heard_in_it in
       let became = becomes laws origin there s before.decisions commit so.lawful so.life (Heard hands.heard) one.result d hands.handled.kept in
-      let gone_on : IsLife origin (went there command (wanted origin there command)) s d commit =
-      subst (λ k. IsLife origin (went there k (wanted origin there k)) s d commit) is_command
-      (subst (λ k. IsLife origin k s d commit) (with-memory there (Heard hands.heard) (wanted origin there (Heard hands.heard)) one.result one.there_was_memory) became.1.1) in
+      let gone_on : IsLife origin (after_command there command (step_if_room origin there command)) s d commit =
+      subst (λ k. IsLife origin (after_command there k (step_if_room origin there k)) s d commit) is_command
+      (subst (λ k. IsLife origin k s d commit) (with-memory there (Heard hands.heard) (step_if_room origin there (Heard hands.heard)) one.result one.there_was_memory) became.1.1) in
       let decisions : new.decisions ≡ d =
       ap (λ (k : CoreState). k.decisions) one.new_is ∙ (ap (λ (k : CoreState). k.decisions) hands.handled.new_is ∙ outcome_decisions before d one.result) in
       let windows : new.windows ≡ rest = ap (λ (k : CoreState). k.windows) one.new_is in
@@ -212,8 +212,8 @@ module _ (laws : RunLaws) (origin : Origin) (s : StoreState) (commit : Commit) w
         clock = clock ∙ so.clock;
         life =
             subst (λ k. IsLife origin k s new.decisions commit)
-            (sym (ap (admit origin c) (map-append command_in so.front (window ∷ [])) ∙ admit_on origin c (map command_in so.front) (command ∷ [])))
-            (subst (λ k. IsLife origin (went there command (wanted origin there command)) s k commit) (sym decisions) gone_on);
+            (sym (ap (after_commands origin c) (map-append command_in so.front (window ∷ [])) ∙ admit_on origin c (map command_in so.front) (command ∷ [])))
+            (subst (λ k. IsLife origin (after_command there command (step_if_room origin there command)) s k commit) (sym decisions) gone_on);
         lawful = subst IsLawful (sym decisions) hands.handled.kept.lawful;
       }
 
@@ -231,7 +231,7 @@ module _ (laws : RunLaws) (origin : Origin) (s : StoreState) (commit : Commit) w
     pub count : length frames ≡ between.closings
     pub none : has_due between ≡ false → left ≡ []
     pub some : has_due between ≡ true → 0 < length left
-    pub life : IsLife origin (admit origin (at_moment c moment) frames) s between.decisions commit
+    pub life : IsLife origin (after_commands origin (at_moment c moment) frames) s between.decisions commit
     pub lawful : IsLawful between.decisions
     pub clock : between.clock ≡ (at_moment c moment).clock
     pub windows : between.windows ≡ drop between.closings (windows_of c)
@@ -240,8 +240,8 @@ module _ (laws : RunLaws) (origin : Origin) (s : StoreState) (commit : Commit) w
       → IsLife origin c s old.decisions commit → IsListening c old links → IsLawful old.decisions → (h : IsCoreTurn old moment Own turn new) → Closed c moment h.between
   closed c old links moment Own turn new f listens lawful h =
       let now = (at_moment c moment).clock in
-      let so = shut_all (at_moment c moment) h.between.closings (moved old moment) h.closed.last h.closed.closed (same-life f) lawful in
-      let then : (moved old moment).clock ≡ now = ap (λ k. max k moment) listens.clock in
+      let so = shut_all (at_moment c moment) h.between.closings (core_at_moment old moment) h.closed.last h.closed.closed (same-life f) lawful in
+      let then : (core_at_moment old moment).clock ≡ now = ap (λ k. max k moment) listens.clock in
       let last_clock : h.closed.last.clock ≡ now = so.clock ∙ then in
       let clock : h.between.clock ≡ now = ap (λ (k : CoreState). k.clock) h.closed.new_is ∙ last_clock in
       let windows : h.between.windows ≡ h.closed.last.windows = ap (λ (k : CoreState). k.windows) h.closed.new_is in
@@ -261,7 +261,7 @@ module _ (laws : RunLaws) (origin : Origin) (s : StoreState) (commit : Commit) w
         count = length-map so.front command_in ∙ so.count;
         none = λ no. ap (map command_in) (nothing_due now ws (sym has ∙ no));
         some = λ yes. (let few = some_due now ws (sym has ∙ yes) in let same = length-map (filter (is_due now) ws) command_in in omega (arith, few, same));
-        life = subst (λ k. IsLife origin (admit origin (at_moment c moment) (map command_in so.front)) s k commit) (sym decisions) so.life;
+        life = subst (λ k. IsLife origin (after_commands origin (at_moment c moment) (map command_in so.front)) s k commit) (sym decisions) so.life;
         lawful = subst IsLawful (sym decisions) so.lawful;
         clock = clock;
         windows =
@@ -297,11 +297,11 @@ module _ (laws : RunLaws) (origin : Origin) (s : StoreState) (commit : Commit) w
 
     -- where the event's own is done
     abbrev there : Course
-    there = shutting between.closings (admit origin (at_moment c moment) (take between.closings (due_frames (at_moment c moment))))
+    there = with_closings between.closings (after_commands origin (at_moment c moment) (take between.closings (due_frames (at_moment c moment))))
 
     there_life : IsLife origin there s between.decisions commit
     there_life =
-        same-life (subst (λ l. IsLife origin (admit origin (at_moment c moment) l) s between.decisions commit) (sym frames_taken) k.life)
+        same-life (subst (λ l. IsLife origin (after_commands origin (at_moment c moment) l) s between.decisions commit) (sym frames_taken) k.life)
 
     abbrev Own : Event → Option Refusal → Type 0
     Own event refused =
@@ -316,10 +316,10 @@ module _ (laws : RunLaws) (origin : Origin) (s : StoreState) (commit : Commit) w
     -- the answer to an event, and the life behind it
     abbrev Turns : Event → Turn → ℕ → DecisionsState → Type 0
     Turns event turn closings decisions =
-        IsTurn origin c moment event turn closings × IsLife origin (turned origin c moment event turn.refused closings) s decisions commit
+        IsTurn origin c moment event turn closings × IsLife origin (after_event origin c moment event turn.refused closings) s decisions commit
 
     turns : (event : Event) (turn : Turn) (decisions : DecisionsState) → turn.from ≡ c.made → turn.to ≡ decisions.made → Own event turn.refused
-        → IsLife origin (turned origin c moment event turn.refused between.closings) s decisions commit → Turns event turn between.closings decisions
+        → IsLife origin (after_event origin c moment event turn.refused between.closings) s decisions commit → Turns event turn between.closings decisions
     turns event turn decisions from to own life = (record { from = from; to = to ∙ life.made; within = within; own = own }, life)
 
     -- of a moment alone
@@ -365,17 +365,17 @@ module _ (laws : RunLaws) (origin : Origin) (s : StoreState) (commit : Commit) w
         let before = at_moment c moment in
         let commands = take between.closings (due_frames before) in
         k.windows
-        ∙ (sym (drop_sum c.shut between.closings (map gathered (groups c.arrivals)))
-        ∙ (ap (λ m. drop (m + between.closings) (map gathered (groups c.arrivals))) (sym (admit-shut origin before commands))
-        ∙ ap (λ (l : List Arrival). drop ((admit origin before commands).shut + between.closings) (map gathered (groups l))) (sym (admit-arrivals origin before commands))))
+        ∙ (sym (drop_sum c.shut between.closings (map window_of_group (groups c.arrivals)))
+        ∙ (ap (λ m. drop (m + between.closings) (map window_of_group (groups c.arrivals))) (sym (admit-shut origin before commands))
+        ∙ ap (λ (l : List Arrival). drop ((after_commands origin before commands).shut + between.closings) (map window_of_group (groups l))) (sym (admit-arrivals origin before commands))))
 
     heard_right : (copy : FrameCopy) (refused : Option Refusal) (new : CoreState) → IsCoreHeard copy between (verdict_of refused) new → IsHeard there copy refused
     heard_right copy refused new own =
         record {
           receivable = λ is.
-              subst (λ ws. AnswersWithMemory (added ws there.clock copy) (λ _ _. Unit {0}) (verdict_of refused)) there_windows
-              (subst (λ now. AnswersWithMemory (added between.windows now copy) (λ _ _. Unit {0}) (verdict_of refused)) there_clock
-              (with-less-memory _ (added between.windows between.clock copy) (verdict_of refused) (own.receivable is)));
+              subst (λ ws. AnswersWithMemory (windows_with ws there.clock copy) (λ _ _. Unit {0}) (verdict_of refused)) there_windows
+              (subst (λ now. AnswersWithMemory (windows_with between.windows now copy) (λ _ _. Unit {0}) (verdict_of refused)) there_clock
+              (with-less-memory _ (windows_with between.windows between.clock copy) (verdict_of refused) (own.receivable is)));
           unknown = λ no. inl (refused_as refused UnknownChannel (own.unknown no));
         }
 
@@ -383,7 +383,7 @@ module _ (laws : RunLaws) (origin : Origin) (s : StoreState) (commit : Commit) w
     heard_keeps : (copy : FrameCopy) (refused : Option Refusal) (new : CoreState) → IsCoreHeard copy between (verdict_of refused) new
         → (new.decisions ≡ between.decisions) × (new.closings ≡ between.closings)
     heard_keeps copy (Some e) new own = (ap (λ (n : CoreState). n.decisions) own.same, ap (λ (n : CoreState). n.closings) own.same)
-    heard_keeps copy None new own = by (added between.windows between.clock copy) (own.receivable own.known)
+    heard_keeps copy None new own = by (windows_with between.windows between.clock copy) (own.receivable own.known)
       where
         by : (found : Result (List Window) Refusal) → Answers {A = List Window} {B = Unit {0}} found (λ ws _. new ≡ record between { windows = ws }) (Ok tt)
             → (new.decisions ≡ between.decisions) × (new.closings ≡ between.closings)
@@ -417,15 +417,15 @@ module _ (laws : RunLaws) (origin : Origin) (s : StoreState) (commit : Commit) w
     abbrev frames_then : List Command
     frames_then = due_frames (at_moment c moment)
 
-    pub asked-none : (command : Command) → turned origin c moment (events.Ask command) (Some OutOfMemory) between.closings ≡ there
+    pub asked-none : (command : Command) → after_event origin c moment (events.Ask command) (Some OutOfMemory) between.closings ≡ there
     asked-none command =
         let none : between.closings + 0 ≡ between.closings = omega arith in
-        ap (λ l. shutting between.closings (admit origin (at_moment c moment) l))
+        ap (λ l. with_closings between.closings (after_commands origin (at_moment c moment) l))
         (ap (λ m. take m (frames_then ++ command ∷ [])) none ∙ take_within between.closings frames_then (command ∷ []) within)
 
     asked_one : (command : Command) → has_due between ≡ false
-        → shutting between.closings (admit origin (at_moment c moment) (take (between.closings + 1) (frames_then ++ command ∷ [])))
-        ≡ went there command (wanted origin there command)
+        → with_closings between.closings (after_commands origin (at_moment c moment) (take (between.closings + 1) (frames_then ++ command ∷ [])))
+        ≡ after_command there command (step_if_room origin there command)
     asked_one command none =
         let before = at_moment c moment in
         let size : length frames_then ≡ between.closings = (let all = sizes in let empty = ap length (k.none none) in omega (arith, all, empty)) in
@@ -434,12 +434,12 @@ module _ (laws : RunLaws) (origin : Origin) (s : StoreState) (commit : Commit) w
         let count : between.closings + 1 ≡ length (frames_then ++ command ∷ []) = omega (arith, longer, size) in
         let taken : take (between.closings + 1) (frames_then ++ command ∷ []) ≡ take between.closings frames_then ++ command ∷ [] =
         ap (λ m. take m (frames_then ++ command ∷ [])) count ∙ (take_whole (frames_then ++ command ∷ []) ∙ ap (λ l. l ++ command ∷ []) (sym whole)) in
-        ap (λ l. shutting between.closings (admit origin before l)) taken
-        ∙ (ap (shutting between.closings) (admit_on origin before (take between.closings frames_then) (command ∷ []))
-        ∙ shut_then between.closings (admit origin before (take between.closings frames_then)) command (wanted origin (admit origin before (take between.closings frames_then)) command))
+        ap (λ l. with_closings between.closings (after_commands origin before l)) taken
+        ∙ (ap (with_closings between.closings) (admit_on origin before (take between.closings frames_then) (command ∷ []))
+        ∙ shut_then between.closings (after_commands origin before (take between.closings frames_then)) command (step_if_room origin (after_commands origin before (take between.closings frames_then)) command))
 
     asked_then : (command : Command) (refused : Option Refusal) → has_due between ≡ false
-        → turned origin c moment (events.Ask command) refused between.closings ≡ answered there command (wanted origin there command) (verdict_of refused)
+        → after_event origin c moment (events.Ask command) refused between.closings ≡ answered there command (step_if_room origin there command) (verdict_of refused)
     asked_then command None none = asked_one command none
     asked_then command (Some OutOfMemory) none = asked-none command
     asked_then command (Some e) none = asked_one command none
@@ -449,16 +449,16 @@ module _ (laws : RunLaws) (origin : Origin) (s : StoreState) (commit : Commit) w
     turns-asked command new turn own from to = by (has_due between) refl own
       where
         done : new.closings ≡ between.closings → Own (events.Ask command) turn.refused
-            → IsLife origin (turned origin c moment (events.Ask command) turn.refused between.closings) s new.decisions commit
+            → IsLife origin (after_event origin c moment (events.Ask command) turn.refused between.closings) s new.decisions commit
             → Turns (events.Ask command) turn new.closings new.decisions
         done closings own life =
             subst (λ m. Turns (events.Ask command) turn m new.decisions) (sym closings)
             (turns (events.Ask command) turn new.decisions from to own life)
 
         starved : (refused : Option Refusal) → refused ≡ Some OutOfMemory → new ≡ between
-            → IsLife origin (turned origin c moment (events.Ask command) refused between.closings) s new.decisions commit
+            → IsLife origin (after_event origin c moment (events.Ask command) refused between.closings) s new.decisions commit
         starved refused is same =
-            subst (λ r. IsLife origin (turned origin c moment (events.Ask command) r between.closings) s new.decisions commit) (sym is)
+            subst (λ r. IsLife origin (after_event origin c moment (events.Ask command) r between.closings) s new.decisions commit) (sym is)
             (subst (λ q. IsLife origin q s new.decisions commit) (sym (asked-none command))
             (subst (λ (n : CoreState). IsLife origin there s n.decisions commit) (sym same) there_life))
 
@@ -474,5 +474,5 @@ module _ (laws : RunLaws) (origin : Origin) (s : StoreState) (commit : Commit) w
             let asked : IsAsked origin there command turn.refused =
             record { full = λ none. refused_as turn.refused Backlog (became.0 none); decided = became.1.0 } in
             done closings (own_done (events.Ask command) turn.refused is asked)
-            (subst (λ (e : DecisionsState). IsLife origin (turned origin c moment (events.Ask command) turn.refused between.closings) s e commit) (sym decisions)
+            (subst (λ (e : DecisionsState). IsLife origin (after_event origin c moment (events.Ask command) turn.refused between.closings) s e commit) (sym decisions)
             (subst (λ q. IsLife origin q s d commit) (sym (asked_then command turn.refused is)) became.1.1))

@@ -1,5 +1,6 @@
--- Which answers are right in a course. Whether a call of the disk fails is told by `Calls`.
-use Rattle.std.specs.Prelude.{◌≡◌, ◌≢◌, ◌≤◌, ◌⊎◌, ℕ, false, nat_lt, List, [], ◌∷◌, ◌++◌, length, map, take, slice_get, Option, Some, None, MatchBool}
+-- Which answers are right in a course. Whether a call of the disk fails is said by `CallRecord`.
+use Rattle.std.specs.Prelude.{◌≡◌, ◌≢◌, ◌≤◌, ◌⊎◌, ℕ, false, nat_lt, List, [], ◌∷◌, ◌++◌, length}
+use Rattle.std.specs.Prelude.{map, take, slice_get, Option, Some, None, MatchBool}
 use Rattle.std.specs.Option.{MatchOption}
 use Rattle.lw_types.specs.declared.refusal.Refusal.TheVariants as refusals
 use Rattle.devices.specs.declared.command.Command.{Command}
@@ -8,7 +9,7 @@ use Rattle.lw_types.specs.Answer.{AnswersWithMemory}
 use Rattle.lw_types.specs.declared.refusal.Refusal.{Refusal}
 use Rattle.lw_types.specs.declared.frame_copy.FrameCopy.{FrameCopy}
 use Rattle.devices.specs.Heard.{IsReceivable}
-use Rattle.dedup.specs.Windows.{added}
+use Rattle.dedup.specs.Windows.{windows_with}
 use Rattle.sessions.specs.Decision.{AnswersTo}
 use Rattle.session_core.specs.Deciding.{verdict_of}
 use Rattle.session_core.specs.declared.turn.Turn.{Turn}
@@ -21,75 +22,96 @@ use Rattle.world.specs.declared.step.Step.{Step}
 use Rattle.world.specs.declared.step.Step.TheVariants as steps
 use Rattle.world.specs.declared.answer.Answer.{Answer}
 use Rattle.world.specs.declared.answer.Answer.TheVariants as answers
-use Rattle.world.specs.Course.{Checkpoint, Origin, Course, Flight, Stage, admit, after, at_moment, decided, due_frames, has_room, number_from, shutting, table_from, told_more, turned, wanted, windows_of}
+use Rattle.world.specs.Course.{Checkpoint, Origin, Course, Flight, Stage, after_commands}
+use Rattle.world.specs.Course.{course_after, at_moment, decided_commands, due_frames, has_room}
+use Rattle.world.specs.Course.{number_from, with_closings, table_from, with_piece, after_event}
+use Rattle.world.specs.Course.{step_if_room, windows_of}
 use Rattle.world.specs.Course.Checkpoint.{NotUnderWay, CallsLeft, CallFailed}
 use Rattle.world.specs.Course.Stage.{Opened, Durable, Stopped, Unsure}
 
--- what a command is answered: it is decided, or refused as it has to be; that there is no room is known before any memory
--- is taken
-pub record IsAsked (origin : Origin) (c : Course) (command : Command) (refused : Option Refusal) : Type 0 where
+-- what a command is answered: it is decided, or refused as it has to be; that there is no room is
+-- known before any memory is taken
+pub record IsAsked (origin : Origin) (c : Course) (command : Command)
+    (refused : Option Refusal) : Type 0 where
   pub full : has_room origin c ≡ false → refused ≡ Some refusals.Backlog
-  pub decided : AnswersTo command (wanted origin c command) (λ _ _. Unit {0}) (verdict_of refused)
+  pub decided : AnswersTo command (step_if_room origin c command) (λ _ _. Unit {0})
+      (verdict_of refused)
 
--- what a copy is answered: only where it is on a channel at a data rate that a device may use it is accepted, or refused by the
--- groups that wait; or memory ran out
-pub record IsHeard (c : Course) (copy : FrameCopy) (refused : Option Refusal) : Type 0 where
-  pub receivable : IsReceivable copy.reception → AnswersWithMemory (added (windows_of c) c.clock copy) (λ _ _. Unit {0}) (verdict_of refused)
-  pub unknown : ¬ (IsReceivable copy.reception) → (refused ≡ Some refusals.UnknownChannel) ⊎ (refused ≡ Some refusals.OutOfMemory)
+-- what a copy is answered: only where it is on a channel at a data rate that a device may use it is
+-- accepted, or refused by the groups that wait; or memory ran out
+pub record IsCopyAnswer (c : Course) (copy : FrameCopy) (refused : Option Refusal) : Type 0 where
+  pub receivable : IsReceivable copy.reception
+      → AnswersWithMemory (windows_with (windows_of c) c.clock copy) (λ _ _. Unit {0})
+      (verdict_of refused)
+  pub unknown : ¬ (IsReceivable copy.reception)
+      → (refused ≡ Some refusals.UnknownChannel) ⊎ (refused ≡ Some refusals.OutOfMemory)
 
 -- the answer to an event's own, once the windows that are due are closed
 abbrev pub IsOwnRight : Origin → Course → Event → Option Refusal → Type 0
-IsOwnRight origin c (events.Hear copy) refused = IsHeard c copy refused
+IsOwnRight origin c (events.Hear copy) refused = IsCopyAnswer c copy refused
 IsOwnRight origin c events.Tick refused = refused ≡ None
 IsOwnRight origin c (events.Ask command) refused = IsAsked origin c command refused
 
--- The turn of an event at its moment: it counts the decisions of this life. Its own is answered where all windows that are due were
--- closed; where fewer were, memory ran out.
-pub record IsTurn (origin : Origin) (c : Course) (moment : ℕ) (event : Event) (turn : Turn) (closings : ℕ) : Type 0 where
+-- The turn of an event at its moment: it counts the decisions of this life. Its own is answered
+-- where all windows that are due were closed; where fewer were, memory ran out.
+pub record IsTurnAnswer (origin : Origin) (c : Course) (moment : ℕ) (event : Event) (turn : Turn)
+    (closings : ℕ) : Type 0 where
   pub from : turn.from ≡ c.made
-  pub to : turn.to ≡ (turned origin c moment event turn.refused closings).made
+  pub to : turn.to ≡ (after_event origin c moment event turn.refused closings).made
   pub within : closings ≤ length (due_frames (at_moment c moment))
   pub own : MatchBool (nat_lt closings (length (due_frames (at_moment c moment))))
       (turn.refused ≡ Some refusals.OutOfMemory)
-      (IsOwnRight origin (shutting closings (admit origin (at_moment c moment) (take closings (due_frames (at_moment c moment))))) event turn.refused)
+      (IsOwnRight origin (with_closings closings
+      (after_commands origin (at_moment c moment)
+      (take closings (due_frames (at_moment c moment))))) event turn.refused)
 
 abbrev pub AnswersEvent : Origin → Course → ℕ → Event → Answer → Type 0
-AnswersEvent origin c moment event (answers.Turn turn closings) = IsTurn origin c moment event turn closings
+AnswersEvent origin c moment event (answers.Turn turn closings) =
+    IsTurnAnswer origin c moment event turn closings
 AnswersEvent origin c moment event answer = ⊥
 
 -- the turns of several events at one moment
 abbrev pub AreTurns : Origin → Course → ℕ → List EventTurn → Type 0
 AreTurns origin c moment [] = Unit {0}
 AreTurns origin c moment (t ∷ turns) =
-    IsTurn origin c moment t.event t.turn t.closings × AreTurns origin (turned origin c moment t.event t.turn.refused t.closings) moment turns
+    IsTurnAnswer origin c moment t.event t.turn t.closings
+    × AreTurns origin (after_event origin c moment t.event t.turn.refused t.closings) moment
+    turns
 
 abbrev pub event_of : EventTurn → Event
 event_of t = t.event
 
--- A piece of a link's bytes is answered by the turns of the events that it hands in, and by its fault; or nothing of it counts, since
--- there was no memory.
+-- A piece of a link's bytes is answered by the turns of the events that it hands in, and by its
+-- fault; or nothing of it counts, since there was no memory.
 abbrev pub AnswersPiece : Origin → Course → ℕ → ℕ → List ℕ → Answer → Type 0
 AnswersPiece origin c link moment bytes (answers.Turns turns fault) =
-    Completes (stream_on link c.pieces) bytes (map event_of turns.items) fault × AreTurns origin (told_more c link bytes) moment turns.items
+    Completes (stream_on link c.pieces) bytes (map event_of turns.items) fault
+    × AreTurns origin (with_piece c link bytes) moment turns.items
 AnswersPiece origin c link moment bytes (answers.Refused e) = e ≡ refusals.OutOfMemory
 AnswersPiece origin c link moment bytes answer = ⊥
 
--- nothing is taken where nothing waits; a batch begins or is lost behind no lost one, and is out of step behind one alone
+-- nothing is taken where nothing waits; a batch begins or is lost behind no lost one, and is out of
+-- step behind one alone
 abbrev pub Takes : Course → ℕ → Answer → Type 0
 Takes c most answers.Idle = c.untaken ≡ []
 Takes c most answers.Full = c.untaken ≢ []
-Takes c most (answers.Taken n) = (c.untaken ≢ []) × ((c.given_up ≡ []) × (n ≡ length (take most c.untaken)))
-Takes c most (answers.GivenUp n) = (c.untaken ≢ []) × ((c.given_up ≡ []) × (n ≡ length (take most c.untaken)))
-Takes c most (answers.Refused e) = (c.untaken ≢ []) × ((e ≡ refusals.OutOfMemory) ⊎ ((e ≡ refusals.OutOfStep) × (c.given_up ≢ [])))
+Takes c most (answers.Taken n) =
+    (c.untaken ≢ []) × ((c.given_up ≡ []) × (n ≡ length (take most c.untaken)))
+Takes c most (answers.GivenUp n) =
+    (c.untaken ≢ []) × ((c.given_up ≡ []) × (n ≡ length (take most c.untaken)))
+Takes c most (answers.Refused e) =
+    (c.untaken ≢ []) × ((e ≡ refusals.OutOfMemory) ⊎ ((e ≡ refusals.OutOfStep) × (c.given_up ≢ [])))
 Takes c most answer = ⊥
 
--- a checkpoint begins, of so many device calls; or there was no memory, or the live area has the last generation
+-- a checkpoint begins, of this number of device calls; or there was no memory, or the live area has
+-- the last generation
 abbrev pub Checkpoints : Answer → Type 0
 Checkpoints (answers.Begun calls) = (calls ≡ 4) ⊎ (calls ≡ 6)
 Checkpoints (answers.Refused e) = (e ≡ refusals.OutOfMemory) ⊎ (e ≡ refusals.Damaged)
 Checkpoints answer = ⊥
 
--- no batch is taken and no checkpoint begins beside a checkpoint, and none after a failed device call
+-- no batch is taken and no checkpoint begins beside a checkpoint, and none after a failed device
+-- call
 abbrev pub Beside : Checkpoint → Type 0 → Answer → Type 0
 Beside NotUnderWay free answer = free
 Beside (CallsLeft n) free answer = answer ≡ answers.Idle
@@ -114,11 +136,11 @@ abbrev pub IsCalled : Answer → Type 0
 IsCalled answer = (answer ≡ answers.Called) ⊎ (answer ≡ answers.Refused refusals.DeviceFailed)
 
 -- one of the oldest batch
-abbrev pub Calls : Stage → Answer → Type 0
-Calls Durable answer = answer ≡ answers.Idle
-Calls Stopped answer = answer ≡ answers.Idle
-Calls Unsure answer = answer ≡ answers.Idle
-Calls stage answer = IsCalled answer
+abbrev pub AnswersStage : Stage → Answer → Type 0
+AnswersStage Durable answer = answer ≡ answers.Idle
+AnswersStage Stopped answer = answer ≡ answers.Idle
+AnswersStage Unsure answer = answer ≡ answers.Idle
+AnswersStage stage answer = IsCalled answer
 
 -- or of the checkpoint
 abbrev pub CallsFor : Checkpoint → Answer → Type 0
@@ -127,7 +149,7 @@ CallsFor checkpoint answer = answer ≡ answers.Idle
 
 abbrev pub AnswersCall : List Flight → Checkpoint → Answer → Type 0
 AnswersCall [] checkpoint answer = CallsFor checkpoint answer
-AnswersCall (flight ∷ flights) checkpoint answer = Calls flight.stage answer
+AnswersCall (flight ∷ flights) checkpoint answer = AnswersStage flight.stage answer
 
 -- the oldest batch is released once it is durable
 abbrev pub Releases : Stage → ℕ → Answer → Type 0
@@ -136,11 +158,13 @@ Releases stage n answer = answer ≡ answers.Idle
 
 abbrev pub AnswersRelease : Origin → Course → List Flight → Answer → Type 0
 AnswersRelease origin c [] answer = answer ≡ answers.Idle
-AnswersRelease origin c (flight ∷ flights) answer = Releases flight.stage (length (effects_of (table_from origin c.settled) flight.commands)) answer
+AnswersRelease origin c (flight ∷ flights) answer =
+    Releases flight.stage (length (effects_of (table_from origin c.settled) flight.commands)) answer
 
 abbrev pub AnswersList : Origin → Course → Answer → Type 0
 AnswersList origin c answer =
-    (answer ≡ answers.Listed (table_from origin (decided c)) (number_from origin (decided c)))
+    (answer ≡ answers.Listed (table_from origin (decided_commands c))
+    (number_from origin (decided_commands c)))
     ⊎ (answer ≡ answers.Refused refusals.OutOfMemory)
 
 -- the oldest effect that was released and not emitted leaves
@@ -148,7 +172,8 @@ abbrev pub AnswersEmit : Course → Answer → Type 0
 AnswersEmit c answer =
     MatchOption (slice_get c.left c.emitted)
     (answer ≡ answers.Idle)
-    (λ effect. (answer ≡ answers.Emitted (emission effect)) ⊎ (answer ≡ answers.Refused refusals.OutOfMemory))
+    (λ effect. (answer ≡ answers.Emitted (emission effect))
+    ⊎ (answer ≡ answers.Refused refusals.OutOfMemory))
 
 -- what may come of a batch by its stage: it is there, it may be there, or it isn't
 abbrev pub ByStage : Stage → Type 0 → Type 0 → Type 0 → Type 0
@@ -157,8 +182,9 @@ ByStage Opened there doubtful gone = doubtful
 ByStage Unsure there doubtful gone = doubtful
 ByStage stage there doubtful gone = gone
 
--- Which commands a crash may leave, where these are settled and these batches under way, the oldest first: a durable one
--- is left with what comes behind it, one whose gate may be open is left or not, and no other is.
+-- Which commands a crash may leave, where these are settled and these batches under way, the oldest
+-- first: a durable one is left with what comes behind it, one whose gate may be open is left or
+-- not, and no other is.
 abbrev pub MayLeave : List Command → List Flight → List Command → Type 0
 MayLeave settled [] kept = kept ≡ settled
 MayLeave settled (flight ∷ flights) kept =
@@ -171,17 +197,20 @@ MayLeave settled (flight ∷ flights) kept =
 abbrev pub Leaves : Course → List Command → Type 0
 Leaves c kept = MayLeave c.settled c.flights kept
 
--- the store was opened, with the table that such commands leave, or memory ran out, or the device failed
+-- the store was opened, with the table that such commands leave, or memory ran out, or the device
+-- failed
 abbrev pub AnswersCrash : Origin → Course → Answer → Type 0
 AnswersCrash origin c (answers.Opened devices seq) =
-    (kept : List Command) × Leaves c kept × (seq ≡ number_from origin kept) × (devices ≡ length (table_from origin kept).devices)
+    (kept : List Command) × Leaves c kept × (seq ≡ number_from origin kept)
+    × (devices ≡ length (table_from origin kept).devices)
 AnswersCrash origin c (answers.Refused e) = (e ≡ refusals.OutOfMemory) ⊎ (e ≡ refusals.DeviceFailed)
 AnswersCrash origin c answer = ⊥
 
 -- while the store is open
 abbrev pub AnswersOpen : Origin → Course → Step → Answer → Type 0
 AnswersOpen origin c (steps.Event moment event) answer = AnswersEvent origin c moment event answer
-AnswersOpen origin c (steps.Piece link moment bytes) answer = AnswersPiece origin c link moment bytes.items answer
+AnswersOpen origin c (steps.Piece link moment bytes) answer =
+    AnswersPiece origin c link moment bytes.items answer
 AnswersOpen origin c (steps.Take most) answer = AnswersTake c.flights c most answer
 AnswersOpen origin c steps.Checkpoint answer = AnswersCheckpoint c.flights c.checkpoint answer
 AnswersOpen origin c steps.Call answer = AnswersCall c.flights c.checkpoint answer
@@ -199,10 +228,12 @@ AnswersClosed origin c step answer = answer ≡ answers.Idle
 
 -- the right answers to a step
 abbrev pub IsRight : Origin → Course → Step → Answer → Type 0
-IsRight origin c step answer = MatchBool c.is_open (AnswersOpen origin c step answer) (AnswersClosed origin c step answer)
+IsRight origin c step answer =
+    MatchBool c.is_open (AnswersOpen origin c step answer) (AnswersClosed origin c step answer)
 
 -- one right answer to each step
 abbrev pub AreRight : Origin → Course → List Step → List Answer → Type 0
 AreRight origin c [] [] = Unit {0}
-AreRight origin c (step ∷ rest) (answer ∷ others) = IsRight origin c step answer × AreRight origin (after origin c step answer) rest others
+AreRight origin c (step ∷ rest) (answer ∷ others) =
+    IsRight origin c step answer × AreRight origin (course_after origin c step answer) rest others
 AreRight origin c rest others = ⊥

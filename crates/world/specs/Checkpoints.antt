@@ -1,13 +1,19 @@
 -- What a checkpoint under way is, and what its device calls leave.
 use Rattle.std.specs.Prelude.{ℕ, if◌then◌else◌, Option, Some, None}
-use Rattle.store.specs.Checkpointing.{FitsOther, IsCheckpointOn, IsRetiringOn, IsCheckpointWrittenOn, IsCheckpointSyncedOn, IsCheckpointOpenedOn, checkpoint_size, retiring_size, checkpoint_written_size, checkpoint_synced_size, checkpoint_opened_size}
+use Rattle.store.specs.Checkpointing.{FitsOther, IsCheckpointOn, IsRetiringOn}
+use Rattle.store.specs.Checkpointing.{IsCheckpointWrittenOn, IsCheckpointSyncedOn}
+use Rattle.store.specs.Checkpointing.{IsCheckpointOpenedOn, checkpoint_size, retiring_size}
+use Rattle.store.specs.Checkpointing.{checkpoint_written_size, checkpoint_synced_size}
+use Rattle.store.specs.Checkpointing.{checkpoint_opened_size}
 use Rattle.store.specs.State.{StoreState, IsSettled}
 use Rattle.world.specs.declared.checkpointing.Checkpointing.{Checkpointing}
-use Rattle.world.specs.declared.checkpointing.Checkpointing.TheVariants.{Begun, Retiring, Written, Synced, Opened}
+use Rattle.world.specs.declared.checkpointing.Checkpointing.TheVariants.{Begun, Retiring, Written}
+use Rattle.world.specs.declared.checkpointing.Checkpointing.TheVariants.{Synced, Opened}
 use Rattle.world.specs.Course.{Checkpoint}
 use Rattle.world.specs.Course.Checkpoint.{CallsLeft, NotUnderWay}
 
--- how many of its device calls are left: two more where the other area's gate has to be closed first
+-- how many of its device calls are left: two more where the other area's gate has to be closed
+-- first
 abbrev pub calls_left : StoreState → Checkpointing → ℕ
 calls_left s (Begun phase) = if s.log.other_open then 6 else 4
 calls_left s (Retiring phase) = 5

@@ -1,15 +1,17 @@
--- The course of a world: what was decided, how far it is on its way to the disk, and what has left, as
--- the steps and their answers alone tell it.
-use Rattle.std.specs.Prelude.{ℕ, suc, ◌+◌, ◌-◌, Bool, true, false, List, [], ◌∷◌, ◌++◌, length, take, drop, map, filter, max, nat_lt, ◌&&◌, if◌then◌else◌, Option, Some, None, Result, Ok, Err}
+-- The course of a world: what was decided, how far it is on its way to the disk, and what has left,
+-- as the steps and their answers alone tell it.
+use Rattle.std.specs.Prelude.{ℕ, suc, ◌+◌, ◌-◌, Bool, true, false, List, [], ◌∷◌, ◌++◌, length}
+use Rattle.std.specs.Prelude.{take, drop, map, filter, max, nat_lt, ◌&&◌, if◌then◌else◌, Option}
+use Rattle.std.specs.Prelude.{Some, None, Result, Ok, Err}
 use Rattle.lw_types.specs.declared.refusal.Refusal.{Refusal}
 use Rattle.lw_types.specs.declared.refusal.Refusal.TheVariants.{Backlog, OutOfMemory, OutOfStep}
 use Rattle.lw_types.specs.declared.frame_copy.FrameCopy.{FrameCopy}
 use Rattle.devices.specs.declared.command.Command.{Command}
 use Rattle.devices.specs.declared.command.Command.TheVariants.{Heard}
 use Rattle.devices.specs.declared.effect.Effect.{Effect}
-use Rattle.sessions.specs.Table.{TableState, empty_table, folded, effects_of, step, Step as TableStep}
+use Rattle.sessions.specs.Table.{TableState, empty_table, fold_of, effects_of, step, TableStep}
 use Rattle.dedup.specs.Groups.{Arrival, arrival, groups}
-use Rattle.dedup.specs.Windows.{Window, gathered, heard_in, is_due}
+use Rattle.dedup.specs.Windows.{Window, window_of_group, heard_in, is_due}
 use Rattle.session_core.specs.declared.decisions.TheConstants.{MOST_UNTAKEN, LAST_NUMBER}
 use Rattle.world.specs.Links.{Piece}
 use Rattle.world.specs.declared.answer.EventTurn.{EventTurn}
@@ -46,24 +48,25 @@ pub record Flight : Type 0 where
 pub data Checkpoint : Type 0 where
   -- none is under way
   NotUnderWay : Checkpoint
-  -- so many of its device calls are left
+  -- this many of its device calls are left
   CallsLeft : ℕ → Checkpoint
   -- a device call of it failed
   CallFailed : Checkpoint
 
--- where a course begins: the table and the number of the store, and the effects that had left before
+-- where a course begins: the table and the number of the store, and the effects that had left
+-- before
 pub record Origin : Type 0 where
   pub table : TableState
   pub number : ℕ
   pub left : List Effect
 
 -- a store that was just formatted
-abbrev pub formatted : ℕ → ℕ → Origin
-formatted net_id slots = record { table = empty_table net_id slots; number = 0; left = [] }
+abbrev pub new_store : ℕ → ℕ → Origin
+new_store net_id slots = record { table = empty_table net_id slots; number = 0; left = [] }
 
 -- the table, the number and the effects of these commands
 abbrev pub table_from : Origin → List Command → TableState
-table_from origin commands = folded origin.table commands
+table_from origin commands = fold_of origin.table commands
 
 abbrev pub number_from : Origin → List Command → ℕ
 number_from origin commands = origin.number + length commands
@@ -119,31 +122,35 @@ beginning origin =
     }
 
 -- the commands of these batches
-abbrev pub flying : List Flight → List Command
-flying [] = []
-flying (flight ∷ flights) = flight.commands ++ flying flights
+abbrev pub commands_in_flight : List Flight → List Command
+commands_in_flight [] = []
+commands_in_flight (flight ∷ flights) = flight.commands ++ commands_in_flight flights
 
 -- the decided commands
-abbrev pub decided : Course → List Command
-decided c = c.settled ++ (flying c.flights ++ (c.given_up ++ c.untaken))
+abbrev pub decided_commands : Course → List Command
+decided_commands c = c.settled ++ (commands_in_flight c.flights ++ (c.given_up ++ c.untaken))
 
 -- whether there is room for one command more that waits, and a number for it
 abbrev pub has_room : Origin → Course → Bool
-has_room origin c = nat_lt (length c.untaken) MOST_UNTAKEN && nat_lt (number_from origin (decided c)) LAST_NUMBER
+has_room origin c =
+    nat_lt (length c.untaken) MOST_UNTAKEN
+    && nat_lt (number_from origin (decided_commands c)) LAST_NUMBER
 
 -- what a command is to get: while there is room, its step in the table after every decided command
-abbrev pub wanted : Origin → Course → Command → Result TableStep Refusal
-wanted origin c command = if has_room origin c then step (table_from origin (decided c)) command else Err Backlog
+abbrev pub step_if_room : Origin → Course → Command → Result TableStep Refusal
+step_if_room origin c command =
+    if has_room origin c then step (table_from origin (decided_commands c)) command else Err Backlog
 
 -- a command that is to get this is decided, or changes nothing
-abbrev pub went : Course → Command → Result TableStep Refusal → Course
-went c command (Ok s) = record c { untaken = c.untaken ++ command ∷ []; made = c.made + 1 }
-went c command (Err e) = c
+abbrev pub after_command : Course → Command → Result TableStep Refusal → Course
+after_command c command (Ok s) = record c { untaken = c.untaken ++ command ∷ []; made = c.made + 1 }
+after_command c command (Err e) = c
 
 -- these commands are gone through
-abbrev pub admit : Origin → Course → List Command → Course
-admit origin c [] = c
-admit origin c (command ∷ commands) = admit origin (went c command (wanted origin c command)) commands
+abbrev pub after_commands : Origin → Course → List Command → Course
+after_commands origin c [] = c
+after_commands origin c (command ∷ commands) =
+    after_commands origin (after_command c command (step_if_room origin c command)) commands
 
 -- the effective time never falls
 abbrev pub at_moment : Course → ℕ → Course
@@ -151,7 +158,7 @@ at_moment c moment = record c { clock = max c.clock moment }
 
 -- the windows that are open: of the groups that aren't closed
 abbrev pub windows_of : Course → List Window
-windows_of c = drop c.shut (map gathered (groups c.arrivals))
+windows_of c = drop c.shut (map window_of_group (groups c.arrivals))
 
 -- what was heard in a window, as a command
 abbrev pub command_in : Window → Command
@@ -161,7 +168,8 @@ command_in window = Heard (heard_in window)
 abbrev pub due_frames : Course → List Command
 due_frames c = map command_in (filter (is_due c.clock) (windows_of c))
 
--- the commands that an event hands in, one after another: the frames whose windows are due, and then its own
+-- the commands that an event hands in, one after another: the frames whose windows are due, and
+-- then its own
 abbrev pub commands_at : Course → Event → List Command
 commands_at c (events.Ask command) = due_frames c ++ command ∷ []
 commands_at c event = due_frames c
@@ -171,118 +179,133 @@ abbrev pub commands_of : Course → Step → List Command
 commands_of c (steps.Event moment event) = commands_at (at_moment c moment) event
 commands_of c step = []
 
--- How many of them were gone through, where so many windows were closed: their frames, and the event's own command, unless there
--- was no memory for it.
-abbrev pub own_gone : Option Refusal → ℕ
-own_gone (Some OutOfMemory) = 0
-own_gone refused = 1
+-- How many of them were gone through, where `closings` windows were closed: their frames, and the
+-- event's own command, unless there was no memory for it.
+abbrev pub own_count : Option Refusal → ℕ
+own_count (Some OutOfMemory) = 0
+own_count refused = 1
 
-abbrev pub gone : Event → Option Refusal → ℕ → ℕ
-gone (events.Ask command) refused closings = closings + own_gone refused
-gone event refused closings = closings
+abbrev pub handed_in_count : Event → Option Refusal → ℕ → ℕ
+handed_in_count (events.Ask command) refused closings = closings + own_count refused
+handed_in_count event refused closings = closings
 
--- so many windows were closed
-abbrev pub shutting : ℕ → Course → Course
-shutting closings c = record c { shut = c.shut + closings }
+-- `closings` more windows were closed
+abbrev pub with_closings : ℕ → Course → Course
+with_closings closings c = record c { shut = c.shut + closings }
 
 -- a copy is accepted, where it wasn't refused
-abbrev pub listened : FrameCopy → Option Refusal → Course → Course
-listened copy None c = record c { arrivals = c.arrivals ++ arrival c.clock copy ∷ [] }
-listened copy (Some refusal) c = c
+abbrev pub after_copy : FrameCopy → Option Refusal → Course → Course
+after_copy copy None c = record c { arrivals = c.arrivals ++ arrival c.clock copy ∷ [] }
+after_copy copy (Some refusal) c = c
 
-abbrev pub accepted : Event → Option Refusal → Course → Course
-accepted (events.Hear copy) refused c = listened copy refused c
-accepted event refused c = c
+abbrev pub after_own_copy : Event → Option Refusal → Course → Course
+after_own_copy (events.Hear copy) refused c = after_copy copy refused c
+after_own_copy event refused c = c
 
--- the course after an event at this moment, whose own was refused so, or not, after so many windows were closed
-abbrev pub turned : Origin → Course → ℕ → Event → Option Refusal → ℕ → Course
-turned origin c moment event refused closings =
-    accepted event refused
-    (shutting closings (admit origin (at_moment c moment) (take (gone event refused closings) (commands_of c (steps.Event moment event)))))
+-- the course after an event at this moment, whose own was refused so, or not, after `closings`
+-- windows were closed
+abbrev pub after_event : Origin → Course → ℕ → Event → Option Refusal → ℕ → Course
+after_event origin c moment event refused closings =
+    after_own_copy event refused
+    (with_closings closings (after_commands origin (at_moment c moment)
+    (take (handed_in_count event refused closings) (commands_of c (steps.Event moment event)))))
 
 -- the same of several events at one moment
-abbrev pub turned_all : Origin → Course → ℕ → List EventTurn → Course
-turned_all origin c moment [] = c
-turned_all origin c moment (t ∷ turns) = turned_all origin (turned origin c moment t.event t.turn.refused t.closings) moment turns
+abbrev pub after_events : Origin → Course → ℕ → List EventTurn → Course
+after_events origin c moment [] = c
+after_events origin c moment (t ∷ turns) =
+    after_events origin (after_event origin c moment t.event t.turn.refused t.closings) moment turns
 
 -- these bytes come over a link
-abbrev pub told_more : Course → ℕ → List ℕ → Course
-told_more c link bytes = record c { pieces = c.pieces ++ record { link = link; bytes = bytes } ∷ [] }
+abbrev pub with_piece : Course → ℕ → List ℕ → Course
+with_piece c link bytes =
+    record c { pieces = c.pieces ++ record { link = link; bytes = bytes } ∷ [] }
 
 -- the course after a piece that was answered so
-abbrev pub pieced : Origin → Course → ℕ → ℕ → List ℕ → Answer → Course
-pieced origin c link moment bytes (answers.Turns turns fault) = turned_all origin (told_more c link bytes) moment turns.items
-pieced origin c link moment bytes answer = c
+abbrev pub after_piece : Origin → Course → ℕ → ℕ → List ℕ → Answer → Course
+after_piece origin c link moment bytes (answers.Turns turns fault) =
+    after_events origin (with_piece c link bytes) moment turns.items
+after_piece origin c link moment bytes answer = c
 
--- the oldest commands that wait become a batch, at most so many
-abbrev pub begun : Course → ℕ → Course
-begun c most =
+-- the oldest commands that wait become a batch, `most` of them at most
+abbrev pub after_take : Course → ℕ → Course
+after_take c most =
     record c {
       flights = c.flights ++ record { commands = take most c.untaken; stage = Begun } ∷ [];
       untaken = drop most c.untaken;
     }
 
 -- or they are lost
-abbrev pub gave_up : Course → ℕ → Course
-gave_up c most = record c { given_up = c.given_up ++ take most c.untaken; untaken = drop most c.untaken }
+abbrev pub after_give_up : Course → ℕ → Course
+after_give_up c most =
+    record c { given_up = c.given_up ++ take most c.untaken; untaken = drop most c.untaken }
 
 -- a device call more succeeded
-abbrev pub succeeded : Stage → Stage
-succeeded Begun = Written
-succeeded Written = Synced
-succeeded Synced = Opened
-succeeded Opened = Durable
-succeeded stage = stage
+abbrev pub next_stage : Stage → Stage
+next_stage Begun = Written
+next_stage Written = BodySynced
+next_stage Synced = GateWritten
+next_stage Opened = Durable
+next_stage stage = stage
 
 -- or failed
-abbrev pub failed : Stage → Stage
-failed Begun = Stopped
-failed Written = Stopped
-failed Synced = Unsure
-failed Opened = Unsure
-failed stage = stage
+abbrev pub failed_stage : Stage → Stage
+failed_stage Begun = Stopped
+failed_stage Written = Stopped
+failed_stage Synced = Unsure
+failed_stage Opened = Unsure
+failed_stage stage = stage
 
 -- it was one of the oldest batch
-abbrev pub moved_on : (Stage → Stage) → List Flight → List Flight
-moved_on move [] = []
-moved_on move (flight ∷ flights) = record flight { stage = move flight.stage } ∷ flights
+abbrev pub with_oldest_stage : (Stage → Stage) → List Flight → List Flight
+with_oldest_stage move [] = []
+with_oldest_stage move (flight ∷ flights) = record flight { stage = move flight.stage } ∷ flights
 
 -- one device call of a checkpoint succeeded
-abbrev pub one_less : ℕ → Checkpoint
-one_less (suc (suc n)) = CallsLeft (suc n)
-one_less n = NotUnderWay
+abbrev pub with_call_less : ℕ → Checkpoint
+with_call_less (suc (suc n)) = CallsLeft (suc n)
+with_call_less n = NotUnderWay
 
-abbrev pub one_call_on : Checkpoint → Checkpoint
-one_call_on (CallsLeft n) = one_less n
-one_call_on checkpoint = checkpoint
+abbrev pub checkpoint_after_call : Checkpoint → Checkpoint
+checkpoint_after_call (CallsLeft n) = with_call_less n
+checkpoint_after_call checkpoint = checkpoint
 
 -- or failed
-abbrev pub cut_off : Checkpoint → Checkpoint
-cut_off (CallsLeft n) = CallFailed
-cut_off checkpoint = checkpoint
+abbrev pub checkpoint_after_failure : Checkpoint → Checkpoint
+checkpoint_after_failure (CallsLeft n) = CallFailed
+checkpoint_after_failure checkpoint = checkpoint
 
 -- one device call of what is under way succeeded, or failed
-abbrev pub one_call : Course → Course
-one_call c = record c { flights = moved_on succeeded c.flights; checkpoint = one_call_on c.checkpoint }
+abbrev pub after_call : Course → Course
+after_call c =
+    record c {
+      flights = with_oldest_stage next_stage c.flights;
+      checkpoint = checkpoint_after_call c.checkpoint;
+    }
 
-abbrev pub no_call : Course → Course
-no_call c = record c { flights = moved_on failed c.flights; checkpoint = cut_off c.checkpoint }
+abbrev pub after_failed_call : Course → Course
+after_failed_call c =
+    record c {
+      flights = with_oldest_stage failed_stage c.flights;
+      checkpoint = checkpoint_after_failure c.checkpoint;
+    }
 
 -- the oldest batch is released: its effects leave
-abbrev pub released : Origin → Course → List Flight → Course
-released origin c [] = c
-released origin c (flight ∷ flights) =
+abbrev pub after_release : Origin → Course → List Flight → Course
+after_release origin c [] = c
+after_release origin c (flight ∷ flights) =
     record c {
       settled = c.settled ++ flight.commands;
       flights = flights;
       left = c.left ++ effects_of (table_from origin c.settled) flight.commands;
     }
 
--- the decided list is cut to what was found on the disk, and what was released and not emitted is lost
-abbrev pub reopened : Origin → Course → ℕ → Course
-reopened origin c seq =
+-- the decided list is cut to what was found on the disk, and what was released and not emitted is
+-- lost
+abbrev pub after_opening : Origin → Course → ℕ → Course
+after_opening origin c seq =
     record c {
-      settled = take (seq - origin.number) (decided c);
+      settled = take (seq - origin.number) (decided_commands c);
       flights = [];
       checkpoint = NotUnderWay;
       given_up = [];
@@ -297,26 +320,30 @@ reopened origin c seq =
     }
 
 -- or the store stays closed
-abbrev pub closed : Course → Course
-closed c = record c { emitted = length c.left; is_open = false }
+abbrev pub after_refused_opening : Course → Course
+after_refused_opening c = record c { emitted = length c.left; is_open = false }
 
 -- the course after a step that was answered so
-abbrev pub after : Origin → Course → Step → Answer → Course
-after origin c (steps.Event moment event) (answers.Turn turn closings) = turned origin c moment event turn.refused closings
-after origin c (steps.Piece link moment bytes) answer = pieced origin c link moment bytes.items answer
-after origin c (steps.Take most) (answers.Taken n) = begun c most
-after origin c (steps.Take most) (answers.GivenUp n) = gave_up c most
-after origin c (steps.Take most) (answers.Refused OutOfStep) = gave_up c most
-after origin c steps.Checkpoint (answers.Begun calls) = record c { checkpoint = CallsLeft calls }
-after origin c steps.Call answers.Called = one_call c
-after origin c steps.Call (answers.Refused e) = no_call c
-after origin c steps.Release (answers.Released n) = released origin c c.flights
-after origin c steps.Emit (answers.Emitted e) = record c { emitted = c.emitted + 1 }
-after origin c (steps.Crash image) (answers.Opened devices seq) = reopened origin c seq
-after origin c (steps.Crash image) (answers.Refused e) = closed c
-after origin c step answer = c
+abbrev pub course_after : Origin → Course → Step → Answer → Course
+course_after origin c (steps.Event moment event) (answers.Turn turn closings) =
+    after_event origin c moment event turn.refused closings
+course_after origin c (steps.Piece link moment bytes) answer =
+    after_piece origin c link moment bytes.items answer
+course_after origin c (steps.Take most) (answers.Taken n) = after_take c most
+course_after origin c (steps.Take most) (answers.GivenUp n) = after_give_up c most
+course_after origin c (steps.Take most) (answers.Refused OutOfStep) = after_give_up c most
+course_after origin c steps.Checkpoint (answers.Begun calls) =
+    record c { checkpoint = CallsLeft calls }
+course_after origin c steps.Call answers.Called = after_call c
+course_after origin c steps.Call (answers.Refused e) = after_failed_call c
+course_after origin c steps.Release (answers.Released n) = after_release origin c c.flights
+course_after origin c steps.Emit (answers.Emitted e) = record c { emitted = c.emitted + 1 }
+course_after origin c (steps.Crash image) (answers.Opened devices seq) = after_opening origin c seq
+course_after origin c (steps.Crash image) (answers.Refused e) = after_refused_opening c
+course_after origin c step answer = c
 
 -- the course after these steps
 abbrev pub course_of : Origin → Course → List Step → List Answer → Course
-course_of origin c (step ∷ rest) (answer ∷ others) = course_of origin (after origin c step answer) rest others
+course_of origin c (step ∷ rest) (answer ∷ others) =
+    course_of origin (course_after origin c step answer) rest others
 course_of origin c rest others = c

@@ -11,13 +11,13 @@ use Rattle.sessions.specs.Table.{TableState}
 use Rattle.sessions.specs.Decision.{FitAll, commands_of}
 use Rattle.sessions.specs.Marks.{IsSubsequence}
 use Rattle.store.specs.Image.{HoldsTable}
-use Rattle.store.specs.State.{StoreState, seen}
+use Rattle.store.specs.State.{StoreState, store_state}
 use Rattle.store.specs.declared.store.Store.{Store}
 use Rattle.flusher.specs.Released.{effects_of_all}
 use Rattle.world.specs.Links.{HasSaid, heard_on, stream_on}
 use Rattle.world.specs.declared.links.Links.{Links}
-use Rattle.world.specs.declared.commit.Commit.{Commit}
-use Rattle.world.specs.declared.commit.Commit.TheVariants as commits
+use Rattle.world.specs.declared.commit.UnderWay.{UnderWay}
+use Rattle.world.specs.declared.commit.UnderWay.TheVariants as commits
 use Rattle.world.specs.declared.life.Life.{Life}
 use Rattle.world.specs.declared.place.Place.{Place}
 use Rattle.world.specs.declared.place.Place.TheVariants.{Open, Closed, Crashing}
@@ -26,104 +26,126 @@ use Rattle.world.specs.declared.answer.EventTurn.{EventTurn}
 use Rattle.world.specs.declared.step.Step.{Step}
 use Rattle.world.specs.declared.step.Step.TheVariants as steps
 use Rattle.world.specs.declared.answer.Answer.{Answer}
-use Rattle.world.specs.Course.{Checkpoint, Origin, Course, Flight, table_from, number_from, effects_from, flying, after, course_of, pieced, turned_all}
+use Rattle.world.specs.Course.{Checkpoint, Origin, Course, Flight, table_from, number_from}
+use Rattle.world.specs.Course.{effects_from, commands_in_flight, course_after, course_of}
+use Rattle.world.specs.Course.{after_piece, after_events}
 use Rattle.world.specs.Course.Checkpoint.{CallFailed, NotUnderWay}
 use Rattle.world.specs.Course.Stage.{Stopped, Unsure}
-use Rattle.world.specs.Answers.{Leaves, AnswersOpen, AnswersCrash, AnswersPiece, IsRight, AreRight, AreTurns}
-use Rattle.world.specs.Commits.{IsOn, checkpoint_in, flights_in, decisions_in, stored}
+use Rattle.world.specs.Answers.{Leaves, AnswersOpen, AnswersCrash, AnswersPiece, IsRight, AreRight}
+use Rattle.world.specs.Answers.{AreTurns}
+use Rattle.world.specs.Commits.{IsOn, checkpoint_in, flights_in, decisions_in, durable_commands}
 
--- whatever a crash leaves of this disk holds the table and the number of commands that a crash may leave
+-- whatever a crash leaves of this disk holds the table and the number of commands that a crash may
+-- leave
 abbrev pub Survives : Origin → Course → State → Type 0
 Survives origin c state =
-    EveryImage state (λ image. (kept : List Command) × Leaves c kept × HoldsTable (table_from origin kept) (number_from origin kept) image)
+    EveryImage state (λ image. (kept : List Command) × Leaves c kept
+    × HoldsTable (table_from origin kept) (number_from origin kept) image)
 
 -- those that left the log of the core
-abbrev pub taken : Course → List Command
-taken c = c.settled ++ (flying c.flights ++ c.given_up)
+abbrev pub taken_commands : Course → List Command
+taken_commands c = c.settled ++ (commands_in_flight c.flights ++ c.given_up)
 
 -- a call of the one batch under way failed, or of the checkpoint
 abbrev pub HasFailed : List Flight → Checkpoint → Type 0
 HasFailed [] checkpoint = checkpoint ≡ CallFailed
-HasFailed (flight ∷ []) checkpoint = ((flight.stage ≡ Stopped) ⊎ (flight.stage ≡ Unsure)) × (checkpoint ≡ NotUnderWay)
+HasFailed (flight ∷ []) checkpoint =
+    ((flight.stage ≡ Stopped) ⊎ (flight.stage ≡ Unsure)) × (checkpoint ≡ NotUnderWay)
 HasFailed flights checkpoint = ⊥
 
--- what is under way is the batch of the course, if there is one, whose decisions were made of this table, or its checkpoint
-abbrev pub IsAt : List Flight → Checkpoint → TableState → StoreState → Commit → Type 0
+-- what is under way is the batch of the course, if there is one, whose decisions were made of this
+-- table, or its checkpoint
+abbrev pub IsAt : List Flight → Checkpoint → TableState → StoreState → UnderWay → Type 0
 IsAt flights checkpoint t s commits.Failed = HasFailed flights checkpoint
 IsAt flights checkpoint t s commit =
-    (flights ≡ flights_in commit) × (FitAll t (decisions_in commit) × (IsOn s commit × (checkpoint ≡ checkpoint_in s commit)))
+    (flights ≡ flights_in commit)
+    × (FitAll t (decisions_in commit) × (IsOn s commit × (checkpoint ≡ checkpoint_in s commit)))
 
 -- no device call of this store failed
-abbrev pub IsHealthy : StoreState → Commit → Type 0
+abbrev pub IsHealthy : StoreState → UnderWay → Type 0
 IsHealthy s commits.Failed = Unit {0}
 IsHealthy s commit = s.failed ≡ false
 
--- The store has the table of what is on the disk, the core that of what was taken and of what waits, and the commit
--- is where the course says.
-pub record IsLife (origin : Origin) (c : Course) (s : StoreState) (core : DecisionsState) (commit : Commit) : Type 0 where
-  pub table : s.table ≡ table_from origin (stored c.settled c.flights)
-  pub seq : s.seq ≡ number_from origin (stored c.settled c.flights)
-  pub base : core.base ≡ table_from origin (taken c)
-  pub number : core.opening + core.taken ≡ number_from origin (taken c)
+-- The store has the table of what is on the disk, the core that of what was taken and of what
+-- waits, and the commit is where the course says.
+pub record IsLife (origin : Origin) (c : Course) (s : StoreState) (core : DecisionsState)
+    (commit : UnderWay) : Type 0 where
+  pub table : s.table ≡ table_from origin (durable_commands c.settled c.flights)
+  pub seq : s.seq ≡ number_from origin (durable_commands c.settled c.flights)
+  pub base : core.base ≡ table_from origin (taken_commands c)
+  pub number : core.opening + core.taken ≡ number_from origin (taken_commands c)
   pub untaken : commands_of core.log ≡ c.untaken
   pub made : core.made ≡ c.made
   pub under_way : IsAt c.flights c.checkpoint (table_from origin c.settled) s commit
   pub healthy : IsHealthy s commit
   pub survives : Survives origin c s.log.disk
 
--- The core has the effective time of the course, and its windows are those of the groups that aren't closed; each link has
--- said what came over it.
+-- The core has the effective time of the course, and its windows are those of the groups that
+-- aren't closed; each link has said what came over it.
 pub record IsListening (c : Course) (core : CoreState) (links : Links) : Type 0 where
   pub clock : core.clock ≡ c.clock
   pub windows : StandFor core.windows c.arrivals c.shut c.clock
   pub said : (link : ℕ) → HasSaid (stream_on link c.pieces) (heard_on links link)
 
 abbrev pub FollowsLife : {D : Type 0} {g : _} → (D → State) → Origin → Course → Life D g → Type 0
-FollowsLife state origin c life = IsLife origin c (seen state life.store) life.core.decisions life.commit × IsListening c life.core life.links
+FollowsLife state origin c life =
+    IsLife origin c (store_state state life.store) life.core.decisions life.commit
+    × IsListening c life.core life.links
 
 -- the disk of a store that is closed
 abbrev pub FollowsClosed : {D : Type 0} → (D → State) → Origin → Course → D → Type 0
-FollowsClosed state origin c disk = (c.is_open ≡ false) × (NothingOpen (state disk) × Survives origin c (state disk))
+FollowsClosed state origin c disk =
+    (c.is_open ≡ false) × (NothingOpen (state disk) × Survives origin c (state disk))
 
 abbrev pub FollowsPlace : {D : Type 0} {g : _} → (D → State) → Origin → Course → Place D g → Type 0
 FollowsPlace state origin c (Open life) = (c.is_open ≡ true) × FollowsLife state origin c life
 FollowsPlace state origin c (Closed disk) = FollowsClosed state origin c disk
 FollowsPlace state origin c Crashing = ⊥
 
--- The world is where its course is. What has left over all lives is part of what had left before, and of the effects of
--- commands that every crash leaves.
-pub record Follows {D : Type 0} {g : _} (state : D → State) (origin : Origin) (c : Course) (world : World D g) : Type 0 where
+-- The world is where its course is. What has left over all lives is part of what had left before,
+-- and of the effects of commands that every crash leaves.
+pub record Follows {D : Type 0} {g : _} (state : D → State) (origin : Origin) (c : Course)
+    (world : World D g) : Type 0 where
   pub place : FollowsPlace state origin c world.place
   pub left : c.left ≡ origin.left ++ effects_of_all world.released.items
   pub emitted : c.emitted ≡ length origin.left + world.emitted
   pub once : IsSubsequence c.left (effects_from origin c.settled)
 
--- a step of a life whose store is open: whatever course it follows, the answer is right, and it goes on following
-abbrev pub MovesLife : {D : Type 0} {g : _} → (D → State) → Life D g → Step → Answer → Life D g → Type 0
+-- a step of a life whose store is open: whatever course it follows, the answer is right, and it
+-- goes on following
+abbrev pub MovesLife : {D : Type 0} {g : _} → (D → State) → Life D g → Step → Answer → Life D g
+    → Type 0
 MovesLife state old step answer new =
     (origin : Origin) (c : Course) → FollowsLife state origin c old
-    → AnswersOpen origin c step answer × FollowsLife state origin (after origin c step answer) new
+    → AnswersOpen origin c step answer
+    × FollowsLife state origin (course_after origin c step answer) new
 
 -- the same of a piece of a link's bytes
-abbrev pub MovesPiece : {D : Type 0} {g : _} → (D → State) → Life D g → ℕ → ℕ → List ℕ → Answer → Life D g → Type 0
+abbrev pub MovesPiece : {D : Type 0} {g : _} → (D → State) → Life D g → ℕ → ℕ → List ℕ → Answer
+    → Life D g → Type 0
 MovesPiece state old link moment bytes answer new =
     (origin : Origin) (c : Course) → FollowsLife state origin c old
-    → AnswersPiece origin c link moment bytes answer × FollowsLife state origin (pieced origin c link moment bytes answer) new
+    → AnswersPiece origin c link moment bytes answer
+    × FollowsLife state origin (after_piece origin c link moment bytes answer) new
 
 -- and of several events at one moment
-abbrev pub MovesThrough : {D : Type 0} {g : _} → (D → State) → Life D g → ℕ → List EventTurn → Life D g → Type 0
+abbrev pub MovesThrough : {D : Type 0} {g : _} → (D → State) → Life D g → ℕ → List EventTurn
+    → Life D g → Type 0
 MovesThrough state old moment turns new =
     (origin : Origin) (c : Course) → FollowsLife state origin c old
-    → AreTurns origin c moment turns × FollowsLife state origin (turned_all origin c moment turns) new
+    → AreTurns origin c moment turns
+    × FollowsLife state origin (after_events origin c moment turns) new
 
 -- the same of a world
-abbrev pub Moves : {D : Type 0} {g : _} → (D → State) → World D g → Step → Answer → World D g → Type 0
+abbrev pub Moves : {D : Type 0} {g : _} → (D → State) → World D g → Step → Answer → World D g
+    → Type 0
 Moves state old step answer new =
     (origin : Origin) (c : Course) → Follows state origin c old
-    → IsRight origin c step answer × Follows state origin (after origin c step answer) new
+    → IsRight origin c step answer × Follows state origin (course_after origin c step answer) new
 
 -- and of a run of steps
-abbrev pub Runs : {D : Type 0} {g : _} → (D → State) → World D g → List Step → List Answer → World D g → Type 0
+abbrev pub Runs : {D : Type 0} {g : _} → (D → State) → World D g → List Step → List Answer
+    → World D g → Type 0
 Runs state old steps answers new =
     (origin : Origin) (c : Course) → Follows state origin c old
     → AreRight origin c steps answers × Follows state origin (course_of origin c steps answers) new
@@ -135,26 +157,37 @@ IsOwn (steps.Crash image) = ⊥
 IsOwn step = Unit {0}
 
 -- what such a step released is what the course says
-abbrev pub Lets : {D : Type 0} {g : _} → (D → State) → Life D g → Step → Answer → List Released → List Released → Type 0
+abbrev pub Lets : {D : Type 0} {g : _} → (D → State) → Life D g → Step → Answer → List Released
+    → List Released → Type 0
 Lets state life step answer old new =
     (origin : Origin) (c : Course) → FollowsLife state origin c life
-    → c.left ≡ origin.left ++ effects_of_all old → (after origin c step answer).left ≡ origin.left ++ effects_of_all new
+    → c.left ≡ origin.left ++ effects_of_all old
+    → (course_after origin c step answer).left ≡ origin.left ++ effects_of_all new
 
 -- a store with the table and the number of commands that a crash may leave
 abbrev pub IsLeft : Origin → Course → TableState → ℕ → Type 0
-IsLeft origin c table seq = (kept : List Command) × Leaves c kept × (table ≡ table_from origin kept) × (seq ≡ number_from origin kept)
+IsLeft origin c table seq =
+    (kept : List Command) × Leaves c kept × (table ≡ table_from origin kept)
+    × (seq ≡ number_from origin kept)
 
 -- an opening answered so, and led here
-abbrev pub Opens : {D : Type 0} {g : _} → (D → State) → Origin → Course → Answer → Place D g → Type 0
-Opens state origin c answer place =
-    AnswersCrash origin c answer × ((image : Image) → FollowsPlace state origin (after origin c (steps.Crash image) answer) place)
+abbrev pub IsOpenedPlace : {D : Type 0} {g : _} → (D → State) → Origin → Course → Answer → Place D g
+    → Type 0
+IsOpenedPlace state origin c answer place =
+    AnswersCrash origin c answer
+    × ((image : Image) → FollowsPlace state origin
+    (course_after origin c (steps.Crash image) answer) place)
 
 -- the same of a disk after a crash
 abbrev pub Reopens : {D : Type 0} {g : _} → (D → State) → D → Answer → Place D g → Type 0
 Reopens state disk answer place =
-    (origin : Origin) (c : Course) → NothingOpen (state disk) → Survives origin c (state disk) → Opens state origin c answer place
+    (origin : Origin) (c : Course) → NothingOpen (state disk) → Survives origin c (state disk)
+    → IsOpenedPlace state origin c answer place
 
 -- and of a store that was opened
-abbrev pub Begins : {D : Type 0} {g : _} → (D → State) → Store D g → Answer → Place D g → Type 0
-Begins state store answer place =
-    (origin : Origin) (c : Course) → IsLeft origin c (seen state store).table (seen state store).seq → Opens state origin c answer place
+abbrev pub IsBegunPlace : {D : Type 0} {g : _} → (D → State) → Store D g → Answer → Place D g
+    → Type 0
+IsBegunPlace state store answer place =
+    (origin : Origin) (c : Course)
+    → IsLeft origin c (store_state state store).table (store_state state store).seq
+    → IsOpenedPlace state origin c answer place

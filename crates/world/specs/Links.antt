@@ -1,5 +1,6 @@
 -- What is said on the links of a life, and the events that it hands in.
-use Rattle.std.specs.Prelude.{◌≡◌, ◌≢◌, ℕ, List, [], ◌∷◌, ◌++◌, Option, Some, None, nat_eq, if◌then◌else◌}
+use Rattle.std.specs.Prelude.{◌≡◌, ◌≢◌, ℕ, List, [], ◌∷◌, ◌++◌, Option, Some, None, nat_eq}
+use Rattle.std.specs.Prelude.{if◌then◌else◌}
 use Rattle.std.specs.BTreeMap.{get}
 use Rattle.std.specs.Ordering.{nat_cmp}
 use Rattle.lw_types.specs.declared.refusal.Refusal.{Refusal}
@@ -8,9 +9,9 @@ use Rattle.link_messages.specs.declared.message.Peer.TheVariants.{Application}
 use Rattle.link_messages.specs.declared.message.Message.{Message}
 use Rattle.link_messages.specs.declared.message.Message.TheVariants.{Greeting, Copy, Line}
 use Rattle.gateway_wire.specs.declared.request.Request.{Request}
-use Rattle.gateway_wire.specs.Request.{IsRequest, IsRequestLine, request_line, command_of}
-use Rattle.link_messages.specs.Stream.{End, IsSaid, after as peer_after, after_one as peer_after_one}
-use Rattle.link_messages.specs.Feeding.{Heard, Hears, fault_in, nothing_heard}
+use Rattle.gateway_wire.specs.Request.{IsRequestInRange, IsRequestLine, request_line, command_of}
+use Rattle.link_messages.specs.Stream.{End, IsSaid, peer_after, peer_after_one}
+use Rattle.link_messages.specs.Feeding.{FeedState, Feeds, fault_in, new_feed}
 use Rattle.world.specs.declared.event.Event.{Event}
 use Rattle.world.specs.declared.event.Event.TheVariants as events
 use Rattle.world.specs.declared.links.Links.{Links}
@@ -23,20 +24,22 @@ pub record Piece : Type 0 where
 -- all that came over a link, of these pieces
 abbrev pub stream_on : ℕ → List Piece → List ℕ
 stream_on link [] = []
-stream_on link (piece ∷ pieces) = if nat_eq piece.link link then piece.bytes ++ stream_on link pieces else stream_on link pieces
+stream_on link (piece ∷ pieces) =
+    if nat_eq piece.link link then piece.bytes ++ stream_on link pieces else stream_on link pieces
 
 -- what a line asks for, of an application: the command of the request that it is, where it is one
-abbrev pub Asks : Option Peer → List ℕ → Option Event → Type 0
-Asks (Some (Application application)) line (Some event) =
-    (request : Request) × IsRequest request × (line ≡ request_line request) × (event ≡ events.Ask (command_of application request))
-Asks (Some (Application application)) line None = ¬ (IsRequestLine line)
-Asks peer line event = event ≡ None
+abbrev pub AsksFor : Option Peer → List ℕ → Option Event → Type 0
+AsksFor (Some (Application application)) line (Some event) =
+    (request : Request) × IsRequestInRange request × (line ≡ request_line request)
+    × (event ≡ events.Ask (command_of application request))
+AsksFor (Some (Application application)) line None = ¬ (IsRequestLine line)
+AsksFor peer line event = event ≡ None
 
 -- the event that a message of this peer hands in, where it does
 abbrev pub HandsIn : Option Peer → Message → Option Event → Type 0
 HandsIn peer (Greeting greeted) event = event ≡ None
 HandsIn peer (Copy copy) event = event ≡ Some (events.Hear copy)
-HandsIn peer (Line line) event = Asks peer line event
+HandsIn peer (Line line) event = AsksFor peer line event
 
 -- this event, if there is one, and then the others
 abbrev pub before_others : Option Event → List Event → List Event
@@ -48,10 +51,11 @@ abbrev pub AreHandedIn : Option Peer → List Message → List Event → Type 0
 AreHandedIn peer [] handed_in = handed_in ≡ []
 AreHandedIn peer (message ∷ messages) handed_in =
     (first : Option Event) × (others : List Event) × HandsIn peer message first
-    × AreHandedIn (peer_after_one peer message) messages others × (handed_in ≡ before_others first others)
+    × AreHandedIn (peer_after_one peer message) messages others
+    × (handed_in ≡ before_others first others)
 
--- A piece behind what came over its link hands in these events, and has this fault behind them: those of the messages that
--- the link's bytes say with it and didn't say without it.
+-- A piece behind what came over its link hands in these events, and has this fault behind them:
+-- those of the messages that the link's bytes say with it and didn't say without it.
 abbrev pub Completes : List ℕ → List ℕ → List Event → Option Refusal → Type 0
 Completes stream piece handed_in fault =
     (before : List Message) × (others : List Message) × (end : End) × (now : End)
@@ -59,20 +63,23 @@ Completes stream piece handed_in fault =
     × AreHandedIn (peer_after None before) others handed_in × (fault ≡ fault_in now)
 
 -- what these links have heard
-abbrev pub or_nothing : Option Heard → Heard
-or_nothing None = nothing_heard
+abbrev pub or_nothing : Option FeedState → FeedState
+or_nothing None = new_feed
 or_nothing (Some heard) = heard
 
-abbrev pub heard_on : Links → ℕ → Heard
+abbrev pub heard_on : Links → ℕ → FeedState
 heard_on links link = or_nothing (get nat_cmp links.feeders link)
 
 -- these bytes came on a link: what it says with them, and nothing else changed
 abbrev pub SaysMore : Links → ℕ → List ℕ → Links → List Event → Option Refusal → Type 0
 SaysMore old link piece new handed_in fault =
-    (messages : List Message) × Hears (heard_on old link) piece messages (heard_on new link)
-    × AreHandedIn (heard_on old link).peer messages handed_in × (fault ≡ fault_in (heard_on new link).end)
+    (messages : List Message) × Feeds (heard_on old link) piece messages (heard_on new link)
+    × AreHandedIn (heard_on old link).peer messages handed_in
+    × (fault ≡ fault_in (heard_on new link).end)
     × ((other : ℕ) → other ≢ link → heard_on new other ≡ heard_on old other)
 
 -- it is what the bytes say that came over a link
-abbrev pub HasSaid : List ℕ → Heard → Type 0
-HasSaid stream heard = (messages : List Message) × IsSaid None stream messages heard.end × (heard.peer ≡ peer_after None messages)
+abbrev pub HasSaid : List ℕ → FeedState → Type 0
+HasSaid stream heard =
+    (messages : List Message) × IsSaid None stream messages heard.end
+    × (heard.peer ≡ peer_after None messages)

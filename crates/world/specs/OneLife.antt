@@ -28,14 +28,16 @@ NoneOutOfStep (step ∷ rest) (answer ∷ others) = NoneOutOfStep rest others
 NoneOutOfStep rest others = Unit {0}
 
 -- what was emitted, in order
-abbrev pub emitted : List Answer → List Emission
-emitted [] = []
-emitted (answers.Emitted e ∷ rest) = e ∷ emitted rest
-emitted (answer ∷ rest) = emitted rest
+abbrev pub emissions : List Answer → List Emission
+emissions [] = []
+emissions (answers.Emitted e ∷ rest) = e ∷ emissions rest
+emissions (answer ∷ rest) = emissions rest
 
--- What one life gave: the effects of the commands whose batches were released, in order and complete; of these a
--- beginning was emitted; and no batch was out of step, unless one before it was lost.
-pub record IsOneLife (origin : Origin) (c : Course) (steps : List Step) (told : List Answer) : Type 0 where
+-- What one life gave: the effects of the commands whose batches were released, in order and
+-- complete; of these a beginning was emitted; and no batch was out of step, unless one before it
+-- was lost.
+pub record IsOneLife (origin : Origin) (c : Course) (steps : List Step)
+    (told : List Answer) : Type 0 where
   pub released : c.left ≡ effects_from origin c.settled
-  pub emitted : emitted told ≡ map emission (drop (length origin.left) (take c.emitted c.left))
+  pub emitted : emissions told ≡ map emission (drop (length origin.left) (take c.emitted c.left))
   pub in_step : NoneGivenUp told → NoneOutOfStep steps told

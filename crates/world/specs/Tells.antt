@@ -1,12 +1,12 @@
--- What one step's answer tells of the disk: a full journal only where it is, how long a checkpoint takes, and a crash leaves the image
--- that it names.
+-- What one step's answer tells of the disk: a full journal only where it is, how long a checkpoint
+-- takes, and a crash leaves the image that it names.
 use Rattle.std.specs.Prelude.{◌≡◌, ◌<◌, ◌≤◌, List, [], ◌∷◌, if◌then◌else◌}
 use Rattle.lw_types.specs.declared.refusal.Refusal.{Refusal}
 use Rattle.lw_types.specs.declared.refusal.Refusal.TheVariants as refusals
 use Rattle.disk.specs.declared.sim.Image.{Image}
 use Rattle.disk.specs.Crash.{IsCrashed}
 use Rattle.disk.specs.State.{State}
-use Rattle.store.specs.State.{StoreState, seen, IsRoomy}
+use Rattle.store.specs.State.{StoreState, store_state, IsRoomy}
 use Rattle.store.specs.declared.areas.TheConstants.{LAST_GENERATION}
 use Rattle.world.specs.Sound.{HasDisk}
 use Rattle.world.specs.declared.place.Place.{Place}
@@ -16,7 +16,8 @@ use Rattle.world.specs.declared.answer.Answer.TheVariants as answers
 use Rattle.world.specs.declared.step.Step.{Step}
 use Rattle.world.specs.declared.step.Step.TheVariants as steps
 
--- A batch is taken only where the journal has room for the largest one, and full is answered only where it hasn't.
+-- A batch is taken only where the journal has room for the largest one, and full is answered only
+-- where it hasn't.
 abbrev pub RefusalTellsRoom : StoreState → Refusal → Type 0
 RefusalTellsRoom s refusals.OutOfStep = IsRoomy s
 RefusalTellsRoom s refusals.OutOfMemory = IsRoomy s
@@ -29,10 +30,11 @@ TakeTellsRoom s (answers.GivenUp n) = IsRoomy s
 TakeTellsRoom s (answers.Refused e) = RefusalTellsRoom s e
 TakeTellsRoom s answer = Unit {0}
 
--- A checkpoint takes two more calls where the other area's gate is open, and is refused as damaged exactly where the live area
--- has the last generation.
+-- A checkpoint takes two more calls where the other area's gate is open, and is refused as damaged
+-- exactly where the live area has the last generation.
 abbrev pub CheckpointTells : StoreState → Answer → Type 0
-CheckpointTells s (answers.Begun calls) = (s.log.generation < LAST_GENERATION) × (calls ≡ (if s.log.other_open then 6 else 4))
+CheckpointTells s (answers.Begun calls) =
+    (s.log.generation < LAST_GENERATION) × (calls ≡ (if s.log.other_open then 6 else 4))
 CheckpointTells s (answers.Refused refusals.Damaged) = LAST_GENERATION ≤ s.log.generation
 CheckpointTells s (answers.Refused refusals.OutOfMemory) = s.log.generation < LAST_GENERATION
 CheckpointTells s answer = Unit {0}
@@ -43,14 +45,15 @@ TellsRoom s steps.Checkpoint answer = CheckpointTells s answer
 TellsRoom s step answer = Unit {0}
 
 abbrev pub PlaceTellsRoom : {D : Type 0} {g : _} → (D → State) → Place D g → Step → Answer → Type 0
-PlaceTellsRoom state (Open life) step answer = TellsRoom (seen state life.store) step answer
+PlaceTellsRoom state (Open life) step answer = TellsRoom (store_state state life.store) step answer
 PlaceTellsRoom state (Closed disk) step answer = Unit {0}
 PlaceTellsRoom state Crashing step answer = Unit {0}
 
 -- the disk of a world has crashed to this image
 abbrev pub CrashesTo : {D : Type 0} {g : _} → (D → State) → Image → Place D g → Place D g → Type 0
 CrashesTo {D} state image old new =
-    (before now : D) → HasDisk old before → HasDisk new now → IsCrashed image (state before) (state now).content
+    (before now : D) → HasDisk old before → HasDisk new now
+    → IsCrashed image (state before) (state now).content
 
 -- a crash leaves the image that it names
 abbrev pub LeavesImage : {D : Type 0} {g : _} → (D → State) → Place D g → Step → Place D g → Type 0
@@ -58,12 +61,15 @@ LeavesImage state old (steps.Crash image) new = CrashesTo state image old new
 LeavesImage state old step new = Unit {0}
 
 -- what the answer to one step tells of the disk
-abbrev pub TellsFirst : {D : Type 0} {g : _} → (D → State) → Place D g → Step → List Answer → Place D g → Type 0
-TellsFirst state old step (answer ∷ []) new = PlaceTellsRoom state old step answer × LeavesImage state old step new
+abbrev pub TellsFirst : {D : Type 0} {g : _} → (D → State) → Place D g → Step → List Answer
+    → Place D g → Type 0
+TellsFirst state old step (answer ∷ []) new =
+    PlaceTellsRoom state old step answer × LeavesImage state old step new
 TellsFirst state old step told new = Unit {0}
 
 -- the same of a run of one step
-abbrev pub TellsAlone : {D : Type 0} {g : _} → (D → State) → Place D g → List Step → List Answer → Place D g → Type 0
+abbrev pub TellsAlone : {D : Type 0} {g : _} → (D → State) → Place D g → List Step → List Answer
+    → Place D g → Type 0
 TellsAlone state old [] told new = new ≡ old
 TellsAlone state old (step ∷ []) told new = TellsFirst state old step told new
 TellsAlone state old (step ∷ next ∷ rest) told new = Unit {0}

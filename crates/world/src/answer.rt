@@ -5,8 +5,8 @@ use lw_types::Refusal;
 use session_core::Turn;
 use sessions::Table;
 
-/// An event that a link handed in, and its turn: the decisions that it made, and why its own was refused; and how many
-/// windows it closed, those that made no decision too.
+/// An event that a link handed in, and its turn: the decisions that it made, and why its own was
+/// refused; and how many windows it closed, those that made no decision too.
 #[derive(Drop)]
 pub struct EventTurn {
     pub event: Event,
@@ -17,39 +17,40 @@ pub struct EventTurn {
 /// The answer to one step.
 #[derive(Drop)]
 pub enum Answer {
-    /// To an event: the decisions that it made, and why its own was refused; and how many windows it closed, those
-    /// that made no decision too.
+    /// To an event: the decisions that it made, and why its own was refused; and how many windows
+    /// it closed, those that made no decision too.
     Turn {
         turn: Turn,
         closings: usize,
     },
-    /// To a piece: the turns of the events that it handed in, in order, and what is wrong with the bytes of its link
-    /// behind them.
+    /// To a piece: the turns of the events that it handed in, in order, and what is wrong with the
+    /// bytes of its link behind them.
     Turns {
         turns: Vec<EventTurn>,
         fault: Option<Refusal>,
     },
-    /// To a take: so many decisions were taken, and their commit began.
+    /// To a take: how many decisions were taken, and their commit began.
     Taken(usize),
-    /// To a take whose commit was refused for want of memory: so many decisions were taken and are
+    /// To a take whose commit was refused for want of memory: how many decisions were taken and are
     /// lost in this life.
     GivenUp(usize),
     /// To a take: the area has no room for another batch before a checkpoint.
     Full,
-    /// To a checkpoint: it began, and takes so many device calls.
+    /// To a checkpoint: it began, and how many device calls it takes.
     Begun(u64),
-    /// There is nothing to take, call, release or emit; or, to a take or a checkpoint, what is under way
-    /// has to end first; or the store could not be opened. Nothing has changed.
+    /// There is nothing to take, call, release or emit; or, to a take or a checkpoint, what is
+    /// under way has to end first; or the store could not be opened. Nothing has changed.
     Idle,
     /// To a call: the device call succeeded.
     Called,
     /// To a fail: the next device call will fail.
     Armed,
-    /// To a release: so many effects were released, 0 where a batch has none.
+    /// To a release: how many effects were released, 0 where a batch has none.
     Released(usize),
     /// To an emit: what left.
     Emitted(Emission),
-    /// To a crash: the store was opened with so many devices, and its last decision has this number.
+    /// To a crash: the store was opened: how many devices it has, and the number of its last
+    /// decision.
     Opened {
         devices: usize,
         seq: u64,

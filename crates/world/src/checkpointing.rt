@@ -22,25 +22,27 @@ impl Checkpointing {
     ghost use Rattle.disk.specs.State.{EveryImage};
     ghost use Rattle.store.specs.Checkpointing.{FitsOther};
     ghost use Rattle.store.specs.Image.{HoldsTable};
-    ghost use Rattle.store.specs.State.{seen, disk_of, IsOneCall};
-    ghost use Rattle.world.specs.Course.{one_call_on};
+    ghost use Rattle.store.specs.State.{store_state, disk_of, IsOneCall};
+    ghost use Rattle.world.specs.Course.{checkpoint_after_call};
     ghost use Rattle.world.specs.Course.Checkpoint.{CallsLeft};
-    ghost use Rattle.world.specs.Checkpoints.{FitsStill, IsPublishedOn, IsPublishingOn, calls_left, checkpoint_after, size_of};
+    ghost use Rattle.world.specs.Checkpoints.{FitsStill, IsPublishedOn, IsPublishingOn, calls_left};
+    ghost use Rattle.world.specs.Checkpoints.{checkpoint_after, size_of};
 
-    /// Makes the device call that is next, the last one with `None`. Refused with `DeviceFailed` exactly
-    /// where the device failed.
+    /// Makes the device call that is next, the last one with `None`. Refused with `DeviceFailed`
+    /// exactly where the device failed.
     pub(crate) fn call<D: Sim>(self, store: &mut Store<D>) -> Result<Option<Self>, Refusal>
-        requires fits { FitsOther (seen D.state store.old) (size_of self) }
-        ensures fits { IfOk result (λ next. FitsStill (seen D.state store.new) next) }
-        ensures calls { IfOk result (λ next. checkpoint_after (seen D.state store.new) next
-            ≡ one_call_on (CallsLeft (calls_left (seen D.state store.old) self))) }
-        ensures on { IsPublishingOn (seen D.state store.old) self
-            → IfOk result (IsPublishedOn (seen D.state store.new)) }
-        ensures images { IsPublishingOn (seen D.state store.old) self
+        requires fits { FitsOther (store_state D.state store.old) (size_of self) }
+        ensures fits { IfOk result (λ next. FitsStill (store_state D.state store.new) next) }
+        ensures calls { IfOk result (λ next. checkpoint_after (store_state D.state store.new) next
+            ≡ checkpoint_after_call (CallsLeft (calls_left (store_state D.state store.old) self))) }
+        ensures on { IsPublishingOn (store_state D.state store.old) self
+            → IfOk result (IsPublishedOn (store_state D.state store.new)) }
+        ensures images { IsPublishingOn (store_state D.state store.old) self
             → EveryImage (D.state (disk_of store.new))
-            (HoldsTable (seen D.state store.old).table (seen D.state store.old).seq) }
-        ensures table { (seen D.state store.new).table ≡ (seen D.state store.old).table }
-        ensures seq { (seen D.state store.new).seq ≡ (seen D.state store.old).seq }
+            (HoldsTable (store_state D.state store.old).table (store_state D.state store.old).seq) }
+        ensures table { (store_state D.state store.new).table
+            ≡ (store_state D.state store.old).table }
+        ensures seq { (store_state D.state store.new).seq ≡ (store_state D.state store.old).seq }
         ensures one_call { IsOneCall D.failures D.outlook store.old store.new result }
     {
         match self {
@@ -62,7 +64,7 @@ impl Checkpointing {
 
     /// How many device calls are left.
     pub(crate) fn calls_left<D: Sim>(&self, store: &Store<D>) -> u64
-        ensures { result ≡ calls_left (seen D.state store.now) self.now }
+        ensures { result ≡ calls_left (store_state D.state store.now) self.now }
     {
         match self {
             Checkpointing::Begun(_) if store.must_retire() => 6,

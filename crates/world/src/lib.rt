@@ -1,5 +1,5 @@
 //! A store, the core that decides on its table, and the effects that left: everything but the lines
-//! in which it is told.
+//! in which it is stated.
 #![tactic(auto)]
 
 mod answer;

@@ -3,7 +3,7 @@ ghost use Rattle.std.specs.Prelude.{◌≡◌, ◌++◌, ◌+◌, ◌≤◌, Mat
 ghost use Rattle.lw_types.specs.declared.refusal.Refusal.TheVariants.{OutOfMemory};
 
 use crate::checkpointing::Checkpointing;
-use crate::commit::Commit;
+use crate::commit::UnderWay;
 use crate::links::Links;
 use crate::{Answer, Step, laws};
 use disk::Sim;
@@ -18,16 +18,16 @@ use store::Store;
 pub(crate) struct Life<D: Sim> {
     pub(crate) store: Store<D>,
     pub(crate) core: Core,
-    pub(crate) commit: Commit,
+    pub(crate) commit: UnderWay,
     pub(crate) links: Links,
 }
 
 impl<D: Sim> Life<D> {
     ghost use Rattle.std.specs.Prelude.{◌≢◌, ◌<◌, ◌^◌, ◌↔◌, ℕ, [], IfOk, IfErr, IsTrue};
-    ghost use Rattle.link_messages.specs.Feeding.{nothing_heard};
-    ghost use Rattle.session_core.specs.Core.{begun};
-    ghost use Rattle.store.specs.State.{seen, disk_of, IsRoomy};
-    ghost use Rattle.world.specs.declared.commit.Commit.TheVariants as commits;
+    ghost use Rattle.link_messages.specs.Feeding.{new_feed};
+    ghost use Rattle.session_core.specs.Core.{new_core};
+    ghost use Rattle.store.specs.State.{store_state, disk_of, IsRoomy};
+    ghost use Rattle.world.specs.declared.commit.UnderWay.TheVariants as commits;
     ghost use Rattle.world.specs.declared.step.Step.TheVariants as steps;
     ghost use Rattle.world.specs.declared.answer.Answer.TheVariants as answers;
     ghost use Rattle.world.specs.Calls.{Foretells};
@@ -38,19 +38,20 @@ impl<D: Sim> Life<D> {
 
     /// A life that begins with this store.
     pub(crate) fn new(alloc: Global, store: Store<D>) -> Result<Self, (D, Refusal)>
-        ensures store { IfOk result (λ life. seen D.state life.store ≡ seen D.state store) }
+        ensures store { IfOk result
+            (λ life. store_state D.state life.store ≡ store_state D.state store) }
         ensures disk { IfOk result (λ life. disk_of life.store ≡ disk_of store) }
         ensures core { IfOk result (λ life. life.core
-            ≡ begun (seen D.state store).table (seen D.state store).seq) }
+            ≡ new_core (store_state D.state store).table (store_state D.state store).seq) }
         ensures idle { IfOk result (λ life. life.commit ≡ commits.Idle) }
-        ensures silent { IfOk result (λ life. (link : ℕ) → heard_on life.links link ≡ nothing_heard) }
+        ensures silent { IfOk result (λ life. (link : ℕ) → heard_on life.links link ≡ new_feed) }
         ensures refused { IfErr result (λ e. (e.0 ≡ disk_of store) × (e.1 ≡ OutOfMemory)) }
     {
         match Core::new(alloc, store.table(), store.seq()) {
             Ok(core) => Ok(Life {
                 store,
                 core,
-                commit: Commit::Idle,
+                commit: UnderWay::Idle,
                 links: Links::new(alloc),
             }),
             Err(refusal) => Err((store.close(), refusal)),
@@ -66,12 +67,15 @@ impl<D: Sim> Life<D> {
     ) -> Answer
         requires own { IsOwn step.now }
         requires sound { IsSoundLife D.state self.old }
-        requires room { HasRoom self.old.commit (length released.old.items) (vec_capacity released.old) }
+        requires room { HasRoom self.old.commit (length released.old.items)
+            (vec_capacity released.old) }
         ensures sound { IsSoundLife D.state self.new }
-        ensures room { HasRoom self.new.commit (length released.new.items) (vec_capacity released.new) }
+        ensures room { HasRoom self.new.commit (length released.new.items)
+            (vec_capacity released.new) }
         ensures course { MovesLife D.state self.old step.now result self.new }
-        ensures calls { Foretells D.failures D.outlook (disk_of self.old.store) step.now result (disk_of self.new.store) }
-        ensures room_told { TellsRoom (seen D.state self.old.store) step.now result }
+        ensures calls { Foretells D.failures D.outlook (disk_of self.old.store) step.now result
+            (disk_of self.new.store) }
+        ensures room_told { TellsRoom (store_state D.state self.old.store) step.now result }
         ensures left { Lets D.state self.old step.now result released.old.items released.new.items }
     {
         match step {
@@ -94,21 +98,24 @@ impl<D: Sim> Life<D> {
         }
     }
 
-    /// The flusher takes a batch and begins its commit. `Full` comes only where the journal has no room
-    /// for the largest batch.
+    /// The flusher takes a batch and begins its commit. `Full` comes only where the journal has no
+    /// room for the largest batch.
     pub(crate) fn take(&mut self, alloc: Global, most: Most, released: &mut Vec<Released>) -> Answer
         requires sound { IsSoundLife D.state self.old }
-        requires room { HasRoom self.old.commit (length released.old.items) (vec_capacity released.old) }
+        requires room { HasRoom self.old.commit (length released.old.items)
+            (vec_capacity released.old) }
         ensures sound { IsSoundLife D.state self.new }
-        ensures room { HasRoom self.new.commit (length released.new.items) (vec_capacity released.new) }
+        ensures room { HasRoom self.new.commit (length released.new.items)
+            (vec_capacity released.new) }
         ensures released { released.new.items ≡ released.old.items }
-        ensures room_told { TakeTellsRoom (seen D.state self.old.store) result }
+        ensures room_told { TakeTellsRoom (store_state D.state self.old.store) result }
         ensures course { MovesLife D.state self.old (steps.Take most) result self.new }
-        ensures calls { Foretells D.failures D.outlook (disk_of self.old.store) (steps.Take most) result (disk_of self.new.store) }
+        ensures calls { Foretells D.failures D.outlook (disk_of self.old.store)
+            (steps.Take most) result (disk_of self.new.store) }
     {
         match &self.commit {
-            Commit::Failed => return Answer::Refused(Refusal::Failed),
-            Commit::Idle => {}
+            UnderWay::Failed => return Answer::Refused(Refusal::Failed),
+            UnderWay::Idle => {}
             _ => return Answer::Idle,
         }
         if self.core.untaken() == 0 {
@@ -125,13 +132,13 @@ impl<D: Sim> Life<D> {
 
     // Whether the journal has no room for the largest batch.
     fn is_full(&self) -> bool
-        ensures { IsTrue result ↔ ¬ (IsRoomy (seen D.state self.now.store)) }
+        ensures { IsTrue result ↔ ¬ (IsRoomy (store_state D.state self.now.store)) }
     {
         !self.store.roomy()
     }
 
-    // Takes a batch and begins its commit. The room for its effects is got first, so that nothing is
-    // taken for want of it.
+    // Takes a batch and begins its commit. The room for its effects is got first, so that nothing
+    // is taken for want of it.
     fn begin(
         &mut self,
         alloc: Global,
@@ -140,11 +147,12 @@ impl<D: Sim> Life<D> {
     ) -> Result<Answer, Refusal>
         requires idle { self.old.commit ≡ commits.Idle }
         requires some { self.old.core.decisions.log ≢ [] }
-        requires roomy { IsRoomy (seen D.state self.old.store) }
+        requires roomy { IsRoomy (store_state D.state self.old.store) }
         ensures sound { IsSoundLife D.state self.new }
-        ensures room { HasRoom self.new.commit (length released.new.items) (vec_capacity released.new) }
+        ensures room { HasRoom self.new.commit (length released.new.items)
+            (vec_capacity released.new) }
         ensures released { released.new.items ≡ released.old.items }
-        ensures room_told { IfOk result (TakeTellsRoom (seen D.state self.old.store)) }
+        ensures room_told { IfOk result (TakeTellsRoom (store_state D.state self.old.store)) }
         ensures course { MatchResult result
             (λ answer. MovesLife D.state self.old (steps.Take most) answer self.new)
             (λ e. (e ≡ OutOfMemory) × (self.new ≡ self.old)) }
@@ -158,7 +166,7 @@ impl<D: Sim> Life<D> {
         let count = batch.len();
         match self.store.begin(alloc, batch) {
             Ok(begun) => {
-                self.set(Commit::Begun(begun, room));
+                self.set(UnderWay::Begun(begun, room));
                 Ok(Answer::Taken(count))
             }
             Err(refusal) => match refusal {
@@ -172,21 +180,23 @@ impl<D: Sim> Life<D> {
     pub(crate) fn checkpoint(&mut self, alloc: Global) -> Answer
         requires sound { IsSoundLife D.state self.old }
         ensures sound { IsSoundLife D.state self.new }
-        ensures room { (there fit : ℕ) → HasRoom self.old.commit there fit → HasRoom self.new.commit there fit }
-        ensures told { CheckpointTells (seen D.state self.old.store) result }
+        ensures room { (there fit : ℕ) → HasRoom self.old.commit there fit
+            → HasRoom self.new.commit there fit }
+        ensures told { CheckpointTells (store_state D.state self.old.store) result }
         ensures course { MovesLife D.state self.old steps.Checkpoint result self.new }
-        ensures calls { Foretells D.failures D.outlook (disk_of self.old.store) steps.Checkpoint result (disk_of self.new.store) }
+        ensures calls { Foretells D.failures D.outlook
+            (disk_of self.old.store) steps.Checkpoint result (disk_of self.new.store) }
     {
         match &self.commit {
-            Commit::Failed => return Answer::Refused(Refusal::Failed),
-            Commit::Idle => {}
+            UnderWay::Failed => return Answer::Refused(Refusal::Failed),
+            UnderWay::Idle => {}
             _ => return Answer::Idle,
         }
         match self.store.checkpoint(alloc) {
             Ok(checkpoint) => {
                 let checkpoint = Checkpointing::Begun(checkpoint);
                 let calls = checkpoint.calls_left(&self.store);
-                self.set(Commit::Checkpoint(checkpoint));
+                self.set(UnderWay::Checkpoint(checkpoint));
                 Answer::Begun(calls)
             }
             Err(refusal) => Answer::Refused(refusal),
@@ -194,7 +204,7 @@ impl<D: Sim> Life<D> {
     }
 
     // Replaces the commit.
-    fn set(&mut self, commit: Commit)
+    fn set(&mut self, commit: UnderWay)
         ensures commit { self.new.commit ≡ commit }
         ensures store { self.new.store ≡ self.old.store }
         ensures core { self.new.core ≡ self.old.core }
@@ -207,16 +217,18 @@ impl<D: Sim> Life<D> {
     pub(crate) fn call(&mut self) -> Answer
         requires { IsSoundLife D.state self.old }
         ensures sound { IsSoundLife D.state self.new }
-        ensures room { (there fit : ℕ) → HasRoom self.old.commit there fit → HasRoom self.new.commit there fit }
+        ensures room { (there fit : ℕ) → HasRoom self.old.commit there fit
+            → HasRoom self.new.commit there fit }
         ensures course { MovesLife D.state self.old steps.Call result self.new }
-        ensures calls { Foretells D.failures D.outlook (disk_of self.old.store) steps.Call result (disk_of self.new.store) }
+        ensures calls { Foretells D.failures D.outlook (disk_of self.old.store) steps.Call result
+            (disk_of self.new.store) }
     {
         laws::of_runs();
         match &self.commit {
-            Commit::Idle | Commit::Failed | Commit::Durable(_) => return Answer::Idle,
+            UnderWay::Idle | UnderWay::Failed | UnderWay::Durable(_) => return Answer::Idle,
             _ => {}
         }
-        match mem::replace(&mut self.commit, Commit::Failed).call(&mut self.store) {
+        match mem::replace(&mut self.commit, UnderWay::Failed).call(&mut self.store) {
             Ok(next) => {
                 self.set(next);
                 Answer::Called
@@ -231,7 +243,8 @@ impl<D: Sim> Life<D> {
         ensures sound { IsSoundLife D.state self.new }
         ensures commit { self.new.commit ≡ self.old.commit }
         ensures course { MovesLife D.state self.old steps.Fail result self.new }
-        ensures calls { Foretells D.failures D.outlook (disk_of self.old.store) steps.Fail result (disk_of self.new.store) }
+        ensures calls { Foretells D.failures D.outlook (disk_of self.old.store) steps.Fail result
+            (disk_of self.new.store) }
     {
         self.store.arm(1);
         Answer::Armed
@@ -240,16 +253,20 @@ impl<D: Sim> Life<D> {
     /// The effects of the batch that became durable are released. Takes no memory.
     pub(crate) fn release(&mut self, released: &mut Vec<Released>) -> Answer
         requires sound { IsSoundLife D.state self.old }
-        requires room { HasRoom self.old.commit (length released.old.items) (vec_capacity released.old) }
+        requires room { HasRoom self.old.commit (length released.old.items)
+            (vec_capacity released.old) }
         ensures sound { IsSoundLife D.state self.new }
-        ensures room { HasRoom self.new.commit (length released.new.items) (vec_capacity released.new) }
+        ensures room { HasRoom self.new.commit (length released.new.items)
+            (vec_capacity released.new) }
         ensures course { MovesLife D.state self.old steps.Release result self.new }
-        ensures calls { Foretells D.failures D.outlook (disk_of self.old.store) steps.Release result (disk_of self.new.store) }
-        ensures left { Lets D.state self.old steps.Release result released.old.items released.new.items }
+        ensures calls { Foretells D.failures D.outlook (disk_of self.old.store) steps.Release result
+            (disk_of self.new.store) }
+        ensures left { Lets D.state self.old steps.Release result released.old.items
+            released.new.items }
     {
         laws::of_runs();
-        match mem::replace(&mut self.commit, Commit::Idle) {
-            Commit::Durable(durable) => {
+        match mem::replace(&mut self.commit, UnderWay::Idle) {
+            UnderWay::Durable(durable) => {
                 let effects = durable.release();
                 let count = effects.len();
                 add(effects, released);
@@ -265,7 +282,8 @@ impl<D: Sim> Life<D> {
     /// The table as it is now.
     pub(crate) fn list(&self) -> Answer
         ensures course { MovesLife D.state self.now steps.List result self.now }
-        ensures calls { Foretells D.failures D.outlook (disk_of self.now.store) steps.List result (disk_of self.now.store) }
+        ensures calls { Foretells D.failures D.outlook (disk_of self.now.store) steps.List result
+            (disk_of self.now.store) }
     {
         laws::of_runs();
         match self.core.now().copy() {

@@ -1,10 +1,12 @@
 // The links of a life, and the events that what is said on them hands in.
-ghost use Rattle.std.specs.Prelude.{◌≡◌, ◌≤◌, ◌++◌, ℕ, Some, [], length, vec_capacity, IfOk, IfErr, MatchResult};
+ghost use Rattle.std.specs.Prelude.{◌≡◌, ◌≤◌, ◌++◌, ℕ, Some, [], length, vec_capacity, IfOk, IfErr};
+ghost use Rattle.std.specs.Prelude.{MatchResult};
 ghost use Rattle.lw_types.specs.declared.refusal.Refusal.TheVariants.{OutOfMemory};
-ghost use Rattle.link_messages.specs.Feeding.{nothing_heard};
-ghost use Rattle.link_messages.specs.Stream.{after_one};
+ghost use Rattle.link_messages.specs.Feeding.{new_feed};
+ghost use Rattle.link_messages.specs.Stream.{peer_after_one};
 ghost use Rattle.link_messages.specs.declared.message.Peer.TheVariants.{Application as Asking};
-ghost use Rattle.world.specs.Links.{before_others, heard_on, AreHandedIn, Asks, HandsIn, SaysMore};
+ghost use Rattle.world.specs.Links.{before_others, heard_on, AreHandedIn, AsksFor, HandsIn};
+ghost use Rattle.world.specs.Links.{SaysMore};
 
 use crate::{Event, EventTurn};
 use devices::Application;
@@ -32,7 +34,7 @@ pub(crate) struct HandedIn {
 impl Links {
     /// Links that have said nothing yet. Takes no memory.
     pub(crate) fn new(alloc: Global) -> Self
-        ensures { (link : ℕ) → heard_on result link ≡ nothing_heard }
+        ensures { (link : ℕ) → heard_on result link ≡ new_feed }
     {
         Links {
             alloc,
@@ -42,8 +44,10 @@ impl Links {
 
     /// These bytes come on this link. A refusal leaves what the links have said.
     pub(crate) fn say(&mut self, link: u64, piece: &[u8]) -> Result<HandedIn, Refusal>
-        ensures said { IfOk result (λ r. SaysMore self.old link piece.now self.new r.events.items r.fault) }
-        ensures room { IfOk result (λ r. (r.room.items ≡ []) × (length r.events.items ≤ vec_capacity r.room)) }
+        ensures said { IfOk result (λ r. SaysMore self.old link piece.now self.new r.events.items
+            r.fault) }
+        ensures room { IfOk result (λ r. (r.room.items ≡ [])
+            × (length r.events.items ≤ vec_capacity r.room)) }
         ensures refused { IfErr result (λ e. (e ≡ OutOfMemory)
             × ((other : ℕ) → heard_on self.new other ≡ heard_on self.old other)) }
     {
@@ -70,14 +74,15 @@ impl Links {
     }
 }
 
-/// The events that messages of a link hand in, whose peer this is before them: each copy, and the command of each line that is
-/// a request of an application. Refused with `OutOfMemory` alone.
+/// The events that messages of a link hand in, whose peer this is before them: each copy, and the
+/// command of each line that is a request of an application. Refused with `OutOfMemory` alone.
 pub fn events_of(
     alloc: Global,
     peer: Option<Peer>,
     messages: Vec<Message>,
 ) -> Result<Vec<Event>, Refusal>
-    ensures { MatchResult result (λ events. AreHandedIn peer messages.items events.items) (λ e. e ≡ OutOfMemory) }
+    ensures { MatchResult result (λ events. AreHandedIn peer messages.items events.items)
+        (λ e. e ≡ OutOfMemory) }
 {
     let mut events = Vec::with_capacity(alloc, messages.len())?;
     let mut speaker = peer;
@@ -90,7 +95,9 @@ pub fn events_of(
 
 // Adds an event, if there is one.
 fn add(events: &mut Vec<Event>, event: Option<Event>) -> Result<(), Refusal>
-    ensures { MatchResult result (λ _. events.new.items ≡ events.old.items ++ before_others event []) (λ e. e ≡ OutOfMemory) }
+    ensures { MatchResult result
+        (λ _. events.new.items ≡ events.old.items ++ before_others event [])
+        (λ e. e ≡ OutOfMemory) }
 {
     if let Some(event) = event {
         events.push(event)?;
@@ -98,15 +105,15 @@ fn add(events: &mut Vec<Event>, event: Option<Event>) -> Result<(), Refusal>
     Ok(())
 }
 
-// The event that a message hands in, where it does: a greeting doesn't, but tells who speaks; nor does a line that is no
-// request.
+// The event that a message hands in, where it does: a greeting doesn't, but tells who speaks; nor
+// does a line that is no request.
 fn event_of(
     alloc: Global,
     speaker: &mut Option<Peer>,
     message: Message,
 ) -> Result<Option<Event>, Refusal>
     ensures event { MatchResult result (HandsIn speaker.old message) (λ e. e ≡ OutOfMemory) }
-    ensures speaker { speaker.new ≡ after_one speaker.old message }
+    ensures speaker { speaker.new ≡ peer_after_one speaker.old message }
 {
     match message {
         Message::Greeting(greeted) => {
@@ -119,7 +126,7 @@ fn event_of(
 }
 
 fn asked(alloc: Global, speaker: &Option<Peer>, line: &Line) -> Result<Option<Event>, Refusal>
-    ensures { MatchResult result (Asks speaker.now line.now) (λ e. e ≡ OutOfMemory) }
+    ensures { MatchResult result (AsksFor speaker.now line.now) (λ e. e ≡ OutOfMemory) }
 {
     match speaker {
         Some(Peer::Application(application)) => request_of(alloc, *application, line),
@@ -133,7 +140,8 @@ fn request_of(
     application: Application,
     line: &Line,
 ) -> Result<Option<Event>, Refusal>
-    ensures { MatchResult result (Asks (Some (Asking application)) line.now) (λ e. e ≡ OutOfMemory) }
+    ensures { MatchResult result (AsksFor (Some (Asking application)) line.now)
+        (λ e. e ≡ OutOfMemory) }
 {
     match read_line(alloc, line.as_str()) {
         Ok(request) => Ok(Some(Event::Ask(request.into_command(application)))),

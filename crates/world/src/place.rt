@@ -18,9 +18,9 @@ pub(crate) enum Place<D: Sim> {
 
 impl<D: Sim> Place<D> {
     ghost use Rattle.std.specs.Prelude.{◌≡◌, ℕ, false};
-    ghost use Rattle.store.specs.State.{seen, disk_of, IsSettled};
+    ghost use Rattle.store.specs.State.{store_state, disk_of, IsSettled};
     ghost use Rattle.world.specs.Calls.{ForetellsOpening, IsNoFailure};
-    ghost use Rattle.world.specs.Follows.{Reopens, Begins};
+    ghost use Rattle.world.specs.Follows.{Reopens, IsBegunPlace};
     ghost use Rattle.world.specs.Sound.{IsSomewhere, HasDisk, IsSoundPlace};
 
     /// The store on a disk that crashed is opened, and a life begins with it.
@@ -28,7 +28,8 @@ impl<D: Sim> Place<D> {
         ensures sound { (there fit : ℕ) → IsSoundPlace D.state result.0 there fit }
         ensures course { Reopens D.state disk result.1 result.0 }
         ensures calls { ForetellsOpening D.failures D.outlook disk result.1 result.0 }
-        ensures same { (now : D) → HasDisk result.0 now → (D.state now).content ≡ (D.state disk).content }
+        ensures same { (now : D) → HasDisk result.0 now
+            → (D.state now).content ≡ (D.state disk).content }
     {
         disk::laws::settled_disk_keeps_its_content();
         match store::open_back(alloc, disk) {
@@ -40,8 +41,9 @@ impl<D: Sim> Place<D> {
     // A life begins with a store that was opened.
     fn begin(alloc: Global, store: Store<D>) -> (Self, Answer)
         ensures sound { (there fit : ℕ) → IsSoundPlace D.state result.0 there fit }
-        ensures course { (seen D.state store).failed ≡ false → IsSettled (seen D.state store)
-            → Begins D.state store result.1 result.0 }
+        ensures course { (store_state D.state store).failed ≡ false
+            → IsSettled (store_state D.state store)
+            → IsBegunPlace D.state store result.1 result.0 }
         ensures calls { IsNoFailure result.1 }
         ensures same { (now : D) → HasDisk result.0 now → now ≡ disk_of store }
     {

@@ -4,7 +4,7 @@ ghost use Rattle.lw_types.specs.declared.refusal.Refusal.TheVariants.{OutOfMemor
 ghost use Rattle.world.specs.Course.{Origin, beginning, course_of};
 ghost use Rattle.world.specs.Follows.{Follows, Runs};
 ghost use Rattle.world.specs.OneLife.{HasNoCrash, IsOneLife};
-ghost use Rattle.world.specs.Sound.{IsSound};
+ghost use Rattle.world.specs.Sound.{IsSoundWorld};
 ghost use Rattle.world.specs.Calls.{ForetellsAll};
 ghost use Rattle.world.specs.Tells.{TellsAlone};
 
@@ -13,31 +13,37 @@ use disk::Sim;
 use lw_types::Refusal;
 use std::alloc::Global;
 
-/// Takes the steps one after another, and gives the answer to each. Refused with `OutOfMemory` before
-/// the first step, and then nothing was done.
+/// Takes the steps one after another, and gives the answer to each. Refused with `OutOfMemory`
+/// before the first step, and then nothing was done.
 ///
 /// Each answer is the right one in the course that the steps and the answers make, and the world
-/// follows that course (`course`): what was released are the effects of the decided commands, in order
-/// and complete (`one_life`), and after a crash the store has the fold of a beginning of them, which
-/// holds every command of which an effect has left. What the coming calls of the disk will answer is
-/// known step by step (`calls`): one that is armed is refused as `DeviceFailed`, and one that isn't
-/// never is. A run of one step tells more (`alone`): a take is answered `Full` exactly where it would
-/// begin a batch and the journal has no room for the largest one, and a crash leaves the image that it
-/// names. A step costs by what it touches: only a list, a crash, and the take after one that was refused
-/// cost by the number of devices, and a crash by the journal's bytes.
+/// follows that course (`course`): what was released are the effects of the decided commands, in
+/// order and complete (`one_life`), and after a crash the store has the fold of a beginning of
+/// them, which holds every command of which an effect has left. What the coming calls of the disk
+/// will answer is known step by step (`calls`): one that is armed is refused as `DeviceFailed`, and
+/// one that isn't never is. A run of one step tells more (`alone`): a take is answered `Full`
+/// exactly where it would begin a batch and the journal has no room for the largest one, and a
+/// crash leaves the image that it names. A step costs by what it touches: only a list, a crash, and
+/// the take after one that was refused cost by the number of devices, and a crash by the journal's
+/// bytes.
 pub fn run<D: Sim + Drop>(
     world: &mut World<D>,
     alloc: Global,
     steps: &[Step],
 ) -> Result<Vec<Answer>, Refusal>
-    requires { IsSound D.state world.old }
-    ensures sound { IsSound D.state world.new }
+    requires { IsSoundWorld D.state world.old }
+    ensures sound { IsSoundWorld D.state world.new }
     ensures answers { IfOk result (λ answers. length answers.items ≡ length steps.now) }
-    ensures alone { IfOk result (λ answers. TellsAlone D.state world.old.place steps.now answers.items world.new.place) }
-    ensures course { IfOk result (λ answers. Runs D.state world.old steps.now answers.items world.new) }
-    ensures calls { IfOk result (λ answers. ForetellsAll D.failures D.outlook world.old.place steps.now answers.items world.new.place) }
-    ensures one_life { IfOk result (λ answers. (origin : Origin) → Follows D.state origin (beginning origin) world.old
-        → HasNoCrash steps.now → IsOneLife origin (course_of origin (beginning origin) steps.now answers.items) steps.now answers.items) }
+    ensures alone { IfOk result (λ answers. TellsAlone D.state world.old.place steps.now
+        answers.items world.new.place) }
+    ensures course { IfOk result
+        (λ answers. Runs D.state world.old steps.now answers.items world.new) }
+    ensures calls { IfOk result (λ answers. ForetellsAll D.failures D.outlook world.old.place
+        steps.now answers.items world.new.place) }
+    ensures one_life { IfOk result
+        (λ answers. (origin : Origin) → Follows D.state origin (beginning origin) world.old
+        → HasNoCrash steps.now → IsOneLife origin
+        (course_of origin (beginning origin) steps.now answers.items) steps.now answers.items) }
     ensures refused { IfErr result (λ e. (e ≡ OutOfMemory) × (world.new ≡ world.old)) }
 {
     laws::of_runs();

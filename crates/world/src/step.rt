@@ -1,4 +1,4 @@
-// What a world is told to do.
+// What a world is asked to do.
 use crate::Event;
 use disk::Image;
 use session_core::{Moment, Most};
@@ -18,7 +18,7 @@ pub enum Step {
         moment: Moment,
         bytes: Vec<u8>,
     },
-    /// The flusher takes the oldest decisions, at most so many, and begins their commit.
+    /// The flusher takes the oldest decisions, this many at most, and begins their commit.
     Take(Most),
     /// The flusher begins a checkpoint, which makes room in the journal.
     Checkpoint,

@@ -25,7 +25,8 @@ impl<D: Sim> Life<D> {
         ensures sound { IsSoundLife D.state self.new }
         ensures commit { self.new.commit ≡ self.old.commit }
         ensures store { self.new.store ≡ self.old.store }
-        ensures course { MovesLife D.state self.old (steps.Event moment event.now) (answers.Turn result.0 result.1) self.new }
+        ensures course { MovesLife D.state self.old (steps.Event moment event.now)
+            (answers.Turn result.0 result.1) self.new }
     {
         match event {
             Event::Hear(copy) => self.hear(moment, copy),
@@ -40,7 +41,8 @@ impl<D: Sim> Life<D> {
         ensures sound { IsSoundLife D.state self.new }
         ensures commit { self.new.commit ≡ self.old.commit }
         ensures store { self.new.store ≡ self.old.store }
-        ensures course { MovesLife D.state self.old (steps.Event moment (events.Hear copy.now)) (answers.Turn result.0 result.1) self.new }
+        ensures course { MovesLife D.state self.old (steps.Event moment (events.Hear copy.now))
+            (answers.Turn result.0 result.1) self.new }
     {
         laws::of_runs();
         session_core::laws::windows_stand_for_groups();
@@ -50,7 +52,7 @@ impl<D: Sim> Life<D> {
                 self.told(turn)
             }
             Err(_) => {
-                let turn = self.core.miss(moment);
+                let turn = self.core.hear_without_memory(moment);
                 self.told(turn)
             }
         }
@@ -62,7 +64,8 @@ impl<D: Sim> Life<D> {
         ensures sound { IsSoundLife D.state self.new }
         ensures commit { self.new.commit ≡ self.old.commit }
         ensures store { self.new.store ≡ self.old.store }
-        ensures course { MovesLife D.state self.old (steps.Event moment events.Tick) (answers.Turn result.0 result.1) self.new }
+        ensures course { MovesLife D.state self.old (steps.Event moment events.Tick)
+            (answers.Turn result.0 result.1) self.new }
     {
         laws::of_runs();
         session_core::laws::windows_stand_for_groups();
@@ -76,7 +79,8 @@ impl<D: Sim> Life<D> {
         ensures sound { IsSoundLife D.state self.new }
         ensures commit { self.new.commit ≡ self.old.commit }
         ensures store { self.new.store ≡ self.old.store }
-        ensures course { MovesLife D.state self.old (steps.Event moment (events.Ask command.now)) (answers.Turn result.0 result.1) self.new }
+        ensures course { MovesLife D.state self.old (steps.Event moment (events.Ask command.now))
+            (answers.Turn result.0 result.1) self.new }
     {
         laws::of_runs();
         session_core::laws::windows_stand_for_groups();
@@ -86,7 +90,7 @@ impl<D: Sim> Life<D> {
                 self.told(turn)
             }
             Err(_) => {
-                let turn = self.core.starve(moment, command);
+                let turn = self.core.decide_without_memory(moment, command);
                 self.told(turn)
             }
         }
@@ -99,8 +103,8 @@ impl<D: Sim> Life<D> {
         (turn, self.core.closings())
     }
 
-    /// A piece of a link's bytes comes: the events that it hands in, one after another. Where there is no memory for
-    /// it, nothing of it counts.
+    /// A piece of a link's bytes comes: the events that it hands in, one after another. Where there
+    /// is no memory for it, nothing of it counts.
     pub(crate) fn piece(&mut self, link: u64, moment: Moment, bytes: &[u8]) -> Answer
         requires { IsSoundLife D.state self.old }
         ensures sound { IsSoundLife D.state self.new }
@@ -124,7 +128,8 @@ impl<D: Sim> Life<D> {
         }
     }
 
-    // Events come at this moment, one after another, and their turns are told in the room for them.
+    // Events come at this moment, one after another, and their turns are answered in the room for
+    // them.
     fn go_through(
         &mut self,
         moment: Moment,

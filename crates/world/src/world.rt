@@ -27,19 +27,21 @@ impl<D: Sim + Drop> World<D> {
     ghost use Rattle.disk.specs.Outlook.Outlook.{AllSucceed};
     ghost use Rattle.store.specs.Faults.{IsFormatRefusal};
     ghost use Rattle.world.specs.declared.step.Step.TheVariants as steps;
-    ghost use Rattle.world.specs.Calls.{AreCallsAt, ForetellsAt, passed_some};
+    ghost use Rattle.world.specs.Calls.{AreCallsAt, ForetellsAt, outlook_after_opening};
     ghost use Rattle.world.specs.Tells.{PlaceTellsRoom, CrashesTo, LeavesImage};
-    ghost use Rattle.world.specs.Course.{Origin, Course, beginning, formatted, effects_from};
+    ghost use Rattle.world.specs.Course.{Origin, Course, beginning, new_store, effects_from};
     ghost use Rattle.sessions.specs.Marks.{IsSubsequence};
     ghost use Rattle.world.specs.Follows.{Follows, Moves, Survives};
-    ghost use Rattle.world.specs.Sound.{IsSound, HasDisk};
+    ghost use Rattle.world.specs.Sound.{IsSoundWorld, HasDisk};
 
-    /// A world with a new store on this disk. Refused as [`store::format`] is, and with `OutOfMemory`.
+    /// A world with a new store on this disk. Refused as [`store::format`] is, and with
+    /// `OutOfMemory`.
     pub fn format(alloc: Global, disk: D, net_id: NetId, slots: u64) -> Result<Self, Refusal>
-        ensures sound { IfOk result (IsSound D.state) }
-        ensures course { IfOk result (Follows D.state (formatted net_id slots) (beginning (formatted net_id slots))) }
+        ensures sound { IfOk result (IsSoundWorld D.state) }
+        ensures course { IfOk result
+            (Follows D.state (new_store net_id slots) (beginning (new_store net_id slots))) }
         ensures calls { IfOk result (λ world. AreCallsAt D.failures D.outlook
-            (record { failed = D.failures disk; coming = passed_some (D.outlook disk) }) world.place) }
+            (record { failed = D.failures disk; coming = outlook_after_opening (D.outlook disk) }) world.place) }
         ensures unarmed { D.outlook disk ≡ AllSucceed → IfErr result (λ e. e ≢ DeviceFailed) }
         ensures refused { IfErr result (IsFormatRefusal slots (length (D.state disk).content)) }
     {
@@ -58,10 +60,11 @@ impl<D: Sim + Drop> World<D> {
 
     /// One step.
     pub(crate) fn step(&mut self, alloc: Global, step: &Step) -> Answer
-        requires { IsSound D.state self.old }
-        ensures sound { IsSound D.state self.new }
+        requires { IsSoundWorld D.state self.old }
+        ensures sound { IsSoundWorld D.state self.new }
         ensures course { Moves D.state self.old step.now result self.new }
-        ensures calls { ForetellsAt D.failures D.outlook self.old.place step.now result self.new.place }
+        ensures calls { ForetellsAt D.failures D.outlook self.old.place step.now result
+            self.new.place }
         ensures room_told { PlaceTellsRoom D.state self.old.place step.now result }
         ensures crashed { LeavesImage D.state self.old.place step.now self.new.place }
     {
@@ -78,10 +81,11 @@ impl<D: Sim + Drop> World<D> {
 
     // The oldest released effect leaves.
     fn emit(&mut self, alloc: Global) -> Answer
-        requires { IsSound D.state self.old }
-        ensures sound { IsSound D.state self.new }
+        requires { IsSoundWorld D.state self.old }
+        ensures sound { IsSoundWorld D.state self.new }
         ensures course { Moves D.state self.old steps.Emit result self.new }
-        ensures calls { ForetellsAt D.failures D.outlook self.old.place steps.Emit result self.new.place }
+        ensures calls { ForetellsAt D.failures D.outlook self.old.place steps.Emit result
+            self.new.place }
     {
         match self.released.get(self.emitted) {
             None => Answer::Idle,
@@ -98,10 +102,11 @@ impl<D: Sim + Drop> World<D> {
     // The disk crashes to this image, and the store is opened again. Effects that were released and
     // not emitted are lost.
     fn crash(&mut self, alloc: Global, image: &Image) -> Answer
-        requires { IsSound D.state self.old }
-        ensures sound { IsSound D.state self.new }
+        requires { IsSoundWorld D.state self.old }
+        ensures sound { IsSoundWorld D.state self.new }
         ensures course { Moves D.state self.old (steps.Crash image.now) result self.new }
-        ensures calls { ForetellsAt D.failures D.outlook self.old.place (steps.Crash image.now) result self.new.place }
+        ensures calls { ForetellsAt D.failures D.outlook self.old.place
+            (steps.Crash image.now) result self.new.place }
         ensures crashed { CrashesTo D.state image.now self.old.place self.new.place }
     {
         laws::of_runs();
@@ -127,13 +132,15 @@ impl<D: Sim + Drop> World<D> {
         }
     }
 
-    /// Ends the world: what is under way is lost, and the disk comes back. Whatever a crash leaves of it
-    /// holds the fold of a beginning of the decided commands, with every one of which an effect has left.
+    /// Ends the world: what is under way is lost, and the disk comes back. Whatever a crash leaves
+    /// of it holds the fold of a beginning of the decided commands, with every one of which an
+    /// effect has left.
     pub fn close(self) -> D
-        requires { IsSound D.state self }
+        requires { IsSoundWorld D.state self }
         ensures disk { HasDisk self.place result }
         ensures course { (origin : Origin) (c : Course) → Follows D.state origin c self
-            → Survives origin c (D.state result) × IsSubsequence c.left (effects_from origin c.settled) }
+            → Survives origin c (D.state result)
+            × IsSubsequence c.left (effects_from origin c.settled) }
     {
         let World {
             place,

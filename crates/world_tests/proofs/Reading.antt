@@ -4,25 +4,25 @@ use Rattle.std.proofs.lemmas.List.{append-nil}
 use Rattle.lw_types.specs.declared.refusal.Refusal.{Refusal}
 use Rattle.link_messages.specs.declared.message.Peer.{Peer}
 use Rattle.link_messages.specs.declared.message.Message.{Message}
-use Rattle.link_messages.specs.Stream.{IsSaid, after}
-use Rattle.link_messages.specs.Feeding.{Heard, Hears, HearsAll, fault_in, joined, nothing_heard}
+use Rattle.link_messages.specs.Stream.{IsSaid, peer_after}
+use Rattle.link_messages.specs.Feeding.{FeedState, Feeds, FeedsAll, fault_in, joined_pieces, new_feed}
 use Rattle.world.specs.declared.event.Event.{Event}
 use Rattle.world.specs.Links.{AreHandedIn, Completes}
 
 -- pieces say what they are joined
 abbrev pub PiecesLaw : Type 0
 PiecesLaw =
-    (pieces : List (List ℕ)) (messages : List Message) (heard : Heard)
-    → HearsAll nothing_heard pieces messages heard → (heard.peer ≡ after None messages) × IsSaid None (joined pieces) messages heard.end
+    (pieces : List (List ℕ)) (messages : List Message) (heard : FeedState)
+    → FeedsAll new_feed pieces messages heard → (heard.peer ≡ peer_after None messages) × IsSaid None (joined_pieces pieces) messages heard.end
 
-pub read_anew : PiecesLaw → (new heard now : Heard) (stream said piece : List ℕ) (before others : List Message) (peer : Option Peer)
-    (handed_in : List Event) (fault : Option Refusal) → new ≡ nothing_heard → said ≡ stream
-    → Hears new said before heard → Hears heard piece others now → peer ≡ heard.peer → AreHandedIn peer others handed_in
+pub read_anew : PiecesLaw → (new heard now : FeedState) (stream said piece : List ℕ) (before others : List Message) (peer : Option Peer)
+    (handed_in : List Event) (fault : Option Refusal) → new ≡ new_feed → said ≡ stream
+    → Feeds new said before heard → Feeds heard piece others now → peer ≡ heard.peer → AreHandedIn peer others handed_in
     → fault ≡ fault_in now.end → Completes stream piece handed_in fault
 read_anew law new heard now stream said piece before others peer handed_in fault is_new is_stream hears_before hears_others is_peer handed is_fault =
-    let first : Hears nothing_heard stream before heard =
-    subst (λ l. Hears nothing_heard l before heard) is_stream (subst (λ h. Hears h said before heard) is_new hears_before) in
-    let all : HearsAll nothing_heard (stream ∷ piece ∷ []) (before ++ (others ++ [])) now =
+    let first : Feeds new_feed stream before heard =
+    subst (λ l. Feeds new_feed l before heard) is_stream (subst (λ h. Feeds h said before heard) is_new hears_before) in
+    let all : FeedsAll new_feed (stream ∷ piece ∷ []) (before ++ (others ++ [])) now =
     (before, others ++ [], heard, first, (others, [], now, hears_others, (refl, refl), refl), refl) in
     let whole : IsSaid None (stream ++ piece) (before ++ others) now.end =
     subst (λ l. IsSaid None (stream ++ l) (before ++ others) now.end) (append-nil piece) (

@@ -9,9 +9,9 @@ use Rattle.lw_types.specs.declared.refusal.Refusal.{Refusal}
 use Rattle.lw_types.specs.declared.refusal.Refusal.TheVariants.{Backlog, OutOfMemory, UnknownChannel}
 use Rattle.devices.specs.Heard.{IsReceivable}
 use Rattle.devices.specs.declared.command.Command.{Command}
-use Rattle.dedup.specs.Windows.{Window, added}
-use Rattle.sessions.specs.Table.{TableState, step, stepped, step_effects, placed, Step as TableStep}
-use Rattle.sessions.specs.Decision.{AnswersTo, IsDecision, applied, is_frugal}
+use Rattle.dedup.specs.Windows.{Window, windows_with}
+use Rattle.sessions.specs.Table.{TableState, step, with_step, step_effects, with_record, TableStep}
+use Rattle.sessions.specs.Decision.{AnswersTo, IsDecision, with_decision, is_frugal}
 use Rattle.sessions.specs.declared.decision.Decision.{Decision}
 use Rattle.devices.specs.declared.device.Device.{Device}
 use Rattle.session_core.specs.Deciding.{verdict_of}
@@ -19,8 +19,8 @@ use Rattle.world.specs.declared.event.Event.{Event}
 use Rattle.world.specs.declared.event.Event.TheVariants as events
 use Rattle.world.specs.declared.step.Step.TheVariants.{Event as EventStep}
 use Rattle.world.specs.declared.answer.Answer.TheVariants.{Turn as TurnAnswer}
-use Rattle.world.specs.Answers.{IsAsked, IsHeard, IsOwnRight, IsTurn}
-use Rattle.world.specs.Course.{Origin, Course, admit, at_moment, decided, due_frames, has_room, listened, own_gone, shutting, table_from, turned, wanted, went, windows_of}
+use Rattle.world.specs.Answers.{IsAsked, IsCopyAnswer, IsOwnRight, IsTurnAnswer}
+use Rattle.world.specs.Course.{Origin, Course, after_commands, at_moment, decided_commands, due_frames, has_room, after_copy, own_count, with_closings, table_from, after_event, step_if_room, after_command, windows_of}
 use Rattle.world_tests.specs.Plain.{PlainState, Goes, IsRefusal, at_course, own_after}
 
 some_is_none : (e : Refusal) → ◌≡◌ {A = Option Refusal} (Some e) None → ⊥
@@ -48,33 +48,33 @@ decides command (Err e) None h = absurd (some_is_none e (sym h))
 decides command (Err f) (Some e) h = exact_err (is_frugal command) f e (λ _ _. Unit {0}) (same_refusal f e h)
 
 -- where there is no room, Backlog is wanted
-is_full : (origin : Origin) (c : Course) (command : Command) (refused : Option Refusal) → IsRefusal (wanted origin c command) refused
+is_full : (origin : Origin) (c : Course) (command : Command) (refused : Option Refusal) → IsRefusal (step_if_room origin c command) refused
     → has_room origin c ≡ false → refused ≡ Some Backlog
 is_full origin c command refused h no_room =
-    subst (λ outcome. IsRefusal outcome refused) (ap (λ b. cond b (step (table_from origin (decided c)) command) (Err Backlog)) no_room) h
+    subst (λ outcome. IsRefusal outcome refused) (ap (λ b. cond b (step (table_from origin (decided_commands c)) command) (Err Backlog)) no_room) h
 
 -- a command is answered so
-pub is_asked : (origin : Origin) (c : Course) (command : Command) (refused : Option Refusal) → IsRefusal (wanted origin c command) refused
+pub is_asked : (origin : Origin) (c : Course) (command : Command) (refused : Option Refusal) → IsRefusal (step_if_room origin c command) refused
     → IsAsked origin c command refused
 is_asked origin c command refused h =
-    record { full = is_full origin c command refused h; decided = decides command (wanted origin c command) refused h }
+    record { full = is_full origin c command refused h; decided = decides command (step_if_room origin c command) refused h }
 
 -- one that is refused changes nothing
-pub stays : (c : Course) (command : Command) (outcome : Result TableStep Refusal) (e : Refusal) → IsRefusal outcome (Some e) → went c command outcome ≡ c
+pub stays : (c : Course) (command : Command) (outcome : Result TableStep Refusal) (e : Refusal) → IsRefusal outcome (Some e) → after_command c command outcome ≡ c
 stays c command (Ok s) e h = absurd (some_is_none e h)
 stays c command (Err f) e h = refl
 
 -- one that isn't is decided
 pub goes_on : (c : Course) (command : Command) (outcome : Result TableStep Refusal) → IsRefusal outcome None
-    → went c command outcome ≡ record c { untaken = c.untaken ++ command ∷ []; made = c.made + 1 }
+    → after_command c command outcome ≡ record c { untaken = c.untaken ++ command ∷ []; made = c.made + 1 }
 goes_on c command (Ok s) h = refl
 goes_on c command (Err e) h = absurd (some_is_none e (sym h))
 
 -- so an event's own command does what the course says
-pub own_goes : (origin : Origin) (c : Course) (command : Command) (refused : Option Refusal) → IsRefusal (wanted origin c command) refused
-    → went c command (wanted origin c command) ≡ own_after origin c (events.Ask command) refused
+pub own_goes : (origin : Origin) (c : Course) (command : Command) (refused : Option Refusal) → IsRefusal (step_if_room origin c command) refused
+    → after_command c command (step_if_room origin c command) ≡ own_after origin c (events.Ask command) refused
 own_goes origin c command None h = refl
-own_goes origin c command (Some OutOfMemory) h = stays c command (wanted origin c command) OutOfMemory h
+own_goes origin c command (Some OutOfMemory) h = stays c command (step_if_room origin c command) OutOfMemory h
 own_goes origin c command (Some e) h = refl
 
 -- ---- a copy
@@ -88,51 +88,51 @@ answered (Err f) (Some e) is = inr (ap Err (same_refusal f e is))
 
 -- one on a channel is answered as the windows have it
 pub is_heard : (c : Course) (copy : FrameCopy) (refused : Option Refusal) → IsReceivable copy.reception
-    → refused ≡ result_err (added (windows_of c) c.clock copy) → IsHeard c copy refused
+    → refused ≡ result_err (windows_with (windows_of c) c.clock copy) → IsCopyAnswer c copy refused
 is_heard c copy refused fine is =
-    record { receivable = λ _. answered (added (windows_of c) c.clock copy) refused is; unknown = λ wrong. absurd (wrong fine) }
+    record { receivable = λ _. answered (windows_with (windows_of c) c.clock copy) refused is; unknown = λ wrong. absurd (wrong fine) }
 
 -- and one that isn't is refused
-pub is_unknown : (c : Course) (copy : FrameCopy) → ¬ (IsReceivable copy.reception) → IsHeard c copy (Some UnknownChannel)
+pub is_unknown : (c : Course) (copy : FrameCopy) → ¬ (IsReceivable copy.reception) → IsCopyAnswer c copy (Some UnknownChannel)
 is_unknown c copy wrong = record { receivable = λ fine. absurd (wrong fine); unknown = λ _. inl refl }
 
 -- ---- an event
 
-admit_joined : (origin : Origin) (c : Course) (first second : List Command) → admit origin c (first ++ second) ≡ admit origin (admit origin c first) second
+admit_joined : (origin : Origin) (c : Course) (first second : List Command) → after_commands origin c (first ++ second) ≡ after_commands origin (after_commands origin c first) second
 admit_joined origin c [] second = refl
-admit_joined origin c (command ∷ first) second = admit_joined origin (went c command (wanted origin c command)) first second
+admit_joined origin c (command ∷ first) second = admit_joined origin (after_command c command (step_if_room origin c command)) first second
 
-shut_first : (n : ℕ) (c : Course) (command : Command) (outcome : Result TableStep Refusal) → shutting n (went c command outcome) ≡ went (shutting n c) command outcome
+shut_first : (n : ℕ) (c : Course) (command : Command) (outcome : Result TableStep Refusal) → with_closings n (after_command c command outcome) ≡ after_command (with_closings n c) command outcome
 shut_first n c command (Ok s) = refl
 shut_first n c command (Err e) = refl
 
-shut_after : (origin : Origin) (n : ℕ) (c : Course) (commands : List Command) → shutting n (admit origin c commands) ≡ admit origin (shutting n c) commands
+shut_after : (origin : Origin) (n : ℕ) (c : Course) (commands : List Command) → with_closings n (after_commands origin c commands) ≡ after_commands origin (with_closings n c) commands
 shut_after origin n c [] = refl
 shut_after origin n c (command ∷ rest) =
-    shut_after origin n (went c command (wanted origin c command)) rest
-    ∙ ap (λ (k : Course). admit origin k rest) (shut_first n c command (wanted origin c command))
+    shut_after origin n (after_command c command (step_if_room origin c command)) rest
+    ∙ ap (λ (k : Course). after_commands origin k rest) (shut_first n c command (step_if_room origin c command))
 
 -- the course once all windows that are due are closed
 abbrev pub shut_at : PlainState → ℕ → PlainState
-shut_at s n = at_course s (shutting n (admit s.origin s.course (due_frames s.course)))
+shut_at s n = at_course s (with_closings n (after_commands s.origin s.course (due_frames s.course)))
 
 abbrev pub own_at : PlainState → Event → Option Refusal → PlainState
 own_at s event refused = at_course s (own_after s.origin s.course event refused)
 
 -- an event that closes them all does its own then
 turned_is : (origin : Origin) (c : Course) (moment : ℕ) (event : Event) (refused : Option Refusal) (due : List Command) → due_frames (at_moment c moment) ≡ due
-    → own_after origin (shutting (length due) (admit origin (at_moment c moment) due)) event refused ≡ turned origin c moment event refused (length due)
+    → own_after origin (with_closings (length due) (after_commands origin (at_moment c moment) due)) event refused ≡ after_event origin c moment event refused (length due)
 turned_is origin c moment (events.Hear copy) refused due is =
-    ap (λ xs. listened copy refused (shutting (length due) (admit origin (at_moment c moment) xs))) (sym (take-length due) ∙ ap (take (length due)) (sym is))
+    ap (λ xs. after_copy copy refused (with_closings (length due) (after_commands origin (at_moment c moment) xs))) (sym (take-length due) ∙ ap (take (length due)) (sym is))
 turned_is origin c moment events.Tick refused due is =
-    ap (λ xs. shutting (length due) (admit origin (at_moment c moment) xs)) (sym (take-length due) ∙ ap (take (length due)) (sym is))
+    ap (λ xs. with_closings (length due) (after_commands origin (at_moment c moment) xs)) (sym (take-length due) ∙ ap (take (length due)) (sym is))
 turned_is origin c moment (events.Ask command) refused due is =
-    let own = take (own_gone refused) (command ∷ []) in
+    let own = take (own_count refused) (command ∷ []) in
     let d = at_moment c moment in
-    sym (shut_after origin (length due) (admit origin d due) own)
-    ∙ ap (shutting (length due)) (
+    sym (shut_after origin (length due) (after_commands origin d due) own)
+    ∙ ap (with_closings (length due)) (
     sym (admit_joined origin d due own)
-    ∙ ap (admit origin d) (sym (take-append-add due (command ∷ []) (own_gone refused)) ∙ ap (λ xs. take (length due + own_gone refused) (xs ++ command ∷ [])) (sym is))
+    ∙ ap (after_commands origin d) (sym (take-append-add due (command ∷ []) (own_count refused)) ∙ ap (λ xs. take (length due + own_count refused) (xs ++ command ∷ [])) (sym is))
     )
 
 pub when_open : (b : Bool) (X Y : Type 0) → b ≡ true → X → MatchBool b X Y
@@ -143,18 +143,18 @@ otherwise n m X Y same y = subst (λ b. MatchBool b X Y) (sym (le-ltb n m (omega
 
 goes_at : (s : PlainState) (moment : ℕ) (event : Event) (refused : Option Refusal) → s.course.is_open ≡ true
     → (due : List Command) → due_frames (at_moment s.course moment) ≡ due
-    → (k : Course) → k ≡ shutting (length due) (admit s.origin (at_moment s.course moment) due)
+    → (k : Course) → k ≡ with_closings (length due) (after_commands s.origin (at_moment s.course moment) due)
     → IsOwnRight s.origin k event refused
     → Goes s (EventStep moment event) (TurnAnswer (record { from = s.course.made; to = (own_after s.origin k event refused).made; refused = refused }) (length due))
     (at_course s (own_after s.origin k event refused))
 goes_at s moment event refused is_open due is k shut right =
     let d = at_moment s.course moment in
-    let whole : own_after s.origin k event refused ≡ turned s.origin s.course moment event refused (length due) =
+    let whole : own_after s.origin k event refused ≡ after_event s.origin s.course moment event refused (length due) =
     ap (λ (c : Course). own_after s.origin c event refused) shut ∙ turned_is s.origin s.course moment event refused due is in
-    let all : k ≡ shutting (length due) (admit s.origin d (take (length due) (due_frames d))) =
-    shut ∙ ap (λ xs. shutting (length due) (admit s.origin d xs)) (sym (take-length due) ∙ ap (take (length due)) (sym is)) in
+    let all : k ≡ with_closings (length due) (after_commands s.origin d (take (length due) (due_frames d))) =
+    shut ∙ ap (λ xs. with_closings (length due) (after_commands s.origin d xs)) (sym (take-length due) ∙ ap (take (length due)) (sym is)) in
     let own = subst (λ (c : Course). IsOwnRight s.origin c event refused) all right in
-    let turn : IsTurn s.origin s.course moment event (record { from = s.course.made; to = (own_after s.origin k event refused).made; refused = refused }) (length due) =
+    let turn : IsTurnAnswer s.origin s.course moment event (record { from = s.course.made; to = (own_after s.origin k event refused).made; refused = refused }) (length due) =
     record {
       from = refl;
       to = ap (λ (c : Course). c.made) whole;
@@ -201,8 +201,8 @@ both P Q (Err e) h k = tt
 
 -- a decision leaves the table and has the effects of its step
 pub taken : (t : TableState) (c : Command) (d : Decision) (outcome : Result TableStep Refusal) → MatchResult outcome (λ s. IsDecision t 1 c s d) (λ _. ⊥)
-    → (applied t d ≡ stepped t outcome) × (d.effects ≡ step_effects outcome)
-taken t c d (Ok s) is = (ap (λ n. placed t n d.after) is.slot ∙ ap (λ (after : Device). placed t s.slot after) is.after, is.effects)
+    → (with_decision t d ≡ with_step t outcome) × (d.effects ≡ step_effects outcome)
+taken t c d (Ok s) is = (ap (λ n. with_record t n d.after) is.slot ∙ ap (λ (after : Device). with_record t s.slot after) is.after, is.effects)
 taken t c d (Err e) none = absurd none
 
 module _ (command : Command) (outcome : Result TableStep Refusal) where

@@ -5,7 +5,8 @@ use session_core::Turn;
 use std::io::{self, Write};
 use world::{Answer, Event, EventTurn};
 
-// The letter of an event that a piece hands in: `h` for a copy, `a` for a command, in capitals where it is refused.
+// The letter of an event that a piece hands in: `h` for a copy, `a` for a command, in capitals
+// where it is refused.
 fn letter_of(turn: &EventTurn) -> char {
     match (&turn.event, turn.turn.refused) {
         (Event::Hear(_), None) => 'h',
@@ -43,9 +44,10 @@ fn tell_list(out: &mut Vec<u8>, devices: &[Device], seq: u64) -> io::Result<()> 
     }
 }
 
-/// Adds the line of what rows tell of an answer: `idle`; a turn's decisions before and after it, the number of its refusal or 0,
-/// and how many windows were closed; the number of the fault behind a piece, or 0, and a letter for each of its events; how many
-/// devices were opened, and the number; or the DevNonce that was seen last of the device at slot 0, and the number.
+/// Adds the line of what rows tell of an answer: `idle`; a turn's decisions before and after it,
+/// the number of its refusal or 0, and how many windows were closed; the number of the fault behind
+/// a piece, or 0, and a letter for each of its events; how many devices were opened, and the
+/// number; or the DevNonce that was seen last of the device at slot 0, and the number.
 pub(crate) fn tell(out: &mut Vec<u8>, answer: &Answer) -> io::Result<()> {
     match answer {
         Answer::Idle => writeln!(out, "idle"),

@@ -1,4 +1,5 @@
-// What is under way, as the model has it. It stands apart from the tests, since the definitions of the model name it.
+// What is under way, as the model has it. It stands apart from the tests, since the definitions of
+// the model name it.
 use devices::Command;
 
 /// How far the commit of a batch is.

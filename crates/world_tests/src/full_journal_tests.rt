@@ -93,7 +93,8 @@ fn goes_on(alloc: Global) -> bool {
     add_all(&mut input, &mut wanted).is_ok() && is_answered(alloc, &input, &wanted)
 }
 
-// In a store with 32 slots 27 such batches of 34,814 bytes go into an area of 1,186,366 bytes; then less than 275,536 are left.
+// In a store with 32 slots 27 such batches of 34,814 bytes go into an area of 1,186,366 bytes; then
+// less than 275,536 are left.
 #[test]
 fn a_full_journal_goes_on_behind_a_checkpoint(rt: HostRuntime) {
     assert!(rt; goes_on(rt.alloc()));

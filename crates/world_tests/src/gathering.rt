@@ -2,8 +2,8 @@
 ghost use Rattle.std.specs.Prelude.{◌≡◌, ◌++◌, ◌∷◌, ℕ, suc, filter, map, not, IfOk};
 ghost use Rattle.std.specs.Result.{result_err};
 ghost use Rattle.devices.specs.Heard.{has_gateway, with_hearing};
-ghost use Rattle.dedup.specs.Groups.{arrival, first_groups, groups, joins};
-ghost use Rattle.dedup.specs.Windows.{added, gathered, hearing_of, is_due};
+ghost use Rattle.dedup.specs.Groups.{arrival, first_groups, groups, is_in_group};
+ghost use Rattle.dedup.specs.Windows.{windows_with, window_of_group, hearing_of, is_due};
 ghost use Rattle.world.specs.Course.{command_in};
 
 use dedup::{MOST_WINDOWS, WAIT};
@@ -50,7 +50,7 @@ impl PlainArrival {
 
     // Whether it came within the wait of this first copy, with the same bytes.
     fn joins(&self, first: &PlainArrival) -> bool
-        ensures { result ≡ joins first.now self.now }
+        ensures { result ≡ is_in_group first.now self.now }
     {
         self.at.saturating_sub(first.at) < WAIT && self.copy.phy_payload == first.copy.phy_payload
     }
@@ -79,13 +79,17 @@ impl Model for PlainWindow {
 
     ghost Value = { Window };
 
-    ghost view = { λ w. record { opened = w.opened; phy_payload = w.phy_payload; hearings = w.hearings.items } };
+    ghost view = { λ w. record {
+      opened = w.opened;
+      phy_payload = w.phy_payload;
+      hearings = w.hearings.items;
+    } };
 }
 
 impl PlainWindow {
     // The window of a first copy and of those that joined it.
     fn of(alloc: Global, first: &PlainArrival, joined: &[PlainArrival]) -> Result<Self, Refusal>
-        ensures { IfOk result (λ window. window ≡ gathered (first.now ∷ joined.now)) }
+        ensures { IfOk result (λ window. window ≡ window_of_group (first.now ∷ joined.now)) }
     {
         let mut hearings = Vec::new(alloc);
         hearings.push(first.hearing())?;
@@ -140,13 +144,13 @@ fn has_gateway(hearings: &[Hearing], gateway: u64) -> bool
         .any(|hearing| hearing.reception.gateway.0 == gateway)
 }
 
-/// The windows in which these copies gathered: that of the first copy and of all that join it, and so on with the
-/// others.
+/// The windows in which these copies gathered: that of the first copy and of all that join it, and
+/// so on with the others.
 pub(crate) fn windows_of(
     alloc: Global,
     arrivals: &[PlainArrival],
 ) -> Result<Vec<PlainWindow>, Refusal>
-    ensures { IfOk result (λ windows. windows.items ≡ map gathered (groups arrivals.now)) }
+    ensures { IfOk result (λ windows. windows.items ≡ map window_of_group (groups arrivals.now)) }
 {
     let mut windows = Vec::new(alloc);
     let mut others = arrivals.to_vec(alloc)?;
@@ -162,8 +166,9 @@ fn gather_first(
     arrivals: &[PlainArrival],
     windows: &mut Vec<PlainWindow>,
 ) -> Result<Vec<PlainArrival>, Refusal>
-    ensures { (n : ℕ) → IfOk result (λ others. windows.old.items ++ map gathered (first_groups (suc n) arrivals.now)
-        ≡ windows.new.items ++ map gathered (first_groups n others.items)) }
+    ensures { (n : ℕ) → IfOk result
+        (λ others. windows.old.items ++ map window_of_group (first_groups (suc n) arrivals.now)
+        ≡ windows.new.items ++ map window_of_group (first_groups n others.items)) }
 {
     match arrivals.split_first() {
         None => Ok(Vec::new(alloc)),
@@ -181,8 +186,10 @@ fn part(
     first: &PlainArrival,
     rest: &[PlainArrival],
 ) -> Result<(Vec<PlainArrival>, Vec<PlainArrival>), Refusal>
-    ensures joined { IfOk result (λ parts. parts.0.items ≡ filter (joins first.now) rest.now) }
-    ensures others { IfOk result (λ parts. parts.1.items ≡ filter (λ a. not (joins first.now a)) rest.now) }
+    ensures joined { IfOk result
+        (λ parts. parts.0.items ≡ filter (is_in_group first.now) rest.now) }
+    ensures others { IfOk result
+        (λ parts. parts.1.items ≡ filter (λ a. not (is_in_group first.now a)) rest.now) }
 {
     let mut joined = Vec::new(alloc);
     let mut others = Vec::new(alloc);
@@ -202,7 +209,8 @@ pub(crate) fn due_frames(
     windows: &[PlainWindow],
     clock: u64,
 ) -> Result<Vec<Command>, Refusal>
-    ensures { IfOk result (λ frames. frames.items ≡ map command_in (filter (is_due clock) windows.now)) }
+    ensures { IfOk result (λ frames. frames.items
+        ≡ map command_in (filter (is_due clock) windows.now)) }
 {
     let mut frames = Vec::new(alloc);
     for window in windows {
@@ -213,9 +221,10 @@ pub(crate) fn due_frames(
     Ok(frames)
 }
 
-/// Why these windows refuse a copy, if they do: the window of its bytes does, or there is none and no room for one.
+/// Why these windows refuse a copy, if they do: the window of its bytes does, or there is none and
+/// no room for one.
 pub(crate) fn refusal_by(windows: &[PlainWindow], copy: &FrameCopy) -> Option<Refusal>
-    ensures { (now : ℕ) → result ≡ result_err (added windows.now now copy.now) }
+    ensures { (now : ℕ) → result ≡ result_err (windows_with windows.now now copy.now) }
 {
     for window in windows {
         if copy.phy_payload == window.phy_payload {

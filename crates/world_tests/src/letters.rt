@@ -4,7 +4,8 @@ use lw_types::Refusal;
 use std::alloc::Global;
 use world::Step;
 
-// Each letter with the line of its step. The Join-Request of the device of the DevEUI 0 was made by Python's `cryptography`.
+// Each letter with the line of its step. The Join-Request of the device of the DevEUI 0 was made by
+// Python's `cryptography`.
 const LETTERS: &str = "\
 # Two devices of the script.
 a device 0

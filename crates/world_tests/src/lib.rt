@@ -1,5 +1,6 @@
-//! Tests of worlds, beside a plain model whose contract is the definition, and of the public calls of
-//! `headline` and `scripts`. They stand above those crates, so that each of these is proved once.
+//! Tests of worlds, beside a plain model whose contract is the definition, and of the public calls
+//! of `headline` and `scripts`. They stand above those crates, so that each of these is proved
+//! once.
 #![tactic(auto)]
 
 #[cfg(test)]

@@ -37,8 +37,8 @@ const MOST: Many = Many {
     batch: "Tccccr",
 };
 
-// The devices are brought, their batches are taken, committed and released, and their effects leave. Then there is a look
-// at the table, and a crash.
+// The devices are brought, their batches are taken, committed and released, and their effects
+// leave. Then there is a look at the table, and a crash.
 fn steps_of(alloc: Global, many: &Many) -> Result<Vec<Step>, Refusal> {
     let mut steps = Vec::new(alloc);
     for dev_eui in 0..many.devices {
@@ -93,7 +93,8 @@ fn a_store_of_4096_devices_is_opened(rt: HostRuntime) {
     assert_eq!(rt; openings(rt.alloc()), Ok(1));
 }
 
-// Whether each step was answered, and the store that is opened after a crash has its five devices and its number.
+// Whether each step was answered, and the store that is opened after a crash has its five devices
+// and its number.
 fn is_found_again(alloc: Global) -> Result<bool, Refusal> {
     let steps = steps_of(alloc, &FIVE)?;
     let (answers, store) = headline::crash_after(

@@ -1,15 +1,20 @@
-// The world told plainly: whole lists of commands and of copies, and the table and the windows made anew from
-// all of them each time that they are wanted.
-ghost use Rattle.std.specs.Prelude.{◌≡◌, ◌≢◌, ◌++◌, ℕ, [], true, length, Err, IfOk, IfErr, MatchResult};
+// The world told plainly: whole lists of commands and of copies, and the table and the windows made
+// anew from all of them each time that they are wanted.
+ghost use Rattle.std.specs.Prelude.{◌≡◌, ◌≢◌, ◌++◌, ℕ, [], true, length, Err, IfOk, IfErr};
+ghost use Rattle.std.specs.Prelude.{MatchResult};
 ghost use Rattle.lw_types.specs.declared.refusal.Refusal.TheVariants.{OutOfMemory};
-ghost use Rattle.sessions.specs.Decision.{Fits, IsDecision};
+ghost use Rattle.sessions.specs.Decision.{FitsTable, IsDecision};
 ghost use Rattle.disk.specs.Outlook.Outlook.{AllSucceed};
-ghost use Rattle.sessions.specs.Table.{folded, effects_of, step, stepped, step_effects};
+ghost use Rattle.sessions.specs.Table.{fold_of, effects_of, step, with_step, step_effects};
 ghost use Rattle.world.specs.declared.answer.Answer.TheVariants as answers;
 ghost use Rattle.world.specs.declared.step.Step.TheVariants as steps;
-ghost use Rattle.world.specs.Answers.{Leaves, IsHeard, IsOwnRight};
-ghost use Rattle.world.specs.Course.{admit, at_moment, beginning, decided, due_frames, flying, formatted, listened, shutting, table_from, told_more, wanted, went, windows_of};
-ghost use Rattle.world_tests.specs.Plain.{Goes, GoesPiece, GoesThrough, IsBusy, IsRefusal, at_course, flights_of, kept_with, own_after};
+ghost use Rattle.world.specs.Answers.{Leaves, IsCopyAnswer, IsOwnRight};
+ghost use Rattle.world.specs.Course.{after_commands, at_moment, beginning, decided_commands};
+ghost use Rattle.world.specs.Course.{due_frames, commands_in_flight, new_store, after_copy};
+ghost use Rattle.world.specs.Course.{with_closings, table_from, with_piece, step_if_room};
+ghost use Rattle.world.specs.Course.{after_command, windows_of};
+ghost use Rattle.world_tests.specs.Plain.{Goes, GoesPiece, GoesThrough, IsBusy, IsRefusal};
+ghost use Rattle.world_tests.specs.Plain.{at_course, flights_of, kept_with, own_after};
 
 use crate::flight::{Flight, Stage, UnderWay};
 use crate::gathering::{PlainArrival, PlainWindow, due_frames, refusal_by, windows_of};
@@ -25,8 +30,8 @@ use std::marker::Model;
 use std::mem;
 use world::{Answer, Event, EventTurn, Step};
 
-/// A world told plainly. Contracts see where its course begins, the course, and what is known of the
-/// disk's calls. Want of memory ends it, so that no batch is given up.
+/// A world told plainly. Contracts see where its course begins, the course, and what is known of
+/// the disk's calls. Want of memory ends it, so that no batch is given up.
 #[derive(Drop)]
 pub(crate) struct Plain {
     net_id: NetId,
@@ -56,13 +61,13 @@ pub(crate) struct Plain {
 impl Model for Plain {
     ghost use Rattle.std.specs.Prelude.{[], if◌then◌else◌};
     ghost use Rattle.disk.specs.Outlook.Outlook.{AllSucceed, FailsAfter};
-    ghost use Rattle.world.specs.Course.{formatted};
+    ghost use Rattle.world.specs.Course.{new_store};
     ghost use Rattle.world_tests.specs.Plain.{PlainState, checkpoint_of, flights_of};
 
     ghost Value = { PlainState };
 
     ghost view = { λ m. record {
-      origin = formatted m.net_id m.slots;
+      origin = new_store m.net_id m.slots;
       calls = record {
         failed = m.failures;
         coming = if m.armed then FailsAfter 0 else AllSucceed;
@@ -88,9 +93,9 @@ impl Model for Plain {
 impl Plain {
     /// A world that was just formatted.
     pub(crate) fn new(alloc: Global, net_id: NetId, slots: Slots) -> Self
-        ensures origin { result.origin ≡ formatted net_id slots }
+        ensures origin { result.origin ≡ new_store net_id slots }
         ensures calls { result.calls ≡ record { failed = 0; coming = AllSucceed } }
-        ensures course { result.course ≡ beginning (formatted net_id slots) }
+        ensures course { result.course ≡ beginning (new_store net_id slots) }
     {
         Plain {
             net_id,
@@ -152,7 +157,8 @@ impl Plain {
         event: &Event,
     ) -> Result<(Turn, usize), Refusal>
         requires { self.old.course.is_open ≡ true }
-        ensures { IfOk result (λ told. Goes self.old (steps.Event moment event.now) (answers.Turn told.0 told.1) self.new) }
+        ensures { IfOk result (λ told. Goes self.old (steps.Event moment event.now)
+            (answers.Turn told.0 told.1) self.new) }
     {
         let from = self.made;
         self.reach(moment);
@@ -175,7 +181,8 @@ impl Plain {
         bytes: &[u8],
     ) -> Result<(Vec<EventTurn>, Option<Refusal>), Refusal>
         requires { self.old.course.is_open ≡ true }
-        ensures { IfOk result (λ told. GoesPiece self.old link moment bytes.now told.0.items told.1 self.new) }
+        ensures { IfOk result (λ told. GoesPiece self.old link moment bytes.now told.0.items told.1
+            self.new) }
     {
         let (events, fault) = completed(alloc, &self.pieces, link, bytes)?;
         self.tell(alloc, link, bytes)?;
@@ -184,7 +191,8 @@ impl Plain {
 
     // These bytes come over a link.
     fn tell(&mut self, alloc: Global, link: u64, bytes: &[u8]) -> Result<(), Refusal>
-        ensures { IfOk result (λ _. self.new ≡ at_course self.old (told_more self.old.course link bytes.now)) }
+        ensures { IfOk result (λ _. self.new
+            ≡ at_course self.old (with_piece self.old.course link bytes.now)) }
     {
         self.pieces.push(PlainPiece::new(alloc, link, bytes)?)?;
         Ok(())
@@ -198,7 +206,8 @@ impl Plain {
         events: Vec<Event>,
     ) -> Result<Vec<EventTurn>, Refusal>
         requires { self.old.course.is_open ≡ true }
-        ensures { IfOk result (λ turns. GoesThrough self.old moment events.items turns.items self.new) }
+        ensures { IfOk result (λ turns. GoesThrough self.old moment events.items turns.items
+            self.new) }
     {
         let mut turns = Vec::new(alloc);
         for event in events {
@@ -223,7 +232,8 @@ impl Plain {
     fn close_due(&mut self, alloc: Global) -> Result<usize, Refusal>
         ensures count { IfOk result (λ count. count ≡ length (due_frames self.old.course)) }
         ensures course { IfOk result (λ count. self.new
-            ≡ at_course self.old (shutting count (admit self.old.origin self.old.course (due_frames self.old.course)))) }
+            ≡ at_course self.old (with_closings count
+            (after_commands self.old.origin self.old.course (due_frames self.old.course)))) }
     {
         let windows = self.windows(alloc)?;
         let frames = due_frames(alloc, &windows, self.clock)?;
@@ -235,7 +245,8 @@ impl Plain {
 
     // The event's own; gives why it is refused, if it is.
     fn own(&mut self, alloc: Global, event: &Event) -> Result<Option<Refusal>, Refusal>
-        ensures right { IfOk result (λ refused. IsOwnRight self.old.origin self.old.course event.now refused) }
+        ensures right { IfOk result
+            (λ refused. IsOwnRight self.old.origin self.old.course event.now refused) }
         ensures course { IfOk result (λ refused. self.new
             ≡ at_course self.old (own_after self.old.origin self.old.course event.now refused)) }
     {
@@ -248,9 +259,9 @@ impl Plain {
 
     // A copy is kept, unless it is refused.
     fn hear(&mut self, alloc: Global, copy: &FrameCopy) -> Result<Option<Refusal>, Refusal>
-        ensures right { IfOk result (λ refused. IsHeard self.old.course copy.now refused) }
+        ensures right { IfOk result (λ refused. IsCopyAnswer self.old.course copy.now refused) }
         ensures course { IfOk result (λ refused. self.new
-            ≡ at_course self.old (listened copy.now refused self.old.course)) }
+            ≡ at_course self.old (after_copy copy.now refused self.old.course)) }
     {
         let refused = self.deaf_to(alloc, copy)?;
         if refused.is_none() {
@@ -262,7 +273,7 @@ impl Plain {
 
     // Why a copy is not kept, if it is not.
     fn deaf_to(&self, alloc: Global, copy: &FrameCopy) -> Result<Option<Refusal>, Refusal>
-        ensures { IfOk result (λ refused. IsHeard self.now.course copy.now refused) }
+        ensures { IfOk result (λ refused. IsCopyAnswer self.now.course copy.now refused) }
     {
         if !is_receivable(&copy.reception) {
             return Ok(Some(Refusal::UnknownChannel));
@@ -282,7 +293,8 @@ impl Plain {
 
     // Hands in these commands, one after another.
     fn admit_all(&mut self, alloc: Global, commands: &[Command]) -> Result<(), Refusal>
-        ensures { IfOk result (λ _. self.new ≡ at_course self.old (admit self.old.origin self.old.course commands.now)) }
+        ensures { IfOk result (λ _. self.new
+            ≡ at_course self.old (after_commands self.old.origin self.old.course commands.now)) }
     {
         for command in commands {
             let _ = self.admit(alloc, command)?;
@@ -292,9 +304,11 @@ impl Plain {
 
     // A command is decided, unless it is refused.
     fn admit(&mut self, alloc: Global, command: &Command) -> Result<Option<Refusal>, Refusal>
-        ensures refused { IfOk result (IsRefusal (wanted self.old.origin self.old.course command.now)) }
+        ensures refused { IfOk result
+            (IsRefusal (step_if_room self.old.origin self.old.course command.now)) }
         ensures course { IfOk result (λ _. self.new
-            ≡ at_course self.old (went self.old.course command.now (wanted self.old.origin self.old.course command.now))) }
+            ≡ at_course self.old (after_command self.old.course command.now
+            (step_if_room self.old.origin self.old.course command.now))) }
     {
         match self.why_not(alloc, command)? {
             None => {
@@ -308,7 +322,8 @@ impl Plain {
 
     // Why the command is not decided, if it is not.
     fn why_not(&self, alloc: Global, command: &Command) -> Result<Option<Refusal>, Refusal>
-        ensures { IfOk result (λ refused. IsRefusal (wanted self.now.origin self.now.course command.now) refused) }
+        ensures { IfOk result (λ refused. IsRefusal
+            (step_if_room self.now.origin self.now.course command.now) refused) }
     {
         let all = self.decided(alloc)?;
         if self.untaken.len() as u64 >= MOST_UNTAKEN || all.len() as u64 >= LAST_NUMBER {
@@ -404,7 +419,8 @@ impl Plain {
         Ok(Answer::Called)
     }
 
-    // Where two calls are left the new area's gate is written, and the old one stays open; where six are, the other one is closed.
+    // Where two calls are left the new area's gate is written, and the old one stays open; where
+    // six are, the other one is closed.
     fn call_of_checkpoint(&mut self) -> Result<Answer, Refusal>
         requires open { self.old.course.is_open ≡ true }
         requires alone { self.old.course.flights ≡ [] }
@@ -552,7 +568,7 @@ impl Plain {
 
     // The decided commands.
     fn decided(&self, alloc: Global) -> Result<Vec<Command>, Refusal>
-        ensures commands { IfOk result (λ all. all.items ≡ decided self.now.course) }
+        ensures commands { IfOk result (λ all. all.items ≡ decided_commands self.now.course) }
         ensures number { self.now.origin.number ≡ 0 }
     {
         let mut all = Vec::new(alloc);
@@ -574,7 +590,8 @@ impl Plain {
 
 // Adds the commands of the batch under way behind others.
 fn add_flying(commands: &mut Vec<Command>, under_way: &UnderWay) -> Result<(), Refusal>
-    ensures { IfOk result (λ _. commands.new.items ≡ commands.old.items ++ flying (flights_of under_way.now)) }
+    ensures { IfOk result (λ _. commands.new.items
+        ≡ commands.old.items ++ commands_in_flight (flights_of under_way.now)) }
 {
     match under_way {
         UnderWay::Batch(flight) => add(commands, &flight.commands),
@@ -594,7 +611,7 @@ fn add(commands: &mut Vec<Command>, more: &[Command]) -> Result<(), Refusal>
 
 // Decides these commands on the table, one after the other, and gives their effects.
 fn fold(alloc: Global, table: &mut Table, commands: &[Command]) -> Result<Vec<Effect>, Refusal>
-    ensures table { IfOk result (λ _. table.new ≡ folded table.old commands.now) }
+    ensures table { IfOk result (λ _. table.new ≡ fold_of table.old commands.now) }
     ensures effects { IfOk result (λ effects. effects.items ≡ effects_of table.old commands.now) }
 {
     let mut effects = Vec::new(alloc);
@@ -609,7 +626,7 @@ fn decision_of(alloc: Global, table: &Table, command: &Command) -> Result<Decisi
     ensures decided { IfOk result (λ d. MatchResult (step table.now command.now)
         (λ s. IsDecision table.now 1 command.now s d) (λ _. ⊥)) }
     ensures refused { IfErr result (λ e. e ≢ OutOfMemory → step table.now command.now ≡ Err e) }
-    ensures fits { IfOk result (λ d. Fits table.now d) }
+    ensures fits { IfOk result (λ d. FitsTable table.now d) }
 {
     table.decide(alloc, 1, command.clone()?)
 }
@@ -627,8 +644,10 @@ fn refusal_on(alloc: Global, table: &Table, command: &Command) -> Result<Option<
 
 // Decides a command on the table, and gives its effects. One that is refused changes nothing.
 fn decide(alloc: Global, table: &mut Table, command: &Command) -> Result<Vec<Effect>, Refusal>
-    ensures table { IfOk result (λ _. table.new ≡ stepped table.old (step table.old command.now)) }
-    ensures effects { IfOk result (λ effects. effects.items ≡ step_effects (step table.old command.now)) }
+    ensures table { IfOk result (λ _. table.new
+        ≡ with_step table.old (step table.old command.now)) }
+    ensures effects { IfOk result
+        (λ effects. effects.items ≡ step_effects (step table.old command.now)) }
 {
     match decision_of(alloc, table, command) {
         Ok(decision) => {

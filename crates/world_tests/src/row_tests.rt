@@ -29,7 +29,8 @@ fn steps_are_answered_as_told(rt: HostRuntime) {
     }
 }
 
-// 32 copies of the frame 0, by the gateways from 1 on, and one of each other frame below 1,024, by gateway 1.
+// 32 copies of the frame 0, by the gateways from 1 on, and one of each other frame below 1,024, by
+// gateway 1.
 fn add_full(alloc: Global, steps: &mut Vec<Step>) -> Result<(), Refusal> {
     for gateway in 1..33 {
         steps.push(hear(alloc, gateway, 0)?)?;
@@ -54,8 +55,8 @@ fn a_copy_is_refused_for_the_first_reason(rt: HostRuntime) {
     assert_eq!(rt; is_refused(rt.alloc()), Ok(true));
 }
 
-// Scripts of the device that joins, by their letters, and what a list behind them tells: whose DevNonce was seen last at slot 0,
-// and the number.
+// Scripts of the device that joins, by their letters, and what a list behind them tells: whose
+// DevNonce was seen last at slot 0, and the number.
 const JOINS: &str = "\
 1xJx1 -> listed 1 2
 J1TccccreeeTo -> listed 1 2
@@ -69,7 +70,8 @@ J1Tccccr23Tccccrol3 -> listed 3 4
 J1ta1tTccccrbo -> listed - 1
 ";
 
-// Whether a list behind a script tells this, in a world with three slots, and all of its steps are answered as by the model.
+// Whether a list behind a script tells this, in a world with three slots, and all of its steps are
+// answered as by the model.
 fn joins_so(alloc: Global, letters: &str, told: &str) -> Result<bool, Refusal> {
     let (mut steps, mut wanted) = (Vec::new(alloc), Vec::new(alloc));
     add_letters(alloc, &mut steps, 'a' as u32, letters)?;

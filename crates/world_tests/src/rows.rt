@@ -6,8 +6,8 @@ use lw_types::Refusal;
 use std::alloc::Global;
 use world::{Answer, Step};
 
-/// Adds the steps of a script and the lines of their answers: each line of it has a step, an arrow and what the answer tells.
-/// A line that begins with `#` is a comment.
+/// Adds the steps of a script and the lines of their answers: each line of it has a step, an arrow
+/// and what the answer tells. A line that begins with `#` is a comment.
 pub(crate) fn add_rows(
     alloc: Global,
     script: &str,
@@ -68,7 +68,8 @@ fn is_played(alloc: Global, script: &str) -> Result<bool, Refusal> {
     Ok(is_told && first_difference(alloc, SLOTS, &steps)?.is_none())
 }
 
-/// The number of the first script that is answered otherwise than it tells. An empty line stands between two.
+/// The number of the first script that is answered otherwise than it tells. An empty line stands
+/// between two.
 pub(crate) fn first_wrong(alloc: Global, scripts: &str) -> Result<Option<usize>, Refusal> {
     for (number, script) in scripts.trim_end().split("\n\n").enumerate() {
         if !is_played(alloc, script)? {

@@ -3,7 +3,7 @@ use devices::{Application, Command, Provisioning, Rx1Offset, RxDelay};
 use disk::Image;
 use gateway_wire::{Emission, WireFrame};
 use lw_types::{Eui, Key, Refusal};
-use scripts::{Outcome, read_step, script, write_answer, write_outcome};
+use scripts::{ScriptResult, read_step, script, write_answer, write_outcome};
 use session_core::{Moment, Most};
 use std::alloc::Global;
 use std::io::{self, ErrorKind, Read, Write};
@@ -16,7 +16,7 @@ const KEY: Key = Key([
 // What a line is read as.
 #[derive(Clone, Copy)]
 enum Wanted {
-    // A device is brought at a moment, by an application, with its RX1DROffset and its RXDelay.
+    // A device is provisioned at a moment, by an application, with its RX1DROffset and its RXDelay.
     Provision(u64, u64, u64, u64),
     Take(u64),
     CrashFilled(u8),
@@ -98,7 +98,11 @@ fn text_of(alloc: Global, answers: &[Answer]) -> io::Result<Vec<u8>> {
     for answer in answers {
         write_answer(alloc, &mut out, answer)?;
     }
-    write_outcome(alloc, &mut out, &Outcome::Refused(Refusal::OutOfMemory))?;
+    write_outcome(
+        alloc,
+        &mut out,
+        &ScriptResult::Refused(Refusal::OutOfMemory),
+    )?;
     Ok(out)
 }
 

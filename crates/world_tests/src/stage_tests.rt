@@ -6,14 +6,14 @@ use std::alloc::Global;
 
 const LETTERS: &str = "abtTpcfreonl";
 
-// Scripts that lead to a stage: nothing is there, two commands wait, a batch has begun, so many of its
-// four device calls succeeded, and one of them failed.
+// Scripts that lead to a stage: nothing is there, two commands wait, a batch has begun, so many of
+// its four device calls succeeded, and one of them failed.
 const BATCHES: &[&str] = &[
     "", "ab", "abt", "abtc", "abtcc", "abtccc", "abtcccc", "abtfc", "abtcfc", "abtccfc", "abtcccfc",
 ];
 
-// The same of a checkpoint: it has begun, so many of its four device calls succeeded, and one of them failed; and of a
-// second one, which takes six.
+// The same of a checkpoint: it has begun, so many of its four device calls succeeded, and one of
+// them failed; and of a second one, which takes six.
 const CHECKPOINTS: &[&str] = &[
     "ap",
     "apcc",
@@ -28,14 +28,14 @@ const CHECKPOINTS: &[&str] = &[
 
 const EVENTS: &str = "hgGukwWqmaTcro";
 
-// Scripts with windows: of a device that is there or not, one is open, has two copies, was closed, is open beside a
-// commit or a checkpoint, or was opened by a link; and a join's own commit.
+// Scripts with windows: of a device that is there or not, one is open, has two copies, was closed,
+// is open beside a commit or a checkpoint, or was opened by a link; and a join's own commit.
 const WINDOWS: &[&str] = &[
     "h", "ah", "ahg", "ahk", "aTccch", "ahpcc", "awW", "ahkTcccc",
 ];
 
-// Every step after this first one, from a stage: the scripts stand in one world, one after the other. Each ends with a look
-// at the table and at what may leave, and a crash.
+// Every step after this first one, from a stage: the scripts stand in one world, one after the
+// other. Each ends with a look at the table and at what may leave, and a crash.
 fn differs_from(alloc: Global, opening: &str, first: char) -> Result<Option<usize>, Refusal> {
     let mut steps = Vec::new(alloc);
     for second in LETTERS.chars() {
@@ -83,7 +83,8 @@ fn checkpoints_answer_as_their_model(rt: HostRuntime) {
     }
 }
 
-// The same with windows, each script in a world of its own. Behind the crash a frame is heard again.
+// The same with windows, each script in a world of its own. Behind the crash a frame is heard
+// again.
 fn differs_in(
     alloc: Global,
     opening: &str,

@@ -14,7 +14,7 @@ pub(crate) fn hear(alloc: Global, gateway: u64, frame: u16) -> Result<Step, Refu
     read_step(alloc, line.as_bytes())
 }
 
-/// An application brings a device of this DevEUI, at the moment of this number.
+/// An application provisions a device of this DevEUI, at the moment of this number.
 pub(crate) fn provision(alloc: Global, dev_eui: u64) -> Result<Step, Refusal> {
     let line = format!(in alloc;
         "provision {dev_eui} 3 {dev_eui:016X} 0000000000000001 07070707070707070707070707070707 0 1"
@@ -58,8 +58,8 @@ fn piece(alloc: Global, mut words: Words<'_>) -> Result<Step, Refusal> {
     })
 }
 
-/// The step of a line in the script of this number: one of `scripts`, or a device of the script's own that an application
-/// brings, a frame or a piece.
+/// The step of a line in the script of this number: one of `scripts`, or a device of the script's
+/// own that an application brings, a frame or a piece.
 pub(crate) fn step_of(alloc: Global, script: u32, line: &str) -> Result<Step, Refusal> {
     let mut words = Words::of(line);
     match words.next() {

@@ -42,7 +42,8 @@ pub(crate) fn completed(
     link: u64,
     piece: &[u8],
 ) -> Result<(Vec<Event>, Option<Refusal>), Refusal>
-    ensures { IfOk result (λ told. Completes (stream_on link pieces.now) piece.now told.0.items told.1) }
+    ensures { IfOk result (λ told. Completes
+        (stream_on link pieces.now) piece.now told.0.items told.1) }
 {
     link_messages::laws::cuts_make_no_difference();
     let stream = stream_on(alloc, pieces, link)?;

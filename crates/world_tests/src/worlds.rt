@@ -1,7 +1,7 @@
 // What a world answers, and what its model does.
 ghost use Rattle.std.specs.Prelude.{IfOk};
 ghost use Rattle.disk.specs.MemDisk.{state_of};
-ghost use Rattle.world.specs.Sound.{IsSound};
+ghost use Rattle.world.specs.Sound.{IsSoundWorld};
 
 use crate::answers::same;
 use crate::model::Plain;
@@ -30,7 +30,7 @@ pub(crate) fn new_disk(alloc: Global, slots: u64) -> Result<MemDisk, Refusal> {
 
 // A world with so many slots.
 fn new_world(alloc: Global, slots: u64) -> Result<World<MemDisk>, Refusal>
-    ensures { IfOk result (IsSound state_of) }
+    ensures { IfOk result (IsSoundWorld state_of) }
 {
     World::format(alloc, new_disk(alloc, slots)?, net_id()?, slots)
 }

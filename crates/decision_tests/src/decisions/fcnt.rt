@@ -2,7 +2,8 @@
 use crate::decisions::records::{HEARD, IN_USE};
 use crate::network::{Comes, Items, Row, State};
 
-// Counters beyond 16 bits: of uplinks and of downlinks, the whole counter is in the MIC and in the keystream.
+// Counters beyond 16 bits: of uplinks and of downlinks, the whole counter is in the MIC and in the
+// keystream.
 pub(super) const COUNTERS: &[Row] = &[
     Row {
         before: State {
@@ -96,7 +97,8 @@ pub(super) const COUNTERS: &[Row] = &[
     },
 ];
 
-// A confirmed uplink that comes again is acknowledged under the next counter, and does nothing else.
+// A confirmed uplink that comes again is acknowledged under the next counter, and does nothing
+// else.
 pub(super) const REPEATS: &[Row] = &[
     Row {
         before: State {

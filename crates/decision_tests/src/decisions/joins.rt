@@ -59,7 +59,8 @@ const AFTER_5: State = State {
     ..FRESH
 };
 
-// Joins at slots: the accepts hold DevAddr 54000001, 54002001, 54007FFF, 54006000, 54006001, 54001FFE and 54001FFF.
+// Joins at slots: the accepts hold DevAddr 54000001, 54002001, 54007FFF, 54006000, 54006001,
+// 54001FFE and 54001FFF.
 pub(super) const JOINS: &[Row] = &[
     Row {
         before: FRESH,
@@ -293,7 +294,7 @@ pub(super) const JOINS: &[Row] = &[
             ..FRESH
         },
     },
-    // a session that waits is replaced, and the one in use stays
+    // a session that waits is replaced, and the current one stays
     Row {
         before: IN_USE_7,
         comes: Comes::Frame(REQUEST_2),
@@ -343,8 +344,8 @@ pub(super) const JOINS: &[Row] = &[
             ..FRESH
         },
     },
-    // the accept leaves by the gateway that heard the request best: the greatest SNR is, then the greatest RSSI, then the
-    // smallest EUI
+    // the accept leaves by the gateway that heard the request best: the greatest SNR is, then the
+    // greatest RSSI, then the smallest EUI
     // B1
     Row {
         before: FRESH,

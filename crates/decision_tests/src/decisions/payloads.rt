@@ -2,7 +2,8 @@
 use crate::decisions::records::{ANSWERED, HEARD, IN_USE};
 use crate::network::{Comes, Row};
 
-// The application is told the MAC commands that the network does not answer, up to the first that is not whole or not known.
+// The application is told the MAC commands that the network does not answer, up to the first that
+// is not whole or not known.
 pub(super) const MAC_COMMANDS: &[Row] = &[
     Row {
         before: IN_USE,

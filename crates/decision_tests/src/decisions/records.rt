@@ -1,4 +1,5 @@
-// Records of the device that joins, before and after uplinks, and how its gateway hears it. Keys were made by Python's `cryptography`.
+// Records of the device that joins, before and after uplinks, and how its gateway hears it. Keys
+// were made by Python's `cryptography`.
 use crate::network::{FRESH, Grant, HeardBy, State};
 
 /// The session of the join under JoinNonce 1 and DevNonce 1.

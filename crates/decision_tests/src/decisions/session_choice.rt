@@ -2,7 +2,8 @@
 use crate::decisions::records::{HEARD, IN_USE, SWITCHED, WAITING};
 use crate::network::{Comes, Row, State};
 
-// The session that waits has the same address: it is tried first, and what was awaited in the one before is lost.
+// The session that waits has the same address: it is tried first, and what was awaited in the one
+// before is lost.
 pub(super) const SESSIONS: &[Row] = &[
     Row {
         before: State {
@@ -43,7 +44,7 @@ pub(super) const SESSIONS: &[Row] = &[
             ..SWITCHED
         },
     },
-    // the MIC is of the session in use
+    // the MIC is of the current session
     Row {
         before: State {
             last_up: 7,

@@ -1,4 +1,5 @@
-// What one device does after another: each row begins with the record that the one above left. Frames were made by Python's `cryptography`.
+// What one device does after another: each row begins with the record that the one above left.
+// Frames were made by Python's `cryptography`.
 use crate::decisions::records::{ANSWERED, HEARD, IN_USE, SWITCHED, WAITING};
 use crate::fixture::JOINER;
 use crate::network::{Asked, Comes, Items, Row, State};
@@ -18,7 +19,8 @@ const SPENT: u64 = 1 << 32;
 
 // Three stories.
 pub(super) const STORIES: &[Row] = &[
-    // An item and MAC commands that are queued go with the next downlink; the item is awaited, and acknowledged.
+    // An item and MAC commands that are queued go with the next downlink; the item is awaited, and
+    // acknowledged.
     Row {
         before: IN_USE,
         comes: Comes::Item(ITEM),

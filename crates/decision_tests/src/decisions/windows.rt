@@ -17,7 +17,8 @@ pub(super) const ACKS: [&str; 6] = [
     "00201100000000000000B10000C35033BE27A00501026001000054200000C46172EF",
 ];
 
-// For each RX1DROffset the data rate of RX1 by that of the uplink: it is less by the offset, and at least 0.
+// For each RX1DROffset the data rate of RX1 by that of the uplink: it is less by the offset, and at
+// least 0.
 pub(super) const RX1_RATES: [[usize; 6]; 6] = [
     [0, 1, 2, 3, 4, 5],
     [0, 0, 1, 2, 3, 4],
@@ -27,7 +28,8 @@ pub(super) const RX1_RATES: [[usize; 6]; 6] = [
     [0, 0, 0, 0, 0, 0],
 ];
 
-// The margin is in whole dB above the floor of the data rate, from 0 to 254; then comes the number of gateways.
+// The margin is in whole dB above the floor of the data rate, from 0 to 254; then comes the number
+// of gateways.
 pub(super) const LINK_CHECKS: &[Row] = &[
     Row {
         before: IN_USE,

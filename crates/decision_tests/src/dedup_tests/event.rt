@@ -8,7 +8,8 @@ use devices::Heard;
 use lw_types::{FrameCopy, Refusal};
 use std::alloc::AllocError;
 
-// What a window that closed is told as: the last byte of its frame, times 100, and how many copies it had.
+// What a window that closed is told as: the last byte of its frame, times 100, and how many copies
+// it had.
 fn told(heard: &Heard) -> usize {
     let last = heard.phy_payload.as_slice().last().copied().unwrap_or(0);
     usize::from(last) * 100 + heard.hearings.as_slice().len()

@@ -77,7 +77,8 @@ struct Script {
 }
 
 const SCRIPTS: &[Script] = &[
-    // Copies join for 200 ms from the window's opening; then the window is due, and the frame opens another.
+    // Copies join for 200 ms from the window's opening; then the window is due, and the frame opens
+    // another.
     Script {
         copies: &[
             (0, 0xB1, 7),
@@ -145,8 +146,8 @@ fn taken(alloc: Global, copies: u16, gateways: u16, frames: u16) -> Result<(usiz
     Ok(told(&play(alloc, &rows, 0)?.answers))
 }
 
-// A window has 32 copies at most, and a gateway that was heard before is refused as such, in a full window too; at most
-// 1,024 windows are open.
+// A window has 32 copies at most, and a gateway that was heard before is refused as such, in a full
+// window too; at most 1,024 windows are open.
 const CROWDS: &[((u16, u16, u16), (usize, u8))] = &[
     ((32, 32, 1), (32, 0)),
     ((33, 33, 1), (32, 22)),

@@ -1,5 +1,5 @@
-// Commands that come to a core, also at a moment at which a window is due, and the decisions that are taken. The last decision
-// before has the number 6.
+// Commands that come to a core, also at a moment at which a window is due, and the decisions that
+// are taken. The last decision before has the number 6.
 use crate::fixture::{JOINER, REQUEST_1, REQUEST_2};
 use crate::network::{Asked, Comes};
 use crate::session_core_tests::core_script::{Event, Step};

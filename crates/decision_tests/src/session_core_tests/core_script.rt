@@ -36,7 +36,8 @@ pub(super) type Answer = (u64, u64, Option<Refusal>);
 
 /// What happens to a core, and what has to be seen then.
 pub(super) enum Step {
-    /// A core begins, over a table with so many slots and no device, whose last decision had this number.
+    /// A core begins, over a table with so many slots and no device, whose last decision had this
+    /// number.
     Core(u64, u64),
     /// At a moment this comes: its answer, and how many windows it closed.
     At(u64, Event, Answer, usize),
@@ -52,7 +53,8 @@ pub(super) enum Step {
     Empty(u64),
     /// Three decisions are taken, of which the second is a join that the gateways B1 and B2 heard.
     TakeJoin,
-    /// How many decisions were made, the number of the last one, how many wait, and how many devices there are.
+    /// How many decisions were made, the number of the last one, how many wait, and how many
+    /// devices there are.
     Counts(u64, u64, usize, usize),
     /// The outcome with so many before it.
     Outcome(usize, Outcome),
@@ -123,8 +125,8 @@ fn answers(
 fn answer(alloc: Global, core: &mut Core, moment: Moment, event: &Event) -> Result<Turn, Refusal> {
     match event {
         Event::Ask(comes) => Ok(ask(core, moment, comes.command(alloc)?)),
-        Event::Starve(comes) => Ok(core.starve(moment, &comes.command(alloc)?)),
-        Event::Miss => Ok(core.miss(moment)),
+        Event::Starve(comes) => Ok(core.decide_without_memory(moment, &comes.command(alloc)?)),
+        Event::Miss => Ok(core.hear_without_memory(moment)),
         Event::Copy(gateway, frequency, data_rate) => {
             hear(
                 alloc,
@@ -248,7 +250,8 @@ fn takes_join(core: &mut Core) -> Result<bool, Refusal> {
     }
 }
 
-// Whether the decision is of a frame that the gateways B1 and B2 heard, and its one effect is an accept.
+// Whether the decision is of a frame that the gateways B1 and B2 heard, and its one effect is an
+// accept.
 fn is_join(decision: &Decision) -> bool {
     let copies = [hearing(0xB1), hearing(0xB2)];
     let accepted = matches!(decision.effects.as_slice(), [Effect::Accept { .. }]);

@@ -1,4 +1,5 @@
-// The limits of a core: how many outcomes are kept, windows are open, copies are gathered, and decisions wait.
+// The limits of a core: how many outcomes are kept, windows are open, copies are gathered, and
+// decisions wait.
 use crate::fixture::REQUEST_1;
 use crate::network::Comes;
 use crate::session_core_tests::core_script::{Event, Step};
@@ -57,8 +58,8 @@ pub(super) const WINDOWS: &[Step] = &[
     Step::Crowd(1, 33, Some(Refusal::CopiesFull)),
 ];
 
-// As many decisions wait as there is room for, and no more: be it a provisioning, a join, a command without memory or the
-// frame of a window that is due.
+// As many decisions wait as there is room for, and no more: be it a provisioning, a join, a command
+// without memory or the frame of a window that is due.
 pub(super) const WAITING: &[Step] = &[
     Step::Core(4096, 0),
     Step::Fill(4096),

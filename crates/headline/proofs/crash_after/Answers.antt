@@ -2,25 +2,25 @@ use Rattle.std.proofs.Common.{◌≡◌, ◌∙◌, Result, Ok, Err, IfErr, ap, 
 use Rattle.std.specs.Result.{IsErrAnd}
 use Rattle.lw_types.specs.declared.refusal.Refusal.{Refusal}
 use Rattle.disk.specs.Outlook.Outlook.{AllSucceed}
-use Rattle.world.specs.Calls.{Calls, IsKnown, calls_of, passed_some}
-use Rattle.world.specs.Course.{beginning, course_of, formatted, table_from, number_from}
+use Rattle.world.specs.Calls.{CallRecord, IsKnownOutlook, calls_of, outlook_after_opening}
+use Rattle.world.specs.Course.{beginning, course_of, new_store, table_from, number_from}
 use Rattle.sessions.specs.Table.{effects_of}
 use Rattle.headline.proofs.Calm.{stays_calm}
 use Rattle.headline.proofs.crash_after.Goals as goal
 
 pub returns-in_ok-store-in-Ok-clause-answers : goal.returns-in_ok-store-in-Ok-clause-answers
 returns-in_ok-store-in-Ok-clause-answers g c =
-    let origin = formatted c.args.net_id c.args.slots in
+    let origin = new_store c.args.net_id c.args.slots in
     (c.in-Ok.ensures.course origin (beginning origin) c.in_ok-world.ensures.course).0
 
 pub returns-in_ok-store-in-Ok-clause-calls : goal.returns-in_ok-store-in-Ok-clause-calls
 returns-in_ok-store-in-Ok-clause-calls g c =
-    let calls : Calls = record { failed = g.D.Disk.failures c.args.disk; coming = passed_some (g.D.Disk.outlook c.args.disk) } in
+    let calls : Calls = record { failed = g.D.Disk.failures c.args.disk; coming = outlook_after_opening (g.D.Disk.outlook c.args.disk) } in
     (c.in-Ok.ensures.calls calls c.in_ok-world.ensures.calls).0
 
 pub returns-in_ok-store-in-Ok-clause-recovers : goal.returns-in_ok-store-in-Ok-clause-recovers
 returns-in_ok-store-in-Ok-clause-recovers g c =
-    let origin = formatted c.args.net_id c.args.slots in
+    let origin = new_store c.args.net_id c.args.slots in
     let course = course_of origin (beginning origin) c.args.steps.now c.in-Ok.answers.items in
     let followed = (c.in-Ok.ensures.course origin (beginning origin) c.in_ok-world.ensures.course).1 in
     let closed = c.close-disk.ensures.course origin course followed in
@@ -39,7 +39,7 @@ returns-in_ok-store-in-Ok-clause-recovers g c =
 
 pub returns-in_ok-store-in-Ok-clause-once : goal.returns-in_ok-store-in-Ok-clause-once
 returns-in_ok-store-in-Ok-clause-once g c =
-    let origin = formatted c.args.net_id c.args.slots in
+    let origin = new_store c.args.net_id c.args.slots in
     let course = course_of origin (beginning origin) c.args.steps.now c.in-Ok.answers.items in
     let followed = (c.in-Ok.ensures.course origin (beginning origin) c.in_ok-world.ensures.course).1 in
     let closed = c.close-disk.ensures.course origin course followed in
@@ -53,7 +53,7 @@ refused_with P (Err y) e is p = subst P (sym is) p
 
 pub returns-in_err-store-in-Ok-clause-refused : goal.returns-in_err-store-in-Ok-clause-refused
 returns-in_err-store-in-Ok-clause-refused g c =
-    let origin = formatted c.args.net_id c.args.slots in
+    let origin = new_store c.args.net_id c.args.slots in
     let course = course_of origin (beginning origin) c.args.steps.now c.in-Ok.answers.items in
     let followed = (c.in-Ok.ensures.course origin (beginning origin) c.in_ok-world.ensures.course).1 in
     let closed = c.close-disk.ensures.course origin course followed in
@@ -66,11 +66,11 @@ returns-in_err-store-in-Ok-clause-refused g c =
 pub returns-in_err-store-in-Ok-clause-unarmed : goal.returns-in_err-store-in-Ok-clause-unarmed
 returns-in_err-store-in-Ok-clause-unarmed g c = λ all nothing.
     let outlook = g.D.Disk.outlook in
-    let calls : Calls = record { failed = g.D.Disk.failures c.args.disk; coming = passed_some (outlook c.args.disk) } in
+    let calls : Calls = record { failed = g.D.Disk.failures c.args.disk; coming = outlook_after_opening (outlook c.args.disk) } in
     let steps = c.args.steps.now in
     let answers = c.in-Ok.answers.items in
-    let calm : (calls_of calls steps answers).coming ≡ AllSucceed = stays_calm calls steps answers nothing (ap passed_some all) in
+    let calm : (calls_of calls steps answers).coming ≡ AllSucceed = stays_calm calls steps answers nothing (ap outlook_after_opening all) in
     let known = ((c.in-Ok.ensures.calls calls c.in_ok-world.ensures.calls).1 c.close-disk.result c.close-disk.ensures.disk).known in
-    let closed : outlook c.close-disk.result ≡ AllSucceed = subst (λ o. IsKnown o (outlook c.close-disk.result)) calm known in
+    let closed : outlook c.close-disk.result ≡ AllSucceed = subst (λ o. IsKnownOutlook o (outlook c.close-disk.result)) calm known in
     let r = c.from_residual-in_err-store-in-Ok in
     refused_with _ r.result c.in_err-store-in-Ok.field-0.0 r.ensures.1 (c.in_err-store-in-Ok.ensures.unarmed (c.crash.ensures.outlook ∙ closed))

@@ -3,14 +3,14 @@ use Rattle.backend_json.proofs.Equal.{inside, behind, no_value, refused}
 use Rattle.std.specs.Prelude.{IfOk}
 use Rattle.serde_json.specs.Data.{object}
 use Rattle.serde_json.specs.View.{view}
-use Rattle.backend_json.specs.Answers.{AreKeys, closing, opening, outcome_of}
+use Rattle.backend_json.specs.Answers.{AreKeys, members_behind, members_before, result_of}
 use Rattle.backend_json.proofs.read_ans.granted_of.Goals as goal
 
 pub returns-in_err-app_skey : goal.returns-in_err-app_skey
 returns-in_err-app_skey c =
     refused _ c.from_residual-in_err-app_skey.result c.from_residual-in_err-app_skey.ensures
     (λ ans accepted is ok h.
-    let whole = subst (λ r. view c.args.value.now ≡ object (opening r (closing ans.receiver (outcome_of r) ans.sender ans.transaction))) ok h in
+    let whole = subst (λ r. view c.args.value.now ≡ object (members_before r (members_behind ans.receiver (result_of r) ans.sender ans.transaction))) ok h in
     let r0 = inside (sym c.in_ok-rest.ensures ∙ whole) in
     let keys = subst (λ r. IfOk r AreKeys) ok is.result in
     no_value (c.in_err-app_skey.ensures.only accepted.app_skey _ keys.app_skey r0))
@@ -19,7 +19,7 @@ pub returns-in_err-text : goal.returns-in_err-text
 returns-in_err-text c =
     refused _ c.from_residual-in_err-text.result c.from_residual-in_err-text.ensures
     (λ ans accepted is ok h.
-    let whole = subst (λ r. view c.args.value.now ≡ object (opening r (closing ans.receiver (outcome_of r) ans.sender ans.transaction))) ok h in
+    let whole = subst (λ r. view c.args.value.now ≡ object (members_before r (members_behind ans.receiver (result_of r) ans.sender ans.transaction))) ok h in
     let r0 = inside (sym c.in_ok-rest.ensures ∙ whole) in
     let r1 = behind c.in_ok-app_skey.ensures.found.1 r0 in
     c.in_err-text.ensures _ r1)
@@ -28,7 +28,7 @@ pub returns-in_err-nwk_skey : goal.returns-in_err-nwk_skey
 returns-in_err-nwk_skey c =
     refused _ c.from_residual-in_err-nwk_skey.result c.from_residual-in_err-nwk_skey.ensures
     (λ ans accepted is ok h.
-    let whole = subst (λ r. view c.args.value.now ≡ object (opening r (closing ans.receiver (outcome_of r) ans.sender ans.transaction))) ok h in
+    let whole = subst (λ r. view c.args.value.now ≡ object (members_before r (members_behind ans.receiver (result_of r) ans.sender ans.transaction))) ok h in
     let keys = subst (λ r. IfOk r AreKeys) ok is.result in
     let r0 = inside (sym c.in_ok-rest.ensures ∙ whole) in
     let r1 = behind c.in_ok-app_skey.ensures.found.1 r0 in
@@ -39,7 +39,7 @@ pub returns-in_err-accept : goal.returns-in_err-accept
 returns-in_err-accept c =
     refused _ c.from_residual-in_err-accept.result c.from_residual-in_err-accept.ensures
     (λ ans accepted is ok h.
-    let whole = subst (λ r. view c.args.value.now ≡ object (opening r (closing ans.receiver (outcome_of r) ans.sender ans.transaction))) ok h in
+    let whole = subst (λ r. view c.args.value.now ≡ object (members_before r (members_behind ans.receiver (result_of r) ans.sender ans.transaction))) ok h in
     let keys = subst (λ r. IfOk r AreKeys) ok is.result in
     let r0 = inside (sym c.in_ok-rest.ensures ∙ whole) in
     let r1 = behind c.in_ok-app_skey.ensures.found.1 r0 in
@@ -51,7 +51,7 @@ pub returns-in_err-receiver : goal.returns-in_err-receiver
 returns-in_err-receiver c =
     refused _ c.from_residual-in_err-receiver.result c.from_residual-in_err-receiver.ensures
     (λ ans accepted is ok h.
-    let whole = subst (λ r. view c.args.value.now ≡ object (opening r (closing ans.receiver (outcome_of r) ans.sender ans.transaction))) ok h in
+    let whole = subst (λ r. view c.args.value.now ≡ object (members_before r (members_behind ans.receiver (result_of r) ans.sender ans.transaction))) ok h in
     let keys = subst (λ r. IfOk r AreKeys) ok is.result in
     let r0 = inside (sym c.in_ok-rest.ensures ∙ whole) in
     let r1 = behind c.in_ok-app_skey.ensures.found.1 r0 in

@@ -1,5 +1,5 @@
 use Rattle.std.proofs.Common.{◌∙◌, ℕ, List, [], ◌∷◌, ◌++◌, Option, ap}
-use Rattle.devices.specs.Activation.{Grants, used_down}
+use Rattle.devices.specs.Activation.{Grants, with_down_used}
 use Rattle.devices.specs.declared.Tag.{Tag}
 use Rattle.devices.specs.declared.device.Device.{Device}
 use Rattle.devices.specs.declared.effect.Downlink.{Downlink}
@@ -23,7 +23,7 @@ returns c =
     let before = c.args.effects.now in
     let current = c.args.current in
     let name = name_of d current in (
-      ap (left d c.awaited_by-awaited.result) c.use_down.ensures ∙ ap (λ (tag : Option Tag). left d tag (used_down d.activation current)) c.awaited_by-awaited.ensures,
+      ap (left d c.awaited_by-awaited.result) c.use_down.ensures ∙ ap (λ (tag : Option Tag). left d tag (with_down_used d.activation current)) c.awaited_by-awaited.ensures,
       c.in_ok-push.ensures.ok
           ∙ (ap (λ (x : SessionName). with_down before x c.next_counter.result c.in_ok-downlink.downlink) c.name_of.ensures
           ∙ (ap (λ (n : ℕ). with_down before name n c.in_ok-downlink.downlink) c.next_counter.ensures ∙ ap (with_down before name current.next_down) c.in_ok-downlink.ensures)),

@@ -1,5 +1,5 @@
 use Rattle.std.proofs.Common.{Err, Ok}
-use Rattle.store.specs.State.{seen}
+use Rattle.store.specs.State.{store_state}
 use Rattle.flusher.proofs.Calling.{calls_then, one_call}
 use Rattle.flusher.proofs.Holding.{held_along, on_both, on_refused}
 use Rattle.flusher.proofs.checkpointing.close_gate.Goals as goal
@@ -10,8 +10,8 @@ returns-in_err-retiring-clause-images g c honest on =
 
 pub returns-in_ok-retiring-clause-images : goal.returns-in_ok-retiring-clause-images
 returns-in_ok-retiring-clause-images g c honest on =
-    let s = seen g.D.Disk.state c.args.store.now in
-    let s1 = seen g.D.Disk.state c.retire.new.store in
+    let s = store_state g.D.Disk.state c.args.store.now in
+    let s1 = store_state g.D.Disk.state c.retire.new.store in
     let first = c.in_ok-retiring.ensures in
     let retiring = first.next honest on in
     on_both c.sync.result _ _ (c.sync.ensures.next honest retiring)

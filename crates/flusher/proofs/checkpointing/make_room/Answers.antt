@@ -1,6 +1,6 @@
 use Rattle.std.proofs.Common.{◌≡◌, Err, false, inl, inr, refl, true}
 use Rattle.store.specs.declared.checkpointing.Checkpoint.{Checkpoint}
-use Rattle.store.specs.State.{IsRoomy, seen}
+use Rattle.store.specs.State.{IsRoomy, store_state}
 use Rattle.flusher.specs.Calls.{LastFailed, NoneFailed}
 use Rattle.flusher.proofs.Calling.{not_begun, once_begun}
 use Rattle.flusher.proofs.Holding.{on_refused}
@@ -9,11 +9,11 @@ use Rattle.flusher.proofs.checkpointing.make_room.Goals as goal
 pub returns-in_err-checkpoint-clause-images : goal.returns-in_err-checkpoint-clause-images
 returns-in_err-checkpoint-clause-images g c honest settled =
     on_refused c.from_residual.result c.in_err-checkpoint.field-0.0 _ _ c.from_residual.ensures.1
-    (c.a_settled_store_is_on_its_disk.ensures (seen g.D.Disk.state c.args.store.now) settled)
+    (c.a_settled_store_is_on_its_disk.ensures (store_state g.D.Disk.state c.args.store.now) settled)
 
 pub returns-in_err-checkpoint-clause-calls : goal.returns-in_err-checkpoint-clause-calls
 returns-in_err-checkpoint-clause-calls g c =
-    let s = seen g.D.Disk.state c.args.store.now in
+    let s = store_state g.D.Disk.state c.args.store.now in
     let e = c.in_err-checkpoint.field-0.0 in
     let failure = LastFailed g.D.Disk.failures g.D.Disk.outlook c.args.store.now c.args.store.now in
     on_refused c.from_residual.result e _ _ c.from_residual.ensures.1
@@ -24,7 +24,7 @@ returns-in_err-checkpoint-clause-calls g c =
 
 pub returns-clause-calls : goal.returns-clause-calls
 returns-clause-calls g c =
-    let s = seen g.D.Disk.state c.args.store.now in
+    let s = store_state g.D.Disk.state c.args.store.now in
     let none = NoneFailed g.D.Disk.failures g.D.Disk.outlook c.args.store.now c.publish.new.store in
     let failure = LastFailed g.D.Disk.failures g.D.Disk.outlook c.args.store.now c.publish.new.store in
     once_begun s.failed s.log.generation (¬ (IsRoomy s)) none failure c.in_ok-checkpoint.checkpoint c.publish.result

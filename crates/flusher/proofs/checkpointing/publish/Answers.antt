@@ -1,5 +1,5 @@
 use Rattle.std.proofs.Common.{◌∙◌, Err, Ok}
-use Rattle.store.specs.State.{seen}
+use Rattle.store.specs.State.{store_state}
 use Rattle.flusher.proofs.Calling.{calls_then, none_then, one_call}
 use Rattle.flusher.proofs.Holding.{held_along, on_both, on_refused}
 use Rattle.flusher.proofs.checkpointing.publish.Goals as goal
@@ -10,16 +10,16 @@ returns-in_err-checkpoint-clause-images g c honest on =
 
 pub returns-in_err-written-clause-images : goal.returns-in_err-written-clause-images
 returns-in_err-written-clause-images g c honest on =
-    let s = seen g.D.Disk.state c.args.store.now in
-    let s1 = seen g.D.Disk.state c.close_gate.new.store in
+    let s = store_state g.D.Disk.state c.args.store.now in
+    let s1 = store_state g.D.Disk.state c.close_gate.new.store in
     let closed = c.in_ok-checkpoint.ensures in
     on_refused c.from_residual-in_err-written.result c.in_err-written.field-0.0 _ _ c.from_residual-in_err-written.ensures.1
     (λ image p. held_along s s1 image closed.table closed.seq (c.in_err-written.ensures.images honest (closed.images honest on) image p))
 
 pub returns-in_err-synced-clause-images : goal.returns-in_err-synced-clause-images
 returns-in_err-synced-clause-images g c honest on =
-    let s = seen g.D.Disk.state c.args.store.now in
-    let s2 = seen g.D.Disk.state c.write.new.store in
+    let s = store_state g.D.Disk.state c.args.store.now in
+    let s2 = store_state g.D.Disk.state c.write.new.store in
     let closed = c.in_ok-checkpoint.ensures in
     let first = c.in_ok-written.ensures in
     on_refused c.from_residual-in_err-synced.result c.in_err-synced.field-0.0 _ _ c.from_residual-in_err-synced.ensures.1
@@ -28,8 +28,8 @@ returns-in_err-synced-clause-images g c honest on =
 
 pub returns-in_err-opened-clause-images : goal.returns-in_err-opened-clause-images
 returns-in_err-opened-clause-images g c honest on =
-    let s = seen g.D.Disk.state c.args.store.now in
-    let s3 = seen g.D.Disk.state c.sync.new.store in
+    let s = store_state g.D.Disk.state c.args.store.now in
+    let s3 = store_state g.D.Disk.state c.sync.new.store in
     let closed = c.in_ok-checkpoint.ensures in
     let first = c.in_ok-written.ensures in
     let second = c.in_ok-synced.ensures in
@@ -39,8 +39,8 @@ returns-in_err-opened-clause-images g c honest on =
 
 pub returns-clause-images : goal.returns-clause-images
 returns-clause-images g c honest on =
-    let s = seen g.D.Disk.state c.args.store.now in
-    let s4 = seen g.D.Disk.state c.open_gate.new.store in
+    let s = store_state g.D.Disk.state c.args.store.now in
+    let s4 = store_state g.D.Disk.state c.open_gate.new.store in
     let closed = c.in_ok-checkpoint.ensures in
     let first = c.in_ok-written.ensures in
     let second = c.in_ok-synced.ensures in

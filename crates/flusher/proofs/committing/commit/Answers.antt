@@ -5,7 +5,7 @@ use Rattle.sessions.specs.declared.decision.Decision.{Decision}
 use Rattle.store.specs.declared.phases.Begun.{Begun}
 use Rattle.store.specs.Commit.{MayFollow, table_after, tip_of}
 use Rattle.store.specs.Phases.{HoldsEither, IsBegunOn, begun_change, begun_size}
-use Rattle.store.specs.State.{StoreState, seen}
+use Rattle.store.specs.State.{StoreState, store_state}
 use Rattle.flusher.specs.Calls.{LastFailed, NoneFailed}
 use Rattle.flusher.proofs.Calling.{calls_then, none_untouched, not_written, once_written}
 use Rattle.flusher.proofs.Holding.{committed, on_refused, unless, weaker, with_batch}
@@ -13,14 +13,14 @@ use Rattle.flusher.proofs.committing.commit.Goals as goal
 
 pub returns-in_err-begun-clause-images : goal.returns-in_err-begun-clause-images
 returns-in_err-begun-clause-images g c honest settled =
-    let s = seen g.D.Disk.state c.args.store.now in
+    let s = store_state g.D.Disk.state c.args.store.now in
     on_refused c.from_residual.result c.in_err-begun.field-0.0 _ _ c.from_residual.ensures.1
     (λ image p. inl (c.a_settled_store_is_on_its_disk.ensures s settled image (subst (λ d. IsPermitted (g.D.Disk.state d) image) c.in_err-begun.ensures.disk p)))
 
 pub returns-clause-commits : goal.returns-clause-commits
 returns-clause-commits g c =
-    let s = seen g.D.Disk.state c.args.store.now in
-    let s' = seen g.D.Disk.state c.write.new.store in
+    let s = store_state g.D.Disk.state c.args.store.now in
+    let s' = store_state g.D.Disk.state c.write.new.store in
     let begun = c.in_ok-begun.begun in
     let change = begun_change begun in
     let e = c.in_ok-begun.ensures in
@@ -31,7 +31,7 @@ returns-clause-commits g c =
 
 pub returns-clause-images : goal.returns-clause-images
 returns-clause-images g c honest settled =
-    let s = seen g.D.Disk.state c.args.store.now in
+    let s = store_state g.D.Disk.state c.args.store.now in
     let begun = c.in_ok-begun.begun in
     let change = begun_change begun in
     let e = c.in_ok-begun.ensures in
@@ -44,7 +44,7 @@ returns-clause-images g c honest settled =
 
 pub returns-in_err-begun-clause-calls : goal.returns-in_err-begun-clause-calls
 returns-in_err-begun-clause-calls g c =
-    let s = seen g.D.Disk.state c.args.store.now in
+    let s = store_state g.D.Disk.state c.args.store.now in
     let e = c.in_err-begun.field-0.0 in
     let failure = LastFailed g.D.Disk.failures g.D.Disk.outlook c.args.store.now c.begin.new.self in
     on_refused c.from_residual.result e _ _ c.from_residual.ensures.1
@@ -54,7 +54,7 @@ pub returns-clause-calls : goal.returns-clause-calls
 returns-clause-calls g c =
     let failures = g.D.Disk.failures in
     let outlook = g.D.Disk.outlook in
-    let s = seen g.D.Disk.state c.args.store.now in
+    let s = store_state g.D.Disk.state c.args.store.now in
     let begun = c.in_ok-begun.begun in
     let e = c.in_ok-begun.ensures in
     let may = MayFollow (tip_of s) (begun_change begun) (begun_size begun) in

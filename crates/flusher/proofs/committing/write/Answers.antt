@@ -1,6 +1,6 @@
 use Rattle.std.proofs.Common.{◌∙◌, Err, Ok, inl}
-use Rattle.store.specs.Phases.{begun_change, synced_change, opened_change}
-use Rattle.store.specs.State.{seen}
+use Rattle.store.specs.Phases.{begun_change, body_synced_change, gate_written_change}
+use Rattle.store.specs.State.{store_state}
 use Rattle.flusher.proofs.Calling.{calls_then, none_then, one_call}
 use Rattle.flusher.proofs.Holding.{either_along, held_along, on_both, on_refused}
 use Rattle.flusher.proofs.committing.write.Goals as goal
@@ -11,33 +11,33 @@ returns-in_err-written-clause-images g c honest on =
 
 pub returns-in_err-synced-clause-images : goal.returns-in_err-synced-clause-images
 returns-in_err-synced-clause-images g c honest on =
-    let s = seen g.D.Disk.state c.args.store.now in
-    let s1 = seen g.D.Disk.state c.write.new.store in
+    let s = store_state g.D.Disk.state c.args.store.now in
+    let s1 = store_state g.D.Disk.state c.write.new.store in
     let first = c.in_ok-written.ensures in
     on_refused c.from_residual-in_err-synced.result c.in_err-synced.field-0.0 _ _ c.from_residual-in_err-synced.ensures.1
     (λ image p. inl (held_along s s1 image first.table first.seq (c.in_err-synced.ensures.images honest (first.next honest on) image p)))
 
 pub returns-in_err-opened-clause-images : goal.returns-in_err-opened-clause-images
 returns-in_err-opened-clause-images g c honest on =
-    let s = seen g.D.Disk.state c.args.store.now in
-    let s2 = seen g.D.Disk.state c.sync.new.store in
+    let s = store_state g.D.Disk.state c.args.store.now in
+    let s2 = store_state g.D.Disk.state c.sync.new.store in
     let first = c.in_ok-written.ensures in
     let second = c.in_ok-synced.ensures in
     on_refused c.from_residual-in_err-opened.result c.in_err-opened.field-0.0 _ _ c.from_residual-in_err-opened.ensures.1
-    (λ image p. either_along s s2 (begun_change c.args.begun) (synced_change c.in_ok-synced.synced) image
+    (λ image p. either_along s s2 (begun_change c.args.begun) (body_synced_change c.in_ok-synced.synced) image
     (second.table ∙ first.table) (second.seq ∙ first.seq) (second.change ∙ first.change)
     (c.in_err-opened.ensures.images honest (second.next honest (first.next honest on)) image p))
 
 pub returns-clause-images : goal.returns-clause-images
 returns-clause-images g c honest on =
-    let s = seen g.D.Disk.state c.args.store.now in
-    let s3 = seen g.D.Disk.state c.open_gate.new.store in
+    let s = store_state g.D.Disk.state c.args.store.now in
+    let s3 = store_state g.D.Disk.state c.open_gate.new.store in
     let first = c.in_ok-written.ensures in
     let second = c.in_ok-synced.ensures in
     let third = c.in_ok-opened.ensures in
     let opened = third.next honest (second.next honest (first.next honest on)) in
     on_both c.sync-2.result _ _ (c.sync-2.ensures.settled honest opened)
-    (λ image p. either_along s s3 (begun_change c.args.begun) (opened_change c.in_ok-opened.opened) image
+    (λ image p. either_along s s3 (begun_change c.args.begun) (gate_written_change c.in_ok-opened.opened) image
     (third.table ∙ (second.table ∙ first.table)) (third.seq ∙ (second.seq ∙ first.seq)) (third.change ∙ (second.change ∙ first.change))
     (c.sync-2.ensures.images honest opened image p))
 

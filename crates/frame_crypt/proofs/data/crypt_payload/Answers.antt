@@ -2,7 +2,7 @@ use Rattle.std.proofs.Common.{◌≡◌, ◌+◌, ◌-◌, ◌*◌, ◌/◌, ◌
 use Rattle.std.proofs.lemmas.List.{length-take-le}
 use borrow.Rule.Slice.PartMut.{put_mid}
 use Rattle.aes128.specs.Cipher.{xor}
-use Rattle.frame_crypt.specs.Frames.{keystream, crypted}
+use Rattle.frame_crypt.specs.Frames.{keystream, crypted_payload}
 use Rattle.frame_crypt.proofs.StreamLemmas.{crypted_step, left_step, crypted_end, keystream-more, length-keystream, length-xor}
 use Rattle.frame_crypt.proofs.data.crypt_payload.Goals as goal
 
@@ -44,4 +44,4 @@ pub returns : goal.returns
 returns c =
     let done : c.loop-i.i ≡ (length c.args.payload.now + 15) / 16 = omega arith in
     crypted_end c.new-keys.result c.args.dir c.args.addr.0 c.args.counter c.args.payload.now c.loop-i.payload c.loop-i.i c.loop-i.auto.payload done c.loop-i.invariant.done
-    ∙ ap (λ (key : List ℕ). crypted key c.args.dir c.args.addr.0 c.args.counter c.args.payload.now) c.new-keys.ensures
+    ∙ ap (λ (key : List ℕ). crypted_payload key c.args.dir c.args.addr.0 c.args.counter c.args.payload.now) c.new-keys.ensures

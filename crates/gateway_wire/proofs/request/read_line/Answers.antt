@@ -2,7 +2,7 @@ use Rattle.std.proofs.Common.{◌≡◌, ◌∷◌, ap, sym, ◌∙◌, refl}
 use Rattle.lw_types.specs.Words.{line_of}
 use Rattle.lw_types.specs.WordsLeft.{words_left}
 use Rattle.gateway_wire.specs.declared.request.Request.{Request}
-use Rattle.gateway_wire.specs.Request.{IsRequest, request_line, request_words}
+use Rattle.gateway_wire.specs.Request.{IsRequestInRange, request_line, request_words}
 use Rattle.gateway_wire.proofs.RequestLines.{Texts, has_words, read_back, request_line_words}
 use Rattle.gateway_wire.proofs.request.read_line.Goals as goal
 use Rattle.gateway_wire.proofs.request.read_line.Goals.{In-None, After-read_request}
@@ -21,7 +21,7 @@ texts c =
       decimals = c.each_text_is_a_word.ensures.decimals;
     }
 
-words_are : (c : After-read_request) (r : Request) → IsRequest r → c.args.line.now ≡ request_line r
+words_are : (c : After-read_request) (r : Request) → IsRequestInRange r → c.args.line.now ≡ request_line r
     → c.in-Some.name.now ∷ words_left c.next.new.self ≡ request_words r
 words_are c r ranges is =
     sym c.in-Some.ensures.steps ∙ (c.of-words.ensures ∙ request_line_words (texts c) c.args.line.now r ranges is)
@@ -41,7 +41,7 @@ returns-in-Some-clause-malformed c =
     )
 
 -- a line has words
-some_words : (c : In-None) (r : Request) → IsRequest r → c.args.line.now ≡ request_line r → ⊥
+some_words : (c : In-None) (r : Request) → IsRequestInRange r → c.args.line.now ≡ request_line r → ⊥
 some_words c r ranges is =
     let texts : Texts =
     record {

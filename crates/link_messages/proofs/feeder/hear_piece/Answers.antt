@@ -3,14 +3,14 @@ use Rattle.lw_types.specs.declared.refusal.Refusal.{Refusal}
 use Rattle.link_messages.specs.declared.feeder.Next.{Next}
 use Rattle.link_messages.specs.Feeding.{end_of}
 use Rattle.link_messages.specs.Stream.{IsPart}
-use Rattle.link_messages.specs.Steps.{Continues, Finishes, IsHeard}
+use Rattle.link_messages.specs.Steps.{IsNext, Finishes, HasGathered}
 use Rattle.link_messages.proofs.Hearing.{heard_behind, heard_fault, if_ok}
 use Rattle.link_messages.proofs.feeder.hear_piece.Goals as goal
 use Rattle.link_messages.proofs.feeder.hear_piece.Goals.{After-clear, After-hear_and_keep-in-Message}
 
 pub returns-in-Fault-clause-heard : goal.returns-in-Fault-clause-heard
 returns-in-Fault-clause-heard c =
-    let next = subst (λ (n : Next). Continues c.args.peer.now c.as_slice-2.result.now (Ok n)) c.in-Fault.is c.in_ok-next_message.ensures in (
+    let next = subst (λ (n : Next). IsNext c.args.peer.now c.as_slice-2.result.now (Ok n)) c.in-Fault.is c.in_ok-next_message.ensures in (
       rw c.clear.ensures.items tt,
       heard_fault c.args.peer.now c.args.kept.now.items c.args.piece.now c.split_at.result.0.now c.split_at.result.1.now c.as_slice-2.result.now c.args.messages.now.items c.in-Fault.fault
           (c.as_slice-2.ensures.value ∙ c.in_ok-extend_from_slice.ensures.items) c.split_at.ensures.by_index.0 next,
@@ -25,13 +25,13 @@ returns-in_ok-push-in-Message-clause-heard c =
     let behind = c.split_at.result.1.now in
     let more = c.as_slice-2.result.now in
     let new = c.hear_and_keep-in-Message.new in
-    let next = subst (λ (n : Next). Continues c.args.peer.now more (Ok n)) c.in-Message.is c.in_ok-next_message.ensures in
+    let next = subst (λ (n : Next). IsNext c.args.peer.now more (Ok n)) c.in-Message.is c.in_ok-next_message.ensures in
     let joined : more ≡ kept ++ front = c.as_slice-2.ensures.value ∙ c.in_ok-extend_from_slice.ensures.items in
     let same : c.as_slice.result.now ++ take c.finishing.result piece ≡ more =
     ap (λ (k : List ℕ). k ++ take c.finishing.result piece) c.as_slice.ensures.value ∙ (ap (λ (f : List ℕ). kept ++ f) (sym c.split_at.ensures.front) ∙ sym joined) in
     let finished : Finishes more behind =
     subst (λ (k : List ℕ). Finishes k behind) same (subst (λ (b : List ℕ). Finishes (c.as_slice.result.now ++ take c.finishing.result piece) b) (sym c.split_at.ensures.back) c.finishing.ensures.finished) in
-    if_ok (λ (fault : Option Refusal). IsPart new.kept.items × IsHeard c.greet.new.peer behind c.push.new.self.items new.messages.items new.peer (end_of fault new.kept.items)) _ c.hear_and_keep-in-Message.result
+    if_ok (λ (fault : Option Refusal). IsPart new.kept.items × HasGathered c.greet.new.peer behind c.push.new.self.items new.messages.items new.peer (end_of fault new.kept.items)) _ c.hear_and_keep-in-Message.result
     (λ fault h. (
       h.0,
       heard_behind c.args.peer.now kept piece front behind more next.0 c.in-Message.field-1.now m c.args.messages.now.items c.push.new.self.items new.messages.items c.greet.new.peer new.peer (end_of fault new.kept.items)

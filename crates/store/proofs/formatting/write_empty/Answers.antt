@@ -1,5 +1,5 @@
 use Rattle.std.proofs.Common.{◌≡◌, ◌+◌, ◌∙◌, [], ◌∷◌, List, ℕ, length, drop, refl, inl, inr, sym, ap, subst, arith}
-use Rattle.disk.specs.State.{IsTorn, State, written}
+use Rattle.disk.specs.State.{IsTorn, State, bytes_after_write}
 use Rattle.gate_log.specs.declared.layout.TheConstants.{OPEN}
 use Rattle.gate_log.specs.Layout.{checkpoint, fresh_header}
 use Rattle.store.specs.declared.areas.TheConstants.{RECORD_VERSION}
@@ -14,8 +14,8 @@ returns-clause-area g c honest =
     let area = area_a c.args.superblock.now.slots in
     let old = (g.D.Disk.state c.write_closed.new.disk).content in
     let new = (g.D.Disk.state c.open_front.new.disk).content in
-    let is : new ≡ written old 0 (OPEN ∷ []) =
-    c.in_ok-open_front.ensures.opened honest ∙ ap (λ (l : List ℕ). written l 0 (OPEN ∷ [])) (c.in_ok-sync.ensures.settled honest).content in
+    let is : new ≡ bytes_after_write old 0 (OPEN ∷ []) =
+    c.in_ok-open_front.ensures.opened honest ∙ ap (λ (l : List ℕ). bytes_after_write l 0 (OPEN ∷ [])) (c.in_ok-sync.ensures.settled honest).content in
     c.a_journal_stays_where_others_change.ensures area old new (checkpoint (fresh_header RECORD_VERSION) []) (c.in_ok-next.ensures.area honest)
     (opened_range old new (32 + area_len c.args.superblock.now.slots) is)
 
@@ -23,8 +23,8 @@ pub returns-clause-front : goal.returns-clause-front
 returns-clause-front g c honest =
     let old = (g.D.Disk.state c.write_closed.new.disk).content in
     let new = (g.D.Disk.state c.open_front.new.disk).content in
-    let is : new ≡ written old 0 (OPEN ∷ []) =
-    c.in_ok-open_front.ensures.opened honest ∙ ap (λ (l : List ℕ). written l 0 (OPEN ∷ [])) (c.in_ok-sync.ensures.settled honest).content in
+    let is : new ≡ bytes_after_write old 0 (OPEN ∷ []) =
+    c.in_ok-open_front.ensures.opened honest ∙ ap (λ (l : List ℕ). bytes_after_write l 0 (OPEN ∷ [])) (c.in_ok-sync.ensures.settled honest).content in
     opened_front old new is ∙ ap (λ (l : List ℕ). OPEN ∷ l) (c.in_ok-next.ensures.body honest)
 
 pub returns-in_err-open_front-clause-images : goal.returns-in_err-open_front-clause-images
@@ -52,8 +52,8 @@ returns-clause-other_area g c honest =
     let slots = c.args.superblock.now.slots in
     let old = (g.D.Disk.state c.write_closed.new.disk).content in
     let new = (g.D.Disk.state c.open_front.new.disk).content in
-    let is : new ≡ written old 0 (OPEN ∷ []) =
-    c.in_ok-open_front.ensures.opened honest ∙ ap (λ (l : List ℕ). written l 0 (OPEN ∷ [])) (c.in_ok-sync.ensures.settled honest).content in
+    let is : new ≡ bytes_after_write old 0 (OPEN ∷ []) =
+    c.in_ok-open_front.ensures.opened honest ∙ ap (λ (l : List ℕ). bytes_after_write l 0 (OPEN ∷ [])) (c.in_ok-sync.ensures.settled honest).content in
     let torn : IsTorn 0 1 old new = record { same_length = c.in_ok-open_front.ensures.same_length ∙ c.in_ok-sync.ensures.same_length; before = refl; after = ap (λ (l : List ℕ). drop 1 l) is } in
     closed_after 0 1 (area_b slots) old new torn (omega arith) (c.in_ok-next.ensures.other_area honest)
 

@@ -3,14 +3,14 @@ use Rattle.std.proofs.lemmas.Result.{err_from_is_err_and}
 use Rattle.gate_log.specs.declared.layout.Area.{Area}
 use Rattle.gate_log.specs.declared.layout.Areas.{Areas}
 use Rattle.gate_log.specs.Areas.{AreLaidOut, AreOf}
-use Rattle.gate_log.specs.Opening.{opened}
+use Rattle.gate_log.specs.Opening.{disk_in_opening}
 use Rattle.store.specs.Image.{AreAreas, area_b}
 use Rattle.store.proofs.Holding.{laid_out}
 use Rattle.store.proofs.recover.read_live.Goals as goal
 
 pub live-requires : goal.live-requires
 live-requires g c =
-    let size = length (g.D.Disk.state (opened c.args.opening.now)).content in
+    let size = length (g.D.Disk.state (disk_in_opening c.args.opening.now)).content in
     record {
       layout =
           subst (λ (x : Areas). AreLaidOut x size) (λ i. record { live = sym c.first_area.ensures i; other = sym c.second_area.ensures i })

@@ -2,7 +2,7 @@ use Rattle.std.proofs.Common.{List, ℕ, refl, sym, ap, subst}
 use Rattle.std.proofs.lemmas.Result.{err_from_is_err_and}
 use Rattle.disk.specs.State.{State}
 use Rattle.gate_log.specs.Areas.{Holds}
-use Rattle.gate_log.specs.Opening.{opened}
+use Rattle.gate_log.specs.Opening.{disk_in_opening}
 use Rattle.gate_log.specs.Live.{IsLiveAs}
 use Rattle.gate_log.specs.Recovered.{IsRecovered}
 use Rattle.store.proofs.Finding.{AreaLaws, KeepLaws, area_fault, found_in, good_front, journal_fault, restored_slots}
@@ -16,7 +16,7 @@ returns-in_err-recovered-clause-refused g c honest =
     rw (p.1, p.2) (λ device memory.
     let f = c.in_ok-front in
     let front = f.front in
-    let content = (g.D.Disk.state (opened c.args.opening.now)).content in
+    let content = (g.D.Disk.state (disk_in_opening c.args.opening.now)).content in
     let same = ap (λ (x : State). x.content) (f.ensures.reads.same honest) in
     let live = f.ensures.live honest in
     let laws : AreaLaws =
@@ -33,7 +33,7 @@ returns-in_err-table-clause-refused g c honest =
     rw (p.1, p.2) (λ device memory.
     let f = c.in_ok-front in
     let front = f.front in
-    let content = (g.D.Disk.state (opened c.args.opening.now)).content in
+    let content = (g.D.Disk.state (disk_in_opening c.args.opening.now)).content in
     let same = ap (λ (x : State). x.content) (f.ensures.reads.same honest) in
     let live = f.ensures.live honest in
     let laws : AreaLaws =
@@ -50,7 +50,7 @@ pub returns-clause-found : goal.returns-clause-found
 returns-clause-found g c honest =
     let f = c.in_ok-front in
     let front = f.front in
-    let content = (g.D.Disk.state (opened c.args.opening.now)).content in
+    let content = (g.D.Disk.state (disk_in_opening c.args.opening.now)).content in
     let same = ap (λ (x : State). x.content) (f.ensures.reads.same honest) in
     let live = f.ensures.live honest in
     let laws : AreaLaws =
@@ -67,7 +67,7 @@ pub returns-in_err-recovered-clause-memory : goal.returns-in_err-recovered-claus
 returns-in_err-recovered-clause-memory g c honest =
     let p = err_from_is_err_and c.from_residual-in_err-recovered.result c.from_residual-in_err-recovered.ensures.1 in
     rw (p.1, p.2) (λ memory.
-    good_front (g.D.Disk.state (opened c.args.opening.now)).content c.in_ok-front.front.superblock.net_id c.in_ok-front.front.superblock.slots
+    good_front (g.D.Disk.state (disk_in_opening c.args.opening.now)).content c.in_ok-front.front.superblock.net_id c.in_ok-front.front.superblock.slots
     (c.in_ok-front.ensures.store honest) c.in_ok-front.ensures.long c.in_ok-front.front.live.areas c.in_ok-front.front.live.header
     (record { place = c.in_ok-front.ensures.areas; at = (c.in_ok-front.ensures.live honest).is }) c.in_ok-front.ensures.usable)
 
@@ -75,7 +75,7 @@ pub returns-in_err-table-clause-memory : goal.returns-in_err-table-clause-memory
 returns-in_err-table-clause-memory g c honest =
     let p = err_from_is_err_and c.from_residual-in_err-table.result c.from_residual-in_err-table.ensures.1 in
     rw (p.1, p.2) (λ memory.
-    good_front (g.D.Disk.state (opened c.args.opening.now)).content c.in_ok-front.front.superblock.net_id c.in_ok-front.front.superblock.slots
+    good_front (g.D.Disk.state (disk_in_opening c.args.opening.now)).content c.in_ok-front.front.superblock.net_id c.in_ok-front.front.superblock.slots
     (c.in_ok-front.ensures.store honest) c.in_ok-front.ensures.long c.in_ok-front.front.live.areas c.in_ok-front.front.live.header
     (record { place = c.in_ok-front.ensures.areas; at = (c.in_ok-front.ensures.live honest).is }) c.in_ok-front.ensures.usable)
 

@@ -1,7 +1,7 @@
 use Rattle.std.proofs.Common.{◌≡◌, ◌∙◌, take, Result, Ok, Err, ap, sym, arith}
 use Rattle.std.proofs.lemmas.Result.{err_from_is_err_and}
 use Rattle.lw_types.specs.declared.refusal.Refusal.{Refusal}
-use Rattle.gate_log.specs.Opening.{opened}
+use Rattle.gate_log.specs.Opening.{disk_in_opening}
 use Rattle.store_layout.specs.declared.superblock.Superblock.{Superblock}
 use Rattle.store.proofs.Holding.{front_fault, size_fault}
 use Rattle.store.proofs.recover.read_superblock.Goals as goal
@@ -19,7 +19,7 @@ pub returns-in_err-superblock-clause-refused : goal.returns-in_err-superblock-cl
 returns-in_err-superblock-clause-refused g c honest =
     let p = err_from_is_err_and c.from_residual-in_err-superblock.result c.from_residual-in_err-superblock.ensures.1 in
     rw (p.1, p.2) (λ other.
-    let content = (g.D.Disk.state (opened c.args.opening.now)).content in
+    let content = (g.D.Disk.state (disk_in_opening c.args.opening.now)).content in
     let e = c.in_err-superblock.field-0.0 in
     let bytes = c.in_ok-bytes.bytes in
     let k = c.in_err-superblock.ensures in
@@ -31,7 +31,7 @@ returns-in_err-superblock-clause-refused g c honest =
 
 pub returns-then-len-disk_len-clause-refused : goal.returns-then-len-disk_len-clause-refused
 returns-then-len-disk_len-clause-refused g c honest other =
-    let content = (g.D.Disk.state (opened c.args.opening.now)).content in
+    let content = (g.D.Disk.state (disk_in_opening c.args.opening.now)).content in
     let s = c.in_ok-superblock.superblock in
     let k = c.in_ok-superblock.ensures in
     let bytes : c.in_ok-bytes.bytes ≡ take 32 content = c.in_ok-bytes.ensures.bytes honest in

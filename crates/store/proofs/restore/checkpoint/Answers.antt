@@ -1,6 +1,6 @@
 use Rattle.std.proofs.Common.{◌∙◌, length, sym, ap, subst, refl}
 use Rattle.sessions.specs.Table.{TableState, empty_table}
-use Rattle.store.specs.Image.{IsCheckpoint}
+use Rattle.store.specs.Image.{IsCheckpointOf}
 use Rattle.store_layout.specs.Entries.{Replay}
 use Rattle.store.proofs.restore.checkpoint.Goals as goal
 
@@ -20,6 +20,6 @@ returns c t =
     let put = subst (λ (x : TableState). Replay c.args.version x c.args.records.now c.args.count (c.in_ok-replay.ensures.0) c.replay.new.table) c.in_ok-table.ensures c.in_ok-replay.ensures.1 in (
       λ is. c.bytes_replay_in_one_way.ensures.table c.args.version (empty_table s.net_id s.slots) t c.replay.new.table c.args.records.now c.args.count is.entries c.in_ok-replay.ensures.0 is.replay put,
       λ same.
-          subst (IsCheckpoint c.args.version s.net_id s.slots c.args.records.now c.args.count) (sym same)
+          subst (IsCheckpointOf c.args.version s.net_id s.slots c.args.records.now c.args.count) (sym same)
           (record { entries = c.in_ok-replay.ensures.0; replay = put; own_slots = ap length (sym c.devices.ensures.devices) ∙ (c.if-devices-from.false ∙ c.from.ensures) }),
     )

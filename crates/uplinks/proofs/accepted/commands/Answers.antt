@@ -1,15 +1,15 @@
 use Rattle.std.proofs.Common.{◌≡◌, ℕ, List, Option, Some, Result, IfOk, sym}
 use Rattle.lw_types.specs.declared.direction.Direction.TheVariants.{Up}
 use Rattle.lw_types.specs.declared.identifiers.DevAddr.{DevAddr}
-use Rattle.frame_crypt.specs.Frames.{crypted}
-use Rattle.phy_payload.specs.declared.contents.Message.{Message}
+use Rattle.frame_crypt.specs.Frames.{crypted_payload}
+use Rattle.phy_payload.specs.declared.contents.PortPayload.{PortPayload}
 use Rattle.devices.specs.declared.activation.CurrentSession.{CurrentSession}
 use Rattle.uplinks.specs.Accepted.{mac_bytes}
 use Rattle.uplinks.proofs.accepted.commands.Goals as goal
 
 -- what port 0 carries is decrypted under the NwkSKey
-on_port_0 : {E : Type 0} (addr : DevAddr) (s : CurrentSession) (opts : List ℕ) (message : Option Message) (sent : Message) (r : Result (List ℕ) E)
-    → message ≡ Some sent → sent.f_port ≡ 0 → IfOk r (λ bytes. bytes ≡ crypted s.session.nwk_skey.0 Up addr.0 s.last_up sent.frm_payload)
+on_port_0 : {E : Type 0} (addr : DevAddr) (s : CurrentSession) (opts : List ℕ) (message : Option PortPayload) (sent : PortPayload) (r : Result (List ℕ) E)
+    → message ≡ Some sent → sent.f_port ≡ 0 → IfOk r (λ bytes. bytes ≡ crypted_payload s.session.nwk_skey.0 Up addr.0 s.last_up sent.frm_payload)
     → IfOk r (λ bytes. bytes ≡ mac_bytes addr s opts message)
 on_port_0 addr s opts message sent r is port h = rw (is, port) h
 

@@ -2,14 +2,14 @@
 use Rattle.std.proofs.Common.{◌≡◌, ◌≤◌, length, take, vec_capacity}
 use Rattle.world.specs.Calls.{ForetellsAll}
 use Rattle.world.specs.Follows.{Runs}
-use Rattle.world.specs.Sound.{IsSound}
+use Rattle.world.specs.Sound.{IsSoundWorld}
 use Rattle.world.specs.Tells.{TellsAlone}
 use Rattle.world.proofs.runs.run.Given as goal
 
 abbrev pub invariant-loop-step : goal.invariant-loop-step
 invariant-loop-step g l =
     let state = g.D.Disk.state in
-    IsSound state l.world
+    IsSoundWorld state l.world
     × (Runs state l.fn.world (take l.step-index l.steps) l.answers.items l.world
     × (ForetellsAll g.D.Disk.failures g.D.Disk.outlook l.fn.world.place (take l.step-index l.steps) l.answers.items l.world.place
     × (TellsAlone state l.fn.world.place (take l.step-index l.steps) l.answers.items l.world.place

@@ -3,7 +3,7 @@ use Rattle.lw_types.specs.Answer.{Answers, AnswersWithMemory}
 use Rattle.lw_types.specs.declared.refusal.Refusal.{Refusal}
 use Rattle.lw_types.specs.declared.refusal.Refusal.TheVariants.{OutOfMemory}
 use Rattle.devices.specs.declared.command.Command.{Command}
-use Rattle.sessions.specs.Table.{TableState, step, Step as TableStep}
+use Rattle.sessions.specs.Table.{TableState, step, TableStep}
 use Rattle.sessions.specs.Decision.{AnswersTo, IsDecision, is_frugal}
 use Rattle.sessions.specs.declared.decision.Decision.{Decision}
 use Rattle.world_tests.proofs.Turning.{refused_is}

@@ -1,5 +1,5 @@
 use Rattle.std.proofs.Common.{◌≡◌, ◌-◌, ◌∙◌, arith, ap, ℕ, [], List, get_or}
-use Rattle.aes128.specs.InverseCipher.{decrypted, inv_shift_rows, inv_sub_bytes}
+use Rattle.aes128.specs.InverseCipher.{plaintext, inv_shift_rows, inv_sub_bytes}
 use Rattle.aes128.proofs.InverseLemmas.{decrypted-last, inv_rounds-next, inv_rounds-zero}
 use Rattle.aes128.proofs.schedule.KeySchedule.decrypt.Goals as goal
 
@@ -20,4 +20,4 @@ returns c =
     let done : c.loop-r.r ≡ 9 = omega arith in
     let key : List ℕ = get_or c.self.inside.round_keys 0 [] in
     c.xor.ensures ∙ decrypted-last key c.args.block.now c.loop-r.block c.loop-r.r done c.loop-r.invariant
-    ∙ ap (λ (key : List ℕ). decrypted key c.args.block.now) c.self.view_is
+    ∙ ap (λ (key : List ℕ). plaintext key c.args.block.now) c.self.view_is

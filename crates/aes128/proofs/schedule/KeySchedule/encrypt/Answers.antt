@@ -1,5 +1,5 @@
 use Rattle.std.proofs.Common.{◌≡◌, ◌+◌, ◌∙◌, arith, sym, ap, ℕ, List}
-use Rattle.aes128.specs.Cipher.{encrypted}
+use Rattle.aes128.specs.Cipher.{ciphertext}
 use Rattle.aes128.proofs.RoundLemmas.{rounds-zero, rounds-next, encrypted-last}
 use Rattle.aes128.proofs.schedule.KeySchedule.encrypt.Goals as goal
 
@@ -14,4 +14,4 @@ returns c =
     let done : c.loop-r.r ≡ 9 = omega arith in
     c.last_round.ensures
     ∙ encrypted-last _ _ c.loop-r.block _ (rw done at c.loop-r.invariant) (c.self.invariant.each 10 (omega arith))
-    ∙ ap (λ (key : List ℕ). encrypted key c.args.block.now) c.self.view_is
+    ∙ ap (λ (key : List ℕ). ciphertext key c.args.block.now) c.self.view_is

@@ -4,12 +4,12 @@ use Rattle.gate_log.specs.declared.error.RecoverError.{RecoverError}
 use Rattle.gate_log.specs.declared.layout.Areas.{Areas}
 use Rattle.gate_log.specs.declared.layout.Header.{Header}
 use Rattle.gate_log.specs.declared.recover.Recovered.{Recovered}
-use Rattle.gate_log.specs.Areas.{AreLaidOut, HoldsIn, IsLive, IsOlder}
+use Rattle.gate_log.specs.Areas.{AreLaidOut, HoldsIn, IsLiveArea, IsOlder}
 use Rattle.gate_log.specs.Recovered.{IsRecovered, IsRecoveredIn}
 use Rattle.gate_log.proofs.Unique.{is_live, one_live}
 use Rattle.gate_log.proofs.opening.Opening.recover.Goals as goal
 
-held : (areas : Areas) (h : Header) (disk : List ℕ) (result : Result Recovered RecoverError) → AreLaidOut areas (length disk) → IsLive areas h disk → IfOk result (IsRecoveredIn areas.live disk) → IfOk result (λ r. r.header ≡ h) → IfOk result (IsRecovered areas disk)
+held : (areas : Areas) (h : Header) (disk : List ℕ) (result : Result Recovered RecoverError) → AreLaidOut areas (length disk) → IsLiveArea areas h disk → IfOk result (IsRecoveredIn areas.live disk) → IfOk result (λ r. r.header ≡ h) → IfOk result (IsRecovered areas disk)
 held areas h disk (Ok r) layout live recovered header = record {
   holds = record {
     layout = layout;

@@ -1,7 +1,7 @@
 use Rattle.std.proofs.Common.{◌≡◌, ◌≤◌, ◌∙◌, min, length, take, sym, ap, subst, arith}
 use Rattle.std.proofs.lemmas.List.{take_min}
 use Rattle.session_core.specs.State.{DecisionsState, IsLawful, now_of}
-use Rattle.session_core.specs.Deciding.{taken_from}
+use Rattle.session_core.specs.Deciding.{after_taking}
 use Rattle.session_core.specs.Kept.{state_of}
 use Rattle.session_core.proofs.Lawful.{lawful-taken, now-taken, state-taken, taken-min}
 use Rattle.session_core.proofs.decisions.Decisions.take.Goals as goal
@@ -30,5 +30,5 @@ returns-clause-taken c =
     state-taken c.joining.ensures.continues c.joining.ensures.table c.taking_back.ensures s n c.self.inside.table c.move_front.new.log.items
     c.self.invariant.lawful within c.self.invariant.table c.move_front.ensures.left in (
       c.move_front.ensures.moved ∙ (ap (λ k. take k s.log) least ∙ (take_min most s.log ∙ ap (λ (old : DecisionsState). take most old.log) c.self.view_is)),
-      same ∙ (taken-min s n most least ∙ ap (λ (old : DecisionsState). taken_from old most) c.self.view_is),
+      same ∙ (taken-min s n most least ∙ ap (λ (old : DecisionsState). after_taking old most) c.self.view_is),
     )

@@ -1,7 +1,7 @@
 use Rattle.std.proofs.Common.{◌≡◌, ◌∙◌, ◌+◌, ap, take, ◌≤◌, length, sym, subst, arith}
 use Rattle.std.proofs.lemmas.Bool.{false≢true}
 use Rattle.std.proofs.lemmas.List.{take_all}
-use Rattle.sessions.specs.Decision.{Continues, ContinueAll, applied_all}
+use Rattle.sessions.specs.Decision.{Continues, ContinueAll, with_decisions}
 use Rattle.sessions.proofs.Runs.{ContinueAll-next, ContinueAll-more}
 use Rattle.sessions.proofs.table.Table.continuation_end.Goals as goal
 
@@ -18,8 +18,8 @@ returns-then-not-admits_behind c all =
     let n = c.loop-at.at in
     let d = c.index-decisions-at.result in
     let next = ContinueAll-next t c.args.seq n d ds c.loop-at-test.true c.index-decisions-at.is all in
-    let last : Continues (applied_all t (take n ds)) c.loop-at.last d =
-    subst (λ k. Continues (applied_all t (take n ds)) k d) (sym c.loop-at.invariant.number) next in
+    let last : Continues (with_decisions t (take n ds)) c.loop-at.last d =
+    subst (λ k. Continues (with_decisions t (take n ds)) k d) (sym c.loop-at.invariant.number) next in
     false≢true (sym c.if-not-admits_behind.true ∙ c.admits_behind.ensures.1 last)
 
 pub loop-at-preserved : goal.loop-at-preserved
@@ -28,9 +28,9 @@ loop-at-preserved c =
     let ds = c.args.decisions.now in
     let n = c.loop-at.at in
     let d = c.index-decisions-at.result in
-    let held : Continues (applied_all t (take n ds)) c.loop-at.last d = c.admits_behind.ensures.0 c.if-not-admits_behind.false in
-    let next : Continues (applied_all t (take n ds)) (c.args.seq + n) d =
-    subst (λ k. Continues (applied_all t (take n ds)) k d) c.loop-at.invariant.number held in
+    let held : Continues (with_decisions t (take n ds)) c.loop-at.last d = c.admits_behind.ensures.0 c.if-not-admits_behind.false in
+    let next : Continues (with_decisions t (take n ds)) (c.args.seq + n) d =
+    subst (λ k. Continues (with_decisions t (take n ds)) k d) c.loop-at.invariant.number held in
     record {
       so_far = ContinueAll-more t c.args.seq n d ds c.loop-at-test.true c.index-decisions-at.is c.loop-at.invariant.so_far next;
       number = next.number ∙ (omega arith);

@@ -2,7 +2,7 @@ use Rattle.std.proofs.Common.{◌≡◌, ◌∙◌, ℕ, List, Some, Result, Ok,
 use Rattle.std.specs.List.{slice_get}
 use Rattle.std.proofs.lemmas.Bool.{ltb-true}
 use Rattle.std.proofs.lemmas.Option.{slice_get_read}
-use Rattle.devices.specs.Outcome.{IsOutcome, Outcome}
+use Rattle.devices.specs.DeviceStep.{IsDeviceStep, DeviceStep}
 use Rattle.devices.specs.declared.command.Command.TheVariants.{Heard}
 use Rattle.devices.specs.declared.device.Device.{Device}
 use Rattle.lw_types.specs.declared.refusal.Refusal.{Refusal}
@@ -32,10 +32,10 @@ returns-in-Ok c =
     let wanted = uplink_at c.net_id-net_id.result slot d h.hearings u in
     let step_is = step-uplink t h u slot d c.requires c.slot_at-slot.ensures.slot at in
     let here = ap (λ n. uplink_at n slot d h.hearings u >>= λ o. Ok (step_at slot (Some d) o)) (sym c.net_id-net_id.ensures) in
-    let found = exact-found wanted IsOutcome (c.in-Ok.after, c.in-Ok.effects) c.in-Ok.ensures in
+    let found = exact-found wanted IsDeviceStep (c.in-Ok.after, c.in-Ok.effects) c.in-Ok.ensures in
     let stepped : Stepped = record { slot = slot; after = c.in-Ok.after; effects = c.in-Ok.effects } in
     memory-ok (step t (Heard h)) IsStepped (step_at slot (Some d) found.0) (Ok stepped)
-    (step_is ∙ (here ∙ ap (λ (r : Result Outcome Refusal). r >>= λ o. Ok (step_at slot (Some d) o)) found.1))
+    (step_is ∙ (here ∙ ap (λ (r : Result DeviceStep Refusal). r >>= λ o. Ok (step_at slot (Some d) o)) found.1))
     (record { slot = refl; after = found.2.0; effects = found.2.1 })
 
 pub returns-in-Err : goal.returns-in-Err
@@ -50,5 +50,5 @@ returns-in-Err c =
     let step_is = step-uplink t h u slot d c.requires c.slot_at-slot.ensures.slot at in
     let here = ap (λ n. uplink_at n slot d h.hearings u >>= λ o. Ok (step_at slot (Some d) o)) (sym c.net_id-net_id.ensures) in
     memory-err (step t (Heard h)) wanted c.in-Err.refusal
-    (λ refused. step_is ∙ (here ∙ ap (λ (r : Result Outcome Refusal). r >>= λ o. Ok (step_at slot (Some d) o)) refused))
-    (exact-err wanted IsOutcome c.in-Err.refusal c.in-Err.ensures)
+    (λ refused. step_is ∙ (here ∙ ap (λ (r : Result DeviceStep Refusal). r >>= λ o. Ok (step_at slot (Some d) o)) refused))
+    (exact-err wanted IsDeviceStep c.in-Err.refusal c.in-Err.ensures)

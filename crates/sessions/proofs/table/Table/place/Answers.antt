@@ -7,7 +7,7 @@ use Rattle.std.proofs.Common.{get_or}
 use Rattle.devices.specs.declared.device.Device.{Device}
 use Rattle.std.proofs.Common.{Option}
 use Rattle.std.specs.HashMap.{get}
-use Rattle.sessions.specs.Table.{TableState, CanPlace, slot_of, placed}
+use Rattle.sessions.specs.Table.{TableState, CanPlace, slot_of, with_record}
 use Rattle.sessions.specs.Index.{HaveOwnSlots, table_of}
 use Rattle.sessions.proofs.Slots.{place-replaced, place-pushed, own_names-replaced, own_names-pushed}
 use Rattle.sessions.proofs.table.Table.place.Goals as goal
@@ -94,4 +94,4 @@ pub returns-then-at-len : goal.returns-then-at-len
 returns-then-at-len c =
     let within : c.args.slot < length c.self.inside.devices.items = omega (arith, c.self.inside.devices.ok.0) in
     ap (λ ds. record { net_id = c.self.inside.net_id; slots = c.self.inside.slots; devices = ds }) (set_split c.self.inside.devices.items c.args.slot c.args.device within)
-    ∙ ap (λ (s : TableState). placed s c.args.slot c.args.device) c.self.view_is
+    ∙ ap (λ (s : TableState). with_record s c.args.slot c.args.device) c.self.view_is

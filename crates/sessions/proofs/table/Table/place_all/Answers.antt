@@ -2,8 +2,8 @@ use Rattle.std.proofs.Common.{◌≡◌, ◌∙◌, ◌+◌, ◌<◌, ℕ, List,
 use Rattle.std.proofs.lemmas.List.{drop_more}
 use Rattle.std.specs.Option.{option_to_list}
 use Rattle.devices.specs.declared.device.Device.{Device}
-use Rattle.sessions.specs.Table.{TableState, CanPlace, placed}
-use Rattle.sessions.specs.Decision.{FitAll, afters_of, applied_all}
+use Rattle.sessions.specs.Table.{TableState, CanPlace, with_record}
+use Rattle.sessions.specs.Decision.{FitAll, afters_of, with_decisions}
 use Rattle.sessions.specs.declared.decision.Decision.{Decision}
 use Rattle.sessions.proofs.Runs.{CanPlace-fits, FitAll-next, applied_all-next}
 use Rattle.sessions.proofs.table.Table.place_all.Goals as goal
@@ -25,7 +25,7 @@ place-requires c =
     let fit : FitAll c.args.self.now ds = subst (FitAll c.args.self.now) (sym c.as_slice-decision-items.ensures.decisions) c.requires.fit in
     let next = front ds n d c.loop-decision.records.items c.pop_front-record.new.self.items c.pop_front-record.result c.unwrap.result
     c.loop-decision-test.true c.decision-item.is c.loop-decision.invariant.1 c.pop_front-record.ensures.items c.unwrap.ensures in
-    let can = CanPlace-fits (applied_all c.args.self.now (take n ds)) d (FitAll-next c.args.self.now n d ds c.loop-decision-test.true c.decision-item.is fit) in
+    let can = CanPlace-fits (with_decisions c.args.self.now (take n ds)) d (FitAll-next c.args.self.now n d ds c.loop-decision-test.true c.decision-item.is fit) in
     subst (λ (r : Device). CanPlace c.loop-decision.self d.slot r) (sym next.0)
     (subst (λ (t : TableState). CanPlace t d.slot d.after) (sym c.loop-decision.invariant.0) can)
 
@@ -37,8 +37,8 @@ loop-decision-preserved c =
     let next = front ds n d c.loop-decision.records.items c.pop_front-record.new.self.items c.pop_front-record.result c.unwrap.result
     c.loop-decision-test.true c.decision-item.is c.loop-decision.invariant.1 c.pop_front-record.ensures.items c.unwrap.ensures in (
       c.place.ensures
-          ∙ (ap (λ (t : TableState). placed t d.slot c.unwrap.result) c.loop-decision.invariant.0
-          ∙ (ap (placed (applied_all c.args.self.now (take n ds)) d.slot) next.0
+          ∙ (ap (λ (t : TableState). with_record t d.slot c.unwrap.result) c.loop-decision.invariant.0
+          ∙ (ap (with_record (with_decisions c.args.self.now (take n ds)) d.slot) next.0
           ∙ sym (applied_all-next c.args.self.now n d ds c.loop-decision-test.true c.decision-item.is))),
       next.1,
     )

@@ -5,7 +5,7 @@ use Rattle.std.proofs.lemmas.Result.{IfOk-at_ok}
 use Rattle.std.specs.List.{slice_get}
 use Rattle.std.specs.HashMap.{get}
 use Rattle.devices.specs.declared.device.Device.{Device}
-use Rattle.sessions.specs.Table.{TableState, slot_of, placed}
+use Rattle.sessions.specs.Table.{TableState, slot_of, with_record}
 use Rattle.sessions.specs.Index.{HaveOwnSlots, table_of}
 use Rattle.sessions.proofs.Slots.{place-renamed, own-last, own_names-renamed}
 use Rattle.sessions.proofs.table.Table.rename.Goals as goal
@@ -57,4 +57,4 @@ pub returns : goal.returns
 returns c =
     let within : c.args.slot < length c.self.inside.devices.items = subst (λ (s : TableState). c.args.slot < length s.devices) (sym c.self.view_is) c.requires.used in
     ap (λ ds. record { net_id = c.self.inside.net_id; slots = c.self.inside.slots; devices = ds }) (set_split c.self.inside.devices.items c.args.slot c.args.device within)
-    ∙ ap (λ (s : TableState). placed s c.args.slot c.args.device) c.self.view_is
+    ∙ ap (λ (s : TableState). with_record s c.args.slot c.args.device) c.self.view_is

@@ -1,12 +1,12 @@
 use Rattle.std.proofs.Common.{◌∙◌, ◌+◌, ap, sym, subst}
 use Rattle.disk.specs.State.{IsPermitted}
-use Rattle.gate_log.specs.Areas.{published}
+use Rattle.gate_log.specs.Areas.{contents_with_checkpoint}
 use Rattle.store.proofs.Republishing.{same_table_either}
 use Rattle.store.proofs.checkpointing.CheckpointOpened.sync.Goals as goal
 
 pub returns-in-Ok-clause-settled : goal.returns-in-Ok-clause-settled
 returns-in-Ok-clause-settled g c honest on = record {
-  contents = published on.contents on.header on.records;
+  contents = contents_with_checkpoint on.contents on.header on.records;
   rest = c.in-Ok.ensures.next honest on.contents on.header on.records on.log;
   says = on.republishes.after;
 }

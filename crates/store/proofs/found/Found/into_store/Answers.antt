@@ -4,13 +4,13 @@ use Rattle.gate_log.specs.declared.layout.Areas.{Areas}
 use Rattle.gate_log.specs.declared.layout.Header.{Header}
 use Rattle.gate_log.specs.Areas.{IsClosedArea, IsOpenArea}
 use Rattle.gate_log.specs.Log.{LogState}
-use Rattle.gate_log.specs.Opening.{opened}
+use Rattle.gate_log.specs.Opening.{disk_in_opening}
 use Rattle.store.specs.State.{IsOpened, StoreState}
 use Rattle.store.proofs.found.Found.into_store.Goals as goal
 
 pub returns-clause-opened : goal.returns-clause-opened
 returns-clause-opened g c honest found =
-    let content = (g.D.Disk.state (opened c.args.opening)).content in
+    let content = (g.D.Disk.state (disk_in_opening c.args.opening)).content in
     let with_log : LogState → StoreState = λ l. record { log = l; table = c.args.self.table; seq = c.args.self.seq; version = c.args.self.version; failed = false } in
     subst (IsOpened content) (sym (c.new.ensures.store ∙ ap with_log c.into_log.ensures.log)) (record {
       settled = record {

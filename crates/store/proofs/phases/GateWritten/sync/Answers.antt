@@ -1,33 +1,33 @@
 use Rattle.std.proofs.Common.{sym, subst}
 use Rattle.disk.specs.State.{IsPermitted}
-use Rattle.gate_log.specs.Areas.{batched}
-use Rattle.store.specs.Phases.{opened_change}
-use Rattle.store.specs.State.{IsSettled, seen}
+use Rattle.gate_log.specs.Areas.{contents_with_batch}
+use Rattle.store.specs.Phases.{gate_written_change}
+use Rattle.store.specs.State.{IsSettled, store_state}
 use Rattle.store.proofs.Holding.{held_either, held_with}
 use Rattle.store.proofs.phases.GateWritten.sync.Goals as goal
 
 pub returns-in-Ok-clause-settled : goal.returns-in-Ok-clause-settled
 returns-in-Ok-clause-settled g c honest on =
-    let s = seen g.D.Disk.state c.args.store.now in
-    let change = opened_change c.args.self in
+    let s = store_state g.D.Disk.state c.args.store.now in
+    let change = gate_written_change c.args.self in
     let rest = c.in-Ok.ensures.next honest on.contents on.batch on.log in
     subst IsSettled (sym c.adopt.ensures.store) (record {
-      contents = batched on.contents on.batch;
+      contents = contents_with_batch on.contents on.batch;
       rest = rest;
       says = on.journals.after;
     })
 
 pub returns-in-Ok-clause-durable : goal.returns-in-Ok-clause-durable
 returns-in-Ok-clause-durable g c honest on image permitted =
-    held_with (seen g.D.Disk.state c.args.store.now) (opened_change c.args.self) on.contents on.batch on.journals image
+    held_with (store_state g.D.Disk.state c.args.store.now) (gate_written_change c.args.self) on.contents on.batch on.journals image
     (c.in-Ok.ensures.durable honest on.contents on.batch on.log image (subst (λ d. IsPermitted (g.D.Disk.state d) image) c.adopt.ensures.disk permitted))
 
 pub returns-in-Ok-clause-images : goal.returns-in-Ok-clause-images
 returns-in-Ok-clause-images g c honest on image permitted =
-    held_either (seen g.D.Disk.state c.args.store.now) (opened_change c.args.self) on.contents on.batch on.journals image
+    held_either (store_state g.D.Disk.state c.args.store.now) (gate_written_change c.args.self) on.contents on.batch on.journals image
     (c.in-Ok.ensures.images honest on.contents on.batch on.log image (subst (λ d. IsPermitted (g.D.Disk.state d) image) c.adopt.ensures.disk permitted))
 
 pub returns-in-Err-clause-images : goal.returns-in-Err-clause-images
 returns-in-Err-clause-images g c honest on image permitted =
-    held_either (seen g.D.Disk.state c.args.store.now) (opened_change c.args.self) on.contents on.batch on.journals image
+    held_either (store_state g.D.Disk.state c.args.store.now) (gate_written_change c.args.self) on.contents on.batch on.journals image
     (c.in-Err.ensures.images honest on.contents on.batch on.log image (subst (λ d. IsPermitted (g.D.Disk.state d) image) c.fail.ensures.disk permitted))

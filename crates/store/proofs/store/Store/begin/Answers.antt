@@ -1,12 +1,12 @@
 use Rattle.std.proofs.Common.{◌≡◌, ◌∙◌, ◌+◌, length, sym, ap, subst, refl}
 use Rattle.sessions.specs.Decision.{FitAll}
-use Rattle.store.specs.State.{seen}
+use Rattle.store.specs.State.{store_state}
 use Rattle.store.proofs.Beginning.{EntryLaws, begun_on}
 use Rattle.store.proofs.store.Store.begin.Goals as goal
 
 pub returns-clause-begun : goal.returns-clause-begun
 returns-clause-begun g c settled =
-    let s = seen g.D.Disk.state c.args.self.now in
+    let s = store_state g.D.Disk.state c.args.self.now in
     let commit = c.in_ok-commit.commit in
     let answer = c.in_ok-commit.ensures in
     let laws : EntryLaws =

@@ -3,13 +3,13 @@ use Rattle.gate_log.specs.declared.layout.Header.{Header}
 use Rattle.gate_log.specs.Checkpointing.{IsCheckpoint as IsLogCheckpoint}
 use Rattle.gate_log.specs.Layout.{IsHeader}
 use Rattle.store.specs.Checkpointing.{next_header}
-use Rattle.store.specs.State.{seen}
+use Rattle.store.specs.State.{store_state}
 use Rattle.store.proofs.Republishing.{republishes}
 use Rattle.store.proofs.store.Store.checkpoint.Goals as goal
 
 pub returns-clause-begun : goal.returns-clause-begun
 returns-clause-begun g c settled =
-    let s = seen g.D.Disk.state c.args.self.now in
+    let s = store_state g.D.Disk.state c.args.self.now in
     let bytes = c.in_ok-records.records.items in
     let records = drop 29 bytes in
     let len : c.len.result - 29 ≡ length records =

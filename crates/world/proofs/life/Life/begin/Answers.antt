@@ -2,14 +2,14 @@ use Rattle.std.proofs.Common.{rules, ◌≢◌, ◌∙◌, List, Err, length, ap
 use Rattle.lw_types.specs.declared.refusal.Refusal.TheVariants.{OutOfMemory}
 use Rattle.sessions.specs.Decision.{IsLegalContinuation}
 use Rattle.sessions.specs.declared.decision.Decision.{Decision}
-use Rattle.session_core.specs.Deciding.{taken_from}
-use Rattle.store.specs.State.{seen}
-use Rattle.world.specs.declared.commit.Commit.TheVariants as commits
+use Rattle.session_core.specs.Deciding.{after_taking}
+use Rattle.store.specs.State.{store_state}
+use Rattle.world.specs.declared.commit.UnderWay.TheVariants as commits
 use Rattle.world.specs.declared.answer.Answer.TheVariants as answers
 use Rattle.world.specs.declared.step.Step.TheVariants as steps
 use Rattle.world.specs.Answers.{AnswersTake}
-use Rattle.world.specs.Calls.{AreCalls}
-use Rattle.world.specs.Course.{after, begun, gave_up}
+use Rattle.world.specs.Calls.{AreRecordedCalls}
+use Rattle.world.specs.Course.{course_after, after_take, after_give_up}
 use Rattle.world.specs.Follows.{IsLife, IsListening}
 use Rattle.session_core.specs.Core.{CoreState}
 use Rattle.world.proofs.Listening.{listens-on}
@@ -19,7 +19,7 @@ use Rattle.world.proofs.life.Life.begin.Goals as goal
 pub returns-in-Ok-clause-course : goal.returns-in-Ok-clause-course
 returns-in-Ok-clause-course g c origin course f =
     let life = c.args.self.now in
-    let s = seen g.D.Disk.state life.store in
+    let s = store_state g.D.Disk.state life.store in
     let most = c.args.most in
     let idle = subst (λ k. IsLife origin course s life.core.decisions k) c.requires.idle f.0 in
     let took = c.in_ok-batch.ensures.taken in
@@ -30,17 +30,17 @@ returns-in-Ok-clause-course g c origin course f =
     (c.len-count.ensures.len ∙ ap (λ (ds : List Decision). length ds) took.0) in (
       found.0,
       (
-        moved origin (begun course most) s (seen g.D.Disk.state c.set.new.self.store) (taken_from life.core.decisions most) c.set.new.self.core.decisions
+        moved origin (after_take course most) s (store_state g.D.Disk.state c.set.new.self.store) (after_taking life.core.decisions most) c.set.new.self.core.decisions
             (commits.Begun c.in-Ok.begun c.in_ok-room.room) c.set.new.self.commit
-            (ap (seen g.D.Disk.state) c.set.ensures.store ∙ c.in-Ok.ensures.same) (ap (λ (k : CoreState). k.decisions) (c.set.ensures.core ∙ took.1)) c.set.ensures.commit found.1,
-        listens-on course (begun course most) life.core c.set.new.self.core life.links c.set.new.self.links refl refl refl refl (ap (λ (k : CoreState). k.clock) (c.set.ensures.core ∙ took.1)) (ap (λ (k : CoreState). k.windows) (c.set.ensures.core ∙ took.1)) c.set.ensures.links f.1,
+            (ap (store_state g.D.Disk.state) c.set.ensures.store ∙ c.in-Ok.ensures.same) (ap (λ (k : CoreState). k.decisions) (c.set.ensures.core ∙ took.1)) c.set.ensures.commit found.1,
+        listens-on course (after_take course most) life.core c.set.new.self.core life.links c.set.new.self.links refl refl refl refl (ap (λ (k : CoreState). k.clock) (c.set.ensures.core ∙ took.1)) (ap (λ (k : CoreState). k.windows) (c.set.ensures.core ∙ took.1)) c.set.ensures.links f.1,
       ),
     )
 
 pub returns-in-OutOfStep-clause-course : goal.returns-in-OutOfStep-clause-course
 returns-in-OutOfStep-clause-course g c origin course f =
     let life = c.args.self.now in
-    let s = seen g.D.Disk.state life.store in
+    let s = store_state g.D.Disk.state life.store in
     let most = c.args.most in
     let idle = subst (λ k. IsLife origin course s life.core.decisions k) c.requires.idle f.0 in
     let took = c.in_ok-batch.ensures.taken in
@@ -49,21 +49,21 @@ returns-in-OutOfStep-clause-course g c origin course f =
     strays c.of_runs.ensures origin course s life.core.decisions c.take.ensures.lawful.decisions most idle c.requires.some c.take.ensures.asked
     (λ legal. illegal (subst (IsLegalContinuation s.table s.seq) (sym took.0) legal)) in
     subst (λ e. AnswersTake course.flights course most (answers.Refused e)
-    × (IsLife origin (after origin course (steps.Take most) (answers.Refused e)) (seen g.D.Disk.state c.begin.new.self) c.take.new.self.decisions life.commit
-    × IsListening (after origin course (steps.Take most) (answers.Refused e)) c.take.new.self life.links))
+    × (IsLife origin (course_after origin course (steps.Take most) (answers.Refused e)) (store_state g.D.Disk.state c.begin.new.self) c.take.new.self.decisions life.commit
+    × IsListening (course_after origin course (steps.Take most) (answers.Refused e)) c.take.new.self life.links))
     (sym c.in-OutOfStep.is) (
       found.0,
       (
-        moved origin (gave_up course most) s (seen g.D.Disk.state c.begin.new.self) (taken_from life.core.decisions most) c.take.new.self.decisions commits.Idle life.commit
+        moved origin (after_give_up course most) s (store_state g.D.Disk.state c.begin.new.self) (after_taking life.core.decisions most) c.take.new.self.decisions commits.Idle life.commit
             c.in-Err.ensures.same (ap (λ (k : CoreState). k.decisions) took.1) c.requires.idle found.1,
-        listens-on course (gave_up course most) life.core c.take.new.self life.links life.links refl refl refl refl (ap (λ (k : CoreState). k.clock) took.1) (ap (λ (k : CoreState). k.windows) took.1) refl f.1,
+        listens-on course (after_give_up course most) life.core c.take.new.self life.links life.links refl refl refl refl (ap (λ (k : CoreState). k.clock) took.1) (ap (λ (k : CoreState). k.windows) took.1) refl f.1,
       ),
     )
 
 pub returns : goal.returns
 returns g c =
     let life = c.args.self.now in
-    let s = seen g.D.Disk.state life.store in
+    let s = store_state g.D.Disk.state life.store in
     let most = c.args.most in
     let took = c.in_ok-batch.ensures.taken in
     record {
@@ -81,10 +81,10 @@ returns g c =
           (c.len-count.ensures.len ∙ ap (λ (ds : List Decision). length ds) took.0) in (
             found.0,
             (
-              moved origin (gave_up course most) s (seen g.D.Disk.state c.begin.new.self) (taken_from life.core.decisions most) c.take.new.self.decisions commits.Idle life.commit
+              moved origin (after_give_up course most) s (store_state g.D.Disk.state c.begin.new.self) (after_taking life.core.decisions most) c.take.new.self.decisions commits.Idle life.commit
                   c.begin.ensures.same (ap (λ (k : CoreState). k.decisions) took.1) c.requires.idle found.1,
-              listens-on course (gave_up course most) life.core c.take.new.self life.links life.links refl refl refl refl (ap (λ (k : CoreState). k.clock) took.1) (ap (λ (k : CoreState). k.windows) took.1) refl f.1,
+              listens-on course (after_give_up course most) life.core c.take.new.self life.links life.links refl refl refl refl (ap (λ (k : CoreState). k.clock) took.1) (ap (λ (k : CoreState). k.windows) took.1) refl f.1,
             ),
           );
-      calls = λ calls are. (tt, subst (λ d. AreCalls calls (g.D.Disk.failures d) (g.D.Disk.outlook d)) (sym c.begin.ensures.disk) are);
+      calls = λ calls are. (tt, subst (λ d. AreRecordedCalls calls (g.D.Disk.failures d) (g.D.Disk.outlook d)) (sym c.begin.ensures.disk) are);
     }

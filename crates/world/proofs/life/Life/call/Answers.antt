@@ -1,8 +1,8 @@
 use Rattle.std.proofs.Common.{◌∙◌, true, ap, refl, subst, sym}
 use Rattle.disk.specs.Outlook.{IsForeseen}
-use Rattle.store.specs.State.{seen, disk_of}
+use Rattle.store.specs.State.{store_state, disk_of}
 use Rattle.world.specs.declared.answer.Answer.TheVariants as answers
-use Rattle.world.specs.Course.{no_call, one_call}
+use Rattle.world.specs.Course.{after_failed_call, after_call}
 use Rattle.world.specs.Answers.{AnswersCall}
 use Rattle.world.specs.Commits.{HasCall}
 use Rattle.world.specs.Follows.{IsLife}
@@ -20,16 +20,16 @@ returns-in-Ok g c =
     let failures = g.D.Disk.failures in
     let outlook = g.D.Disk.outlook in
     let life = c.args.self.now in
-    let s = seen state life.store in
-    let s' = seen state c.call.new.store in
+    let s = store_state state life.store in
+    let s' = store_state state c.call.new.store in
     let commit = c.replace.result in
     let same = sym c.replace.ensures.value in
     let new = c.set.new.self in
     let e = c.in-Ok.ensures in
     record {
       sound =
-          subst (λ k. IsOnItsWay (seen state new.store) k) (sym c.set.ensures.commit)
-          (subst (λ d. IsOnItsWay (seen state d) c.in-Ok.next) (sym c.set.ensures.store) e.way);
+          subst (λ k. IsOnItsWay (store_state state new.store) k) (sym c.set.ensures.commit)
+          (subst (λ d. IsOnItsWay (store_state state d) c.in-Ok.next) (sym c.set.ensures.store) e.way);
       room = λ there fit room.
           subst (λ k. HasRoom k there fit) (sym c.set.ensures.commit) (e.room there fit (subst (λ k. HasRoom k there fit) same room));
       course = λ origin course f.
@@ -40,9 +40,9 @@ returns-in-Ok g c =
           call_succeeds c.of_runs.ensures origin course s s' life.core.decisions commit call f1 c.in-Ok.next e.flights e.checkpoint e.decisions (e.on on) (e.goes on) e.one_call.failed in (
             found.0,
             (
-              moved origin (one_call course) s' (seen state new.store) life.core.decisions new.core.decisions c.in-Ok.next new.commit
-                  (ap (seen state) c.set.ensures.store) (ap (λ (k : CoreState). k.decisions) c.set.ensures.core) c.set.ensures.commit found.1,
-              listens-on course (one_call course) life.core new.core life.links new.links refl refl refl refl (ap (λ (k : CoreState). k.clock) c.set.ensures.core) (ap (λ (k : CoreState). k.windows) c.set.ensures.core) c.set.ensures.links f.1,
+              moved origin (after_call course) s' (store_state state new.store) life.core.decisions new.core.decisions c.in-Ok.next new.commit
+                  (ap (store_state state) c.set.ensures.store) (ap (λ (k : CoreState). k.decisions) c.set.ensures.core) c.set.ensures.commit found.1,
+              listens-on course (after_call course) life.core new.core life.links new.links refl refl refl refl (ap (λ (k : CoreState). k.clock) c.set.ensures.core) (ap (λ (k : CoreState). k.windows) c.set.ensures.core) c.set.ensures.links f.1,
             ),
           );
       calls = λ calls are.
@@ -57,8 +57,8 @@ returns-in-Err g c =
     let failures = g.D.Disk.failures in
     let outlook = g.D.Disk.outlook in
     let life = c.args.self.now in
-    let s = seen state life.store in
-    let s' = seen state c.call.new.store in
+    let s = store_state state life.store in
+    let s' = store_state state c.call.new.store in
     let commit = c.replace.result in
     let same = sym c.replace.ensures.value in
     let stopped = sym c.replace.ensures.after in
@@ -73,8 +73,8 @@ returns-in-Err g c =
           let found = call_fails c.of_runs.ensures origin course s s' life.core.decisions commit call f1 (e.goes on) in (
             subst (λ e. AnswersCall course.flights course.checkpoint (answers.Refused e)) (sym e.one_call.failed.0) found.0,
             (
-              subst (λ k. IsLife origin (no_call course) s' life.core.decisions k) stopped found.1,
-              listens-on course (no_call course) life.core life.core life.links life.links refl refl refl refl refl refl refl f.1,
+              subst (λ k. IsLife origin (after_failed_call course) s' life.core.decisions k) stopped found.1,
+              listens-on course (after_failed_call course) life.core life.core life.links life.links refl refl refl refl refl refl refl f.1,
             ),
           );
       calls = λ calls are.

@@ -1,5 +1,5 @@
 use Rattle.std.proofs.Common.{sym, subst}
-use Rattle.world.specs.Course.{told_more}
+use Rattle.world.specs.Course.{with_piece}
 use Rattle.world.specs.Links.{Completes, stream_on}
 use Rattle.world.proofs.Piecing.{listens-same, listens-told}
 use Rattle.world.proofs.Shapes.{same-life}
@@ -19,6 +19,6 @@ returns-in-Ok-clause-course g c origin course f =
     let law = c.cuts_make_no_difference.ensures in
     let handed_in = c.in-Ok.handed_in in
     let more = says-more law.rest law.fault course.pieces life.links c.say.new.self link bytes handed_in.events.items handed_in.fault f.1.said c.in-Ok.ensures.said in
-    let told = c.go_through-turns.ensures.course origin (told_more course link bytes)
+    let told = c.go_through-turns.ensures.course origin (with_piece course link bytes)
     (same-life f.0, listens-told course life.core life.links c.say.new.self link bytes f.1 more.1) in
     ((subst (λ l. Completes (stream_on link course.pieces) bytes l handed_in.fault) (sym c.go_through-turns.ensures.events) more.0, told.0), told.1)

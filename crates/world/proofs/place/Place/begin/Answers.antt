@@ -1,10 +1,10 @@
 use Rattle.std.proofs.Common.{◌∙◌, length, inl, refl, ap, subst, sym}
 use Rattle.disk.specs.State.{NothingOpen}
 use Rattle.sessions.specs.Table.{TableState}
-use Rattle.session_core.specs.State.{opened}
-use Rattle.store.specs.State.{seen}
-use Rattle.world.specs.declared.commit.Commit.TheVariants as commits
-use Rattle.world.specs.Course.{reopened}
+use Rattle.session_core.specs.State.{new_decisions}
+use Rattle.store.specs.State.{store_state}
+use Rattle.world.specs.declared.commit.UnderWay.TheVariants as commits
+use Rattle.world.specs.Course.{after_opening}
 use Rattle.world.specs.Follows.{Survives}
 use Rattle.world.proofs.Calling.{held}
 use Rattle.session_core.specs.Core.{CoreState}
@@ -16,7 +16,7 @@ use Rattle.world.proofs.place.Place.begin.Goals as goal
 pub returns-in-Ok-clause-course : goal.returns-in-Ok-clause-course
 returns-in-Ok-clause-course g c healthy settled origin course left =
     let state = g.D.Disk.state in
-    let s = seen state c.args.store in
+    let s = store_state state c.args.store in
     let life = c.in-Ok.life in
     let seq = c.seq-seq.ensures ∙ left.3 in
     let table = c.table.ensures ∙ left.2 in (
@@ -24,10 +24,10 @@ returns-in-Ok-clause-course g c healthy settled origin course left =
       λ image. (
         refl,
         (
-          moved origin (reopened origin course c.seq-seq.result) s (seen state life.store) (opened s.table s.seq) life.core.decisions commits.Idle life.commit
+          moved origin (after_opening origin course c.seq-seq.result) s (store_state state life.store) (new_decisions s.table s.seq) life.core.decisions commits.Idle life.commit
               c.in-Ok.ensures.store (ap (λ (k : CoreState). k.decisions) c.in-Ok.ensures.core) c.in-Ok.ensures.idle
               (life_opened origin course left.0 c.seq-seq.result s left.1 seq settled healthy left.2 left.3 (c.a_settled_store_is_on_its_disk.ensures s settled)),
-          listens-first (reopened origin course c.seq-seq.result) life.core life.links s.table s.seq c.in-Ok.ensures.core c.in-Ok.ensures.silent (c.no_copies_no_windows.ensures 0) refl refl refl refl,
+          listens-first (after_opening origin course c.seq-seq.result) life.core life.links s.table s.seq c.in-Ok.ensures.core c.in-Ok.ensures.silent (c.no_copies_no_windows.ensures 0) refl refl refl refl,
         ),
       ),
     )
@@ -35,7 +35,7 @@ returns-in-Ok-clause-course g c healthy settled origin course left =
 pub returns-in-Err-clause-course : goal.returns-in-Err-clause-course
 returns-in-Err-clause-course g c healthy settled origin course left =
     let state = g.D.Disk.state in
-    let s = seen state c.args.store in
+    let s = store_state state c.args.store in
     let disk = c.in-Err.ensures.refused.0 in (
       inl c.in-Err.ensures.refused.1,
       λ image. (

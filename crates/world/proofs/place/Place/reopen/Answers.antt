@@ -4,7 +4,7 @@ use Rattle.store.specs.Image.{HoldsTable}
 use Rattle.store.specs.State.{disk_of}
 use Rattle.world.specs.declared.answer.Answer.TheVariants as answers
 use Rattle.world.specs.declared.step.Step.TheVariants as steps
-use Rattle.world.specs.Calls.{AreCalls, called, passed_some}
+use Rattle.world.specs.Calls.{AreRecordedCalls, calls_after, outlook_after_opening}
 use Rattle.world.specs.Course.{table_from, number_from}
 use Rattle.world.specs.Answers.{Leaves}
 use Rattle.world.specs.Follows.{Survives}
@@ -49,8 +49,8 @@ returns-in-Ok-clause-calls g c image calls are =
     let told = none_failed calls image c.begin.result.1 c.begin.ensures.calls in (
       told.1 found.0,
       λ disk there.
-          subst (λ k. AreCalls k (failures disk) (outlook disk)) (sym told.0)
-          (subst (λ d. AreCalls (record calls { coming = passed_some calls.coming }) (failures d) (outlook d)) (sym (c.begin.ensures.same disk there)) found.1),
+          subst (λ k. AreRecordedCalls k (failures disk) (outlook disk)) (sym told.0)
+          (subst (λ d. AreRecordedCalls (record calls { coming = outlook_after_opening calls.coming }) (failures d) (outlook d)) (sym (c.begin.ensures.same disk there)) found.1),
     )
 
 pub returns-in-Err-clause-calls : goal.returns-in-Err-clause-calls
@@ -63,7 +63,7 @@ returns-in-Err-clause-calls g c image calls are =
     let found =
     opening_told calls (failures before) (failures after) (outlook before) (outlook after) image c.in-Err.refusal are (g.met.D.Sim.is_foreseen before)
     e.device e.unarmed e.fails (λ armed. (e.armed armed).0) in
-    (found.0, λ disk there. subst (λ d. AreCalls (called calls (steps.Crash image) (answers.Refused c.in-Err.refusal)) (failures d) (outlook d)) (sym there) found.1)
+    (found.0, λ disk there. subst (λ d. AreRecordedCalls (calls_after calls (steps.Crash image) (answers.Refused c.in-Err.refusal)) (failures d) (outlook d)) (sym there) found.1)
 
 pub returns-in-Ok-clause-same : goal.returns-in-Ok-clause-same
 returns-in-Ok-clause-same g c now there =

@@ -3,8 +3,8 @@ use Rattle.std.proofs.lemmas.List.{length-map}
 use Rattle.flusher.specs.Released.{effect_of, effects_of_all}
 use Rattle.world.specs.declared.step.Step.TheVariants as steps
 use Rattle.world.specs.Answers.{AnswersCrash}
-use Rattle.world.specs.Calls.{AreCallsAt, called}
-use Rattle.world.specs.Course.{after}
+use Rattle.world.specs.Calls.{AreCallsAt, calls_after}
+use Rattle.world.specs.Course.{course_after}
 use Rattle.world.specs.Follows.{FollowsPlace}
 use Rattle.world.specs.Sound.{HasDisk}
 use Rattle.world.proofs.Known.{unseen}
@@ -24,7 +24,7 @@ returns-clause-course g c origin course f =
     let survives = crashed_survives origin course (state old) (state disk) before c.crash.ensures.permitted
     (c.settled_disk_keeps_its_content.ensures (state disk) c.crash.ensures.settled.nothing_open) in
     let opened = c.reopen-place.ensures.course origin course c.crash.ensures.settled.nothing_open survives in
-    let next = after origin course (steps.Crash image) answer in
+    let next = course_after origin course (steps.Crash image) answer in
     let kept = crash_keeps c.of_runs.ensures origin course image answer opened.0 in (
       both_ways course.is_open (AnswersCrash origin course answer) opened.0,
       record {
@@ -51,4 +51,4 @@ returns-clause-calls g c calls are =
     let came = subst (λ p. HasDisk p old) c.replace.ensures.value c.end-disk.ensures in
     let crashed = unseen calls (failures old) (failures disk) (outlook old) (outlook disk) (are old came) c.crash.ensures.failures c.crash.ensures.outlook in
     let found = c.reopen-place.ensures.calls image calls crashed in
-    (found.0, subst (AreCallsAt failures outlook (called calls (steps.Crash image) c.reopen-place.result.1)) (sym c.put.ensures.place) found.1)
+    (found.0, subst (AreCallsAt failures outlook (calls_after calls (steps.Crash image) c.reopen-place.result.1)) (sym c.put.ensures.place) found.1)

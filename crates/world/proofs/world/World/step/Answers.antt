@@ -1,5 +1,5 @@
 use Rattle.std.proofs.Common.{◌∙◌, refl, subst, sym}
-use Rattle.world.specs.Calls.{AreCalls, AreCallsAt, ForetellsAt, called}
+use Rattle.world.specs.Calls.{AreRecordedCalls, AreCallsAt, ForetellsAt, calls_after}
 use Rattle.world.specs.Follows.{FollowsPlace}
 use Rattle.world.specs.Tells.{PlaceTellsRoom}
 use Rattle.world.proofs.Going.{step_keeps, right_open, is_own}
@@ -31,7 +31,7 @@ returns-in-Open g c =
       calls = λ calls are.
           let here = subst (AreCallsAt failures outlook calls) c.in-Open.is are in
           let told = c.step.ensures.calls calls (here _ refl) in
-          (told.0, λ disk is. subst (λ d. AreCalls (called calls step answer) (failures d) (outlook d)) (sym is) told.1);
+          (told.0, λ disk is. subst (λ d. AreRecordedCalls (calls_after calls step answer) (failures d) (outlook d)) (sym is) told.1);
       room_told = subst (λ p. PlaceTellsRoom state p step answer) (sym c.in-Open.is) c.step.ensures.room_told;
       crashed = no_image state c.args.self.now.place _ step own;
     }

@@ -1,6 +1,6 @@
 use Rattle.std.proofs.Common.{◌≡◌, ◌∙◌, ◌+◌, ◌++◌, ◌∷◌, [], List, ℕ, None, Some, rules, ap, subst, sym}
 use Rattle.devices.specs.declared.command.Command.{Command}
-use Rattle.world.specs.Course.{Course, wanted}
+use Rattle.world.specs.Course.{Course, step_if_room}
 use Rattle.world_tests.specs.Plain.{PlainState, IsRefusal, at_course}
 use Rattle.world_tests.proofs.Turning.{goes_on, stays}
 use Rattle.world_tests.proofs.model.Plain.admit.Goals as goal
@@ -18,7 +18,7 @@ pub returns-in_ok-self-inside-in-None-clause-course : goal.returns-in_ok-self-in
 returns-in_ok-self-inside-in-None-clause-course c =
     let s = c.args.self.now in
     let command = c.args.command.now in
-    let outcome = wanted s.origin s.course command in
+    let outcome = step_if_room s.origin s.course command in
     let why : IsRefusal outcome None = subst (IsRefusal outcome) c.in-None.is c.in_ok-why_not.ensures in
     let untaken : c.push.new.self.items ≡ c.self.inside.untaken.items ++ command ∷ [] = search (rules) in
     let next : c.in_ok-self-inside-in-None.field-0 ≡ c.self.inside.made + 1 = search (rules) in
@@ -28,6 +28,6 @@ pub returns-in-Some-clause-course : goal.returns-in-Some-clause-course
 returns-in-Some-clause-course c =
     let s = c.args.self.now in
     let command = c.args.command.now in
-    let outcome = wanted s.origin s.course command in
+    let outcome = step_if_room s.origin s.course command in
     let why : IsRefusal outcome (Some c.in-Some.refusal) = subst (IsRefusal outcome) c.in-Some.is c.in_ok-why_not.ensures in
     ap (at_course s) (sym (stays s.course command outcome c.in-Some.refusal why))

@@ -8,14 +8,14 @@ use Rattle.world.specs.Links.{Piece}
 use Rattle.world.specs.declared.step.Step.TheVariants.{Crash}
 use Rattle.world.specs.declared.answer.Answer.TheVariants.{Opened}
 use Rattle.world.specs.Answers.{Leaves}
-use Rattle.world.specs.Calls.{Calls, MaySucceed, passed_some}
+use Rattle.world.specs.Calls.{CallRecord, MaySucceed, outlook_after_opening}
 use Rattle.world.specs.Course.Checkpoint.{NotUnderWay}
-use Rattle.world.specs.Course.{Course, decided, formatted, table_from}
+use Rattle.world.specs.Course.{Course, decided_commands, new_store, table_from}
 use Rattle.world_tests.specs.Plain.{PlainState, Goes, kept_with}
 use Rattle.world_tests.proofs.model.Plain.crash.Goals as goal
 
 -- the model after an opening that found these commands
-abbrev landed : PlainState → Calls → List Command → List Command → ℕ → List Arrival → List Piece → PlainState
+abbrev landed : PlainState → CallRecord → List Command → List Command → ℕ → List Arrival → List Piece → PlainState
 landed old calls settled untaken emitted arrivals pieces =
     record {
       origin = old.origin;
@@ -42,17 +42,17 @@ both_ways true X x = x
 both_ways false X x = x
 
 -- it is where the crash leads
-crashed : (front : (c : Course) (kept : List Command) → Leaves c kept → take (length kept) (decided c) ≡ kept) (v old : PlainState) → v ≡ old
+crashed : (front : (c : Course) (kept : List Command) → Leaves c kept → take (length kept) (decided_commands c) ≡ kept) (v old : PlainState) → v ≡ old
     → (image : Image) (flew : Bool) (kept untaken : List Command) (devices seq emitted : ℕ) (arrivals : List Arrival) (pieces : List Piece) → v.origin.number ≡ 0 → Leaves v.course (kept_with flew v.course)
     → kept ≡ kept_with flew v.course → seq ≡ length kept → devices ≡ length (table_from v.origin kept).devices → untaken ≡ []
     → emitted ≡ length v.course.left → v.calls.coming ≡ AllSucceed → arrivals ≡ [] → pieces ≡ []
     → Goes old (Crash image) (Opened devices seq) (landed v v.calls kept untaken emitted arrivals pieces)
 crashed front v old is image flew kept untaken devices seq emitted arrivals pieces new leaves found number count empty lost unarmed forgot unsaid =
     let cut : seq - v.origin.number ≡ length kept = omega (arith, new, number) in
-    let settled : kept ≡ take (seq - v.origin.number) (decided v.course) =
+    let settled : kept ≡ take (seq - v.origin.number) (decided_commands v.course) =
     found
-    ∙ (sym (front v.course (kept_with flew v.course) leaves) ∙ ap (λ n. take n (decided v.course)) (ap length (sym found) ∙ sym cut)) in
-    let first = take (seq - v.origin.number) (decided v.course) in
+    ∙ (sym (front v.course (kept_with flew v.course) leaves) ∙ ap (λ n. take n (decided_commands v.course)) (ap length (sym found) ∙ sym cut)) in
+    let first = take (seq - v.origin.number) (decided_commands v.course) in
     let told : seq ≡ v.origin.number + length kept = omega (arith, new, number) in
     subst (λ (o : PlainState). Goes o (Crash image) (Opened devices seq) (landed v v.calls kept untaken emitted arrivals pieces)) is (
       both_ways v.course.is_open _ (kept, subst (Leaves v.course) (sym found) leaves, told, count),
@@ -63,7 +63,7 @@ crashed front v old is image flew kept untaken devices seq emitted arrivals piec
             ∙ (ap (λ n. landed v v.calls first [] n arrivals pieces) lost
             ∙ (ap (λ a. landed v v.calls first [] (length v.course.left) a pieces) forgot
             ∙ (ap (landed v v.calls first [] (length v.course.left) []) unsaid
-            ∙ ap (λ o. landed v (record v.calls { coming = o }) first [] (length v.course.left) [] []) (unarmed ∙ sym (ap passed_some unarmed)))))),
+            ∙ ap (λ o. landed v (record v.calls { coming = o }) first [] (length v.course.left) [] []) (unarmed ∙ sym (ap outlook_after_opening unarmed)))))),
       ),
     )
 
@@ -74,7 +74,7 @@ returns c =
     let count =
     ap length c.devices.ensures.devices
     ∙ ap (λ (t : TableState). length t.devices)
-    (c.in_ok-table.ensures ∙ ap (table_from (formatted c.self.inside.net_id c.self.inside.slots)) c.deref.ensures.value) in
+    (c.in_ok-table.ensures ∙ ap (table_from (new_store c.self.inside.net_id c.self.inside.slots)) c.deref.ensures.value) in
     crashed c.what_a_crash_leaves.ensures.beginning _ _ c.self.view_is c.args.image.now c.flew-flew.result c.in_ok-kept.kept.items c.clear.new.self.items
     (length c.devices.result.now) c.len.result c.len-self-inside.result c.clear-2.new.self.items c.clear-3.new.self.items refl c.flew-flew.ensures c.in_ok-kept.ensures number count c.clear.ensures.items lost
     (ap (λ b. cond b (FailsAfter 0) AllSucceed) c.if-self.false) c.clear-2.ensures.items c.clear-3.ensures.items

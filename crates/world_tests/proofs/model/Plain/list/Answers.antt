@@ -1,13 +1,13 @@
 use Rattle.std.proofs.Common.{◌≡◌, ◌∙◌, inl, MatchBool, length, ap, subst, sym, refl, arith}
 use Rattle.world.specs.declared.answer.Answer.TheVariants as answers
 use Rattle.world.specs.Answers.{AnswersList}
-use Rattle.world.specs.Course.{decided, number_from, table_from}
+use Rattle.world.specs.Course.{decided_commands, number_from, table_from}
 use Rattle.world_tests.proofs.model.Plain.list.Goals as goal
 
 pub returns : goal.returns
 returns c =
     let s = c.args.self.now in
-    let all = decided s.course in
+    let all = decided_commands s.course in
     let items = ap length c.in_ok-all.ensures.commands in
     let count = c.len.ensures in
     let first = c.decided.ensures.number in

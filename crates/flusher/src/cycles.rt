@@ -1,0 +1,139 @@
+// The cycles of a flusher.
+ghost use Rattle.std.specs.Prelude.{◌≡◌, ◌≢◌, ◌⊎◌, ◌==◌, true, List, [], length, Ok, Err, IfOk};
+ghost use Rattle.std.specs.Prelude.{IfErr, OnErr, OnOk, MatchBool, MatchResult};
+ghost use Rattle.disk.specs.State.{EveryImage};
+ghost use Rattle.flusher.specs.Calls.{IsUntouched, LastFailed, NoneFailed};
+ghost use Rattle.flusher.specs.Cycle.{Commits, HoldsWithOrWithout, IsReady, IsUncommitted};
+ghost use Rattle.flusher.specs.Cycle.{IsUnready};
+ghost use Rattle.flusher.specs.Released.{effects_of_all};
+ghost use Rattle.lw_types.specs.declared.refusal.Refusal.TheVariants.{DeviceFailed};
+ghost use Rattle.sessions.specs.Decision.{commands_of, effects_in};
+ghost use Rattle.sessions.specs.Table.{effects_of};
+ghost use Rattle.sessions.specs.declared.batch.TheConstants.Batch.{MOST};
+ghost use Rattle.sessions.specs.declared.decision.Decision.{Decision};
+ghost use Rattle.store.specs.Image.{HoldsTable};
+ghost use Rattle.store.specs.Phases.{durable_decisions};
+ghost use Rattle.store.specs.State.{store_state, disk_of, IsSettled};
+
+use crate::checkpointing::make_room;
+use crate::committing::commit;
+use crate::{Durable, Feed, Most, Released, Room};
+use disk::Disk;
+use lw_types::Refusal;
+use sessions::Batch;
+use std::alloc::Global;
+use store::Store;
+
+/// One cycle of a flusher, on a store with nothing under way: takes a batch from the feed, commits
+/// it by four calls of the disk, and then gives the effects of its commands to `out`, once and all
+/// together. Answers how many decisions it had. Where the feed gives an empty batch, that is 0, and
+/// `out` isn't called. Where the journal has no room for the largest batch, a checkpoint is written
+/// first, by four calls or six.
+///
+/// A refusal comes before anything has left: `OutOfMemory` for want of memory; `Damaged` exactly
+/// where a checkpoint is due and the live area has the last generation; the feed's own; `Failed`
+/// exactly where an earlier call of the disk failed and a checkpoint is due or the batch isn't
+/// empty; `OutOfStep` exactly where the batch isn't empty and no legal continuation of the durable
+/// table; `DeviceFailed` exactly where a call of the disk failed. Room for the effects is got
+/// before all else, and a batch that was taken and refused is given up.
+///
+/// A cycle costs by its batch, and one with a checkpoint by the whole table.
+pub fn cycle<D: Disk, F: Feed, C: FnMut(Vec<Released>)>(
+    store: &mut Store<D>,
+    feed: &mut F,
+    alloc: Global,
+    out: &mut C,
+) -> Result<usize, Refusal>
+    requires { C.IsAlwaysCallable out.old }
+
+    // The batch that the feed gave is committed, and its effects left, once.
+    ensures done { IfOk result (λ count. (batch : List Decision)
+        × (F.gives feed.old MOST (Ok batch) feed.new
+        × ((count ≡ length batch)
+        × (Commits (store_state D.state store.old) (store_state D.state store.new) batch
+        × MatchBool (count == 0)
+        (out.new ≡ out.old)
+        ((released : _) × ((effects_of_all released.items
+        ≡ effects_of (store_state D.state store.old).table (commands_of batch))
+        × C.step out.old released tt out.new)))))) }
+
+    ensures ready { OnOk result (IsReady (store_state D.state store.old)) }
+
+    // Nothing left, and the store has what it had.
+    ensures held_back { OnErr result (out.new ≡ out.old) }
+    ensures table { OnErr result
+        ((store_state D.state store.new).table ≡ (store_state D.state store.old).table) }
+    ensures seq { OnErr result ((store_state D.state store.new).seq
+        ≡ (store_state D.state store.old).seq) }
+
+    // No batch was asked for, or the feed gave none, or it wasn't committed.
+    ensures refused { IfErr result (λ e.
+        ((feed.new ≡ feed.old)
+        × IsUnready (store_state D.state store.old)
+        (LastFailed D.failures D.outlook store.old store.new) e)
+        ⊎ (IsReady (store_state D.state store.old) × (F.gives feed.old MOST (Err e) feed.new
+        ⊎ ((batch : List Decision) × (F.gives feed.old MOST (Ok batch) feed.new × ((batch ≢ [])
+        × IsUncommitted (store_state D.state store.old) batch
+        (LastFailed D.failures D.outlook store.old store.new) e)))))) }
+    ensures calls { MatchResult result
+        (λ _. NoneFailed D.failures D.outlook store.old store.new)
+        (λ e. NoneFailed D.failures D.outlook store.old store.new
+        ⊎ ((e ≡ DeviceFailed) × LastFailed D.failures D.outlook store.old store.new)) }
+
+    // A store that has failed isn't touched.
+    ensures closed { (store_state D.state store.old).failed ≡ true
+        → IsUntouched D.state store.old store.new }
+
+    // Where no call of the disk failed, nothing is under way.
+    ensures settled { D.honest → IsSettled (store_state D.state store.old)
+        → NoneFailed D.failures D.outlook store.old store.new
+        → IsSettled (store_state D.state store.new) }
+
+    // Whatever a crash leaves at the end holds what the store has, or the refused batch too.
+    ensures images { D.honest → IsSettled (store_state D.state store.old) → MatchResult result
+        (λ _. EveryImage (D.state (disk_of store.new))
+        (HoldsTable (store_state D.state store.new).table (store_state D.state store.new).seq))
+        (λ e. EveryImage (D.state (disk_of store.new))
+        (HoldsTable (store_state D.state store.old).table (store_state D.state store.old).seq)
+        ⊎ ((batch : List Decision) × (F.gives feed.old MOST (Ok batch) feed.new
+        × ((e ≡ DeviceFailed) × EveryImage (D.state (disk_of store.new))
+        (HoldsWithOrWithout (store_state D.state store.old) batch))))) }
+{
+    sessions::laws::folding();
+    store::laws::a_settled_store_is_on_its_disk();
+    let room = Room::new(alloc)?;
+    make_room(alloc, store)?;
+    let batch = take(feed)?;
+    let count = batch.len();
+    if count == 0 {
+        return Ok(0);
+    }
+    let durable = commit(alloc, store, batch)?;
+    release(durable, room, out);
+    Ok(count)
+}
+
+// The feed's next batch, asked for as many decisions as the largest one has.
+fn take<F: Feed>(feed: &mut F) -> Result<Batch, Refusal>
+    ensures { F.gives feed.old MOST result feed.new }
+{
+    feed.next(largest())
+}
+
+// Gives the effects of a durable batch to `out`.
+fn release<C: FnMut(Vec<Released>)>(durable: store::Durable, room: Room, out: &mut C)
+    requires { C.IsAlwaysCallable out.old }
+    ensures { (released : _) × ((effects_of_all released.items
+        ≡ effects_in (durable_decisions durable))
+        × C.step out.old released tt out.new) }
+{
+    let released = Durable::new(durable, room).release();
+    out(released);
+}
+
+// As many decisions as the largest batch has.
+fn largest() -> Most
+    ensures { result ≡ MOST }
+{
+    Most::new(Batch::MOST as u64).unwrap()
+}

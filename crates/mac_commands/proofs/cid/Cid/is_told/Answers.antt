@@ -1,5 +1,0 @@
-use Rattle.std.proofs.Common.{rules}
-use Rattle.mac_commands.proofs.cid.Cid.is_told.Goals as goal
-
-pub returns : goal.returns
-returns c = search rules

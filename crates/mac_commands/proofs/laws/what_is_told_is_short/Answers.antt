@@ -1,5 +1,0 @@
-use Rattle.mac_commands.proofs.CommandsIn.{few_told}
-use Rattle.mac_commands.proofs.laws.what_is_told_is_short.Goals as goal
-
-pub returns : goal.returns
-returns c = few_told

@@ -1,9 +1,0 @@
-use Rattle.std.proofs.Common.{◌≡◌, ◌++◌, length}
-use Rattle.mac_commands.specs.Reading.{told_bytes}
-use Rattle.mac_commands.proofs.uplink.read_told.Given as goal
-
-abbrev pub invariant-loop-front : goal.invariant-loop-front
-invariant-loop-front l = told_bytes l.bytes ≡ l.told.items ++ told_bytes l.rest
-
-abbrev pub decreases-loop-front : goal.decreases-loop-front
-decreases-loop-front l = length l.rest
