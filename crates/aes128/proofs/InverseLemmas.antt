@@ -6,7 +6,8 @@ use Rattle.aes128.specs.Field.{word_product}
 use Rattle.aes128.specs.Cipher.{IsBlock, xor, column, byte_at, s_box, sub_bytes, shift_rows, mix_columns, round_key, rounds, ciphertext}
 use Rattle.aes128.specs.InverseCipher.{inv_s_box, inv_sub_bytes, unshifted_column, inv_shift_rows, inv_mix_columns, inv_rounds, plaintext}
 use Rattle.aes128.proofs.Below.{all_below, agree_below}
-use Rattle.aes128.proofs.LawLemmas.{IsByte, block_byte, column_bytes, word_bytes, four_words, product_bytes, xor_block, round_key-block, encrypted_one_to_one, encrypted-block}
+use Rattle.lw_types.specs.Values.{IsByte}
+use Rattle.aes128.proofs.LawLemmas.{block_byte, column_bytes, word_bytes, four_words, product_bytes, xor_block, round_key-block, encrypted_one_to_one, encrypted-block}
 use Rattle.aes128.proofs.SBoxLemmas.{inverse-table, unaffine, unaffine-lt, inverse-lt, s_box-inverse}
 use Rattle.aes128.proofs.StateLemmas.{mix_columns-joined, shift_rows-joined}
 use Rattle.aes128.proofs.WordLemmas.{AreBytes, mixed-unmixed, unmixing, xor-twice}

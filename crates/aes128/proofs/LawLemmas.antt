@@ -11,9 +11,7 @@ use Rattle.aes128.proofs.FieldLemmas.{xor_byte, product-lt}
 use Rattle.aes128.proofs.SBoxLemmas.{any_s_box-lt, s_box-lt, inverse-s_box}
 use Rattle.aes128.proofs.WordLemmas.{AreBytes, entry-lt, length-xor, xor-twice, state_columns, unmixing, unmixed-mixed}
 use Rattle.aes128.proofs.StateLemmas.{joined, joined-same, unshifted}
-
-abbrev pub IsByte : ℕ → Type 0
-IsByte b = b < 256
+use Rattle.lw_types.specs.Values.{IsByte}
 
 pub block_byte : (s : List ℕ) → IsBlock s → (k : ℕ) → get_or s k 0 < 256
 block_byte s block k =

@@ -6,6 +6,7 @@ use Rattle.serde_json.specs.Data.{Data, Members, number, string, object, member,
 use Rattle.serde_json.specs.Data.{unsigned}
 use Rattle.serde_json.specs.Read.{read}
 use Rattle.lw_types.specs.Hex.{IsBytes, eui_text, hex_text, key_text, net_id_text}
+use Rattle.lw_types.specs.Values.{IsKey}
 use Rattle.lw_types.specs.declared.key.Key.{Key}
 use Rattle.lw_types.specs.declared.identifiers.Eui.{Eui}
 use Rattle.backend_json.specs.declared.join_ans.Accepted.{Accepted}
@@ -76,9 +77,6 @@ abbrev pub IsJoinAns : List ℕ → JoinAns → Type 0
 IsJoinAns text ans = read text ≡ Some (join_ans ans)
 
 -- the values that an answer of a program has by its types
-abbrev pub IsKey : Key → Type 0
-IsKey key = IsBytes key.0 × (length key.0 ≡ 16)
-
 abbrev pub IsSealed : List ℕ → Type 0
 IsSealed accept = IsBytes accept × (length accept ≡ 17)
 

@@ -4,13 +4,14 @@ ghost use Rattle.std.specs.Prelude.{IfOk, IfErr, IfSome, MatchOption};
 ghost use Rattle.serde_json.specs.Data.{Members, member, no_members, number, string, unsigned};
 ghost use Rattle.serde_json.specs.View.{members_view, view};
 ghost use Rattle.lw_types.specs.Hex.{eui_text, hex_text, net_id_text};
+ghost use Rattle.lw_types.specs.Values.{IsKey};
 ghost use Rattle.lw_types.specs.declared.key.Key.{Key};
 ghost use Rattle.lw_types.specs.declared.identifiers.Eui.{Eui};
 ghost use Rattle.lw_types.specs.declared.refusal.Refusal.TheVariants.{OutOfMemory, BadMessage};
 ghost use Rattle.backend_json.specs.declared.join_ans.Accepted.{Accepted};
 ghost use Rattle.backend_json.specs.declared.join_ans.Cause.{Cause};
 ghost use Rattle.backend_json.specs.declared.join_ans.JoinAns.{JoinAns};
-ghost use Rattle.backend_json.specs.Answers.{IsAns, IsJoinAns, IsKey, IsSealed, aes_key, code_of};
+ghost use Rattle.backend_json.specs.Answers.{IsAns, IsJoinAns, IsSealed, aes_key, code_of};
 ghost use Rattle.backend_json.specs.Answers.{description_of, join_ans, result_object};
 
 use crate::json::read_value;

@@ -9,6 +9,7 @@ use Rattle.std.proofs.lemmas.Nat.{from_be_bytes-to_be_bytes_4, from_be_bytes-to_
 use Rattle.std.proofs.lemmas.Nat.{le_bytes_2, le_bytes_4, le_bytes_8, from_le_bytes-to_le_bytes_2}
 use Rattle.std.proofs.lemmas.Nat.{from_le_bytes-to_le_bytes_4, from_le_bytes-to_le_bytes_8}
 use Rattle.lw_types.specs.Hex.{IsBytes}
+use Rattle.lw_types.specs.Values.{IsKey}
 use Rattle.lw_types.specs.declared.identifiers.Eui.{Eui}
 use Rattle.lw_types.specs.declared.key.Key.{Key}
 use Rattle.byte_fields.specs.Spelling.{three_be_bytes}
@@ -169,9 +170,6 @@ ranged_field least most small =
     ))
 
 -- ---- names and keys
-
-abbrev pub IsKey : Key → Type 0
-IsKey key = AreBytes 16 key.0
 
 pub key_field : IsField IsKey (λ key. key.0) key_at
 key_field =

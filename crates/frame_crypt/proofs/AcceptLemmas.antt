@@ -10,9 +10,7 @@ use Rattle.aes128.specs.Cipher.{IsBlock, ciphertext, xor}
 use Rattle.aes128.specs.InverseCipher.{plaintext}
 use Rattle.aes_cmac.specs.Cmac.{after_blocks, blocks_before_last, chain_value, cmac, masked_last}
 use Rattle.frame_crypt.specs.Joins.{IsAccept, IsAcceptSize, each_block, join_mic, opened_accept, sealed_accept, through, with_mic}
-
-abbrev pub IsByte : ℕ → Type 0
-IsByte byte = byte < 256
+use Rattle.lw_types.specs.Values.{IsByte}
 
 pub each_block-zero : (f : List ℕ → List ℕ) (xs : List ℕ) → each_block f xs 0 ≡ []
 unfolding each_block

@@ -13,6 +13,7 @@ use Rattle.std.proofs.lemmas.List.Elements.{All-nil, All-cons, All-head, All-tai
 use Rattle.aes128.specs.Cipher.{IsBlock, xor, ciphertext, rounds, round_key, next_round_key, shift_rows, sub_bytes}
 use Rattle.lw_types.specs.declared.direction.Direction.{Direction}
 use Rattle.frame_crypt.specs.Frames.{frame_block, keystream, crypted_payload}
+use Rattle.lw_types.specs.Values.{IsByte}
 
 pub length-xor : (xs ys : List ℕ) → length xs ≤ length ys → length (xor xs ys) ≡ length xs
 length-xor [] ys fits = refl
@@ -71,9 +72,6 @@ length-crypted key dir addr counter payload =
     let n : ℕ = (length payload + 15) / 16 in
     let long : length (keystream key dir addr counter n) ≡ 16 * n = length-keystream key dir addr counter n in
     length-xor payload (keystream key dir addr counter n) (omega arith)
-
-abbrev IsByte : ℕ → Type 0
-IsByte byte = byte < 2 ^ 8
 
 xor_bytes : (xs ys : List ℕ) → All IsByte xs → All IsByte ys → All IsByte (xor xs ys)
 xor_bytes [] ys p q = All-nil IsByte

@@ -6,9 +6,7 @@ use Rattle.std.proofs.lemmas.List.Elements.{All-append, All-cons, All-take}
 use Rattle.frame_crypt.specs.Joins.{three_le_bytes}
 use Rattle.join_server.specs.declared.ask.JoinAsk.{JoinAsk}
 use Rattle.join_server.specs.Join.{accept_fields}
-
-abbrev IsByte : ℕ → Type 0
-IsByte byte = byte < 2 ^ 8
+use Rattle.lw_types.specs.Values.{IsByte}
 
 none : All IsByte []
 none = search rules

@@ -18,7 +18,7 @@ const MOST_ROUNDS: u32 = 1_000_000;
 
 /// What a device sends.
 #[derive(Clone, Copy)]
-pub enum Event {
+pub enum Workload {
     /// It asks to join.
     Join,
     /// An uplink of 24 bytes with this MHDR, while so many items of 24 bytes wait.
@@ -26,34 +26,34 @@ pub enum Event {
 }
 
 /// An unconfirmed uplink.
-pub const UPLINK: Event = Event::Uplink {
+pub const UPLINK: Workload = Workload::Uplink {
     mhdr: 0x40,
     items: 0,
 };
 
 /// A confirmed uplink, which is answered with an item; as many wait as may.
-pub const ANSWERED: Event = Event::Uplink {
+pub const ANSWERED: Workload = Workload::Uplink {
     mhdr: 0x80,
     items: 16,
 };
 
 /// Frames that come one after another to the device at a slot, which has this record first.
 #[derive(Drop)]
-struct Course {
+struct FrameRun {
     slot: u16,
     record: Device,
     frames: Vec<Heard>,
 }
 
-impl Course {
-    fn new(alloc: Global, event: Event, slot: u16) -> Result<Self, Refusal> {
+impl FrameRun {
+    fn new(alloc: Global, workload: Workload, slot: u16) -> Result<Self, Refusal> {
         let mut frames = Vec::new(alloc);
         for number in 0..TIMES {
-            frames.push(heard(alloc, event, slot, number)?)?;
+            frames.push(heard(alloc, workload, slot, number)?)?;
         }
-        Ok(Course {
+        Ok(FrameRun {
             slot,
-            record: record(alloc, event, slot)?,
+            record: record(alloc, workload, slot)?,
             frames,
         })
     }
@@ -79,23 +79,23 @@ fn decide_one(alloc: Global, table: &mut Table, seq: u64, frame: Heard) -> Resul
 pub fn measure(
     rt: &impl Clock,
     alloc: Global,
-    event: Event,
+    workload: Workload,
     slots: u16,
 ) -> Result<u32, Unmeasured> {
-    let course = Course::new(alloc, event, slots.saturating_sub(1))?;
+    let run = FrameRun::new(alloc, workload, slots.saturating_sub(1))?;
     let mut table = full_table(alloc, slots)?;
-    measure_course(rt, alloc, &course, &mut table)
+    measure_run(rt, alloc, &run, &mut table)
 }
 
-fn measure_course(
+fn measure_run(
     rt: &impl Clock,
     alloc: Global,
-    course: &Course,
+    run: &FrameRun,
     table: &mut Table,
 ) -> Result<u32, Unmeasured> {
     let start = clock_nanos(rt);
     for round in 1..=MOST_ROUNDS {
-        course.decide(alloc, table)?;
+        run.decide(alloc, table)?;
         let spent = nanos_since(rt, start)?;
         if spent >= MEASURED_NANOS {
             return nanos_of_one(spent, u128::from(round) * u128::from(TIMES));

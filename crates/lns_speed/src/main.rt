@@ -13,7 +13,7 @@ mod timing;
 mod told;
 mod whole;
 
-use decided::Event;
+use decided::Workload;
 use std::alloc::Global;
 use std::io;
 use std::rt::Clock;
@@ -30,14 +30,14 @@ const MOST: u16 = 4096;
 #[derive(Clone, Copy)]
 enum Measured {
     /// An event of one device is decided, and its record put into the table.
-    Decided(Event),
+    Decided(Workload),
     /// An uplink that so many gateways hear goes the whole way.
     Whole(u64),
 }
 
 /// What is measured, as it is told.
 const MEASURED: [(&str, Measured); 6] = [
-    ("a join decided", Measured::Decided(Event::Join)),
+    ("a join decided", Measured::Decided(Workload::Join)),
     ("an uplink decided", Measured::Decided(decided::UPLINK)),
     (
         "an uplink that is answered decided",
@@ -51,7 +51,7 @@ const MEASURED: [(&str, Measured); 6] = [
 /// How many nanoseconds it takes where there are so many devices.
 fn measure(rt: &impl Clock, alloc: Global, what: Measured, slots: u16) -> Result<u32, Unmeasured> {
     match what {
-        Measured::Decided(event) => decided::measure(rt, alloc, event, slots),
+        Measured::Decided(workload) => decided::measure(rt, alloc, workload, slots),
         Measured::Whole(gateways) => whole::measure(rt, alloc, gateways, slots),
     }
 }

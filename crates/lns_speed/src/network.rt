@@ -1,7 +1,7 @@
 // A network whose table is full, and the frames of its devices.
 ghost use Rattle.std.specs.Prelude.{◌≤◌, length};
 
-use crate::decided::Event;
+use crate::decided::Workload;
 use devices::{
     Activation, Application, AskedBytes, CurrentSession, Device, Heard, Hearing, Hearings, Item,
     ItemQueue, NextDown, Payload, Port, Provisioning, Queueing, Rx1Offset, RxDelay, Session, Tag,
@@ -60,9 +60,9 @@ pub fn full_table(alloc: Global, slots: u16) -> Result<Table, Refusal> {
 }
 
 /// The record of the device at a slot before events of this kind.
-pub fn record(alloc: Global, event: Event, slot: u16) -> Result<Device, Refusal> {
+pub fn record(alloc: Global, workload: Workload, slot: u16) -> Result<Device, Refusal> {
     let mut device = Device::provisioned(alloc, &provisioning(slot));
-    if let Event::Uplink { items, .. } = event {
+    if let Workload::Uplink { items, .. } = workload {
         put_in_use(alloc, items, &mut device)?;
     }
     Ok(device)
@@ -120,11 +120,11 @@ pub fn longest_item(alloc: Global, slot: u16, tag: u32) -> Result<Queueing, Refu
 
 /// The frame of this number of the device at a slot, as the gateway heard it. An uplink has the
 /// counter behind the number.
-pub fn heard(alloc: Global, event: Event, slot: u16, number: u16) -> Result<Heard, Refusal> {
+pub fn heard(alloc: Global, workload: Workload, slot: u16, number: u16) -> Result<Heard, Refusal> {
     let hearings = Hearings::of(alloc, HEARING)?;
-    let phy_payload = match event {
-        Event::Join => PhyPayload::from_slice(alloc, &join_request(slot, number)),
-        Event::Uplink { mhdr, .. } => {
+    let phy_payload = match workload {
+        Workload::Join => PhyPayload::from_slice(alloc, &join_request(slot, number)),
+        Workload::Uplink { mhdr, .. } => {
             let counter = u32::from(number) + 1;
             PhyPayload::from_slice(alloc, &uplink(mhdr, slot, counter, &NWK_SKEY))
         }

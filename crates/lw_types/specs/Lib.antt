@@ -1,6 +1,7 @@
 pub mod Answer
 pub mod Refusal
 pub mod Hex
+pub mod Values
 pub mod Decimal
 pub mod Words
 pub mod WordsLeft

@@ -17,7 +17,7 @@ use Rattle.lw_types.specs.declared.direction.Direction.TheVariants.{Up, Down}
 use Rattle.phy_payload.specs.declared.data_frame.DataFrame.{DataFrame}
 use Rattle.phy_payload.specs.Contents.{carried_contents}
 use Rattle.phy_payload.specs.Frame.{data_type, f_ctrl, mhdr, port_and_payload, refusal_of, sealed_bytes, spelling, FitsPhy, IsDataFrame, IsJoinAccept, IsJoinRequest, IsPhy, IsSomePhyInMemory, TakesMemory}
-use Rattle.phy_payload.specs.Reading.{accept_at, body_at, contents_at, control_of, data_at, head_at, message_of, mic_off, or_malformed, phy_at, request_at, Reads}
+use Rattle.phy_payload.specs.Reading.{accept_at, body_at, contents_at, control_of, data_at, head_at, message_of, mic_off, or_malformed, phy_at, request_at, ReadsFrame}
 use Rattle.byte_fields.specs.Reading.{◌>>=◌, front_at, whole}
 use Rattle.byte_fields.specs.FieldLemmas.{IsBytes-after, bind_some, chosen_some, front_field, guard_some, some_is, whole_again, whole_takes}
 use Rattle.phy_payload.proofs.FrameFields.{control_again, control_byte, control_takes, dir_of, head_field, head_text, message_again, message_takes, mic_again, mic_takes, request_field, request_text, same_type, type_of}
@@ -252,19 +252,19 @@ phy_refuses (first ∷ body) e h =
 
 -- ---- what reading answers
 
-pub is_found : (bytes : List ℕ) (r : Result Phy Refusal) → IsBytes bytes → Reads r (phy_at bytes) → IfOk r (λ frame. IsPhy bytes frame)
+pub is_found : (bytes : List ℕ) (r : Result Phy Refusal) → IsBytes bytes → ReadsFrame r (phy_at bytes) → IfOk r (λ frame. IsPhy bytes frame)
 is_found bytes (Ok frame) fits given = phy_takes bytes frame fits given
 is_found bytes (Err e) fits given = tt
 
-pub is_only : (bytes : List ℕ) (r : Result Phy Refusal) (frame : Phy) → IsPhy bytes frame → Reads r (phy_at bytes) → MatchResult r (λ found. found ≡ frame) (λ e. (e ≡ OutOfMemory) × TakesMemory frame)
+pub is_only : (bytes : List ℕ) (r : Result Phy Refusal) (frame : Phy) → IsPhy bytes frame → ReadsFrame r (phy_at bytes) → MatchResult r (λ found. found ≡ frame) (λ e. (e ≡ OutOfMemory) × TakesMemory frame)
 is_only bytes (Ok found) frame h given = ok_is found frame (sym given ∙ ap phy_at h.1 ∙ phy_again frame h.0)
-is_only bytes (Err e) frame h given = subst (Reads (Err e)) (ap phy_at h.1 ∙ phy_again frame h.0) given
+is_only bytes (Err e) frame h given = subst (ReadsFrame (Err e)) (ap phy_at h.1 ∙ phy_again frame h.0) given
 
-refused_as : (bytes : List ℕ) (e : Refusal) (wanted : Result Phy Refusal) → IsBytes bytes → phy_at bytes ≡ wanted → Reads (Err e) wanted → ((e ≡ OutOfMemory) × IsSomePhyInMemory bytes) ⊎ (e ≡ refusal_of bytes)
+refused_as : (bytes : List ℕ) (e : Refusal) (wanted : Result Phy Refusal) → IsBytes bytes → phy_at bytes ≡ wanted → ReadsFrame (Err e) wanted → ((e ≡ OutOfMemory) × IsSomePhyInMemory bytes) ⊎ (e ≡ refusal_of bytes)
 refused_as bytes e (Ok frame) fits is given = inl (given.0, (frame, phy_takes bytes frame fits is, given.1))
 refused_as bytes e (Err refusal) fits is given = inr (given ∙ phy_refuses bytes refusal is)
 
-pub is_refused : (bytes : List ℕ) (r : Result Phy Refusal) → IsBytes bytes → Reads r (phy_at bytes) → IfErr r (λ e. ((e ≡ OutOfMemory) × IsSomePhyInMemory bytes) ⊎ (e ≡ refusal_of bytes))
+pub is_refused : (bytes : List ℕ) (r : Result Phy Refusal) → IsBytes bytes → ReadsFrame r (phy_at bytes) → IfErr r (λ e. ((e ≡ OutOfMemory) × IsSomePhyInMemory bytes) ⊎ (e ≡ refusal_of bytes))
 is_refused bytes (Ok frame) fits given = tt
 is_refused bytes (Err e) fits given = refused_as bytes e (phy_at bytes) fits refl given
 

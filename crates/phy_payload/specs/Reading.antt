@@ -28,9 +28,9 @@ use Rattle.phy_payload.specs.Frame.{mhdr, TakesMemory}
 
 -- A function answers what is wanted; where that is a frame for which it takes memory, it may answer
 -- OutOfMemory instead.
-abbrev pub Reads : Result Phy Refusal → Result Phy Refusal → Type 0
-Reads (Ok frame) wanted = wanted ≡ Ok frame
-Reads (Err e) wanted =
+abbrev pub ReadsFrame : Result Phy Refusal → Result Phy Refusal → Type 0
+ReadsFrame (Ok frame) wanted = wanted ≡ Ok frame
+ReadsFrame (Err e) wanted =
     MatchResult wanted (λ frame. (e ≡ OutOfMemory) × TakesMemory frame) (λ refusal. e ≡ refusal)
 
 abbrev pub or_malformed : {X Y : Type 0} → (X → Y) → Option X → Result Y Refusal

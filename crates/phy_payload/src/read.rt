@@ -6,7 +6,7 @@ ghost use Rattle.phy_payload.specs.Contents.{carried_contents};
 ghost use Rattle.byte_fields.specs.Reading.{whole, Gives, GivesSeen};
 ghost use Rattle.phy_payload.specs.Frame.{refusal_of, IsPhy, IsSomePhyInMemory, TakesMemory};
 ghost use Rattle.phy_payload.specs.Reading.{accept_at, data_at, head_at, message_of, or_malformed};
-ghost use Rattle.phy_payload.specs.Reading.{phy_at, request_at, Reads};
+ghost use Rattle.phy_payload.specs.Reading.{phy_at, request_at, ReadsFrame};
 
 use crate::contents::{Contents, FOpts, FrmPayload, PortPayload};
 use crate::control::Control;
@@ -103,7 +103,7 @@ fn read_data_frame(
     body: &[u8],
 ) -> Result<Phy, Refusal>
     requires { length body.now ≤ 254 }
-    ensures { Reads result (or_malformed Phy.DataFrame (data_at direction confirmed body.now)) }
+    ensures { ReadsFrame result (or_malformed Phy.DataFrame (data_at direction confirmed body.now)) }
 {
     let (front, mic) = body.split_last_chunk::<4>().ok_or(Refusal::Malformed)?;
     let mut fields = FieldReader { rest: front };
@@ -125,7 +125,7 @@ fn read_data_frame(
 
 #[tactic(auto, unfolding(crate::specs::Reading::phy_at))]
 fn read_phy(alloc: Global, bytes: &[u8]) -> Result<Phy, Refusal>
-    ensures { Reads result (phy_at bytes.now) }
+    ensures { ReadsFrame result (phy_at bytes.now) }
 {
     let (first, body) = bytes.split_first().ok_or(Refusal::Malformed)?;
     if bytes.len() > LONGEST_FRAME {
@@ -164,7 +164,7 @@ pub fn decode(alloc: Global, bytes: &[u8]) -> Result<Phy, Refusal>
     ensures refused { IfErr result
         (λ e. ((e ≡ OutOfMemory) × IsSomePhyInMemory bytes.now) ⊎ (e ≡ refusal_of bytes.now)) }
     // What reading from left to right gives is answered, but where memory runs out for it.
-    ensures reads { Reads result (phy_at bytes.now) }
+    ensures reads { ReadsFrame result (phy_at bytes.now) }
 {
     read_phy(alloc, bytes)
 }

@@ -14,7 +14,8 @@ use Rattle.devices.specs.declared.Tag.{Tag}
 use Rattle.devices.specs.declared.activation.Session.{Session}
 use Rattle.devices.specs.declared.activation.CurrentSession.{CurrentSession}
 use Rattle.devices.specs.Activation.{Grants, AreInOrder, current_nonce}
-use Rattle.record_codec.specs.DeviceRecord.{nonce, flagged_number, dev_nonce, awaited_bytes, granted_bytes, session, current_session, activation, IsKey, IsJoinNonce, IsSession, IsCurrentSession, AreGrants}
+use Rattle.lw_types.specs.Values.{IsKey}
+use Rattle.record_codec.specs.DeviceRecord.{nonce, flagged_number, dev_nonce, awaited_bytes, granted_bytes, session, current_session, activation, IsJoinNonce, IsSession, IsCurrentSession, AreGrants}
 use Rattle.record_codec.specs.Reading.{flagged_value, is_plain, flagged_at, awaited_at, is_join_nonce, granted_nonce, session_of, session_at, current_of, current_at, grants_of, are_in_order, activation_at}
 
 -- ---- a number behind a flag

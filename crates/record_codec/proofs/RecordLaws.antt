@@ -20,7 +20,8 @@ use Rattle.devices.specs.declared.device.Device.{Device}
 use Rattle.devices.specs.declared.queue.Item.{Item}
 use Rattle.devices.specs.declared.mac_queue.TheConstants.MacQueue.{MOST as LONGEST_MAC_QUEUE}
 use Rattle.devices.specs.declared.queue.TheConstants.ItemQueue.{MOST as MOST_ITEMS}
-use Rattle.record_codec.specs.DeviceRecord.{activation, awaited_bytes, dev_nonce, item, item_queue, spelling, AreGrants, HeadIsInRange, IsDevice, IsItem, IsKey, IsSomeRecord}
+use Rattle.lw_types.specs.Values.{IsKey}
+use Rattle.record_codec.specs.DeviceRecord.{activation, awaited_bytes, dev_nonce, item, item_queue, spelling, AreGrants, HeadIsInRange, IsDevice, IsItem, IsSomeRecord}
 use Rattle.record_codec.specs.Reading.{activation_at, awaited_at, device_at, device_of, flagged_at, head_at, item_at, item_of, item_queue_at, items_at, mac_queue_at, payload_at, record_at, Fields, Head, IsNoRecord}
 use Rattle.record_codec.proofs.RecordFields.{activation_field, awaited_field, dev_nonce_field}
 

@@ -4,6 +4,7 @@ use Rattle.std.specs.Prelude.{Option, Some, None, option_map, IfSome}
 use Rattle.std.specs.List.{flat_map, AllByRecursion}
 use Rattle.std.specs.Int.{Width, w16, w32, w64, to_be_bytes}
 use Rattle.lw_types.specs.Hex.{IsBytes}
+use Rattle.lw_types.specs.Values.{IsKey}
 use Rattle.lw_types.specs.declared.payload.TheConstants.{LONGEST_PAYLOAD}
 use Rattle.byte_fields.specs.Spelling.{flag, three_be_bytes, counted_bytes, optional}
 use Rattle.lw_types.specs.declared.key.Key.{Key}
@@ -77,9 +78,6 @@ spelling d =
     ++ item_queue d.items))))
 
 -- ---- which values there are
-
-abbrev pub IsKey : Key → Type 0
-IsKey key = IsBytes key.0 × (length key.0 ≡ 16)
 
 abbrev pub IsJoinNonce : ℕ → Type 0
 IsJoinNonce n = (0 < n) × (n < 2 ^ 24)

@@ -2,8 +2,8 @@
 ghost use Rattle.std.specs.Prelude.{◌≡◌, ◌++◌, ◌≤◌, ◌<◌, ◌^◌, OnOk, length};
 ghost use Rattle.std.specs.Int.{to_be_bytes, w64};
 ghost use Rattle.lw_types.specs.Hex.{IsBytes};
+ghost use Rattle.lw_types.specs.Values.{IsKey};
 ghost use Rattle.byte_fields.specs.Spelling.{counted_bytes, flag};
-ghost use Rattle.record_codec.specs.DeviceRecord.{IsKey};
 
 use lw_types::{Eui, Key};
 use std::alloc::AllocError;

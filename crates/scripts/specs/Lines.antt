@@ -7,8 +7,8 @@ abbrev pub is_newline : ℕ → Bool
 is_newline byte = byte == 10
 
 -- no newline stands in it
-abbrev pub IsLine : List ℕ → Type 0
-IsLine line = All (λ byte. is_newline byte ≡ false) line
+abbrev pub IsOneLine : List ℕ → Type 0
+IsOneLine line = All (λ byte. is_newline byte ≡ false) line
 
 -- a line that ends at a newline, or where the input ends
 abbrev pub IsSplit : List ℕ → List ℕ → List ℕ → Type 0
@@ -18,4 +18,4 @@ IsSplit input line rest = (input ≡ line ++ 10 ∷ rest) ⊎ ((input ≡ line) 
 abbrev pub TakesLine : List ℕ → Option (Bor (List ℕ)) → List ℕ → Type 0
 TakesLine input None rest = (input ≡ []) × (rest ≡ [])
 TakesLine input (Some line) rest =
-    (0 < length input) × (IsLine line.now × IsSplit input line.now rest)
+    (0 < length input) × (IsOneLine line.now × IsSplit input line.now rest)

@@ -1,6 +1,6 @@
 // The lines of an input.
 ghost use Rattle.std.specs.Prelude.{◌≡◌};
-ghost use Rattle.scripts.specs.Lines.{IsLine, IsSplit};
+ghost use Rattle.scripts.specs.Lines.{IsOneLine, IsSplit};
 
 /// The lines that are left to read. A line ends at a newline or where the input ends, so no input
 /// has no line, and a newline at the end begins no further one.
@@ -41,7 +41,7 @@ impl<'a> Iterator for Lines<'a> {
 
 // The first line of an input and what is left behind it.
 fn first_line(input: &[u8]) -> (&[u8], &[u8])
-    ensures { IsLine result.0.now × IsSplit input.now result.0.now result.1.now }
+    ensures { IsOneLine result.0.now × IsSplit input.now result.0.now result.1.now }
 {
     match input.iter().position(|byte| *byte == b'\n') {
         Some(end) => (&input[..end], &input[end + 1..]),
