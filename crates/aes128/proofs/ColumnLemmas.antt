@@ -6,9 +6,10 @@ use Rattle.std.specs.Int.Bits.{xor_zero_r}
 use Rattle.aes128.specs.declared.substitution.TheConstants.{S_BOX, MIXED_S_BOX}
 use Rattle.aes128.specs.Field.{◌⊕◌, ◌•◌, terms_times}
 use Rattle.aes128.specs.Cipher.{xor, s_box, mixed_column}
-use Rattle.aes128.proofs.Below.{all_below, all_below-at, both_true}
+use Rattle.aes128.proofs.Below.{all_below, all_below-at}
 use Rattle.aes128.proofs.SBoxLemmas.{table-s_box, s_box-lt}
 use Rattle.aes128.proofs.WordLemmas.{AreBytes, same, same-true, word_product-xor}
+use Rattle.std.proofs.lemmas.Bool.{and_parts}
 
 byte-xor : (x y k : ℕ) → (x ⊕ y) / 2 ^ k % 2 ^ 8 ≡ (x / 2 ^ k % 2 ^ 8) ⊕ (y / 2 ^ k % 2 ^ 8)
 byte-xor x y k = ap (λ (n : ℕ). n % 2 ^ 8) (xor_shr x y k) ∙ xor_mod (x / 2 ^ k) (y / 2 ^ k) 8
@@ -36,22 +37,22 @@ row_fits b byte = all_below-at rows_fit 256 each_row_fits b byte
 first_row : (b : ℕ) → b < 256 → to_le_bytes w32 (get_or MIXED_S_BOX b 0) ≡ mixed_column (s_box b ∷ 0 ∷ 0 ∷ 0 ∷ [])
 unfolding rows_fit
 first_row b byte =
-    same-true _ _ (both_true _ _ (both_true _ _ (row_fits b byte)).0).0 ∙ ap (λ (s : ℕ). mixed_column (s ∷ 0 ∷ 0 ∷ 0 ∷ [])) (table-s_box b byte)
+    same-true _ _ (and_parts _ _ (and_parts _ _ (row_fits b byte)).0).0 ∙ ap (λ (s : ℕ). mixed_column (s ∷ 0 ∷ 0 ∷ 0 ∷ [])) (table-s_box b byte)
 
 second_row : (b : ℕ) → b < 256 → row b 8 ≡ mixed_column (0 ∷ s_box b ∷ 0 ∷ 0 ∷ [])
 unfolding rows_fit
 second_row b byte =
-    same-true _ _ (both_true _ _ (both_true _ _ (row_fits b byte)).0).1 ∙ ap (λ (s : ℕ). mixed_column (0 ∷ s ∷ 0 ∷ 0 ∷ [])) (table-s_box b byte)
+    same-true _ _ (and_parts _ _ (and_parts _ _ (row_fits b byte)).0).1 ∙ ap (λ (s : ℕ). mixed_column (0 ∷ s ∷ 0 ∷ 0 ∷ [])) (table-s_box b byte)
 
 third_row : (b : ℕ) → b < 256 → row b 16 ≡ mixed_column (0 ∷ 0 ∷ s_box b ∷ 0 ∷ [])
 unfolding rows_fit
 third_row b byte =
-    same-true _ _ (both_true _ _ (both_true _ _ (row_fits b byte)).1).0 ∙ ap (λ (s : ℕ). mixed_column (0 ∷ 0 ∷ s ∷ 0 ∷ [])) (table-s_box b byte)
+    same-true _ _ (and_parts _ _ (and_parts _ _ (row_fits b byte)).1).0 ∙ ap (λ (s : ℕ). mixed_column (0 ∷ 0 ∷ s ∷ 0 ∷ [])) (table-s_box b byte)
 
 fourth_row : (b : ℕ) → b < 256 → row b 24 ≡ mixed_column (0 ∷ 0 ∷ 0 ∷ s_box b ∷ [])
 unfolding rows_fit
 fourth_row b byte =
-    same-true _ _ (both_true _ _ (both_true _ _ (row_fits b byte)).1).1 ∙ ap (λ (s : ℕ). mixed_column (0 ∷ 0 ∷ 0 ∷ s ∷ [])) (table-s_box b byte)
+    same-true _ _ (and_parts _ _ (and_parts _ _ (row_fits b byte)).1).1 ∙ ap (λ (s : ℕ). mixed_column (0 ∷ 0 ∷ 0 ∷ s ∷ [])) (table-s_box b byte)
 
 -- a column is the sum of its bytes in their rows
 mixed_column-rows : (a b c d : ℕ) → AreBytes a b c d

@@ -4,7 +4,8 @@ use Rattle.std.proofs.lemmas.Bool.{ltb-true}
 use Rattle.std.proofs.lemmas.Nat.{xor_lt}
 use Rattle.std.specs.Int.Bits.{bit_xor, xor_assoc, xor_comm}
 use Rattle.aes128.specs.Field.{◌⊕◌, ◌•◌, times_x, terms_times}
-use Rattle.aes128.proofs.Below.{all_below, all_below-at, agree_below, both_true}
+use Rattle.aes128.proofs.Below.{all_below, all_below-at, agree_below}
+use Rattle.std.proofs.lemmas.Bool.{and_parts}
 
 -- the middle two of four summands change places
 pub interchange : (a b c d : ℕ) → (a ⊕ b) ⊕ (c ⊕ d) ≡ (a ⊕ c) ⊕ (b ⊕ d)
@@ -42,7 +43,7 @@ module _ (P : ℕ → Type 0) (sum : (x y : ℕ) → x < 256 → y < 256 → P x
   holds_at_0 : (ws : List ℕ) → at_weights test ws ≡ true → P 0
   unfolding at_weights
   holds_at_0 [] passed = sound 0 passed
-  holds_at_0 (w ∷ ws) passed = holds_at_0 ws (both_true _ _ passed).1
+  holds_at_0 (w ∷ ws) passed = holds_at_0 ws (and_parts _ _ passed).1
 
   holds_chosen : (there : Bool) (w : ℕ) → P w → P 0 → P (cond there w 0)
   holds_chosen true w one none = one
@@ -52,8 +53,8 @@ module _ (P : ℕ → Type 0) (sum : (x y : ℕ) → x < 256 → y < 256 → P x
   unfolding at_weights sum_of_bits
   holds_at_sum [] passed b = (lit< tt, sound 0 passed)
   holds_at_sum (w ∷ ws) passed b =
-      let parts = both_true _ _ passed in
-      let here = both_true _ _ parts.0 in
+      let parts = and_parts _ _ passed in
+      let here = and_parts _ _ parts.0 in
       let rest = holds_at_sum ws parts.1 b in
       let there = eqb (b / w % 2) 1 in
       let low = chosen-lt there w (ltb-true w 256 here.0) in

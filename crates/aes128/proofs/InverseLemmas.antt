@@ -10,7 +10,8 @@ use Rattle.lw_types.specs.Values.{IsByte}
 use Rattle.aes128.proofs.LawLemmas.{block_byte, column_bytes, word_bytes, four_words, product_bytes, xor_block, round_key-block, encrypted_one_to_one, encrypted-block}
 use Rattle.aes128.proofs.SBoxLemmas.{inverse-table, unaffine, unaffine-lt, inverse-lt, s_box-inverse}
 use Rattle.aes128.proofs.StateLemmas.{mix_columns-joined, shift_rows-joined}
-use Rattle.aes128.proofs.WordLemmas.{AreBytes, mixed-unmixed, unmixing, xor-twice}
+use Rattle.aes128.proofs.WordLemmas.{AreBytes, mixed-unmixed, unmixing}
+use Rattle.aes128.specs.XorLemmas.{xor-twice}
 
 pub table-inv_s_box : (byte : ℕ) → byte < 256 → get_or INVERSE_S_BOX byte 0 ≡ inv_s_box byte
 unfolding all_below inv_s_box unaffine

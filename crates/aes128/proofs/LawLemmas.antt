@@ -9,9 +9,10 @@ use Rattle.aes128.specs.Field.{◌⊕◌, power, word_product}
 use Rattle.aes128.specs.Cipher.{IsBlock, xor, column, byte_at, s_box, sub_bytes, shifted_column, shift_rows, mixed_column, mix_columns, rot_word, next_round_key, round_key, rounds, ciphertext}
 use Rattle.aes128.proofs.FieldLemmas.{xor_byte, product-lt}
 use Rattle.aes128.proofs.SBoxLemmas.{any_s_box-lt, s_box-lt, inverse-s_box}
-use Rattle.aes128.proofs.WordLemmas.{AreBytes, entry-lt, length-xor, xor-twice, state_columns, unmixing, unmixed-mixed}
+use Rattle.aes128.proofs.WordLemmas.{AreBytes, entry-lt, state_columns, unmixing, unmixed-mixed}
 use Rattle.aes128.proofs.StateLemmas.{joined, joined-same, unshifted}
 use Rattle.lw_types.specs.Values.{IsByte}
+use Rattle.aes128.specs.XorLemmas.{length-xor, xor-twice}
 
 pub block_byte : (s : List ℕ) → IsBlock s → (k : ℕ) → get_or s k 0 < 256
 block_byte s block k =

@@ -1,17 +1,12 @@
 -- Lists of bytes: sums, and products of words.
 use Rattle.std.proofs.Common.{◌≡◌, ℕ, zero, suc, ◌<◌, ◌≤◌, List, [], ◌∷◌, length, get_or, Bool, ◌&&◌, true, false, eqb, refl, sym, ap, ◌∙◌, arith, lit<}
-use Rattle.std.proofs.lemmas.Bool.{eqb-true}
+use Rattle.std.proofs.lemmas.Bool.{and_parts, eqb-true}
 use Rattle.std.proofs.lemmas.List.{same_lists, get_or_default}
 use Rattle.std.specs.Int.Bits.{bit_xor, xor_assoc, xor_zero_r, xor_self}
 use Rattle.aes128.specs.Field.{◌⊕◌, ◌•◌, terms_times, word_product}
 use Rattle.aes128.specs.Cipher.{xor, column, state_of, mixed_column}
-use Rattle.aes128.proofs.Below.{both_true}
 use Rattle.aes128.proofs.FieldLemmas.{weights, at_weights, at_bytes, interchange, product-lt, product-xor, xor_byte, nine_times, eleven_times, thirteen_times, fourteen_times}
-
-pub length-xor : (xs ys : List ℕ) → length xs ≤ length ys → length (xor xs ys) ≡ length xs
-length-xor [] ys fits = refl
-length-xor (x ∷ xs) [] fits = absurd (omega arith)
-length-xor (x ∷ xs) (y ∷ ys) fits = ap suc (length-xor xs ys (omega arith))
+use Rattle.aes128.specs.XorLemmas.{length-xor, xor-twice}
 
 pub get_or-xor : (xs ys : List ℕ) (k : ℕ) → k < length xs → k < length ys → get_or (xor xs ys) k 0 ≡ get_or xs k 0 ⊕ get_or ys k 0
 get_or-xor [] ys k in_xs in_ys = absurd (omega arith)
@@ -25,14 +20,6 @@ xor_from_bytes s xs ys same_length fits bytes =
     let len : length (xor xs ys) ≡ length xs = length-xor xs ys fits in
     same_lists s (xor xs ys) (omega arith) (λ k d h.
     get_or_default s k d 0 h ∙ bytes k h ∙ sym (get_or-xor xs ys k (omega arith) (omega arith)) ∙ get_or_default (xor xs ys) k 0 d (omega arith))
-
--- to add the same bytes twice changes nothing
-pub xor-twice : (xs ys : List ℕ) → length xs ≤ length ys → xor (xor xs ys) ys ≡ xs
-xor-twice [] ys fits = refl
-xor-twice (x ∷ xs) [] fits = absurd (omega arith)
-xor-twice (x ∷ xs) (y ∷ ys) fits =
-    let head : (x ⊕ y) ⊕ y ≡ x = xor_assoc x y y ∙ ap (bit_xor x) (xor_self y) ∙ xor_zero_r x in
-    ap (λ (n : ℕ). n ∷ xor (xor xs ys) ys) head ∙ ap (λ (l : List ℕ). x ∷ l) (xor-twice xs ys (omega arith))
 
 -- a list by its elements
 pub tabulated : ℕ → (ℕ → ℕ) → List ℕ
@@ -119,7 +106,7 @@ same-true [] [] h = refl
 same-true [] (y ∷ ys) h = cc
 same-true (x ∷ xs) [] h = cc
 same-true (x ∷ xs) (y ∷ ys) h =
-    let both = both_true (eqb x y) (same xs ys) h in
+    let both = and_parts (eqb x y) (same xs ys) h in
     let heads : x ≡ y = eqb-true x y both.0 in
     let tails : xs ≡ ys = same-true xs ys both.1 in
     cc
@@ -140,9 +127,9 @@ record UndoneAt (p q : List ℕ) (x : ℕ) : Type 0 where
 undone_unit : (p q : List ℕ) (x : ℕ) → undoes_unit p q x ≡ true → UndoneAt p q x
 unfolding undoes_unit
 undone_unit p q x test =
-    let halves = both_true _ _ test in
-    let front = both_true _ _ halves.0 in
-    let back = both_true _ _ halves.1 in
+    let halves = and_parts _ _ test in
+    let front = and_parts _ _ halves.0 in
+    let back = and_parts _ _ halves.1 in
     record { first = same-true _ _ front.0; second = same-true _ _ front.1; third = same-true _ _ back.0; fourth = same-true _ _ back.1 }
 
 byte_0 : 0 < 256

@@ -1,3 +1,4 @@
 pub mod Cipher
 pub mod Field
 pub mod InverseCipher
+pub mod XorLemmas

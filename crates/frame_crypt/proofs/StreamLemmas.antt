@@ -14,19 +14,7 @@ use Rattle.aes128.specs.Cipher.{IsBlock, xor, ciphertext, rounds, round_key, nex
 use Rattle.lw_types.specs.declared.direction.Direction.{Direction}
 use Rattle.frame_crypt.specs.Frames.{frame_block, keystream, crypted_payload}
 use Rattle.lw_types.specs.Values.{IsByte}
-
-pub length-xor : (xs ys : List ℕ) → length xs ≤ length ys → length (xor xs ys) ≡ length xs
-length-xor [] ys fits = refl
-length-xor (x ∷ xs) [] fits = absurd (omega arith)
-length-xor (x ∷ xs) (y ∷ ys) fits = ap suc (length-xor xs ys (omega arith))
-
--- to add the same bytes twice changes nothing
-pub xor-twice : (xs ys : List ℕ) → length xs ≤ length ys → xor (xor xs ys) ys ≡ xs
-xor-twice [] ys fits = refl
-xor-twice (x ∷ xs) [] fits = absurd (omega arith)
-xor-twice (x ∷ xs) (y ∷ ys) fits =
-    let head : (x ⊕ y) ⊕ y ≡ x = xor_assoc x y y ∙ ap (bit_xor x) (xor_self y) ∙ xor_zero_r x in
-    ap (λ (n : ℕ). n ∷ xor (xor xs ys) ys) head ∙ ap (λ (l : List ℕ). x ∷ l) (xor-twice xs ys (omega arith))
+use Rattle.aes128.specs.XorLemmas.{length-xor, xor-twice}
 
 pub xor-append : (as' bs ks s : List ℕ) → length as' ≡ length ks → xor (as' ++ bs) (ks ++ s) ≡ xor as' ks ++ xor bs s
 xor-append [] bs [] s same = refl

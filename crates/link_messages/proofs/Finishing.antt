@@ -12,12 +12,7 @@ use Rattle.link_messages.specs.Wire.{wire_frame}
 use Rattle.link_messages.specs.Stream.{IsFrame, IsPart, stated_length}
 use Rattle.link_messages.specs.Steps.{IsFirstFrame, Finishes}
 use Rattle.link_messages.proofs.OneSaying.{frame_is}
-
-abbrev some_of : ℕ → Option ℕ
-some_of n = Some n
-
-some_same : (a b : ℕ) → some_of a ≡ some_of b → a ≡ b
-some_same a b e = cc
+use Rattle.link_messages.proofs.StreamLaws.{some_same}
 
 pub begins : (stream : List ℕ) (told : ℕ) (o : Option (Bor (List ℕ) × Bor (List ℕ))) → IsBytes stream → stated_length stream ≡ Some told → told ≤ 700
     → MatchOption o (length (drop 2 stream) < told) (λ p. IsSplitAt (drop 2 stream) told p.0.now p.1.now) → IsFirstFrame stream (Ok o)

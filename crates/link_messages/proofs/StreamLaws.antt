@@ -17,10 +17,10 @@ told_of_frame content behind few = ap (λ (n : ℕ). Some n) (from_be_bytes-to_b
 frame_told : (stream content behind : List ℕ) → IsFrame stream content behind → stated_length stream ≡ Some (length content)
 frame_told stream content behind frame = ap stated_length frame.1 ∙ told_of_frame content behind frame.0
 
-abbrev some_of : ℕ → Option ℕ
+abbrev pub some_of : ℕ → Option ℕ
 some_of n = Some n
 
-some_same : (a b : ℕ) → some_of a ≡ some_of b → a ≡ b
+pub some_same : (a b : ℕ) → some_of a ≡ some_of b → a ≡ b
 some_same a b e = cc
 
 pub frame_length : (stream content behind : List ℕ) → IsFrame stream content behind → length stream ≡ length content + 2 + length behind

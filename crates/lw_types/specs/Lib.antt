@@ -1,5 +1,6 @@
 pub mod Answer
 pub mod Refusal
+pub mod RefusalLemmas
 pub mod Hex
 pub mod Values
 pub mod Decimal

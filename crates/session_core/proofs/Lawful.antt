@@ -3,7 +3,7 @@ use Rattle.std.proofs.Common.{inl, inr, ◌≡◌, ◌+◌, ◌<◌, ◌≤◌, 
 use Rattle.std.specs.Bool.{MatchBool}
 use Rattle.std.specs.Result.{IsErrAnd}
 use Rattle.std.proofs.lemmas.Result.{err_from_is_err_and}
-use Rattle.std.proofs.lemmas.Bool.{false≢true, ltb-true}
+use Rattle.std.proofs.lemmas.Bool.{and_parts, false≢true, ltb-true}
 use Rattle.std.proofs.lemmas.List.{length_push, length-append, length-take-le, take-append-drop, take_min}
 use Rattle.lw_types.specs.Answer.{Answers, AnswersWithMemory}
 use Rattle.lw_types.specs.declared.refusal.Refusal.{Refusal}
@@ -15,18 +15,15 @@ use Rattle.sessions.specs.declared.decision.Decision.{Decision}
 use Rattle.session_core.specs.declared.decisions.TheConstants.{LAST_NUMBER, MOST_UNTAKEN}
 use Rattle.session_core.specs.State.{DecisionsState, IsLawful, now_of, last_number}
 use Rattle.session_core.specs.Deciding.{has_room, step_if_room, IsWithoutMemory, Makes, after_taking}
+use Rattle.lw_types.specs.RefusalLemmas.{same_Err}
 
 abbrev pub after_making : DecisionsState → Decision → DecisionsState
 after_making s d = record s { log = s.log ++ d ∷ []; made = s.made + 1 }
 
-both_true : (a b : Bool) → (a && b) ≡ true → (a ≡ true) × (b ≡ true)
-both_true true b h = (refl, h)
-both_true false b h = absurd (false≢true h)
-
 -- there is room where few wait and a number is left
 pub room-few : (s : DecisionsState) → has_room s ≡ true → (length s.log < MOST_UNTAKEN) × (last_number s < LAST_NUMBER)
 room-few s room =
-    let parts = both_true (nat_lt (length s.log) MOST_UNTAKEN) (nat_lt (last_number s) LAST_NUMBER) room in
+    let parts = and_parts (nat_lt (length s.log) MOST_UNTAKEN) (nat_lt (last_number s) LAST_NUMBER) room in
     (ltb-true (length s.log) MOST_UNTAKEN parts.0, ltb-true (last_number s) LAST_NUMBER parts.1)
 
 -- what is wanted while there is room
@@ -68,12 +65,6 @@ decided-made s c d room made new is =
     (answers_ok (is_frugal c) (λ st _. Makes s c st new) st.0 (tt {0}) (record { decision = d; is_step = st.2; new_is = is }))
 
 -- ---- where there is no memory
-
-same_Err : {A B : Type 0} (x e : Refusal) → ◌≡◌ {A = Result A Refusal} (Err x) (Err e) → ◌≡◌ {A = Result B Refusal} (Err x) (Err e)
-same_Err {A} {B} x e h = ap (λ (y : Refusal). Err y) (same x e h)
-  where
-    same : (x e : Refusal) → ◌≡◌ {A = Result A Refusal} (Err x) (Err e) → x ≡ e
-    same x e h = cc
 
 -- a refusal is answered whatever a value would be
 refused_as : {B C : Type 0} (Is : TableStep → B → Type 0) (Is' : TableStep → C → Type 0) (b : Bool) (w : Result TableStep Refusal) (e : Refusal)

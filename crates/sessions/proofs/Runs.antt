@@ -35,6 +35,7 @@ use Rattle.sessions.specs.Table.{TableState, TableStep, TakesNext, CanPlace, Can
 use Rattle.sessions.specs.Decision.{Continues, AnswersTo, HasPlace, is_frugal, IsDecision, IsStepped, FitsTable, FitAll, AreNumbered, ContinueAll, with_decision, with_decisions, with_before, without_decision, without_decisions, commands_of, effects_in}
 use Rattle.sessions.specs.declared.decide.Stepped.{Stepped}
 use Rattle.sessions.specs.declared.decision.Decision.{Decision}
+use Rattle.lw_types.specs.RefusalLemmas.{same_Err}
 
 same_Ok : {A : Type 0} (x y : A) → ◌≡◌ {A = Result A Refusal} (Ok x) (Ok y) → x ≡ y
 same_Ok x y h = cc
@@ -256,12 +257,6 @@ AnswersTo-is {A} {B} c wanted Is x found ok is = subst (λ (w : Result A Refusal
     by_frugal : (frugal : Bool) → MatchBool frugal (Answers (Ok x) Is (Ok found)) (AnswersWithMemory (Ok x) Is (Ok found))
     by_frugal true = is
     by_frugal false = is
-
-same_Err : {A B : Type 0} (x e : Refusal) → ◌≡◌ {A = Result A Refusal} (Err x) (Err e) → ◌≡◌ {A = Result B Refusal} (Err x) (Err e)
-same_Err {A} {B} x e h = ap (λ (y : Refusal). Err y) (same x e h)
-  where
-    same : (x e : Refusal) → ◌≡◌ {A = Result A Refusal} (Err x) (Err e) → x ≡ e
-    same x e h = cc
 
 -- a refusal that is handed on is answered as it was
 pub AnswersTo-handed : {A B C : Type 0} (c : Command) (wanted : Result A Refusal) (Is : A → B → Type 0) (Is' : A → C → Type 0) (e : Refusal)

@@ -14,6 +14,7 @@ use Rattle.store_layout.specs.declared.entries.Entry.TheVariants.{Whole}
 use Rattle.store_layout.specs.declared.version.RecordVersion.{RecordVersion}
 use Rattle.store_layout.specs.declared.version.RecordVersion.TheVariants.{V1}
 use Rattle.store_layout.specs.Entries.{IsRecordIn, record_in, entry, entries, IsEntry, AreEntries, Replay, can_put, is_own, put_one, put_all, NoEntry}
+use Rattle.std.proofs.lemmas.Bool.{and_from, and_parts}
 
 -- the parts of two lists that begin alike
 parts : (a b x y : List ℕ) → length a ≡ length b → a ++ x ≡ b ++ y → (a ≡ b) × (x ≡ y)
@@ -82,13 +83,6 @@ no_record v bytes cut len short none cut_is len_is (Whole slot device) rest is_e
 
 -- ---- an entry on a table
 
-both_true : (a b : Bool) → a ≡ true → b ≡ true → (a && b) ≡ true
-both_true a b ha hb = ap (λ x. x && b) ha ∙ hb
-
-parts_true : (a b : Bool) → (a && b) ≡ true → (a ≡ true) × (b ≡ true)
-parts_true true b h = (refl, h)
-parts_true false b h = absurd (false≢true h)
-
 own_true : (slot : ℕ) (found : Option ℕ) → MatchOption found (Unit {0}) (λ own. own ≡ slot) → is_own slot found ≡ true
 own_true slot None h = refl
 own_true slot (Some own) h = eq-eqb own slot h
@@ -99,13 +93,13 @@ true_own slot (Some own) h = eqb-true own slot h
 
 can_true : (t : TableState) (slot : ℕ) (device : Device) → CanPut t slot device → can_put t slot device ≡ true
 can_true t slot device can =
-    both_true _ _ (le-leb slot (length t.devices) can.0)
-    (both_true _ _ (lt-ltb slot t.slots can.1) (own_true slot (slot_of device.dev_eui.0 t.devices) can.2))
+    and_from _ _ (le-leb slot (length t.devices) can.0)
+    (and_from _ _ (lt-ltb slot t.slots can.1) (own_true slot (slot_of device.dev_eui.0 t.devices) can.2))
 
 true_can : (t : TableState) (slot : ℕ) (device : Device) → can_put t slot device ≡ true → CanPut t slot device
 true_can t slot device h =
-    let first = parts_true _ _ h in
-    let second = parts_true _ _ first.1 in
+    let first = and_parts _ _ h in
+    let second = and_parts _ _ first.1 in
     (leb-true slot (length t.devices) first.0, ltb-true slot t.slots second.0, true_own slot (slot_of device.dev_eui.0 t.devices) second.1)
 
 -- an entry that may be put is put

@@ -3,8 +3,9 @@ use Rattle.std.proofs.lemmas.List.{length-take-le}
 use borrow.Rule.Slice.PartMut.{put_mid}
 use Rattle.aes128.specs.Cipher.{xor}
 use Rattle.frame_crypt.specs.Frames.{keystream, crypted_payload}
-use Rattle.frame_crypt.proofs.StreamLemmas.{crypted_step, left_step, crypted_end, keystream-more, length-keystream, length-xor}
+use Rattle.frame_crypt.proofs.StreamLemmas.{crypted_step, left_step, crypted_end, keystream-more, length-keystream}
 use Rattle.frame_crypt.proofs.data.crypt_payload.Goals as goal
+use Rattle.aes128.specs.XorLemmas.{length-xor}
 
 pub loop-i-preserved : goal.loop-i-preserved
 loop-i-preserved c =
