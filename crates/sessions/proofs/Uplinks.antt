@@ -158,7 +158,7 @@ module _ (net_id slot : ℕ) (d : Device) (fit : Fit) (u : Uplink) (copies : ℕ
           → Carries (with_uplink d fit) (answer_step net_id slot (with_uplink d fit) c (demand_of c u copies best)) → Carries d (uplink_step net_id slot d fit u copies best)
       joined first second =
           let before : List Effect = effects_before_answer d fit u copies best in
-          let o : Outcome = answer_step net_id slot (with_uplink d fit) c (demand_of c u copies best) in
+          let o : DeviceStep = answer_step net_id slot (with_uplink d fit) c (demand_of c u copies best) in
           let marks = sym (marks_of-append before o.effects) in
           record {
             named = second.named;

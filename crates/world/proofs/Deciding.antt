@@ -13,10 +13,10 @@ use Rattle.sessions.specs.declared.decision.Decision.{Decision}
 use Rattle.world.specs.Folding.{RunLaws}
 use Rattle.session_core.specs.declared.decisions.TheConstants.{MOST_UNTAKEN, LAST_NUMBER}
 use Rattle.session_core.specs.State.{DecisionsState, IsLawful, now_of, last_number}
-use Rattle.session_core.specs.Deciding.{Keeps, Makes, has_room as core_has_room, step_if_room as core_wanted}
+use Rattle.session_core.specs.Deciding.{Keeps, Makes, has_room as core_has_room, step_if_room as core_step_if_room}
 use Rattle.store.specs.State.{StoreState}
 use Rattle.world.specs.declared.commit.UnderWay.{UnderWay}
-use Rattle.world.specs.Course.{Origin, Course, decided_commands, commands_in_flight, table_from, number_from, has_room, wanted, after_command}
+use Rattle.world.specs.Course.{Origin, Course, decided_commands, commands_in_flight, table_from, number_from, has_room, step_if_room, after_command}
 use Rattle.world.specs.Follows.{IsLife, taken_commands}
 
 not_refused : (why : Refusal) → ◌≡◌ {A = Result (Unit {0}) Refusal} (Ok tt) (Err why) → ⊥
@@ -66,7 +66,7 @@ module _ (laws : RunLaws) (origin : Origin) (c : Course) (s : StoreState) (core 
       ap (λ n. nat_lt n MOST_UNTAKEN && nat_lt (last_number core) LAST_NUMBER) waiting
       ∙ ap (λ m. nat_lt (length c.untaken) MOST_UNTAKEN && nat_lt m LAST_NUMBER) last
 
-  wanted_is : (command : Command) → core_wanted core command ≡ wanted origin c command
+  wanted_is : (command : Command) → core_step_if_room core command ≡ step_if_room origin c command
   wanted_is command =
       ap (λ b. cond b (step (now_of core) command) (Err Backlog)) room_is
       ∙ ap (λ (t : TableState). cond (has_room origin c) (step t command) (Err Backlog)) now_is
@@ -127,10 +127,10 @@ module _ (laws : RunLaws) (origin : Origin) (c : Course) (s : StoreState) (core 
   -- what the core makes of a command is what the course says
   pub becomes : (command : Command) (result : Result (Unit {0}) Refusal) (new : DecisionsState) → Keeps core command result new
       → (has_room origin c ≡ false → result ≡ Err Backlog)
-      × (AnswersTo command (wanted origin c command) (λ _ _. Unit {0}) result
-      × IsLife origin (answered c command (wanted origin c command) result) s new commit)
+      × (AnswersTo command (step_if_room origin c command) (λ _ _. Unit {0}) result
+      × IsLife origin (answered c command (step_if_room origin c command) result) s new commit)
   becomes command result new keeps =
       let found =
       subst (λ w. Became (is_frugal command) command new w result) (wanted_is command)
-      (became_by (is_frugal command) command new (core_wanted core command) result keeps.made keeps.same) in
+      (became_by (is_frugal command) command new (core_step_if_room core command) result keeps.made keeps.same) in
       (λ none. keeps.full (room_is ∙ none), (found.0, found.1))

@@ -35,12 +35,12 @@ falls (FailsAfter (suc n)) after known seen = absurd (no_false seen.0)
 
 may_fail : (known before : Outlook) → IsKnownOutlook known before → before ≡ FailsAfter 0 → MayFail known
 may_fail Unknown before is armed = tt
-may_fail AllSucceed before is armed = other (sym is ∙ armed_outlook)
+may_fail AllSucceed before is armed = other (sym is ∙ armed)
   where
     other : AllSucceed ≡ FailsAfter 0 → ⊥
     other h = cc
 may_fail (FailsAfter zero) before is armed = tt
-may_fail (FailsAfter (suc n)) before is armed = other (sym is ∙ armed_outlook)
+may_fail (FailsAfter (suc n)) before is armed = other (sym is ∙ armed)
   where
     other : FailsAfter (suc n) ≡ FailsAfter 0 → ⊥
     other h = cc
@@ -119,7 +119,7 @@ pub opening_told : (calls : CallRecord) (failures failures' : ℕ) (before after
     → (IsArmed before → e ≡ DeviceFailed → after ≡ AllSucceed)
     → IsForetold calls (steps.Crash image) (answers.Refused e) × AreRecordedCalls (calls_after calls (steps.Crash image) (answers.Refused e)) failures' after
 opening_told calls failures failures' before after image DeviceFailed are known counted all first armed =
-    opening_failed calls failures failures' before after are (counted.0 refl) known (λ is. (all is).0 refl) (λ is. armed_outlook is refl)
+    opening_failed calls failures failures' before after are (counted.0 refl) known (λ is. (all is).0 refl) (λ is. armed is refl)
 opening_told calls failures failures' before after image e are known counted all first armed =
     opening_passed calls failures failures' before after are (counted.1 (λ is. let n = ap number_of is in absurd (omega (arith, n)))) (λ is. (all is).1)
     (λ is. let n = ap number_of (first is).0 in absurd (omega (arith, n)))

@@ -244,16 +244,16 @@ after_give_up c most =
 abbrev pub next_stage : Stage → Stage
 next_stage Begun = Written
 next_stage Written = BodySynced
-next_stage Synced = GateWritten
-next_stage Opened = Durable
+next_stage BodySynced = GateWritten
+next_stage GateWritten = Durable
 next_stage stage = stage
 
 -- or failed
 abbrev pub failed_stage : Stage → Stage
 failed_stage Begun = Stopped
 failed_stage Written = Stopped
-failed_stage Synced = Unsure
-failed_stage Opened = Unsure
+failed_stage BodySynced = Unsure
+failed_stage GateWritten = Unsure
 failed_stage stage = stage
 
 -- it was one of the oldest batch

@@ -15,7 +15,7 @@ returns-in_ok-store-in-Ok-clause-answers g c =
 
 pub returns-in_ok-store-in-Ok-clause-calls : goal.returns-in_ok-store-in-Ok-clause-calls
 returns-in_ok-store-in-Ok-clause-calls g c =
-    let calls : Calls = record { failed = g.D.Disk.failures c.args.disk; coming = outlook_after_opening (g.D.Disk.outlook c.args.disk) } in
+    let calls : CallRecord = record { failed = g.D.Disk.failures c.args.disk; coming = outlook_after_opening (g.D.Disk.outlook c.args.disk) } in
     (c.in-Ok.ensures.calls calls c.in_ok-world.ensures.calls).0
 
 pub returns-in_ok-store-in-Ok-clause-recovers : goal.returns-in_ok-store-in-Ok-clause-recovers
@@ -66,7 +66,7 @@ returns-in_err-store-in-Ok-clause-refused g c =
 pub returns-in_err-store-in-Ok-clause-unarmed : goal.returns-in_err-store-in-Ok-clause-unarmed
 returns-in_err-store-in-Ok-clause-unarmed g c = λ all nothing.
     let outlook = g.D.Disk.outlook in
-    let calls : Calls = record { failed = g.D.Disk.failures c.args.disk; coming = outlook_after_opening (outlook c.args.disk) } in
+    let calls : CallRecord = record { failed = g.D.Disk.failures c.args.disk; coming = outlook_after_opening (outlook c.args.disk) } in
     let steps = c.args.steps.now in
     let answers = c.in-Ok.answers.items in
     let calm : (calls_of calls steps answers).coming ≡ AllSucceed = stays_calm calls steps answers nothing (ap outlook_after_opening all) in

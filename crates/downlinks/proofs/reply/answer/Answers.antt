@@ -24,7 +24,7 @@ is_sent : (net_id slot : ℕ) (d left : Device) (c : CurrentSession) (asked : De
     → addr ≡ address net_id slot c → sending_step addr left c asked.best (downlink_fields opts going asked.confirmed pending) ≡ answer_step net_id slot d c asked
 is_sent net_id slot d left c asked addr opts going pending due unspent opts-is going-is left-is pending-is addr-is =
     let goes : DownlinkFields = downlink_fields (f_opts_of d asked) (item_of d asked) asked.confirmed (more_waits (without_load d asked)) in
-    let reply : Outcome = sending_step (address net_id slot c) (without_load d asked) c asked.best goes in
+    let reply : DeviceStep = sending_step (address net_id slot c) (without_load d asked) c asked.best goes in
     let pends : pending ≡ more_waits (without_load d asked) = pending-is ∙ ap more_waits left-is in
     let same : downlink_fields opts going asked.confirmed pending ≡ goes =
     ap (λ (x : List ℕ). downlink_fields x going asked.confirmed pending) opts-is
