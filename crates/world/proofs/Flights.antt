@@ -6,7 +6,7 @@ use Rattle.devices.specs.declared.effect.Effect.{Effect}
 use Rattle.sessions.specs.Table.{effects_of}
 use Rattle.world.specs.Folding.{RunLaws}
 use Rattle.world.specs.Course.{Origin, Course, Flight, Stage, decided_commands, commands_in_flight, with_oldest_stage, table_from, effects_from}
-use Rattle.world.specs.Course.Stage.{Opened, Durable, Unsure}
+use Rattle.world.specs.Course.Stage.{GateWritten, Durable, Unsure}
 use Rattle.world.specs.Answers.{ByStage, Leaves, MayLeave}
 use Rattle.world.specs.Commits.{durable_commands, with_durable}
 use Rattle.sessions.specs.Marks.{IsSubsequence}
@@ -31,7 +31,7 @@ stored_from settled flights = ap (λ l. durable_commands l flights) (sym (append
 
 by_stage : (stage : Stage) (X Y Z X' Y' Z' : Type 0) → (X → X') → (Y → Y') → (Z → Z') → ByStage stage X Y Z → ByStage stage X' Y' Z'
 by_stage Durable X Y Z X' Y' Z' f g h x = f x
-by_stage Opened X Y Z X' Y' Z' f g h x = g x
+by_stage GateWritten X Y Z X' Y' Z' f g h x = g x
 by_stage Unsure X Y Z X' Y' Z' f g h x = g x
 by_stage stage X Y Z X' Y' Z' f g h x = h x
 
@@ -60,7 +60,7 @@ pub record Beginning (settled commands_in_flight kept : List Command) : Type 0 w
 
 by_case : (stage : Stage) (X Y Z P : Type 0) → (X → P) → (Y → P) → (Z → P) → ByStage stage X Y Z → P
 by_case Durable X Y Z P f g h x = f x
-by_case Opened X Y Z P f g h x = g x
+by_case GateWritten X Y Z P f g h x = g x
 by_case Unsure X Y Z P f g h x = g x
 by_case stage X Y Z P f g h x = h x
 

@@ -27,7 +27,7 @@ use Rattle.world.specs.Course.{course_after, at_moment, decided_commands, due_fr
 use Rattle.world.specs.Course.{number_from, with_closings, table_from, with_piece, after_event}
 use Rattle.world.specs.Course.{step_if_room, windows_of}
 use Rattle.world.specs.Course.Checkpoint.{NotUnderWay, CallsLeft, CallFailed}
-use Rattle.world.specs.Course.Stage.{Opened, Durable, Stopped, Unsure}
+use Rattle.world.specs.Course.Stage.{GateWritten, Durable, Stopped, Unsure}
 
 -- what a command is answered: it is decided, or refused as it has to be; that there is no room is
 -- known before any memory is taken
@@ -178,7 +178,7 @@ AnswersEmit c answer =
 -- what may come of a batch by its stage: it is there, it may be there, or it isn't
 abbrev pub ByStage : Stage → Type 0 → Type 0 → Type 0 → Type 0
 ByStage Durable there doubtful gone = there
-ByStage Opened there doubtful gone = doubtful
+ByStage GateWritten there doubtful gone = doubtful
 ByStage Unsure there doubtful gone = doubtful
 ByStage stage there doubtful gone = gone
 

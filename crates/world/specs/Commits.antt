@@ -16,7 +16,7 @@ use Rattle.world.specs.declared.commit.UnderWay.TheVariants as commits
 use Rattle.world.specs.Checkpoints.{IsPublishingOn, calls_left}
 use Rattle.world.specs.Course.{Checkpoint, Flight, Stage}
 use Rattle.world.specs.Course.Checkpoint.{CallsLeft, NotUnderWay}
-use Rattle.world.specs.Course.Stage.{Begun, Written, Synced, Opened, Durable}
+use Rattle.world.specs.Course.Stage.{Begun, Written, BodySynced, GateWritten, Durable}
 use Rattle.world.specs.Answers.{MayLeave}
 
 -- the decisions of the batch under way
@@ -35,8 +35,8 @@ flight stage decisions = record { commands = commands_of decisions; stage = stag
 abbrev pub flights_in : UnderWay → List Flight
 flights_in (commits.Begun phase room) = flight Begun (begun_change phase).decisions
 flights_in (commits.Written phase room) = flight Written (written_change phase).decisions
-flights_in (commits.BodySynced phase room) = flight Synced (body_synced_change phase).decisions
-flights_in (commits.GateWritten phase room) = flight Opened (gate_written_change phase).decisions
+flights_in (commits.BodySynced phase room) = flight BodySynced (body_synced_change phase).decisions
+flights_in (commits.GateWritten phase room) = flight GateWritten (gate_written_change phase).decisions
 flights_in (commits.Durable durable) = flight Durable (decisions_of durable)
 flights_in commit = []
 

@@ -13,7 +13,7 @@ use Rattle.world.specs.declared.event.Event.TheVariants as events
 use Rattle.world.specs.Course.{Checkpoint, Origin, Course, Flight, Stage, after_commands}
 use Rattle.world.specs.Course.{course_after, after_copy, own_count, with_piece, after_events}
 use Rattle.world.specs.Course.Checkpoint.{NotUnderWay, CallsLeft, CallFailed}
-use Rattle.world.specs.Course.Stage.{Begun, Written, Synced, Opened, Durable, Stopped, Unsure}
+use Rattle.world.specs.Course.Stage.{Begun, Written, BodySynced, GateWritten, Durable, Stopped, Unsure}
 use Rattle.world.specs.Answers.{AreTurns, Behind, Beside, IsRight, event_of}
 use Rattle.world.specs.Links.{Completes, stream_on}
 use Rattle.world_tests.specs.declared.flight.Stage.{Stage as PlainStage}
@@ -30,8 +30,8 @@ pub record PlainState : Type 0 where
 abbrev pub stage_of : PlainStage → Stage
 stage_of variants.Begun = Begun
 stage_of variants.Written = Written
-stage_of variants.Synced = Synced
-stage_of variants.Opened = Opened
+stage_of variants.BodySynced = BodySynced
+stage_of variants.GateWritten = GateWritten
 stage_of variants.Durable = Durable
 stage_of variants.Stopped = Stopped
 stage_of variants.Unsure = Unsure

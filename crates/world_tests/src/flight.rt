@@ -7,8 +7,8 @@ use devices::Command;
 pub(crate) enum Stage {
     Begun,
     Written,
-    Synced,
-    Opened,
+    BodySynced,
+    GateWritten,
     Durable,
     Stopped,
     Unsure,

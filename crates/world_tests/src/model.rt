@@ -403,9 +403,9 @@ impl Plain {
         };
         let (succeeded, failed) = match flight.stage {
             Stage::Begun => (Stage::Written, Stage::Stopped),
-            Stage::Written => (Stage::Synced, Stage::Stopped),
-            Stage::Synced => (Stage::Opened, Stage::Unsure),
-            Stage::Opened => (Stage::Durable, Stage::Unsure),
+            Stage::Written => (Stage::BodySynced, Stage::Stopped),
+            Stage::BodySynced => (Stage::GateWritten, Stage::Unsure),
+            Stage::GateWritten => (Stage::Durable, Stage::Unsure),
             _ => return Ok(Answer::Idle),
         };
         if self.armed {
@@ -415,7 +415,7 @@ impl Plain {
             return Ok(Answer::Refused(Refusal::DeviceFailed));
         }
         flight.stage = succeeded;
-        self.gate_written = succeeded == Stage::Opened;
+        self.gate_written = succeeded == Stage::GateWritten;
         Ok(Answer::Called)
     }
 
@@ -546,7 +546,7 @@ impl Plain {
         };
         match flight.stage {
             Stage::Durable => true,
-            Stage::Opened | Stage::Unsure => match image {
+            Stage::GateWritten | Stage::Unsure => match image {
                 Image::Old => self.gate_synced,
                 _ => self.gate_written,
             },

@@ -3,7 +3,7 @@ use Rattle.std.proofs.lemmas.Result.{err_from_is_err_and}
 use Rattle.store.specs.Phases.{begun_change, written_change, body_synced_change, body_synced_size, gate_written_change, gate_written_size}
 use Rattle.store.specs.State.{store_state}
 use Rattle.world.specs.Course.{with_oldest_stage, next_stage, failed_stage}
-use Rattle.world.specs.Course.Stage.{Written, Synced, Opened, Stopped, Unsure}
+use Rattle.world.specs.Course.Stage.{Written, BodySynced, GateWritten, Stopped, Unsure}
 use Rattle.world.specs.Commits.{IsOn, GoesTo, flight, flights_in}
 use Rattle.world.specs.Sound.{IsOnItsWay}
 use Rattle.world.proofs.Calling.{stays, doubts, lasts, on_refusal}
@@ -71,7 +71,7 @@ returns-in_ok-sync-in-Written-clause-goes g c on =
     let s' = store_state g.D.Disk.state c.sync.new.store in
     let e = c.in_ok-sync-in-Written.ensures in
     subst (λ k. GoesTo (with_oldest_stage next_stage (flights_in k)) s s') (sym c.in-Written.is)
-    (stays s s' (flight Synced (written_change c.in-Written.phase).decisions) refl refl e.table e.seq (e.images g.met.D.Sim.is_honest (subst (IsOn s) c.in-Written.is on)))
+    (stays s s' (flight BodySynced (written_change c.in-Written.phase).decisions) refl refl e.table e.seq (e.images g.met.D.Sim.is_honest (subst (IsOn s) c.in-Written.is on)))
 
 pub returns-in_ok-open_gate-in-BodySynced-clause-on : goal.returns-in_ok-open_gate-in-BodySynced-clause-on
 returns-in_ok-open_gate-in-BodySynced-clause-on g c on = c.in_ok-open_gate-in-BodySynced.ensures.next g.met.D.Sim.is_honest (subst (IsOn (store_state g.D.Disk.state c.args.store.now)) c.in-BodySynced.is on)
@@ -82,7 +82,7 @@ returns-in_ok-open_gate-in-BodySynced-clause-goes g c on =
     let s' = store_state g.D.Disk.state c.open_gate.new.store in
     let e = c.in_ok-open_gate-in-BodySynced.ensures in
     subst (λ k. GoesTo (with_oldest_stage next_stage (flights_in k)) s s') (sym c.in-BodySynced.is)
-    (doubts c.of_runs.ensures s s' (body_synced_change c.in-BodySynced.phase) (body_synced_size c.in-BodySynced.phase) (subst (IsOnItsWay s) c.in-BodySynced.is c.requires.way) Opened refl
+    (doubts c.of_runs.ensures s s' (body_synced_change c.in-BodySynced.phase) (body_synced_size c.in-BodySynced.phase) (subst (IsOnItsWay s) c.in-BodySynced.is c.requires.way) GateWritten refl
     (λ kept leaves. leaves) e.table e.seq (e.images g.met.D.Sim.is_honest (subst (IsOn s) c.in-BodySynced.is on)))
 
 pub returns-in_ok-sync-in-GateWritten-clause-goes : goal.returns-in_ok-sync-in-GateWritten-clause-goes
