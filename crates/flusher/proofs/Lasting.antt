@@ -5,7 +5,7 @@ use Rattle.devices.specs.declared.effect.Effect.{Effect}
 use Rattle.sessions.specs.Marks.{IsSubsequence}
 use Rattle.sessions.specs.Table.{TableState, effects_of, fold_of}
 use Rattle.flusher.specs.Lives.{LifeEvent, Lives, lives_after, lives_after_all}
-use Rattle.flusher.specs.Lives.Event.{Released, Torn, Opened}
+use Rattle.flusher.specs.Lives.LifeEvent.{Released, Torn, Opened}
 
 -- The effects of two runs of commands are those of both in order, and parts of lists stay parts.
 pub record PartLaws : Type 0 where

@@ -9,7 +9,7 @@ use Rattle.dedup.specs.Groups.{Arrival, arrival}
 use Rattle.dedup.specs.Windows.{Window, StandFor, windows_with}
 use Rattle.session_core.specs.Deciding.{verdict_of}
 use Rattle.session_core.specs.Core.{CoreState, IsLawfulCore, new_core}
-use Rattle.session_core.specs.Events.{Asks, Hears, Starves, Ticks, has_due, IsTurnAnswer as IsCoreTurn}
+use Rattle.session_core.specs.Events.{Asks, Hears, Starves, Ticks, has_due, IsTurn as IsCoreTurn}
 use Rattle.session_core.specs.Standing.{with_copy}
 use Rattle.session_core.specs.declared.turn.Turn.{Turn}
 use Rattle.sessions.specs.Table.{TableState}
@@ -20,7 +20,7 @@ use Rattle.world.specs.declared.event.Event.{Event}
 use Rattle.world.specs.declared.event.Event.TheVariants as events
 use Rattle.world.specs.declared.step.Step.TheVariants as steps
 use Rattle.world.specs.Course.{Origin, Course, Flight, after_commands, at_moment, commands_of, handed_in_count, after_copy, after_release, with_closings, after_event}
-use Rattle.world.specs.Answers.{IsTurn}
+use Rattle.world.specs.Answers.{IsTurnAnswer}
 use Rattle.world.specs.Links.{HasSaid, Piece, heard_on, stream_on}
 use Rattle.world.specs.declared.links.Links.{Links}
 use Rattle.link_messages.specs.Feeding.{FeedState, new_feed}
@@ -129,7 +129,7 @@ module _ (laws : RunLaws) (origin : Origin) (s : StoreState) (commit : UnderWay)
   -- the answer to an event, and where its life is then
   abbrev Does : Event → Type 0
   Does event =
-      IsTurn origin c moment event turn new.closings
+      IsTurnAnswer origin c moment event turn new.closings
       × (IsLife origin (after_event origin c moment event turn.refused new.closings) s new.decisions commit
       × IsListening (after_event origin c moment event turn.refused new.closings) new links)
 

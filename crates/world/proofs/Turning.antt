@@ -16,7 +16,7 @@ use Rattle.dedup.specs.Windows.{Window, windows_with, window_of_group, is_due}
 use Rattle.session_core.specs.State.{DecisionsState, IsLawful}
 use Rattle.session_core.specs.Deciding.{verdict_of}
 use Rattle.session_core.specs.Core.{CoreState, with_outcome}
-use Rattle.session_core.specs.Events.{Asks, Closes, ClosesOldest, Hears, Starves, Ticks, has_due, core_at_moment, IsCopyAnswer as IsCoreHeard, IsTurnAnswer as IsCoreTurn}
+use Rattle.session_core.specs.Events.{Asks, Closes, ClosesOldest, Hears, Starves, Ticks, has_due, core_at_moment, IsHeard as IsCoreHeard, IsTurn as IsCoreTurn}
 use Rattle.session_core.specs.declared.turn.Turn.{Turn}
 use Rattle.sessions.specs.Table.{TableStep}
 use Rattle.store.specs.State.{StoreState}
@@ -25,7 +25,7 @@ use Rattle.world.specs.declared.commit.UnderWay.{UnderWay}
 use Rattle.world.specs.declared.event.Event.{Event}
 use Rattle.world.specs.declared.event.Event.TheVariants as events
 use Rattle.world.specs.Course.{Origin, Course, after_commands, at_moment, command_in, due_frames, after_copy, with_closings, after_event, step_if_room, after_command, windows_of}
-use Rattle.world.specs.Answers.{IsAsked, IsHeard, IsOwnRight, IsTurn}
+use Rattle.world.specs.Answers.{IsAsked, IsCopyAnswer, IsOwnRight, IsTurnAnswer}
 use Rattle.world.specs.declared.links.Links.{Links}
 use Rattle.world.specs.Follows.{IsLife, IsListening}
 use Rattle.world.proofs.Shapes.{admit-shape, same-life}
@@ -316,7 +316,7 @@ module _ (laws : RunLaws) (origin : Origin) (s : StoreState) (commit : UnderWay)
     -- the answer to an event, and the life behind it
     abbrev Turns : Event → Turn → ℕ → DecisionsState → Type 0
     Turns event turn closings decisions =
-        IsTurn origin c moment event turn closings × IsLife origin (after_event origin c moment event turn.refused closings) s decisions commit
+        IsTurnAnswer origin c moment event turn closings × IsLife origin (after_event origin c moment event turn.refused closings) s decisions commit
 
     turns : (event : Event) (turn : Turn) (decisions : DecisionsState) → turn.from ≡ c.made → turn.to ≡ decisions.made → Own event turn.refused
         → IsLife origin (after_event origin c moment event turn.refused between.closings) s decisions commit → Turns event turn between.closings decisions
@@ -342,8 +342,8 @@ module _ (laws : RunLaws) (origin : Origin) (s : StoreState) (commit : UnderWay)
         → turn.from ≡ c.made → turn.to ≡ new.decisions.made → Turns (events.Hear copy) turn new.closings new.decisions
     turns-missed copy new turn own from to = by (has_due between) refl own
       where
-        missed : (refused : Option Refusal) → refused ≡ Some OutOfMemory → IsHeard there copy refused
-        missed refused is = subst (IsHeard there copy) (sym is) (record { receivable = λ _. inl refl; unknown = λ _. inr refl })
+        missed : (refused : Option Refusal) → refused ≡ Some OutOfMemory → IsCopyAnswer there copy refused
+        missed refused is = subst (IsCopyAnswer there copy) (sym is) (record { receivable = λ _. inl refl; unknown = λ _. inr refl })
 
         done : new ≡ between → turn.refused ≡ Some OutOfMemory → Own (events.Hear copy) turn.refused → Turns (events.Hear copy) turn new.closings new.decisions
         done same is own =
@@ -369,7 +369,7 @@ module _ (laws : RunLaws) (origin : Origin) (s : StoreState) (commit : UnderWay)
         ∙ (ap (λ m. drop (m + between.closings) (map window_of_group (groups c.arrivals))) (sym (admit-shut origin before commands))
         ∙ ap (λ (l : List Arrival). drop ((after_commands origin before commands).shut + between.closings) (map window_of_group (groups l))) (sym (admit-arrivals origin before commands))))
 
-    heard_right : (copy : FrameCopy) (refused : Option Refusal) (new : CoreState) → IsCoreHeard copy between (verdict_of refused) new → IsHeard there copy refused
+    heard_right : (copy : FrameCopy) (refused : Option Refusal) (new : CoreState) → IsCoreHeard copy between (verdict_of refused) new → IsCopyAnswer there copy refused
     heard_right copy refused new own =
         record {
           receivable = λ is.

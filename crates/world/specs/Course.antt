@@ -29,9 +29,9 @@ pub data Stage : Type 0 where
   -- its body is written
   Written : Stage
   -- and synced
-  Synced : Stage
+  BodySynced : Stage
   -- its gate is open
-  Opened : Stage
+  GateWritten : Stage
   -- and synced: every crash leaves it
   Durable : Stage
   -- a device call failed before the gate was touched
