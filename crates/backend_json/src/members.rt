@@ -112,7 +112,8 @@ impl<'a> Rest<'a> {
         ensures only { (sender : T) (transaction : ℕ) → T.is_value sender → transaction < 2 ^ 32
             → members_view self.old.members
             ≡ member (codes "SenderID") (string (T.text_of sender))
-            (member (codes "TransactionID") (number (unsigned transaction)) no_members) → result ≡ Some (sender, transaction) }
+            (member (codes "TransactionID") (number (unsigned transaction)) no_members)
+            → result ≡ Some (sender, transaction) }
     {
         let sender = self.value("SenderID")?;
         let transaction = u32::try_from(self.number("TransactionID")?).ok()?;

@@ -120,10 +120,12 @@ fn accept_of(rest: &mut Rest<'_>) -> Option<SealedAccept>
 fn receiver_of(rest: &mut Rest<'_>) -> Option<NetId>
     ensures found { IfSome result (λ receiver. members_view rest.old.members
         ≡ member (codes "ProtocolVersion") (string (codes "1.0"))
-        (member (codes "ReceiverID") (string (net_id_text receiver)) (members_view rest.new.members))) }
+        (member (codes "ReceiverID") (string (net_id_text receiver))
+        (members_view rest.new.members))) }
     ensures only { (receiver : ℕ) (others : Members) → receiver < 64 → members_view rest.old.members
         ≡ member (codes "ProtocolVersion") (string (codes "1.0"))
-        (member (codes "ReceiverID") (string (net_id_text receiver)) others) → result ≡ Some receiver }
+        (member (codes "ReceiverID") (string (net_id_text receiver)) others)
+        → result ≡ Some receiver }
 {
     rest.text("ProtocolVersion", "1.0")?;
     rest.value("ReceiverID")
@@ -132,9 +134,11 @@ fn receiver_of(rest: &mut Rest<'_>) -> Option<NetId>
 // That the Result is Success.
 fn success_of(rest: &mut Rest<'_>) -> Option<()>
     ensures { MatchOption result
-        ((others : Members) → members_view rest.old.members ≢ member (codes "Result") (result_object (codes "Success") []) others)
+        ((others : Members) → members_view rest.old.members
+        ≢ member (codes "Result") (result_object (codes "Success") []) others)
         (λ _. members_view rest.old.members
-        ≡ member (codes "Result") (result_object (codes "Success") []) (members_view rest.new.members)) }
+        ≡ member (codes "Result") (result_object (codes "Success") [])
+        (members_view rest.new.members)) }
 {
     let mut inner = rest.object("Result")?;
     inner.text("Description", "")?;
@@ -148,7 +152,8 @@ fn cause_of(rest: &mut Rest<'_>) -> Option<Cause>
         ((cause : Cause) (others : Members) → members_view rest.old.members
         ≢ member (codes "Result") (result_object (code_of cause) (description_of cause)) others)
         (λ cause. members_view rest.old.members
-        ≡ member (codes "Result") (result_object (code_of cause) (description_of cause)) (members_view rest.new.members)) }
+        ≡ member (codes "Result") (result_object (code_of cause) (description_of cause))
+        (members_view rest.new.members)) }
 {
     let mut inner = rest.object("Result")?;
     let cause = Cause::described(inner.any_text("Description")?)?;

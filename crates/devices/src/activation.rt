@@ -41,7 +41,8 @@ impl Model for Activation {
     ghost invariant = { λ a. AreInOrder
         (record { granted = a.granted; current = a.current; pending = a.pending }) };
 
-    ghost inverse = { λ g. record { granted = g.granted; current = g.current; pending = g.pending } };
+    ghost inverse = { λ g.
+        record { granted = g.granted; current = g.current; pending = g.pending } };
 }
 
 impl Activation {

@@ -135,10 +135,12 @@ fn find_request(alloc: Global, name: &str, fields: Words<'_>) -> Result<Request,
 
 // The device that is provisioned: DevEUI, JoinEUI, AppKey, RX1DROffset and RX1's delay.
 fn provision(mut fields: Words<'_>) -> Option<Request>
-    ensures found { IfSome result (λ r. IsRequestInRange r × (codes "provision" ∷ words_left fields.entry ≡ request_words r)) }
+    ensures found { IfSome result (λ r. IsRequestInRange r
+        × (codes "provision" ∷ words_left fields.entry ≡ request_words r)) }
     ensures only { (dev_eui : Eui) (join_eui : Eui) (app_key : Key) (rx1_offset : ℕ) (rx_delay : ℕ)
         → IsRequestInRange (Request.Provision dev_eui join_eui app_key rx1_offset rx_delay)
-        → codes "provision" ∷ words_left fields.entry ≡ request_words (Request.Provision dev_eui join_eui app_key rx1_offset rx_delay)
+        → codes "provision" ∷ words_left fields.entry
+        ≡ request_words (Request.Provision dev_eui join_eui app_key rx1_offset rx_delay)
         → result ≡ Some (Request.Provision dev_eui join_eui app_key rx1_offset rx_delay) }
 {
     let dev_eui = next_value(&mut fields)?;

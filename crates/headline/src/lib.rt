@@ -41,16 +41,19 @@ pub fn crash_after<D: Sim + Drop>(
     ensures answers { IfOk result (λ found. AreRight (new_store net_id slots)
         (beginning (new_store net_id slots)) steps.now found.0.items) }
     ensures calls { IfOk result (λ found. AreForetold
-        (record { failed = D.failures disk; coming = outlook_after_opening (D.outlook disk) }) steps.now found.0.items) }
+        (record { failed = D.failures disk; coming = outlook_after_opening (D.outlook disk) })
+        steps.now found.0.items) }
     ensures recovers { IfOk result (λ found. Recovers (new_store net_id slots)
-        (course_of (new_store net_id slots) (beginning (new_store net_id slots)) steps.now found.0.items)
+        (course_of (new_store net_id slots) (beginning (new_store net_id slots)) steps.now
+        found.0.items)
         (store_state D.state found.1).table (store_state D.state found.1).seq) }
     ensures refused { IfErr result (λ e. e ≢ DeviceFailed → e ≢ OutOfMemory
         → IsFormatRefusal slots (length (D.state disk).content) e) }
     ensures unarmed { D.outlook disk ≡ AllSucceed → ArmsNothing steps.now
         → IfErr result (λ e. e ≢ DeviceFailed) }
     ensures once { IfOk result (λ found. AreOnce
-        (course_of (new_store net_id slots) (beginning (new_store net_id slots)) steps.now found.0.items).left) }
+        (course_of (new_store net_id slots) (beginning (new_store net_id slots)) steps.now
+        found.0.items).left) }
 {
     world::laws::what_a_crash_leaves();
     sessions::laws::no_mark_stands_twice();

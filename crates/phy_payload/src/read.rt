@@ -103,7 +103,8 @@ fn read_data_frame(
     body: &[u8],
 ) -> Result<Phy, Refusal>
     requires { length body.now ≤ 254 }
-    ensures { ReadsFrame result (or_malformed Phy.DataFrame (data_at direction confirmed body.now)) }
+    ensures { ReadsFrame result (or_malformed Phy.DataFrame
+        (data_at direction confirmed body.now)) }
 {
     let (front, mic) = body.split_last_chunk::<4>().ok_or(Refusal::Malformed)?;
     let mut fields = FieldReader { rest: front };

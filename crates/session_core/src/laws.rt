@@ -44,11 +44,13 @@ pub fn windows_stand_for_groups()
         (arrivals : List Arrival) →
         IsTurn old moment (Hears copy) turn new → IsLawfulCore old
         → StandFor old.windows arrivals closed old.clock →
-        StandFor new.windows (with_copy turn.refused new.clock copy arrivals) (closed + new.closings) new.clock }
+        StandFor new.windows (with_copy turn.refused new.clock copy arrivals)
+        (closed + new.closings) new.clock }
     ensures missed { (copy : FrameCopy) (old new : CoreState) (moment closed : ℕ) (turn : Turn)
         (arrivals : List Arrival) →
         IsTurn old moment Starves turn new → StandFor old.windows arrivals closed old.clock →
-        StandFor new.windows (with_copy turn.refused new.clock copy arrivals) (closed + new.closings) new.clock }
+        StandFor new.windows (with_copy turn.refused new.clock copy arrivals)
+        (closed + new.closings) new.clock }
 {
     dedup::laws::no_copies_no_windows();
     dedup::laws::windows_close_in_order();

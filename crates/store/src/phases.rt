@@ -156,7 +156,8 @@ impl GateWritten {
             → OnOk result (IsSettled (store_state D.state store.new)) }
         ensures durable { D.honest → IsGateWrittenOn (store_state D.state store.old) self
             → OnOk result (EveryImage (D.state (disk_of store.new))
-            (HoldsTable (table_after (store_state D.state store.old) (gate_written_change self)) (gate_written_change self).seq)) }
+            (HoldsTable (table_after (store_state D.state store.old) (gate_written_change self))
+            (gate_written_change self).seq)) }
         ensures images { D.honest → IsGateWrittenOn (store_state D.state store.old) self
             → EveryImage (D.state (disk_of store.new))
             (HoldsEither (store_state D.state store.old) (gate_written_change self)) }

@@ -59,7 +59,8 @@ impl Superblock {
         ensures only { (net_id slots : ℕ) → net_id < 64 → 1 ≤ slots → slots ≤ 4096
             → bytes.now ≡ superblock net_id slots
             → result ≡ Ok (record { net_id = net_id; slots = slots }) }
-        ensures not_formatted { (result ≡ Err NotFormatted) ↔ (take 8 bytes.now ≢ OPEN ∷ codes "LNSTORE") }
+        ensures not_formatted { (result ≡ Err NotFormatted)
+            ↔ (take 8 bytes.now ≢ OPEN ∷ codes "LNSTORE") }
         ensures version { (result ≡ Err WrongVersion)
             ↔ ((take 8 bytes.now ≡ OPEN ∷ codes "LNSTORE") × (slice_index bytes.now 8 ≢ 1)) }
         ensures refused { IfErr result

@@ -83,7 +83,8 @@ impl NetworkSlot {
         requires of_device { IsOf device.now.activation fit }
         requires heard { IsReceivable reach.now.best.reception }
         ensures { MatchResult result
-            (IsDeviceStep (uplink_step self.now.net_id self.now.slot device.now fit uplink.now reach.now.copies reach.now.best))
+            (IsDeviceStep (uplink_step self.now.net_id self.now.slot device.now fit uplink.now
+            reach.now.copies reach.now.best))
             (λ e. e ≡ OutOfMemory) }
     {
         let mut after = device.copy()?;
@@ -103,7 +104,8 @@ impl NetworkSlot {
         requires of_device { device.now.activation.current ≡ Some session }
         requires heard { IsReceivable best.now.reception }
         ensures { MatchResult result
-            (IsDeviceStep (acknowledgement_step self.now.net_id self.now.slot device.now session best.now))
+            (IsDeviceStep (acknowledgement_step self.now.net_id self.now.slot device.now session
+            best.now))
             (λ e. e ≡ OutOfMemory) }
     {
         let mut after = device.copy()?;

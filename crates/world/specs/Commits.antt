@@ -36,7 +36,8 @@ abbrev pub flights_in : UnderWay → List Flight
 flights_in (commits.Begun phase room) = flight Begun (begun_change phase).decisions
 flights_in (commits.Written phase room) = flight Written (written_change phase).decisions
 flights_in (commits.BodySynced phase room) = flight BodySynced (body_synced_change phase).decisions
-flights_in (commits.GateWritten phase room) = flight GateWritten (gate_written_change phase).decisions
+flights_in (commits.GateWritten phase room) =
+    flight GateWritten (gate_written_change phase).decisions
 flights_in (commits.Durable durable) = flight Durable (decisions_of durable)
 flights_in commit = []
 

@@ -157,7 +157,8 @@ impl<D: Sim> Life<D> {
             (λ answer. MovesLife D.state self.old (steps.Take most) answer self.new)
             (λ e. (e ≡ OutOfMemory) × (self.new ≡ self.old)) }
         ensures calls { IfOk result (λ answer.
-            Foretells D.failures D.outlook (disk_of self.old.store) (steps.Take most) answer (disk_of self.new.store)) }
+            Foretells D.failures D.outlook (disk_of self.old.store) (steps.Take most) answer
+            (disk_of self.new.store)) }
     {
         laws::of_runs();
         let room = Room::new(alloc)?;

@@ -41,7 +41,8 @@ impl<D: Sim + Drop> World<D> {
         ensures course { IfOk result
             (Follows D.state (new_store net_id slots) (beginning (new_store net_id slots))) }
         ensures calls { IfOk result (λ world. AreCallsAt D.failures D.outlook
-            (record { failed = D.failures disk; coming = outlook_after_opening (D.outlook disk) }) world.place) }
+            (record { failed = D.failures disk; coming = outlook_after_opening (D.outlook disk) })
+            world.place) }
         ensures unarmed { D.outlook disk ≡ AllSucceed → IfErr result (λ e. e ≢ DeviceFailed) }
         ensures refused { IfErr result (IsFormatRefusal slots (length (D.state disk).content)) }
     {

@@ -13,7 +13,8 @@ use Rattle.world.specs.declared.event.Event.TheVariants as events
 use Rattle.world.specs.Course.{Checkpoint, Origin, Course, Flight, Stage, after_commands}
 use Rattle.world.specs.Course.{course_after, after_copy, own_count, with_piece, after_events}
 use Rattle.world.specs.Course.Checkpoint.{NotUnderWay, CallsLeft, CallFailed}
-use Rattle.world.specs.Course.Stage.{Begun, Written, BodySynced, GateWritten, Durable, Stopped, Unsure}
+use Rattle.world.specs.Course.Stage.{Begun, Written, BodySynced, GateWritten, Durable, Stopped}
+use Rattle.world.specs.Course.Stage.{Unsure}
 use Rattle.world.specs.Answers.{AreTurns, Behind, Beside, IsRight, event_of}
 use Rattle.world.specs.Links.{Completes, stream_on}
 use Rattle.world_tests.specs.declared.flight.Stage.{Stage as PlainStage}
