@@ -1,4 +1,4 @@
--- Which answers are right in a course. Whether a call of the disk fails is said by `CallRecord`.
+-- Which answers are right in a course. Whether a call of the disk fails is said by `Calls.antt`.
 use Rattle.std.specs.Prelude.{◌≡◌, ◌≢◌, ◌≤◌, ◌⊎◌, ℕ, false, nat_lt, List, [], ◌∷◌, ◌++◌, length}
 use Rattle.std.specs.Prelude.{map, take, slice_get, Option, Some, None, MatchBool}
 use Rattle.std.specs.Option.{MatchOption}
