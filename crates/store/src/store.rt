@@ -10,8 +10,9 @@ use lw_types::Refusal;
 use sessions::Table;
 use store_layout::RecordVersion;
 
-/// The bytes of the journal that the largest batch takes, with its gate and the next one.
-pub const LARGEST_BATCH: u64 = 275_536;
+/// The bytes of the journal that the largest batch takes: its gate and head, 64 entries of the bytes
+/// that are reserved for each (see [`store_layout::Superblock::area_len`]), and the next gate.
+pub const LARGEST_BATCH: u64 = 15 + 64 * 4_305 + 1;
 
 /// A durable table with its journal on a disk. After a call of the disk has failed, it answers no
 /// `begin` but with [`Refusal::Failed`]: it is closed, and its disk opened again.

@@ -3,7 +3,8 @@ use Rattle.std.specs.Prelude.{ℕ, ◌+◌, ◌*◌, List, ◌∷◌, ◌++◌, 
 use Rattle.std.specs.Int.{bytes_high_first}
 use Rattle.gate_log.specs.declared.layout.TheConstants.{OPEN}
 
--- the length of an area with room for the record of each slot and a mebibyte of batches
+-- the length of an area with room for the entry of each slot, of which 5 bytes and 4,300 of a record
+-- are reserved, and a mebibyte of batches
 abbrev pub area_len : ℕ → ℕ
 area_len slots = 30 + slots * 4305 + 1048576
 

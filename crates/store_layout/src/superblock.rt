@@ -35,7 +35,9 @@ impl Superblock {
         ]
     }
 
-    /// The length of one area in bytes.
+    /// The length of one area in bytes: a header, what is reserved for the entry of each slot, and a
+    /// mebibyte of batches. An entry is 5 bytes and a record, for which 4,300 bytes are reserved: the
+    /// largest has 4,180, and the others are left to later versions of records.
     pub fn area_len(&self) -> u64
         ensures len { result ≡ area_len self.now.slots }
         ensures small { result < 2 ^ 32 }
