@@ -13,4 +13,4 @@ pub returns : goal.returns
 returns c =
     let frame = DataFrame c.args.uplink.now.frame in
     let is = c.reading_is_the_grammar.ensures.read c.args.bytes.now frame (λ i. omega (arith, c.type_inv.bytes i)) (uplink-read c.args.bytes.now c.args.uplink.now c.requires) in
-    (c.a_mic_stands_behind_its_message.ensures.data_frames c.args.bytes.now c.args.uplink.now.frame is).0
+    (c.a_mic_stands_behind_its_input.ensures.data_frames c.args.bytes.now c.args.uplink.now.frame is).0
