@@ -47,7 +47,7 @@ impl Model for Feeder {
 }
 
 // The length of content that is stated in the first two bytes.
-fn told_length(stream: &[u8]) -> Option<usize>
+fn stated_length(stream: &[u8]) -> Option<usize>
     ensures { result ≡ stated_length stream.now }
 {
     let (head, _) = stream.split_first_chunk::<HEAD>()?;
@@ -58,7 +58,7 @@ fn told_length(stream: &[u8]) -> Option<usize>
 fn first_frame(stream: &[u8]) -> Result<Option<(&[u8], &[u8])>, Refusal>
     ensures { IsFirstFrame stream.now result }
 {
-    match told_length(stream) {
+    match stated_length(stream) {
         None => Ok(None),
         Some(len) if len > LONGEST_CONTENT => Err(Refusal::FrameTooLong),
         Some(len) => Ok(stream[HEAD..].split_at_checked(len)),
@@ -66,7 +66,7 @@ fn first_frame(stream: &[u8]) -> Result<Option<(&[u8], &[u8])>, Refusal>
 }
 
 // The length of content that is stated in the first two bytes of both together.
-fn told_across(kept: &[u8], piece: &[u8]) -> Option<usize>
+fn stated_across(kept: &[u8], piece: &[u8]) -> Option<usize>
     requires { 0 < length kept.now }
     ensures { result ≡ stated_length (kept.now ++ piece.now) }
 {
@@ -92,7 +92,7 @@ fn finishing(kept: &[u8], piece: &[u8]) -> usize
     ensures some { result ≤ length piece.now }
     ensures finished { Finishes (kept.now ++ take result piece.now) (drop result piece.now) }
 {
-    match told_across(kept, piece) {
+    match stated_across(kept, piece) {
         None => 0,
         Some(len) if len > LONGEST_CONTENT => up_to(HEAD, kept, piece),
         Some(len) => up_to(HEAD + len, kept, piece),
@@ -100,7 +100,7 @@ fn finishing(kept: &[u8], piece: &[u8]) -> usize
 }
 
 // The message that content is, where it may be said.
-fn told_message(alloc: Global, peer: Option<Peer>, content: &[u8]) -> Result<Message, Refusal>
+fn next_message(alloc: Global, peer: Option<Peer>, content: &[u8]) -> Result<Message, Refusal>
     ensures { Tells peer content.now result }
 {
     read_message(alloc, peer, content)
@@ -126,7 +126,7 @@ fn next_message<'a>(
     match first_frame(stream) {
         Err(fault) => Ok(Next::Fault(fault)),
         Ok(None) => Ok(Next::Nothing),
-        Ok(Some((content, behind))) => match told_message(alloc, *peer, content) {
+        Ok(Some((content, behind))) => match next_message(alloc, *peer, content) {
             Ok(message) => Ok(Next::Message(message, behind)),
             Err(Refusal::BadMessage) => Ok(Next::Fault(Refusal::BadMessage)),
             Err(_) => Err(Refusal::OutOfMemory),

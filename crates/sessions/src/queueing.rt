@@ -99,7 +99,7 @@ fn with_item(
         confirmed: queueing.confirmed,
         payload: Payload::from_slice(alloc, queueing.payload.as_slice())?,
     };
-    let effects = told(alloc, device, Report::Queued { tag: queueing.tag })?;
+    let effects = report_alone(alloc, device, Report::Queued { tag: queueing.tag })?;
     let mut after = device.copy()?;
     after.items.push(item)?;
     Ok((after, effects))
@@ -143,14 +143,14 @@ fn with_commands(
     let report = Report::MacQueued {
         commands: Payload::from_slice(alloc, commands)?,
     };
-    let effects = told(alloc, device, report)?;
+    let effects = report_alone(alloc, device, report)?;
     let mut after = device.copy()?;
     after.mac_queue.append(commands)?;
     Ok((after, effects))
 }
 
 // The report, for the device's application.
-fn told(alloc: Global, device: &Device, report: Report) -> Result<Effects, Refusal>
+fn report_alone(alloc: Global, device: &Device, report: Report) -> Result<Effects, Refusal>
     ensures { MatchResult result (λ effects. effects ≡ report_effects device.now report)
         (λ e. e ≡ OutOfMemory) }
 {
