@@ -100,7 +100,7 @@ fn finishing(kept: &[u8], piece: &[u8]) -> usize
 }
 
 // The message that content is, where it may be said.
-fn next_message(alloc: Global, peer: Option<Peer>, content: &[u8]) -> Result<Message, Refusal>
+fn message_of_content(alloc: Global, peer: Option<Peer>, content: &[u8]) -> Result<Message, Refusal>
     ensures { Tells peer content.now result }
 {
     read_message(alloc, peer, content)
@@ -126,7 +126,7 @@ fn next_message<'a>(
     match first_frame(stream) {
         Err(fault) => Ok(Next::Fault(fault)),
         Ok(None) => Ok(Next::Nothing),
-        Ok(Some((content, behind))) => match next_message(alloc, *peer, content) {
+        Ok(Some((content, behind))) => match message_of_content(alloc, *peer, content) {
             Ok(message) => Ok(Next::Message(message, behind)),
             Err(Refusal::BadMessage) => Ok(Next::Fault(Refusal::BadMessage)),
             Err(_) => Err(Refusal::OutOfMemory),
