@@ -4,15 +4,19 @@
 
 mod checkpointing;
 mod committing;
+mod drawn;
 mod durable;
 mod feed;
 pub mod laws;
 mod released;
 mod room;
 mod rounds;
+mod serving;
 
+pub use drawn::Drawn;
 pub use durable::Durable;
 pub use feed::{Feed, Most, StoredBatches};
 pub use released::Released;
 pub use room::{MOST_EFFECTS, Room};
 pub use rounds::cycle;
+pub use serving::serve;
