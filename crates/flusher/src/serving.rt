@@ -17,8 +17,8 @@ pub fn serve<R: Wait, D: Disk, F: Feed, C: FnMut(Vec<Released>), S: FnMut() -> b
     out: &mut C,
     done: &mut S,
 ) -> Result<(), Refusal>
-    requires out { (f : C) (x : _) → C.pre f x }
-    requires done { (f : S) → S.pre f }
+    requires out { C.IsAlwaysCallable out.old }
+    requires done { S.IsAlwaysCallable done.old }
 {
     for _ in rt.forever() {
         if cycle(store, feed, alloc, out)? == 0 && done() {

@@ -8,39 +8,78 @@ use std::fmt;
 /// Why a call was refused. `number` gives the number that texts and answers carry.
 #[derive(Clone, Copy, Debug, PartialEq, Eq)]
 pub enum Refusal {
+    /// A frame's bytes are not in the grammar of TS001-1.0.4 §4, or a bit that is reserved isn't 0.
     Malformed,
+    /// A frame is neither a Join-Request nor an uplink.
     NotServed,
+    /// An uplink's address is that of no session.
     UnknownDevAddr,
+    /// A Join-Request's MIC isn't its device's; or an uplink's counter isn't too far in a session
+    /// that has its address, and its MIC is right in none.
     BadMic,
+    /// An uplink's counter is too far above the last one in each session that has its address.
     CounterGap,
+    /// An unconfirmed uplink comes again, under the last counter and with its MIC.
     Repeat,
+    /// No device has the DevEUI of a Join-Request or of an application's request, or that device
+    /// is another application's.
     UnknownDevEui,
+    /// A Join-Request has another JoinEUI than its device.
     WrongJoinEui,
+    /// A Join-Request's DevNonce is not above the last one that was accepted of its device.
     DevNonceUsed,
+    /// A Join-Request comes of a device that was granted the last JoinNonce, 16,777,215.
     JoinNonceSpent,
+    /// An uplink has MAC commands in FOpts and is on port 0.
     MacBoth,
+    /// An item is to be queued for a device for which 16 items wait.
     QueueFull,
+    /// MAC commands are to be queued, and with them more than 64 bytes would wait.
     MacQueueFull,
+    /// An item is to be queued whose payload has more than 242 bytes.
     TooLong,
+    /// An item is to be queued for port 0 or a port above 223.
     BadPort,
+    /// A device is to be brought whose DevEUI a device has already.
     DevEuiTaken,
+    /// A device is to be brought where each slot has one.
     TableFull,
+    /// The bytes to be queued are not one or more whole commands of LinkADRReq, DutyCycleReq and
+    /// DevStatusReq.
     BadMac,
+    /// A copy of a frame comes for which no window is open, and 1,024 windows are open.
     WindowsFull,
+    /// A copy of a frame comes by a gateway of which the frame's window has one.
     SameGateway,
+    /// A copy of a frame comes whose window has 32 copies.
     CopiesFull,
+    /// A command comes while 4,096 decisions wait to be taken, or where the last number, 2^63 - 1,
+    /// is used.
     Backlog,
+    /// A copy of a frame was heard on no channel, or at a data rate above 5.
     UnknownChannel,
+    /// A call needed memory and got none.
     OutOfMemory,
+    /// The disk failed in this call.
     DeviceFailed,
+    /// The disk failed in an earlier call of this store, which has to be opened again.
     Failed,
+    /// A batch doesn't continue the durable table and its number.
     OutOfStep,
+    /// A disk is opened that doesn't begin with the open gate and the name of a store.
     NotFormatted,
+    /// The bytes of a store or of a record are not in the layout; a store is made of no slots or of
+    /// more than 4,096; or a checkpoint begins past the last generation.
     Damaged,
+    /// A store is opened that has another version, or whose live area has.
     WrongVersion,
+    /// A store is opened, or made, on a disk of another length than it has.
     WrongSize,
+    /// The length of a frame of a link is above 700, or a PHYPayload has more than 255 bytes.
     FrameTooLong,
+    /// What a link carries, a line, or a text of a join is none that there is.
     BadMessage,
+    /// A link's bytes end inside a frame.
     CutShort,
 }
 

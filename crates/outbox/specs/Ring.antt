@@ -4,9 +4,9 @@ use Rattle.devices.specs.declared.effect.Effect.{Effect}
 use Rattle.flusher.specs.Released.{effects_of_all}
 use Rattle.rtrb.specs.Ends.{SameRing}
 use Rattle.rtrb.specs.Ring.{sent, received, known_free, known_items, all_sent, IsFinishedOf, IsPair, SameConsumer, SameProducer}
-use Rattle.outbox.specs.declared.ring.Outlet.{Outlet}
-use Rattle.outbox.specs.declared.ring.Inlet.{Inlet}
-use Rattle.outbox.specs.declared.ring.Ended.{Ended}
+use Rattle.outbox.specs.declared.ends.Outlet.{Outlet}
+use Rattle.outbox.specs.declared.ends.Inlet.{Inlet}
+use Rattle.outbox.specs.declared.ends.Ended.{Ended}
 
 -- the effects that were put, in order
 abbrev pub put_in : Outlet → List Effect
