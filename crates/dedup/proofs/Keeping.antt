@@ -1,5 +1,5 @@
 -- The windows, as the map keeps them.
-use Rattle.std.proofs.Common.{◌≡◌, ℕ, zero, suc, ◌+◌, ◌≤◌, ◌<◌, Bool, true, false, cond, not, List, [], ◌∷◌, ◌++◌, length, map, drop, get_or, refl, sym, ap, subst, ◌∙◌, arith, Ok, Err, Some, None, Option, is_some, slice_get, position, ◌||◌}
+use Rattle.std.proofs.Common.{◌≡◌, ℕ, zero, suc, ◌+◌, ◌^◌, ◌≤◌, ◌<◌, SomeIff, nat_lt, Bool, true, false, cond, not, List, [], ◌∷◌, ◌++◌, length, map, drop, get_or, refl, sym, ap, subst, ◌∙◌, arith, Ok, Err, Some, None, Option, is_some, slice_get, position, ◌||◌}
 use Rattle.std.specs.Prelude.{nat_le, bytes_eq, All, AllPairs, Result, OnErr}
 use Rattle.std.specs.List.{list_any, position_or_len}
 use Rattle.std.specs.Map.{keys_of, values_of, lookup}
@@ -16,7 +16,7 @@ use Rattle.devices.specs.declared.heard.Hearing.{Hearing}
 use Rattle.devices.specs.Heard.{with_hearing}
 use Rattle.dedup.specs.declared.TheConstants.{WAIT, MOST_WINDOWS}
 use Rattle.dedup.specs.declared.windows.Gathering.{Gathering}
-use Rattle.dedup.specs.Windows.{heard_now, Window, hearing_of, is_due, is_of, with_hearings, result_map, joined_windows, windows_with, NoneDue, IsOldestDue}
+use Rattle.dedup.specs.Windows.{heard_now, next_due, Window, hearing_of, is_due, is_of, with_hearings, result_map, joined_windows, windows_with, NoneDue, IsOldestDue}
 use Rattle.dedup.specs.Kept.{window_of, joined_at, opened_too, AreKept}
 
 abbrev pub Entries : Type 0
@@ -194,3 +194,18 @@ oldest_is_due es bytes g now at' due =
       due = grind (arith, nat_tests);
       heard_in_it = refl;
     }
+
+-- a sum that is there where it has 64 bits
+sum_in_range : (sum : ℕ) (o : Option ℕ) → SomeIff o (sum < 2 ^ 64) sum → o ≡ cond (nat_lt sum (2 ^ 64)) (Some sum) None
+sum_in_range sum None above =
+    let f : nat_lt sum (2 ^ 64) ≡ false = grind (arith, nat_tests) in
+    ap (λ (b : Bool). cond b (Some sum) None) (sym f)
+sum_in_range sum (Some x) (below, is) =
+    let t : nat_lt sum (2 ^ 64) ≡ true = grind (arith, nat_tests) in
+    ap (λ (n : ℕ). Some n) is ∙ ap (λ (b : Bool). cond b (Some sum) None) (sym t)
+
+pub next_due_is : (es : Entries) (bytes : List ℕ) (g : Gathering) (o : Option ℕ) → slice_get es 0 ≡ Some (bytes, g)
+    → SomeIff o (g.opened + WAIT < 2 ^ 64) (g.opened + WAIT) → o ≡ next_due (map window_of es)
+next_due_is es bytes g o at' due =
+    let e : map window_of es ≡ window_of (bytes, g) ∷ map window_of (drop 1 es) = ap (map window_of) (first_entry es (bytes, g) at') in
+    sum_in_range (g.opened + WAIT) o due ∙ ap next_due (sym e)

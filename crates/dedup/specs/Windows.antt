@@ -1,7 +1,7 @@
 -- The windows that are open.
 use Rattle.std.specs.Prelude.{◌≡◌, ℕ, ◌+◌, ◌≤◌, Bool, true, false, not, nat_le, if◌then◌else◌, List}
 use Rattle.std.specs.Prelude.{[], ◌∷◌, ◌++◌, Result, Ok, Err, length, filter, map, take, drop, All}
-use Rattle.std.specs.Prelude.{bytes_eq}
+use Rattle.std.specs.Prelude.{bytes_eq, ◌^◌, nat_lt, Option, Some, None}
 use Rattle.std.specs.List.{list_any}
 use Rattle.lw_types.specs.declared.frame_copy.FrameCopy.{FrameCopy}
 use Rattle.lw_types.specs.declared.refusal.Refusal.{Refusal}
@@ -21,6 +21,15 @@ pub record Window : Type 0 where
 -- its wait is over
 abbrev pub is_due : ℕ → Window → Bool
 is_due now window = nat_le (window.opened + WAIT) now
+
+-- the moment at which the oldest window is due, where that is before this end of time
+abbrev pub due_before : ℕ → List Window → Option ℕ
+due_before end [] = None
+due_before end (w ∷ ws) = if nat_lt (w.opened + WAIT) end then Some (w.opened + WAIT) else None
+
+-- as a number of 64 bits
+abbrev pub next_due : List Window → Option ℕ
+next_due ws = due_before (2 ^ 64) ws
 
 abbrev pub hearing_of : FrameCopy → Hearing
 hearing_of copy = record { reception = copy.reception; stamp = copy.stamp }

@@ -5,7 +5,7 @@ ghost use Rattle.std.specs.List.{list_any};
 ghost use Rattle.lw_types.specs.Answer.{Answers};
 ghost use Rattle.devices.specs.Heard.{IsReceivable};
 ghost use Rattle.dedup.specs.Windows.{windows_with, heard_now, is_of, IsCurrent, IsOldestDue};
-ghost use Rattle.dedup.specs.Windows.{NoneDue};
+ghost use Rattle.dedup.specs.Windows.{NoneDue, next_due};
 ghost use Rattle.dedup.specs.Kept.{joined_at, opened_too};
 
 use crate::{MOST_WINDOWS, WAIT};
@@ -111,6 +111,15 @@ impl Windows {
             phy_payload,
             hearings,
         })
+    }
+
+    /// The moment at which the oldest window is due, 200 ms after it opened. `None` where no window is open, and where
+    /// that moment is past 2^64 - 1. Takes no memory.
+    pub fn next_due(&self) -> Option<u64>
+        ensures { result ≡ next_due self.now }
+    {
+        let (_, gathering) = self.gatherings.first()?;
+        gathering.opened.checked_add(WAIT)
     }
 
     /// How many windows are open.

@@ -6,15 +6,19 @@
 mod checkpointing;
 mod committing;
 mod cycles;
+mod drawn;
 mod durable;
 mod feed;
 pub mod laws;
 mod released;
 mod room;
+mod serving;
 
 pub use cycles::cycle;
+pub use drawn::Drawn;
 pub use durable::Durable;
 pub use feed::{Feed, StoredBatches};
 pub use released::Released;
 pub use room::{MOST_EFFECTS, Room};
+pub use serving::serve;
 pub use sessions::Most;

@@ -31,4 +31,12 @@ impl Released {
     {
         &self.effect
     }
+
+    /// The effect, by value. Takes no memory.
+    pub fn into_effect(self) -> Effect
+        ensures { result ≡ effect_of self }
+    {
+        let Released { effect } = self;
+        effect
+    }
 }

@@ -4,6 +4,8 @@ use Rattle.devices.specs.declared.effect.Effect.{Effect}
 use Rattle.devices.specs.declared.effect.Effect.TheVariants.{Forward, Accept, Down, Report}
 use Rattle.gateway_wire.specs.declared.emission.Emission.{Emission}
 use Rattle.gateway_wire.specs.declared.emission.Emission.TheVariants.{Gateway, Application}
+use Rattle.gateway_wire.specs.declared.recipient.Recipient.{Recipient}
+use Rattle.gateway_wire.specs.declared.recipient.Recipient.TheVariants as recipients
 use Rattle.gateway_wire.specs.AppLine.{up_line, report_line}
 use Rattle.gateway_wire.specs.Downlink.{downlink_frame}
 
@@ -15,6 +17,14 @@ emission (Forward application session counter port payload copies best) =
 emission (Report application dev_eui report) = Application application (report_line dev_eui report)
 emission (Accept session downlink) = Gateway downlink.gateway (downlink_frame downlink)
 emission (Down session counter downlink) = Gateway downlink.gateway (downlink_frame downlink)
+
+-- on whose link that is
+abbrev pub recipient_in : Emission → Recipient
+recipient_in (Application application line) = recipients.Application application
+recipient_in (Gateway gateway frame) = recipients.Gateway gateway
+
+abbrev pub recipient : Effect → Recipient
+recipient effect = recipient_in (emission effect)
 
 abbrev pub line_in : Emission → Option (List ℕ)
 line_in (Application application line) = Some line

@@ -4,3 +4,4 @@ pub mod Emission
 pub mod Request
 pub mod DeviceList
 pub mod Finding
+pub mod Answer

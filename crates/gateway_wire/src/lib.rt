@@ -2,15 +2,19 @@
 //! of a table.
 #![tactic(auto)]
 
+mod answer;
 mod downlink;
 mod emission;
 mod list;
+mod recipient;
 mod report;
 mod request;
 mod word_values;
 
+pub use answer::{AnswerFrame, LONGEST_ANSWER_FRAME, answer_frame, refused_line};
 pub use downlink::{LONGEST_WIRE_FRAME, WireFrame};
 pub use emission::{Emission, app_line, gateway_bytes};
 pub use list::list_text;
+pub use recipient::Recipient;
 pub use request::{Request, read_line, read_request};
 pub use word_values::{next_ranged, next_value};

@@ -1,3 +1,4 @@
 pub mod Lawful
 pub mod Windows
 pub mod Standing
+mod Counts

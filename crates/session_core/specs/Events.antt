@@ -1,6 +1,6 @@
 -- What an event does: the windows that are due are closed, and then its own is done.
 use Rattle.std.specs.Prelude.{◌≡◌, ◌≢◌, ℕ, zero, suc, max, Bool, List, Option, Some, None, Result}
-use Rattle.std.specs.Prelude.{Err, OnErr, OnOk, MatchBool}
+use Rattle.std.specs.Prelude.{◌^◌, Err, OnErr, OnOk, MatchBool}
 use Rattle.std.specs.List.{list_any}
 use Rattle.lw_types.specs.Answer.{Answers}
 use Rattle.lw_types.specs.declared.refusal.Refusal.{Refusal}
@@ -10,7 +10,7 @@ use Rattle.devices.specs.Heard.{IsReceivable}
 use Rattle.devices.specs.declared.heard.Heard.{Heard}
 use Rattle.devices.specs.declared.command.Command.{Command}
 use Rattle.devices.specs.declared.command.Command.TheVariants as commands
-use Rattle.dedup.specs.Windows.{Window, IsOldestDue, is_due, windows_with}
+use Rattle.dedup.specs.Windows.{Window, IsOldestDue, due_before, is_due, windows_with}
 use Rattle.session_core.specs.State.{DecisionsState}
 use Rattle.session_core.specs.Deciding.{Keeps, verdict_of}
 use Rattle.session_core.specs.Core.{CoreState, with_outcome}
@@ -53,6 +53,10 @@ pub record HasClosed (old new : CoreState) : Type 0 where
 -- the effective time never falls
 abbrev pub core_at_moment : CoreState → ℕ → CoreState
 core_at_moment s moment = record s { clock = max s.clock moment; closings = 0 }
+
+-- the moment at which the oldest window is due, where there is such a moment
+abbrev pub next_due : CoreState → Option ℕ
+next_due s = due_before (2 ^ 63) s.windows
 
 -- whether a window is due
 abbrev pub has_due : CoreState → Bool

@@ -5,7 +5,7 @@ ghost use Rattle.devices.specs.declared.command.Command.TheVariants as commands;
 ghost use Rattle.session_core.specs.State.{now_of, last_number};
 ghost use Rattle.session_core.specs.Deciding.{after_taking};
 ghost use Rattle.session_core.specs.Core.{IsLawfulCore, new_core};
-ghost use Rattle.session_core.specs.Events.{IsTurn, Asks, Hears, Starves, Ticks};
+ghost use Rattle.session_core.specs.Events.{IsTurn, Asks, Hears, Starves, Ticks, next_due};
 
 use crate::decisions::Decisions;
 use crate::{MOST_OUTCOMES, Moment, Most, Outcome, Turn};
@@ -110,6 +110,21 @@ impl Core {
         ensures { result ≡ self.now.closings }
     {
         self.closings
+    }
+
+    /// The effective time: the latest moment that an event of this life has brought, 0 before the first.
+    pub fn effective_time(&self) -> Moment
+        ensures { result ≡ self.now.clock }
+    {
+        self.clock
+    }
+
+    /// The moment at which the oldest window is due: an event at this moment or later closes it, and an earlier one closes
+    /// none. `None` where no window is open, and where the oldest is never due, since no moment is so late.
+    pub fn next_due(&self) -> Option<Moment>
+        ensures { result ≡ next_due self.now }
+    {
+        Moment::new(self.windows.next_due()?)
     }
 
     /// What came of the last commands that were handed in to be decided, at most 64, the oldest

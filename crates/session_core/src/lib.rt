@@ -1,16 +1,25 @@
 //! What decides in one life: the windows in which the copies of a frame are gathered, the decisions
 //! that were made and not yet taken, the table that they leave, and what came of the last commands.
+//! [`Shared`] is a core that threads share, and [`Sessions`] what they call through its lock.
 #![tactic(auto)]
 
+mod books;
 mod closing;
 mod decisions;
 mod events;
 pub mod laws;
+mod locked;
 mod outcome;
+mod seat;
+mod shared;
 mod turn;
 
+pub use books::{Books, Made, Taken};
 pub use decisions::{LAST_NUMBER, MOST_UNTAKEN};
 pub use events::Core;
+pub use locked::Sessions;
 pub use outcome::{MOST_OUTCOMES, Outcome};
+pub use seat::{Seat, Taker};
 pub use sessions::Most;
+pub use shared::Shared;
 pub use turn::{LAST_MOMENT, Moment, Turn};

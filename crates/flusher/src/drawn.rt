@@ -1,0 +1,50 @@
+// Batches that are drawn from a core which threads share.
+use crate::{Feed, Most};
+use lw_types::Refusal;
+use session_core::{Books, Sessions, Taker};
+use sessions::Batch;
+use std::sync::Wait;
+
+/// The decisions that wait behind the lock of a core: each batch is the oldest of them, as [`Sessions::take`] gives them. Of
+/// a batch nothing is promised but that the taker's share counts it: [`cycle`](crate::cycle) compares each batch with the
+/// durable table.
+#[derive(Drop)]
+pub struct Drawn<'x, B: Books, S: Sessions<B>, R: Wait> {
+    rt: &'x R,
+    sessions: &'x S,
+    taker: Taker<B>,
+}
+
+impl<'x, B: Books, S: Sessions<B>, R: Wait> Drawn<'x, B, S, R> {
+    ghost use Rattle.std.specs.Prelude.{◌≡◌};
+
+    /// A feed that takes with this share.
+    pub fn new(rt: &'x R, sessions: &'x S, taker: Taker<B>) -> Self
+        ensures { result.taker ≡ taker }
+    {
+        Drawn {
+            rt,
+            sessions,
+            taker,
+        }
+    }
+
+    /// How many decisions were taken.
+    pub fn share(&self) -> u64
+        ensures { result ≡ self.now.taker }
+    {
+        self.taker.share()
+    }
+}
+
+impl<'x, B: Books, S: Sessions<B>, R: Wait> Feed for Drawn<'x, B, S, R> {
+    ghost use Rattle.std.specs.Prelude.{◌≡◌, ◌+◌, length, MatchResult};
+
+    ghost gives = { λ old _ answer new. MatchResult answer
+        (λ batch. new.taker ≡ old.taker + length batch)
+        (λ _. new.taker ≡ old.taker) };
+
+    fn next(&mut self, most: Most) -> Result<Batch, Refusal> {
+        self.sessions.take(self.rt, &mut self.taker, most)
+    }
+}

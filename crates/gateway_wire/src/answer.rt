@@ -1,0 +1,49 @@
+// What an application is told, as a frame of the wire.
+ghost use Rattle.std.specs.Prelude.{◌≡◌, MatchResult};
+ghost use Rattle.lw_types.specs.Answer.{Answers};
+ghost use Rattle.lw_types.specs.declared.refusal.Refusal.TheVariants.{OutOfMemory};
+ghost use Rattle.gateway_wire.specs.Answer.{refused_line, short_answer_frame};
+
+use link_messages::Line;
+use lw_types::{Bytes, Refusal};
+use std::alloc::Global;
+
+/// The kind of content that an answer to an application is.
+const ANSWER: u8 = 0x13;
+
+/// The most bytes of an answer's line: its frame has a content of at most 700.
+pub const LONGEST_ANSWER: usize = 699;
+
+/// The most bytes of a frame of the wire for an application.
+pub const LONGEST_ANSWER_FRAME: usize = 2 + 1 + LONGEST_ANSWER;
+
+/// A frame of the wire for an application, the two bytes of its length in front.
+pub type AnswerFrame = Bytes<LONGEST_ANSWER_FRAME>;
+
+/// The whole frame that tells an application this line. Refused with `FrameTooLong` exactly where the line has more than
+/// 699 bytes, which no line of [`Emission`](crate::Emission) has, else with `OutOfMemory` for want of memory.
+pub fn answer_frame(alloc: Global, line: &Line) -> Result<AnswerFrame, Refusal>
+    ensures { Answers (short_answer_frame line.now) (λ wanted frame. frame ≡ wanted) result }
+{
+    let text = line.as_str().as_bytes();
+    if text.len() > LONGEST_ANSWER {
+        return Err(Refusal::FrameTooLong);
+    }
+    let len = 1 + text.len();
+    let mut bytes = Vec::with_capacity(alloc, 2 + len)?;
+    bytes.extend_from_slice(&(len as u16).to_be_bytes())?;
+    bytes.push(ANSWER)?;
+    bytes.extend_from_slice(text)?;
+    let frame: Result<_, _> = AnswerFrame::new(bytes);
+    Ok(frame.unwrap())
+}
+
+/// The line that answers a request which was refused. Refused with `OutOfMemory` for want of memory.
+#[tactic(auto, unfolding(lw_types::specs::Words::line_of))]
+pub fn refused_line(alloc: Global, refusal: Refusal) -> Result<Line, Refusal>
+    ensures { MatchResult result (λ line. line ≡ refused_line refusal) (λ e. e ≡ OutOfMemory) }
+{
+    let number = refusal.number();
+    let text = format!(in alloc; "refused {number}")?;
+    Ok(Line::new(text))
+}

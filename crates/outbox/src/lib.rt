@@ -1,0 +1,6 @@
+//! The ring between the flusher and the sender of a link: what is put into it may leave, and comes out in order, once.
+#![tactic(auto)]
+
+mod ends;
+
+pub use ends::{Ended, Inlet, Outlet, ring};

@@ -1,0 +1,14 @@
+use Rattle.std.proofs.Common.{arith, ◌∙◌}
+use Rattle.session_core.proofs.Counts.{ticked-grows}
+use Rattle.session_core.proofs.shared.Shared.tick.Goals as goal
+
+pub count-requires-clause-order : goal.count-requires-clause-order
+count-requires-clause-order g c =
+    let h = c.tick-turn.ensures.turn in
+    let grows = (ticked-grows _ _ _ _ h).made in
+    omega (arith, h.from, h.to, grows)
+
+pub invariant_of-self-clause-taken_is : goal.invariant_of-self-clause-taken_is
+invariant_of-self-clause-taken_is g c =
+    let h = c.tick-turn.ensures.turn in
+    (ticked-grows _ _ _ _ h).taken ∙ c.args.self.now.taken_is

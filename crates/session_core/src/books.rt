@@ -1,0 +1,48 @@
+// The two ledgers of a life.
+ghost use Rattle.std.specs.Prelude.{ℕ};
+
+use std::marker::{Brand, PhantomData};
+use std::sync::ledger::Ledger;
+
+/// Names the two ledgers of a life, and says among how many seats the first is shared. Only proofs read it: a
+/// ledger's name comes in from whoever begins the life.
+pub trait Books {
+    /// The name of the ledger of decisions made.
+    ghost made_name: { ℕ };
+
+    /// The parts of that ledger, one for each seat.
+    ghost made_parts: { ℕ };
+
+    /// The name of the ledger of decisions taken, which has one part.
+    ghost taken_name: { ℕ };
+}
+
+impl Books for Brand {
+    ghost made_name = { 0 };
+
+    ghost made_parts = { 0 };
+
+    ghost taken_name = { 0 };
+}
+
+/// The ledger of the decisions that were made: a part for each seat.
+pub struct Made<B: Books> {
+    of: PhantomData<B>,
+}
+
+impl<B: Books> Ledger for Made<B> {
+    ghost name = { B.made_name };
+
+    ghost parts = { B.made_parts };
+}
+
+/// The ledger of the decisions that were taken: one part.
+pub struct Taken<B: Books> {
+    of: PhantomData<B>,
+}
+
+impl<B: Books> Ledger for Taken<B> {
+    ghost name = { B.taken_name };
+
+    ghost parts = { 1 };
+}

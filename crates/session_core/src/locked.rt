@@ -1,0 +1,116 @@
+// A core that several threads share, behind a lock.
+ghost use Rattle.std.specs.Prelude.{◌≡◌, ◌+◌, ◌≤◌, length, MatchResult};
+
+use crate::{Books, Moment, Most, Outcome, Seat, Shared, Taker, Turn};
+use devices::{MacQueueing, Provisioning, Queueing};
+use lw_types::{FrameCopy, Refusal};
+use sessions::Batch;
+use std::alloc::Global;
+use std::sync::{Mutex, Wait};
+
+/// What the workers and the flusher of a server call: the calls of [`Shared`], each under the lock for as long as that
+/// call alone. What is known across threads is what a caller's own share says: that it grew by just what the call made.
+/// A call that waits for the lock need not return.
+pub trait Sessions<B: Books> {
+    /// A gateway heard a frame.
+    fn hear<R: Wait>(&self, rt: &R, seat: &mut Seat<B>, moment: Moment, copy: FrameCopy) -> Turn
+        ensures share { seat.new + result.from ≡ seat.old + result.to }
+        ensures within { seat.new ≤ result.to };
+
+    /// Time passes.
+    fn tick<R: Wait>(&self, rt: &R, seat: &mut Seat<B>, moment: Moment) -> Turn
+        ensures share { seat.new + result.from ≡ seat.old + result.to }
+        ensures within { seat.new ≤ result.to };
+
+    /// An application provisions a device.
+    fn provision<R: Wait>(
+        &self,
+        rt: &R,
+        seat: &mut Seat<B>,
+        moment: Moment,
+        value: Provisioning,
+    ) -> Turn
+        ensures share { seat.new + result.from ≡ seat.old + result.to }
+        ensures within { seat.new ≤ result.to };
+
+    /// An application queues an item for its device.
+    fn queue<R: Wait>(&self, rt: &R, seat: &mut Seat<B>, moment: Moment, value: Queueing) -> Turn
+        ensures share { seat.new + result.from ≡ seat.old + result.to }
+        ensures within { seat.new ≤ result.to };
+
+    /// An application queues MAC commands for its device.
+    fn queue_mac<R: Wait>(
+        &self,
+        rt: &R,
+        seat: &mut Seat<B>,
+        moment: Moment,
+        value: MacQueueing,
+    ) -> Turn
+        ensures share { seat.new + result.from ≡ seat.old + result.to }
+        ensures within { seat.new ≤ result.to };
+
+    /// Takes the oldest untaken decisions, at most `max` of them.
+    fn take<R: Wait>(&self, rt: &R, taker: &mut Taker<B>, max: Most) -> Result<Batch, Refusal>
+        ensures share { MatchResult result
+            (λ batch. taker.new ≡ taker.old + length batch)
+            (λ _. taker.new ≡ taker.old) };
+
+    /// What came of the last commands that were handed in to be decided.
+    fn outcomes<R: Wait>(&self, rt: &R, alloc: Global) -> Result<Vec<Outcome>, Refusal>;
+
+    /// The moment at which the oldest window is due.
+    fn next_due<R: Wait>(&self, rt: &R) -> Option<Moment>;
+
+    /// The latest moment of this life so far.
+    fn effective_time<R: Wait>(&self, rt: &R) -> Moment;
+}
+
+impl<B: Books> Sessions<B> for Mutex<Shared<B>> {
+    fn hear<R: Wait>(&self, rt: &R, seat: &mut Seat<B>, moment: Moment, copy: FrameCopy) -> Turn {
+        self.lock(rt).hear(seat, moment, copy)
+    }
+
+    fn tick<R: Wait>(&self, rt: &R, seat: &mut Seat<B>, moment: Moment) -> Turn {
+        self.lock(rt).tick(seat, moment)
+    }
+
+    fn provision<R: Wait>(
+        &self,
+        rt: &R,
+        seat: &mut Seat<B>,
+        moment: Moment,
+        value: Provisioning,
+    ) -> Turn {
+        self.lock(rt).provision(seat, moment, value)
+    }
+
+    fn queue<R: Wait>(&self, rt: &R, seat: &mut Seat<B>, moment: Moment, value: Queueing) -> Turn {
+        self.lock(rt).queue(seat, moment, value)
+    }
+
+    fn queue_mac<R: Wait>(
+        &self,
+        rt: &R,
+        seat: &mut Seat<B>,
+        moment: Moment,
+        value: MacQueueing,
+    ) -> Turn {
+        self.lock(rt).queue_mac(seat, moment, value)
+    }
+
+    fn take<R: Wait>(&self, rt: &R, taker: &mut Taker<B>, max: Most) -> Result<Batch, Refusal> {
+        self.lock(rt).take(taker, max)
+    }
+
+    fn outcomes<R: Wait>(&self, rt: &R, alloc: Global) -> Result<Vec<Outcome>, Refusal> {
+        self.lock(rt).outcomes(alloc)
+    }
+
+    fn next_due<R: Wait>(&self, rt: &R) -> Option<Moment> {
+        self.lock(rt).next_due()
+    }
+
+    fn effective_time<R: Wait>(&self, rt: &R) -> Moment {
+        self.lock(rt).effective_time()
+    }
+}

@@ -1,0 +1,240 @@
+// A core that several threads share, with the books of what each of them made and took.
+ghost use Rattle.std.specs.Prelude.{◌≡◌, ◌+◌, ◌≤◌, ◌<◌, ◌^◌, ◌↔◌, length, sum, take, IfSome, IsSome, IsTrue, MatchResult};
+ghost use Rattle.lw_types.specs.declared.refusal.Refusal.TheVariants.{OutOfMemory};
+ghost use Rattle.devices.specs.declared.command.Command.TheVariants as commands;
+ghost use Rattle.session_core.specs.Deciding.{after_taking};
+ghost use Rattle.session_core.specs.Events.{Asks, Hears, IsTurn, Ticks, next_due};
+
+use crate::{Books, Core, Made, Moment, Most, Outcome, Seat, Taken, Taker, Turn};
+use devices::{Command, MacQueueing, Provisioning, Queueing};
+use lw_types::{FrameCopy, Refusal};
+use sessions::Batch;
+use std::alloc::Global;
+use std::sync::ledger::{Blank, Book, Share};
+
+/// A core beside two books: how many decisions were made, which is the sum of the seats' shares, and how many were
+/// taken, which is the taker's share. Each call costs as that of the core does.
+#[derive(Drop)]
+pub struct Shared<B: Books> {
+    core: Core,
+    made: Book<Made<B>>,
+    taken: Book<Taken<B>>,
+    // The parts of the seats that aren't given, and how many these are.
+    spare: Share<Made<B>>,
+    left: u64,
+    ghost made_is: { core.decisions.made ≡ made.total },
+    ghost taken_is: { core.decisions.taken ≡ taken.total },
+    ghost spare_is: { spare.parts ≡ left },
+    ghost spare_made_nothing: { spare.amount ≡ 0 },
+}
+
+impl<B: Books> Shared<B> {
+    /// A core that has made no decision yet and given none, with so many seats to give, and the share of whoever takes.
+    /// The blanks are those of the two ledgers. Takes no memory.
+    pub fn new(core: Core, seats: u64, made: Blank, taken: Blank) -> (Self, Taker<B>)
+        requires none_made { core.decisions.made ≡ 0 }
+        requires none_taken { core.decisions.taken ≡ 0 }
+        requires made { (made.name ≡ B.made_name) × (made.parts ≡ B.made_parts) × (made.parts ≡ seats) }
+        requires taken { (taken.name ≡ B.taken_name) × (taken.parts ≡ 1) }
+        ensures core { result.0.core ≡ core }
+        ensures left { result.0.left ≡ seats }
+        ensures taker { result.1 ≡ 0 }
+    {
+        let (made, spare) = made.open::<Made<B>>();
+        let (taken, all) = taken.open::<Taken<B>>();
+        let shared = Shared {
+            core,
+            made,
+            taken,
+            spare,
+            left: seats,
+        };
+        (shared, Taker::new(all))
+    }
+
+    /// A seat through which nothing was made yet. Takes no memory.
+    pub fn seat(&mut self) -> Seat<B>
+        requires { 0 < self.old.left }
+        ensures seat { result ≡ 0 }
+        ensures core { self.new.core ≡ self.old.core }
+        ensures left { self.new.left + 1 ≡ self.old.left }
+    {
+        let share = self.spare.split_off(1, 0);
+        self.left -= 1;
+        Seat::new(share)
+    }
+
+    /// How many decisions were made in this life.
+    pub fn made(&self) -> u64
+        ensures { result ≡ self.now.core.decisions.made }
+    {
+        self.core.made()
+    }
+
+    /// A gateway heard a frame ([`Core::hear`]).
+    pub fn hear(&mut self, seat: &mut Seat<B>, moment: Moment, copy: FrameCopy) -> Turn
+        ensures turn { IsTurn self.old.core moment (Hears copy) result self.new.core }
+        ensures share { seat.new + result.from ≡ seat.old + result.to }
+        ensures within { seat.new ≤ result.to }
+        ensures left { self.new.left ≡ self.old.left }
+    {
+        let turn = self.core.hear(moment, copy);
+        count(&mut self.made, seat, &turn);
+        turn
+    }
+
+    /// Time passes ([`Core::tick`]).
+    pub fn tick(&mut self, seat: &mut Seat<B>, moment: Moment) -> Turn
+        ensures turn { IsTurn self.old.core moment Ticks result self.new.core }
+        ensures share { seat.new + result.from ≡ seat.old + result.to }
+        ensures within { seat.new ≤ result.to }
+        ensures left { self.new.left ≡ self.old.left }
+    {
+        let turn = self.core.tick(moment);
+        count(&mut self.made, seat, &turn);
+        turn
+    }
+
+    /// An application provisions a device ([`Core::provision`]).
+    pub fn provision(&mut self, seat: &mut Seat<B>, moment: Moment, value: Provisioning) -> Turn
+        ensures turn { IsTurn self.old.core moment (Asks (commands.Provision value)) result self.new.core }
+        ensures share { seat.new + result.from ≡ seat.old + result.to }
+        ensures within { seat.new ≤ result.to }
+        ensures left { self.new.left ≡ self.old.left }
+    {
+        self.decide(seat, moment, Command::Provision(value))
+    }
+
+    /// An application queues an item for its device ([`Core::queue`]).
+    pub fn queue(&mut self, seat: &mut Seat<B>, moment: Moment, value: Queueing) -> Turn
+        ensures turn { IsTurn self.old.core moment (Asks (commands.Queue value)) result self.new.core }
+        ensures share { seat.new + result.from ≡ seat.old + result.to }
+        ensures within { seat.new ≤ result.to }
+        ensures left { self.new.left ≡ self.old.left }
+    {
+        self.decide(seat, moment, Command::Queue(value))
+    }
+
+    /// An application queues MAC commands for its device ([`Core::queue_mac`]).
+    pub fn queue_mac(&mut self, seat: &mut Seat<B>, moment: Moment, value: MacQueueing) -> Turn
+        ensures turn { IsTurn self.old.core moment (Asks (commands.QueueMac value)) result self.new.core }
+        ensures share { seat.new + result.from ≡ seat.old + result.to }
+        ensures within { seat.new ≤ result.to }
+        ensures left { self.new.left ≡ self.old.left }
+    {
+        self.decide(seat, moment, Command::QueueMac(value))
+    }
+
+    // A command comes.
+    fn decide(&mut self, seat: &mut Seat<B>, moment: Moment, command: Command) -> Turn
+        ensures turn { IsTurn self.old.core moment (Asks command) result self.new.core }
+        ensures share { seat.new + result.from ≡ seat.old + result.to }
+        ensures within { seat.new ≤ result.to }
+        ensures left { self.new.left ≡ self.old.left }
+    {
+        let turn = self.core.decide(moment, command);
+        count(&mut self.made, seat, &turn);
+        turn
+    }
+
+    /// Takes the oldest untaken decisions, at most `max` of them ([`Core::take`]). After an `Err`, which is want of
+    /// memory, nothing has changed.
+    pub fn take(&mut self, taker: &mut Taker<B>, max: Most) -> Result<Batch, Refusal>
+        ensures taken { MatchResult result
+            (λ batch. (batch ≡ take max self.old.core.decisions.log)
+            × (self.new.core ≡ record self.old.core { decisions = after_taking self.old.core.decisions max }))
+            (λ e. (e ≡ OutOfMemory) × (self.new.core ≡ self.old.core)) }
+        ensures share { MatchResult result
+            (λ batch. taker.new ≡ taker.old + length batch)
+            (λ _. taker.new ≡ taker.old) }
+        ensures left { self.new.left ≡ self.old.left }
+    {
+        let batch = self.core.take(max)?;
+        note(&mut self.taken, taker, batch.len() as u64);
+        Ok(batch)
+    }
+
+    /// What came of the last commands that were handed in to be decided ([`Core::outcomes`]). Refused with `OutOfMemory`
+    /// for want of memory.
+    pub fn outcomes(&self, alloc: Global) -> Result<Vec<Outcome>, Refusal>
+        ensures { MatchResult result (λ outcomes. outcomes.items ≡ self.now.core.outcomes) (λ e. e ≡ OutOfMemory) }
+    {
+        Ok(self.core.outcomes().to_vec(alloc)?)
+    }
+
+    /// The moment at which the oldest window is due ([`Core::next_due`]).
+    pub fn next_due(&self) -> Option<Moment>
+        ensures { result ≡ next_due self.now.core }
+    {
+        self.core.next_due()
+    }
+
+    /// The latest moment of this life so far ([`Core::effective_time`]).
+    pub fn effective_time(&self) -> Moment
+        ensures { result ≡ self.now.core.clock }
+    {
+        self.core.effective_time()
+    }
+}
+
+impl<B: Books> Shared<B> {
+    /// Ends the sharing, once the seats come back: how many decisions were made, which is what the seats made together.
+    /// `None` where one of `all` seats is missing, since its share is lost with it. Takes no memory.
+    pub fn settle(self, all: u64, seats: Vec<Seat<B>>) -> Option<u64>
+        requires { all ≡ B.made_parts }
+        ensures made { IfSome result (λ made. (made ≡ self.core.decisions.made) × (sum seats.items ≡ made)) }
+        ensures all { self.left + length seats.items ≡ all → IsSome result }
+    {
+        let made = self.core.made();
+        let Shared {
+            made: mut book,
+            mut spare,
+            left,
+            ..
+        } = self;
+        if !gather(&mut spare, left, all, seats) {
+            return None;
+        }
+        book.audit(&mut spare);
+        Some(made)
+    }
+}
+
+// Joins the shares of seats to those that weren't given: whether these are all there are.
+fn gather<B: Books>(spare: &mut Share<Made<B>>, left: u64, all: u64, seats: Vec<Seat<B>>) -> bool
+    requires { (spare.old.parts ≡ left) × (spare.old.amount ≡ 0) }
+    ensures all { IsTrue result ↔ (left + length seats.items ≡ all) }
+    ensures parts { spare.new.parts ≡ left + length seats.items }
+    ensures amount { spare.new.amount ≡ sum seats.items }
+{
+    let count = seats.len() as u64;
+    for seat in seats {
+        let Seat { share, count: _ } = seat;
+        spare.merge(share);
+    }
+    left.checked_add(count) == Some(all)
+}
+
+// Counts the decisions of a turn.
+fn count<B: Books>(made: &mut Book<Made<B>>, seat: &mut Seat<B>, turn: &Turn)
+    requires order { turn.now.from ≤ turn.now.to }
+    requires total { made.old.total ≡ turn.now.from }
+    ensures total { made.new.total ≡ turn.now.to }
+    ensures share { seat.new + turn.now.from ≡ seat.old + turn.now.to }
+    ensures within { seat.new ≤ turn.now.to }
+{
+    made.audit(&mut seat.share);
+    made.add(&mut seat.share, turn.to - turn.from);
+    seat.count += turn.to - turn.from;
+}
+
+// Counts the decisions of a batch.
+fn note<B: Books>(taken: &mut Book<Taken<B>>, taker: &mut Taker<B>, count: u64)
+    requires { taken.old.total + count < 2 ^ 64 }
+    ensures total { taken.new.total ≡ taken.old.total + count }
+    ensures share { taker.new ≡ taker.old + count }
+{
+    taken.audit(&mut taker.share);
+    taken.add(&mut taker.share, count);
+    taker.count += count;
+}

@@ -1,0 +1,20 @@
+//! Tests of what threads share: a core behind a lock, rings of effects, a flusher's rounds over a file, and the file
+//! itself. They stand above those crates, so that each of these is proved once.
+#![tactic(auto)]
+
+#[cfg(test)]
+mod asked;
+#[cfg(test)]
+mod disks_tests;
+#[cfg(test)]
+mod files;
+#[cfg(test)]
+mod locked_tests;
+#[cfg(test)]
+mod rings_tests;
+#[cfg(test)]
+mod rounds_tests;
+#[cfg(test)]
+mod stores;
+#[cfg(test)]
+mod threads_tests;

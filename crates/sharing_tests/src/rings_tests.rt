@@ -1,0 +1,153 @@
+// What is put into a ring comes out in order, once; a full ring gives it back.
+use crate::asked::{moment, new_core, provisioning};
+use crate::stores::new_store;
+use devices::{Effect, Report};
+use disk::MemDisk;
+use flusher::{Released, StoredBatches, cycle};
+use lw_types::Refusal;
+use outbox::{Inlet, Outlet, ring};
+use session_core::{Core, Most};
+use std::alloc::Global;
+use std::thread;
+use std::thread::{Threads, join};
+use store::Store;
+
+// How often a thread looks again before it gives up.
+const TURNS: u32 = 1_000_000;
+
+// The effects of so many provisionings, which are durable: the devices have the slots from 0 on.
+fn released(alloc: Global, count: u16) -> Result<Vec<Released>, Refusal> {
+    let mut store = new_store(alloc, 2048)?;
+    let mut core = new_core(alloc, 2048)?;
+    for dev_eui in 1..=u64::from(count) {
+        let _ = core.provision(moment(0)?, provisioning(dev_eui)?);
+    }
+    let mut all = Vec::with_capacity(alloc, usize::from(count))?;
+    for _ in 0..count.div_ceil(64) {
+        release_some(alloc, &mut store, &mut core, &mut all)?;
+    }
+    Ok(all)
+}
+
+fn release_some(
+    alloc: Global,
+    store: &mut Store<MemDisk>,
+    core: &mut Core,
+    all: &mut Vec<Released>,
+) -> Result<(), Refusal> {
+    let batch = core.take(Most::new(64).ok_or(Refusal::Damaged)?)?;
+    let mut feed = StoredBatches::new(alloc, vec![in alloc; batch]?);
+    let mut complete = true;
+    let mut out = |released: Vec<Released>| {
+        for one in released {
+            complete = complete && all.push(one).is_ok();
+        }
+    };
+    let _ = cycle(store, &mut feed, alloc, &mut out)?;
+    if complete {
+        Ok(())
+    } else {
+        Err(Refusal::OutOfMemory)
+    }
+}
+
+// Whether the effect tells that a device has this slot.
+fn is_of(effect: &Effect, wanted: u16) -> bool {
+    match effect {
+        Effect::Report { report, .. } => *report == Report::Provisioned { slot: wanted },
+        _ => false,
+    }
+}
+
+// How many effects are taken, where they are those from the first on, in order.
+fn taken_in_order(inlet: &mut Inlet) -> Option<u16> {
+    let mut next = 0;
+    for _ in 0..u16::MAX {
+        match inlet.take() {
+            None => return Some(next),
+            Some(effect) if is_of(&effect, next) => next = next.saturating_add(1),
+            Some(_) => return None,
+        }
+    }
+    None
+}
+
+// What becomes of more effects than a ring has places for: how many it takes, whether the next one comes back as it was,
+// how many are taken in order, and whether the ring is drained then and ends so.
+fn overfill(alloc: Global, places: u16) -> Result<(u16, bool, Option<u16>, bool), Refusal> {
+    let (mut outlet, mut inlet) = ring(alloc, usize::from(places))?;
+    let mut fits = 0;
+    let mut is_back = false;
+    for released in released(alloc, places.saturating_add(1))? {
+        match outlet.put(released) {
+            Ok(()) => fits = u16::saturating_add(fits, 1),
+            Err(back) => is_back = is_of(back.effect(), fits),
+        }
+    }
+    let open = inlet.is_finished();
+    let taken = taken_in_order(&mut inlet);
+    let ended = outlet.finish().is_some() && inlet.is_finished();
+    Ok((
+        fits,
+        is_back,
+        taken,
+        ended && !open && inlet.take().is_none(),
+    ))
+}
+
+#[test]
+fn a_full_ring_gives_back(rt: HostRuntime) {
+    for places in [0, 1, 1024] {
+        let seen = overfill(rt.alloc(), places);
+        assert!(rt; seen == Ok((places, true, Some(places), true)), "{places}");
+    }
+}
+
+// Puts them all, in order, and says that there are no more. Whether there was room in time.
+fn put_all(outlet: Outlet, all: Vec<Released>) -> bool {
+    let mut outlet = outlet;
+    for released in all {
+        let mut waiting = Some(released);
+        for _ in 0..TURNS {
+            let Some(released) = waiting.take() else {
+                break;
+            };
+            if let Err(back) = outlet.put(released) {
+                waiting = Some(back);
+                thread::yield_now();
+            }
+        }
+        if waiting.is_some() {
+            return false;
+        }
+    }
+    outlet.finish().is_some()
+}
+
+// Takes effects until there are no more. How many, where they come in order.
+fn take_all(inlet: Inlet) -> Option<u16> {
+    let mut inlet = inlet;
+    let mut next = 0;
+    for _ in 0..TURNS {
+        let finished = inlet.is_finished();
+        match inlet.take() {
+            Some(effect) if is_of(&effect, next) => next = u16::saturating_add(next, 1),
+            Some(_) => return None,
+            None if finished => return Some(next),
+            None => thread::yield_now(),
+        }
+    }
+    None
+}
+
+fn pass<R: Threads + Sync>(rt: &R, alloc: Global, count: u16) -> Result<Option<u16>, Refusal> {
+    let all = released(alloc, count)?;
+    let (outlet, inlet) = ring(alloc, 16)?;
+    let (put, taken) = join(rt, move || put_all(outlet, all), move || take_all(inlet));
+    Ok(if put { taken } else { None })
+}
+
+#[test]
+fn a_ring_passes_effects_between_threads(rt: HostRuntime) {
+    assert!(rt; pass(&rt, rt.alloc(), 2000) == Ok(Some(2000)));
+}
