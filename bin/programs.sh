@@ -5,7 +5,8 @@
 # The crates that a program stands on, and itself, lowest first.
 crates_of() {
     awk -v program="$1" '
-        /^#/ || !/:/ { next }
+        { sub(/#.*/, "") }
+        !/:/ { next }
         { name = $1; sub(/:$/, "", name); $1 = ""; below[name] = $0 }
         function visit(name,    i, n, names) {
             if (seen[name]++ || !(name in below)) return

@@ -42,11 +42,15 @@ def end_with(main):
     """Ends with the status of `main`, with no traceback of an interrupt or a missing file."""
     for it in (signal.SIGTERM, signal.SIGHUP):
         signal.signal(it, lambda number, _: sys.exit(128 + number))
-    signal.signal(signal.SIGPIPE, signal.SIG_DFL)
     try:
-        sys.exit(main())
+        status = main()
+        sys.stdout.flush()
+        sys.exit(status)
     except KeyboardInterrupt:
         stop("interrupted", 130)
+    except BrokenPipeError:
+        os.dup2(os.open(os.devnull, os.O_WRONLY), sys.stdout.fileno())
+        sys.exit(141)
     except OSError as error:
         stop(f"{error.filename or 'a file'}: {error.strerror or error}", 1)
 
@@ -54,7 +58,8 @@ def end_with(main):
 def lines():
     """Each crate's line of crates.txt, in the file's order."""
     with open(f"{ROOT}/crates.txt", encoding="utf-8") as file:
-        return {it.split(":")[0].split()[0]: it for it in file if ":" in it and it[0] != "#"}
+        told = [it.partition("#")[0].strip() for it in file]
+    return {it.split(":")[0].split()[0]: it for it in told if ":" in it}
 
 
 def libraries(of):

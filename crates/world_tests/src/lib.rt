@@ -1,13 +1,10 @@
-//! Tests of worlds, beside a plain model whose contract is the definition, and of the public calls
-//! of `headline` and `scripts`. They stand above those crates, so that each of these is proved
-//! once.
+//! Tests of worlds, beside a plain model whose contract is the definition, and of the public call of
+//! `headline`. They stand above those crates, so that each of these is proved once.
 #![tactic(auto)]
 
 #[cfg(test)]
 mod answers;
 mod flight;
-#[cfg(test)]
-mod full_journal_tests;
 #[cfg(test)]
 mod gathering;
 #[cfg(test)]
@@ -22,8 +19,6 @@ mod model;
 mod row_tests;
 #[cfg(test)]
 mod rows;
-#[cfg(test)]
-mod script_lines_tests;
 #[cfg(test)]
 mod stage_tests;
 #[cfg(test)]

@@ -3,7 +3,7 @@ use crate::gathering::{PlainArrival, due_frames, windows_of};
 use dedup::WAIT;
 use devices::Command;
 use gateway_wire::{next_ranged, next_value};
-use lw_types::{FrameCopy, Refusal, Words, read_field};
+use lw_types::{Eui, FrameCopy, Reception, Refusal, Words, read_field};
 use scripts::read_step;
 use std::alloc::Global;
 use world::{Event, Step};
@@ -29,21 +29,24 @@ fn command(alloc: Global, copy: FrameCopy) -> Result<Command, Refusal> {
     frames.pop().ok_or(Refusal::Damaged)
 }
 
+// How the gateway B1 hears a frame.
+const HEARD: Reception = Reception {
+    gateway: Eui(0xB1),
+    frequency: 868_100_000,
+    data_rate: 5,
+    snr: -20,
+    rssi: -95,
+};
+
 // A moment and digits: the frame that comes then with its one copy, as a command.
 fn frame(alloc: Global, mut words: Words<'_>) -> Result<Step, Refusal> {
-    let at: u64 = next_value(&mut words).ok_or(Refusal::BadMessage)?;
+    let moment = next_ranged(&mut words).ok_or(Refusal::BadMessage)?;
     let digits = words.next().ok_or(Refusal::BadMessage)?;
-    let line = format!(in alloc; "hear {at} 00000000000000B1 868100000 5 -20 -95 50000 {digits}")?;
-    match read_step(alloc, line.as_bytes())? {
-        Step::Event {
-            moment,
-            event: Event::Hear(copy),
-        } => Ok(Step::Event {
-            moment,
-            event: Event::Ask(command(alloc, copy)?),
-        }),
-        _ => Err(Refusal::BadMessage),
-    }
+    let copy = FrameCopy::new(alloc, HEARD, 50_000, &read_field(alloc, digits)?)?;
+    Ok(Step::Event {
+        moment,
+        event: Event::Ask(command(alloc, copy)?),
+    })
 }
 
 // A link, a moment and the bytes that come on it then.
