@@ -26,5 +26,5 @@ returns-in-Err-clause-course g c origin course f =
     let life = c.args.self.now in
     let law = c.windows_stand_for_groups.ensures.asked in
     subst (λ (told : Turn × ℕ). AnswersOpen origin course (steps.Event c.args.moment (events.Ask c.args.command.now)) (answers.Turn told.0 told.1)
-    × FollowsLife state origin (course_after origin course (steps.Event c.args.moment (events.Ask c.args.command.now)) (answers.Turn told.0 told.1)) (record life { core = c.starve-turn.new.self })) (sym c.told-in-Err.ensures)
-    (does-ask c.of_runs.ensures origin (store_state state life.store) life.commit course c.args.moment life.core c.starve-turn.new.self life.links c.starve-turn.result f.0 f.1 c.starve-turn.ensures.lawful c.args.command.now c.starve-turn.ensures.turn (law c.args.command.now life.core c.starve-turn.new.self c.args.moment course.shut c.starve-turn.result course.arrivals c.starve-turn.ensures.turn))
+    × FollowsLife state origin (course_after origin course (steps.Event c.args.moment (events.Ask c.args.command.now)) (answers.Turn told.0 told.1)) (record life { core = c.decide_without_memory-turn.new.self })) (sym c.told-in-Err.ensures)
+    (does-ask c.of_runs.ensures origin (store_state state life.store) life.commit course c.args.moment life.core c.decide_without_memory-turn.new.self life.links c.decide_without_memory-turn.result f.0 f.1 c.decide_without_memory-turn.ensures.lawful c.args.command.now c.decide_without_memory-turn.ensures.turn (law c.args.command.now life.core c.decide_without_memory-turn.new.self c.args.moment course.shut c.decide_without_memory-turn.result course.arrivals c.decide_without_memory-turn.ensures.turn))

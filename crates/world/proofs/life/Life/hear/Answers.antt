@@ -26,5 +26,5 @@ returns-in-Err-clause-course g c origin course f =
     let life = c.args.self.now in
     let law = c.windows_stand_for_groups.ensures.missed in
     subst (λ (told : Turn × ℕ). AnswersOpen origin course (steps.Event c.args.moment (events.Hear c.args.copy.now)) (answers.Turn told.0 told.1)
-    × FollowsLife state origin (course_after origin course (steps.Event c.args.moment (events.Hear c.args.copy.now)) (answers.Turn told.0 told.1)) (record life { core = c.miss-turn.new.self })) (sym c.told-in-Err.ensures)
-    (does-miss c.of_runs.ensures origin (store_state state life.store) life.commit course c.args.moment life.core c.miss-turn.new.self life.links c.miss-turn.result f.0 f.1 c.miss-turn.ensures.lawful c.args.copy.now c.miss-turn.ensures.turn (law c.args.copy.now life.core c.miss-turn.new.self c.args.moment course.shut c.miss-turn.result course.arrivals c.miss-turn.ensures.turn))
+    × FollowsLife state origin (course_after origin course (steps.Event c.args.moment (events.Hear c.args.copy.now)) (answers.Turn told.0 told.1)) (record life { core = c.hear_without_memory-turn.new.self })) (sym c.told-in-Err.ensures)
+    (does-miss c.of_runs.ensures origin (store_state state life.store) life.commit course c.args.moment life.core c.hear_without_memory-turn.new.self life.links c.hear_without_memory-turn.result f.0 f.1 c.hear_without_memory-turn.ensures.lawful c.args.copy.now c.hear_without_memory-turn.ensures.turn (law c.args.copy.now life.core c.hear_without_memory-turn.new.self c.args.moment course.shut c.hear_without_memory-turn.result course.arrivals c.hear_without_memory-turn.ensures.turn))
