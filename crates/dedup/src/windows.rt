@@ -113,8 +113,8 @@ impl Windows {
         })
     }
 
-    /// The moment at which the oldest window is due, 200 ms after it opened. `None` where no window is open, and where
-    /// that moment is past 2^64 - 1. Takes no memory.
+    /// The moment at which the oldest window is due, 200 ms after it opened. `None` where no window
+    /// is open, and where that moment is past 2^64 - 1. Takes no memory.
     pub fn next_due(&self) -> Option<u64>
         ensures { result ≡ next_due self.now }
     {

@@ -5,9 +5,9 @@ use session_core::{Books, Sessions, Taker};
 use sessions::Batch;
 use std::sync::Wait;
 
-/// The decisions that wait behind the lock of a core: each batch is the oldest of them, as [`Sessions::take`] gives them. Of
-/// a batch nothing is promised but that the taker's share counts it: [`cycle`](crate::cycle) compares each batch with the
-/// durable table.
+/// The decisions that wait behind the lock of a core: each batch is the oldest of them, as
+/// [`Sessions::take`] gives them. Of a batch nothing is promised but that the taker's share counts
+/// it: [`cycle`](crate::cycle) compares each batch with the durable table.
 #[derive(Drop)]
 pub struct Drawn<'x, B: Books, S: Sessions<B>, R: Wait> {
     rt: &'x R,

@@ -1,4 +1,4 @@
-// A flusher's rounds, one after another.
+// A flusher's cycles, one after another.
 use crate::{Feed, Released, cycle};
 use disk::Disk;
 use lw_types::Refusal;
@@ -6,9 +6,9 @@ use std::alloc::Global;
 use std::sync::Wait;
 use store::Store;
 
-/// Repeats [`cycle`] until a round is refused, or until `done` answers true after an empty batch. It waits nowhere itself:
-/// `done` is where the flusher waits for decisions. Each round is as `cycle` says; on a store that is settled the refusal
-/// is that of the last round, whose effects didn't leave. It need not return.
+/// Repeats [`cycle`] until one is refused, or until `done` answers true after an empty batch. It waits
+/// nowhere itself: `done` is where the flusher waits for decisions. Each cycle is as `cycle` says, so
+/// the effects of the one that was refused didn't leave. It need not return.
 pub fn serve<R: Wait, D: Disk, F: Feed, C: FnMut(Vec<Released>), S: FnMut() -> bool>(
     rt: &R,
     store: &mut Store<D>,

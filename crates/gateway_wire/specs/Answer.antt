@@ -1,5 +1,6 @@
 -- What an application is told: a frame of the wire with a line.
-use Rattle.std.specs.Prelude.{ℕ, List, [], ◌∷◌, Result, Ok, Err, length, nat_lt, if◌then◌else◌, codes}
+use Rattle.std.specs.Prelude.{ℕ, List, [], ◌∷◌, Result, Ok, Err, length, nat_lt, if◌then◌else◌}
+use Rattle.std.specs.Prelude.{codes}
 use Rattle.std.specs.Fmt.{decimal}
 use Rattle.lw_types.specs.Refusal.{number_of}
 use Rattle.lw_types.specs.Words.{line_of}
@@ -14,7 +15,8 @@ answer_frame line = wire_frame (ANSWER ∷ line)
 
 -- of a line that fits a frame
 abbrev pub short_answer_frame : List ℕ → Result (List ℕ) Refusal
-short_answer_frame line = if nat_lt LONGEST_ANSWER (length line) then Err FrameTooLong else Ok (answer_frame line)
+short_answer_frame line =
+    if nat_lt LONGEST_ANSWER (length line) then Err FrameTooLong else Ok (answer_frame line)
 
 -- the answer to a request that was refused
 abbrev pub refused_line : Refusal → List ℕ

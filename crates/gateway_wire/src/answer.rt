@@ -20,8 +20,8 @@ pub const LONGEST_ANSWER_FRAME: usize = 2 + 1 + LONGEST_ANSWER;
 /// A frame of the wire for an application, the two bytes of its length in front.
 pub type AnswerFrame = Bytes<LONGEST_ANSWER_FRAME>;
 
-/// The whole frame that tells an application this line. Refused with `FrameTooLong` exactly where the line has more than
-/// 699 bytes, which no line of [`Emission`](crate::Emission) has, else with `OutOfMemory` for want of memory.
+/// The whole frame that tells an application this line. Refused with `FrameTooLong` exactly where
+/// the line has more than 699 bytes, else with `OutOfMemory` for want of memory.
 pub fn answer_frame(alloc: Global, line: &Line) -> Result<AnswerFrame, Refusal>
     ensures { Answers (short_answer_frame line.now) (λ wanted frame. frame ≡ wanted) result }
 {
@@ -38,7 +38,8 @@ pub fn answer_frame(alloc: Global, line: &Line) -> Result<AnswerFrame, Refusal>
     Ok(frame.unwrap())
 }
 
-/// The line that answers a request which was refused. Refused with `OutOfMemory` for want of memory.
+/// The line that answers a request which was refused. Refused with `OutOfMemory` for want of
+/// memory.
 #[tactic(auto, unfolding(lw_types::specs::Words::line_of))]
 pub fn refused_line(alloc: Global, refusal: Refusal) -> Result<Line, Refusal>
     ensures { MatchResult result (λ line. line ≡ refused_line refusal) (λ e. e ≡ OutOfMemory) }

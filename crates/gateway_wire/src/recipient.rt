@@ -14,7 +14,8 @@ pub enum Recipient {
 impl Recipient {
     ghost use Rattle.gateway_wire.specs.Emission.{recipient};
 
-    /// Of this effect: the gateway that heard the device best, or the device's application. Takes no memory.
+    /// Of this effect: the gateway that heard the device best, or the device's application. Takes
+    /// no memory.
     pub fn of(effect: &Effect) -> Self
         ensures { result ≡ recipient effect.now }
     {

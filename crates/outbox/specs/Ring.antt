@@ -3,7 +3,8 @@ use Rattle.std.specs.Prelude.{◌≡◌, ℕ, List}
 use Rattle.devices.specs.declared.effect.Effect.{Effect}
 use Rattle.flusher.specs.Released.{effects_of_all}
 use Rattle.rtrb.specs.Ends.{SameRing}
-use Rattle.rtrb.specs.Ring.{sent, received, known_free, known_items, all_sent, IsFinishedOf, IsPair, SameConsumer, SameProducer}
+use Rattle.rtrb.specs.Ring.{sent, received, known_free, known_items, all_sent, IsFinishedOf, IsPair}
+use Rattle.rtrb.specs.Ring.{SameConsumer, SameProducer}
 use Rattle.outbox.specs.declared.ends.Outlet.{Outlet}
 use Rattle.outbox.specs.declared.ends.Inlet.{Inlet}
 use Rattle.outbox.specs.declared.ends.Ended.{Ended}
@@ -34,7 +35,8 @@ AreEnds outlet inlet = IsPair outlet.producer inlet.consumer
 
 -- the word is of this end, and says what was put
 abbrev pub Ends : Outlet → Ended → Type 0
-Ends outlet ended = SameRing outlet.producer.end ended.finished.end × (all_put ended ≡ put_in outlet)
+Ends outlet ended =
+    SameRing outlet.producer.end ended.finished.end × (all_put ended ≡ put_in outlet)
 
 -- the word is of this inlet's ring
 abbrev pub IsEndOf : Ended → Inlet → Type 0

@@ -1,8 +1,10 @@
 // A ring of effects that may leave.
-ghost use Rattle.std.specs.Prelude.{◌≡◌, ◌<◌, ◌↔◌, ◌++◌, ◌∷◌, [], length, IfOk, IfErr, IfSome, IfNone, IsOk, IsSome, IsTrue, OnOk};
+ghost use Rattle.std.specs.Prelude.{◌≡◌, ◌<◌, ◌↔◌, ◌++◌, ◌∷◌, [], length, IfOk, IfErr, IfSome};
+ghost use Rattle.std.specs.Prelude.{IfNone, IsOk, IsSome, IsTrue, OnOk};
 ghost use Rattle.lw_types.specs.declared.refusal.Refusal.TheVariants.{OutOfMemory};
 ghost use Rattle.flusher.specs.Released.{effect_of};
-ghost use Rattle.outbox.specs.Ring.{all_put, put_in, room_of, seen_by, taken_from, AreEnds, Ends, IsEndOf, SameEnded, SameInlet, SameOutlet};
+ghost use Rattle.outbox.specs.Ring.{all_put, put_in, room_of, seen_by, taken_from, AreEnds, Ends};
+ghost use Rattle.outbox.specs.Ring.{IsEndOf, SameEnded, SameInlet, SameOutlet};
 
 use devices::Effect;
 use flusher::Released;
@@ -10,7 +12,8 @@ use lw_types::Refusal;
 use rtrb::{Consumer, Finished, Producer, PushError, RingBuffer};
 use std::alloc::Global;
 
-/// The end at which effects are put into a ring. It takes a [`Released`] and no bare effect, so what goes in is durable.
+/// The end at which effects are put into a ring. It takes a [`Released`] and no bare effect, so
+/// what goes in is durable.
 #[derive(Drop)]
 pub struct Outlet {
     producer: Producer<Released>,
@@ -28,7 +31,8 @@ pub struct Ended {
     finished: Finished<Released>,
 }
 
-/// A ring with room for so many effects. Refused with `OutOfMemory` for want of memory; no other call takes any.
+/// A ring with room for so many effects. Refused with `OutOfMemory` for want of memory; no other
+/// call takes any.
 pub fn ring(alloc: Global, slots: usize) -> Result<(Outlet, Inlet), Refusal>
     ensures ends { IfOk result (λ r. AreEnds r.0 r.1) }
     ensures outlet { IfOk result (λ r. (put_in r.0 ≡ []) × (room_of r.0 ≡ slots)) }
@@ -40,11 +44,13 @@ pub fn ring(alloc: Global, slots: usize) -> Result<(Outlet, Inlet), Refusal>
 }
 
 impl Outlet {
-    /// Puts an effect into the ring, or gives it back where the ring is full, and then nothing is changed.
+    /// Puts an effect into the ring, or gives it back where the ring is full, and then nothing is
+    /// changed.
     pub fn put(&mut self, released: Released) -> Result<(), Released>
         ensures ring { SameOutlet self.old self.new }
         ensures put { OnOk result (put_in self.new ≡ put_in self.old ++ effect_of released ∷ []) }
-        ensures full { IfErr result (λ back. (back ≡ released) × (put_in self.new ≡ put_in self.old)) }
+        ensures full { IfErr result
+            (λ back. (back ≡ released) × (put_in self.new ≡ put_in self.old)) }
         ensures room { 0 < room_of self.old → IsOk result }
     {
         match self.producer.push(released) {
@@ -67,8 +73,10 @@ impl Inlet {
     /// Takes the oldest effect of the ring, if one is seen there.
     pub fn take(&mut self) -> Option<Effect>
         ensures ring { SameInlet self.old self.new }
-        ensures taken { IfSome result (λ effect. taken_from self.new ≡ taken_from self.old ++ effect ∷ []) }
-        ensures none { IfNone result ((taken_from self.new ≡ taken_from self.old) × (seen_by self.new ≡ [])) }
+        ensures taken { IfSome result
+            (λ effect. taken_from self.new ≡ taken_from self.old ++ effect ∷ []) }
+        ensures none { IfNone result
+            ((taken_from self.new ≡ taken_from self.old) × (seen_by self.new ≡ [])) }
         ensures seen { 0 < length (seen_by self.old) → IsSome result }
     {
         match self.consumer.pop() {
@@ -77,22 +85,25 @@ impl Inlet {
         }
     }
 
-    /// Sees all that was put, where both ends stand in one thread: what was taken is a beginning of it.
+    /// Sees all that was put, where both ends stand in one thread: what was taken is a beginning of
+    /// it.
     pub fn look(&mut self, outlet: &mut Outlet)
         requires { AreEnds outlet.old self.old }
         ensures ring { SameInlet self.old self.new × SameOutlet outlet.old outlet.new }
-        ensures same { (taken_from self.new ≡ taken_from self.old) × (put_in outlet.new ≡ put_in outlet.old) }
+        ensures same { (taken_from self.new ≡ taken_from self.old)
+            × (put_in outlet.new ≡ put_in outlet.old) }
         ensures all { taken_from self.new ++ seen_by self.new ≡ put_in outlet.new }
     {
         let _ = self.consumer.slots_beside(&mut outlet.producer);
     }
 
-    /// Whether all that was put is taken, once nothing more is put. Where it is, what was taken is what was put, in order,
-    /// each once.
+    /// Whether all that was put is taken, once nothing more is put. Where it is, what was taken is
+    /// what was put, in order, each once.
     pub fn is_drained(&mut self, ended: &mut Ended) -> bool
         requires { IsEndOf ended.old self.old }
         ensures ring { SameInlet self.old self.new × SameEnded ended.old ended.new }
-        ensures same { (taken_from self.new ≡ taken_from self.old) × (all_put ended.new ≡ all_put ended.old) }
+        ensures same { (taken_from self.new ≡ taken_from self.old)
+            × (all_put ended.new ≡ all_put ended.old) }
         ensures all { taken_from self.new ++ seen_by self.new ≡ all_put ended.new }
         ensures value { IsTrue result ↔ (seen_by self.new ≡ []) }
         ensures drained { IsTrue result → taken_from self.new ≡ all_put ended.new }
@@ -100,7 +111,8 @@ impl Inlet {
         self.consumer.slots_after(&mut ended.finished) == 0
     }
 
-    /// Whether the other end is finished or gone; then nothing more is put. That it says so in time is in no contract.
+    /// Whether the other end is finished or gone; then nothing more is put. That it says so in time
+    /// is in no contract.
     pub fn is_finished(&mut self) -> bool
         ensures ring { SameInlet self.old self.new }
         ensures same { taken_from self.new ≡ taken_from self.old }

@@ -1,4 +1,5 @@
-//! The ring between the flusher and the sender of a link: what is put into it may leave, and comes out in order, once.
+//! The ring between the flusher and the sender of a link: what is put into it may leave, and comes
+//! out in order, once.
 #![tactic(auto)]
 
 mod ends;

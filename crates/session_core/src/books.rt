@@ -4,8 +4,8 @@ ghost use Rattle.std.specs.Prelude.{ℕ};
 use std::marker::{Brand, PhantomData};
 use std::sync::ledger::Ledger;
 
-/// Names the two ledgers of a life, and says among how many seats the first is shared. Only proofs read it: a
-/// ledger's name comes in from whoever begins the life.
+/// Names the two ledgers of a life, and says among how many seats the first is shared. Only proofs
+/// read it: a ledger's name comes in from whoever begins the life.
 pub trait Books {
     /// The name of the ledger of decisions made.
     ghost made_name: { ℕ };

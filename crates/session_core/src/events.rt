@@ -112,15 +112,17 @@ impl Core {
         self.closings
     }
 
-    /// The effective time: the latest moment that an event of this life has brought, 0 before the first.
+    /// The effective time: the latest moment that an event of this life has brought, 0 before the
+    /// first.
     pub fn effective_time(&self) -> Moment
         ensures { result ≡ self.now.clock }
     {
         self.clock
     }
 
-    /// The moment at which the oldest window is due: an event at this moment or later closes it, and an earlier one closes
-    /// none. `None` where no window is open, and where the oldest is never due, since no moment is so late.
+    /// The moment at which the oldest window is due: an event at this moment or later closes it,
+    /// and an earlier one closes none. `None` where no window is open, and where the oldest is
+    /// never due, since no moment is so late.
     pub fn next_due(&self) -> Option<Moment>
         ensures { result ≡ next_due self.now }
     {

@@ -8,9 +8,9 @@ use sessions::Batch;
 use std::alloc::Global;
 use std::sync::{Mutex, Wait};
 
-/// What the workers and the flusher of a server call: the calls of [`Shared`], each under the lock for as long as that
-/// call alone. What is known across threads is what a caller's own share says: that it grew by just what the call made.
-/// A call that waits for the lock need not return.
+/// What the workers and the flusher of a server call: the calls of [`Shared`], each under the lock
+/// for as long as that call alone. What is known across threads is what a caller's own share says:
+/// that it grew by just what the call made. A call that waits for the lock need not return.
 pub trait Sessions<B: Books> {
     /// A gateway heard a frame.
     fn hear<R: Wait>(&self, rt: &R, seat: &mut Seat<B>, moment: Moment, copy: FrameCopy) -> Turn

@@ -3,7 +3,8 @@ use crate::{Books, Made, Taken};
 use std::marker::Model;
 use std::sync::ledger::Share;
 
-/// A worker's share of the decisions that were made. In contracts it is how many were made through it.
+/// A worker's share of the decisions that were made. In contracts it is how many were made through
+/// it.
 #[derive(Drop)]
 pub struct Seat<B: Books> {
     pub(crate) share: Share<Made<B>>,
@@ -38,7 +39,8 @@ impl<B: Books> Seat<B> {
     }
 }
 
-/// The flusher's share of the decisions that were taken: all of them. In contracts it is their number.
+/// The flusher's share of the decisions that were taken: all of them. In contracts it is their
+/// number.
 #[derive(Drop)]
 pub struct Taker<B: Books> {
     pub(crate) share: Share<Taken<B>>,

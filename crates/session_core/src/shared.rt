@@ -1,5 +1,6 @@
 // A core that several threads share, with the books of what each of them made and took.
-ghost use Rattle.std.specs.Prelude.{◌≡◌, ◌+◌, ◌≤◌, ◌<◌, ◌^◌, ◌↔◌, length, sum, take, IfSome, IsSome, IsTrue, MatchResult};
+ghost use Rattle.std.specs.Prelude.{◌≡◌, ◌+◌, ◌≤◌, ◌<◌, ◌^◌, ◌↔◌, length, sum, take, IfSome};
+ghost use Rattle.std.specs.Prelude.{IsSome, IsTrue, MatchResult};
 ghost use Rattle.lw_types.specs.declared.refusal.Refusal.TheVariants.{OutOfMemory};
 ghost use Rattle.devices.specs.declared.command.Command.TheVariants as commands;
 ghost use Rattle.session_core.specs.Deciding.{after_taking};
@@ -12,8 +13,8 @@ use sessions::Batch;
 use std::alloc::Global;
 use std::sync::ledger::{Blank, Book, Share};
 
-/// A core beside two books: how many decisions were made, which is the sum of the seats' shares, and how many were
-/// taken, which is the taker's share. Each call costs as that of the core does.
+/// A core beside two books: how many decisions were made, which is the sum of the seats' shares,
+/// and how many were taken, which is the taker's share. Each call costs as that of the core does.
 #[derive(Drop)]
 pub struct Shared<B: Books> {
     core: Core,
@@ -29,12 +30,13 @@ pub struct Shared<B: Books> {
 }
 
 impl<B: Books> Shared<B> {
-    /// A core that has made no decision yet and given none, with so many seats to give, and the share of whoever takes.
-    /// The blanks are those of the two ledgers. Takes no memory.
+    /// A core that has made no decision yet and given none, with so many seats to give, and the
+    /// share of whoever takes. The blanks are those of the two ledgers. Takes no memory.
     pub fn new(core: Core, seats: u64, made: Blank, taken: Blank) -> (Self, Taker<B>)
         requires none_made { core.decisions.made ≡ 0 }
         requires none_taken { core.decisions.taken ≡ 0 }
-        requires made { (made.name ≡ B.made_name) × (made.parts ≡ B.made_parts) × (made.parts ≡ seats) }
+        requires made { (made.name ≡ B.made_name) × (made.parts ≡ B.made_parts)
+            × (made.parts ≡ seats) }
         requires taken { (taken.name ≡ B.taken_name) × (taken.parts ≡ 1) }
         ensures core { result.0.core ≡ core }
         ensures left { result.0.left ≡ seats }
@@ -97,7 +99,8 @@ impl<B: Books> Shared<B> {
 
     /// An application provisions a device ([`Core::provision`]).
     pub fn provision(&mut self, seat: &mut Seat<B>, moment: Moment, value: Provisioning) -> Turn
-        ensures turn { IsTurn self.old.core moment (Asks (commands.Provision value)) result self.new.core }
+        ensures turn { IsTurn self.old.core moment
+            (Asks (commands.Provision value)) result self.new.core }
         ensures share { seat.new + result.from ≡ seat.old + result.to }
         ensures within { seat.new ≤ result.to }
         ensures left { self.new.left ≡ self.old.left }
@@ -107,7 +110,8 @@ impl<B: Books> Shared<B> {
 
     /// An application queues an item for its device ([`Core::queue`]).
     pub fn queue(&mut self, seat: &mut Seat<B>, moment: Moment, value: Queueing) -> Turn
-        ensures turn { IsTurn self.old.core moment (Asks (commands.Queue value)) result self.new.core }
+        ensures turn { IsTurn self.old.core moment
+            (Asks (commands.Queue value)) result self.new.core }
         ensures share { seat.new + result.from ≡ seat.old + result.to }
         ensures within { seat.new ≤ result.to }
         ensures left { self.new.left ≡ self.old.left }
@@ -117,7 +121,8 @@ impl<B: Books> Shared<B> {
 
     /// An application queues MAC commands for its device ([`Core::queue_mac`]).
     pub fn queue_mac(&mut self, seat: &mut Seat<B>, moment: Moment, value: MacQueueing) -> Turn
-        ensures turn { IsTurn self.old.core moment (Asks (commands.QueueMac value)) result self.new.core }
+        ensures turn { IsTurn self.old.core moment
+            (Asks (commands.QueueMac value)) result self.new.core }
         ensures share { seat.new + result.from ≡ seat.old + result.to }
         ensures within { seat.new ≤ result.to }
         ensures left { self.new.left ≡ self.old.left }
@@ -137,12 +142,13 @@ impl<B: Books> Shared<B> {
         turn
     }
 
-    /// Takes the oldest untaken decisions, at most `max` of them ([`Core::take`]). After an `Err`, which is want of
-    /// memory, nothing has changed.
+    /// Takes the oldest untaken decisions, at most `max` of them ([`Core::take`]). After an `Err`,
+    /// which is want of memory, nothing has changed.
     pub fn take(&mut self, taker: &mut Taker<B>, max: Most) -> Result<Batch, Refusal>
         ensures taken { MatchResult result
             (λ batch. (batch ≡ take max self.old.core.decisions.log)
-            × (self.new.core ≡ record self.old.core { decisions = after_taking self.old.core.decisions max }))
+            × (self.new.core ≡ record self.old.core
+            { decisions = after_taking self.old.core.decisions max }))
             (λ e. (e ≡ OutOfMemory) × (self.new.core ≡ self.old.core)) }
         ensures share { MatchResult result
             (λ batch. taker.new ≡ taker.old + length batch)
@@ -154,10 +160,11 @@ impl<B: Books> Shared<B> {
         Ok(batch)
     }
 
-    /// What came of the last commands that were handed in to be decided ([`Core::outcomes`]). Refused with `OutOfMemory`
-    /// for want of memory.
+    /// What came of the last commands that were handed in to be decided ([`Core::outcomes`]).
+    /// Refused with `OutOfMemory` for want of memory.
     pub fn outcomes(&self, alloc: Global) -> Result<Vec<Outcome>, Refusal>
-        ensures { MatchResult result (λ outcomes. outcomes.items ≡ self.now.core.outcomes) (λ e. e ≡ OutOfMemory) }
+        ensures { MatchResult result (λ outcomes. outcomes.items ≡ self.now.core.outcomes)
+            (λ e. e ≡ OutOfMemory) }
     {
         Ok(self.core.outcomes().to_vec(alloc)?)
     }
@@ -178,11 +185,13 @@ impl<B: Books> Shared<B> {
 }
 
 impl<B: Books> Shared<B> {
-    /// Ends the sharing, once the seats come back: how many decisions were made, which is what the seats made together.
-    /// `None` where one of `all` seats is missing, since its share is lost with it. Takes no memory.
+    /// Ends the sharing, once the seats come back: how many decisions were made, which is what the
+    /// seats made together. `None` where one of `all` seats is missing, since its share is lost
+    /// with it. Takes no memory.
     pub fn settle(self, all: u64, seats: Vec<Seat<B>>) -> Option<u64>
         requires { all ≡ B.made_parts }
-        ensures made { IfSome result (λ made. (made ≡ self.core.decisions.made) × (sum seats.items ≡ made)) }
+        ensures made { IfSome result
+            (λ made. (made ≡ self.core.decisions.made) × (sum seats.items ≡ made)) }
         ensures all { self.left + length seats.items ≡ all → IsSome result }
     {
         let made = self.core.made();

@@ -1,4 +1,5 @@
-// What comes to a core in these tests. The frames were made by a device that is none of ours (examples/outside).
+// What comes to a core in these tests. The frames were made by a device that is none of ours
+// (examples/outside).
 ghost use Rattle.std.specs.Prelude.{◌≡◌, IfOk};
 
 use devices::{
@@ -9,8 +10,8 @@ use session_core::{Core, Moment};
 use sessions::{Slots, Table};
 use std::alloc::Global;
 
-/// The device that joins, the example key of FIPS 197, its first Join-Request, and its first uplink in the session that
-/// it is granted.
+/// The device that joins, the example key of FIPS 197, its first Join-Request, and its first uplink
+/// in the session that it is granted.
 pub const JOINER: u64 = 0x1112_1314_1516_1718;
 
 const KEY: Key = Key([

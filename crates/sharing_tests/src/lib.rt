@@ -1,9 +1,11 @@
-//! Tests of what threads share: a core behind a lock, rings of effects, a flusher's rounds over a file, and the file
-//! itself. They stand above those crates, so that each of these is proved once.
+//! Tests of what threads share: a core behind a lock, rings of effects, a flusher's cycles over a
+//! file, and the file itself. They stand above those crates, so that each of these is proved once.
 #![tactic(auto)]
 
 #[cfg(test)]
 mod asked;
+#[cfg(test)]
+mod cycles_tests;
 #[cfg(test)]
 mod disks_tests;
 #[cfg(test)]
@@ -12,8 +14,6 @@ mod files;
 mod locked_tests;
 #[cfg(test)]
 mod rings_tests;
-#[cfg(test)]
-mod rounds_tests;
 #[cfg(test)]
 mod stores;
 #[cfg(test)]

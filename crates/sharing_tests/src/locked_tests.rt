@@ -27,8 +27,9 @@ enum Event {
 // At a moment this comes: the decisions made before and after it in this life, and the refusal.
 type Row = (u64, Event, (u64, u64, Option<Refusal>));
 
-// A device is provisioned, once; items are queued for it, the second behind the first; and MAC commands. It joins. Its first
-// uplink is heard at 0, 199 and 200 ms: the third copy opens a window of its own, and is a repeat. (The outcomes tell.)
+// A device is provisioned, once; items are queued for it, the second behind the first; and MAC
+// commands. It joins. Its first uplink is heard at 0, 199 and 200 ms: the third copy opens a window
+// of its own, and is a repeat. (The outcomes tell.)
 const ROWS: &[Row] = &[
     (0, Event::Provision(JOINER), (0, 1, None)),
     (
@@ -107,8 +108,8 @@ fn is_same(a: &Decision, b: &Decision) -> bool {
     before && effects && a.seq == b.seq && a.slot == b.slot && a.after.same_as(&b.after)
 }
 
-// Whether both answer each row so, and give the same decisions, all of them, and the same outcomes; and whether each share
-// has counted its own.
+// Whether both answer each row so, and give the same decisions, all of them, and the same outcomes;
+// and whether each share has counted its own.
 fn agree<B: Books, R: Wait>(
     rt: &R,
     alloc: Global,

@@ -72,8 +72,9 @@ fn taken_in_order(inlet: &mut Inlet) -> Option<u16> {
     None
 }
 
-// What becomes of more effects than a ring has places for: how many it takes, whether the next one comes back as it was,
-// how many are taken in order, and whether the ring is drained then and ends so.
+// What becomes of more effects than a ring has places for: how many it takes, whether the next one
+// comes back as it was, how many are taken in order, and whether the ring is drained then and ends
+// so.
 fn overfill(alloc: Global, places: u16) -> Result<(u16, bool, Option<u16>, bool), Refusal> {
     let (mut outlet, mut inlet) = ring(alloc, usize::from(places))?;
     let mut fits = 0;

@@ -1,5 +1,5 @@
-// A flusher's rounds over a file: twenty batches with checkpoints between them, a call of the disk that fails, and the
-// store that is opened again.
+// A flusher's cycles over a file: twenty batches with checkpoints between them, a call of the disk
+// that fails, and the store that is opened again.
 ghost use Rattle.std.specs.Prelude.{◌≡◌, ◌+◌, ◌≤◌, length, is_ok};
 ghost use Rattle.disk.specs.Outlook.{HasCause, IsForeseen};
 ghost use Rattle.disk.specs.Outlook.Outlook.{Unknown};
@@ -88,7 +88,8 @@ fn long_item(alloc: Global, dev_eui: u64) -> Result<Queueing, Refusal> {
     })
 }
 
-// What is asked for each device in a batch: it is provisioned, sixteen items are queued for it, and MAC commands.
+// What is asked for each device in a batch: it is provisioned, sixteen items are queued for it, and
+// MAC commands.
 fn ask(alloc: Global, core: &mut Core, round: u64, dev_eui: u64) -> Result<(), Refusal> {
     let at = moment(0)?;
     let turn = match round {
@@ -172,8 +173,8 @@ fn twenty_batches_are_served(rt: HostRuntime) {
 // The calls of the disk that make a store.
 const FORMATTING: u64 = 8;
 
-// So many calls of serving succeed, and the next one fails: how serving ends, how many effects have left, and the number of
-// the store in the file.
+// So many calls of serving succeed, and the next one fails: how serving ends, how many effects have
+// left, and the number of the store in the file.
 fn serve_until<R: Wait + Files<File = File>>(
     rt: &R,
     alloc: Global,
