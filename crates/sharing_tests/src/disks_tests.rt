@@ -1,4 +1,6 @@
 // A disk in memory and one in a file are asked the same; and what a file alone does.
+ghost use Rattle.std.specs.Prelude.{◌≡◌, ◌+◌, ◌≤◌, length, IsTrue};
+
 use crate::files::{path_of, remove};
 use disk::{DeviceFailed, Disk, FileDisk, MemDisk};
 use std::alloc::Global;
@@ -46,8 +48,10 @@ fn does<D: Disk>(disk: &mut D) -> Result<bool, DeviceFailed> {
     Ok(disk.len() == LEN)
 }
 
-// Whether the range lies on the disk.
-fn is_within<D: Disk>(disk: &D, at: u64, len: usize) -> bool {
+// Whether so many bytes from there on lie on the disk.
+fn is_within<D: Disk>(disk: &D, at: u64, len: usize) -> bool
+    ensures { IsTrue result → at + len ≤ length (D.state disk.now).content }
+{
     match at.checked_add(len as u64) {
         Some(end) => end <= disk.len(),
         None => false,
