@@ -509,7 +509,7 @@ fn busy(alloc: Global) -> Option<Device> {
 
 // Whether the list of a table is this text.
 fn is_listed(alloc: Global, table: &Table, seq: u64, text: &str) -> bool {
-    match list_text(alloc, table, seq) {
+    match list_text(alloc, table.devices(), seq) {
         Ok(list) => list.as_str() == text,
         Err(_) => false,
     }

@@ -3,6 +3,8 @@ ghost use Rattle.std.specs.Prelude.{◌≡◌, ◌<◌, ◌^◌, ℕ, Option, So
 ghost use Rattle.counters.specs.declared.Rebuilt.TheVariants.{New};
 ghost use Rattle.counters.specs.Rebuilt.{rebuilt_counter};
 
+use crate::MAX_GAP;
+
 /// A new counter is above the last one.
 pub fn new_counters_grow()
     ensures { (last low n : ℕ) → rebuilt_counter (Some last) low ≡ New n → last < n }
@@ -11,4 +13,9 @@ pub fn new_counters_grow()
 /// A new counter has 32 bits.
 pub fn new_counters_have_32_bits()
     ensures { (last : Option ℕ) (low n : ℕ) → rebuilt_counter last low ≡ New n → n < 2 ^ 32 }
+{}
+
+/// How far above the last counter a new one may be.
+pub fn limits_are_these()
+    ensures { MAX_GAP ≡ 16384 }
 {}

@@ -7,6 +7,8 @@ ghost use Rattle.gate_log.specs.Areas.{AreOf, LogContents, Holds, HoldsIn, IsClo
 ghost use Rattle.gate_log.specs.Areas.{IsLiveArea, IsOlder, NoLiveArea, bytes_in};
 ghost use Rattle.gate_log.specs.Layout.{HasRoomFor, Journal};
 
+use crate::{CLOSED, ENTRIES_AT, OPEN, RECORDS_AT};
+
 /// A disk holds one contents in two areas, if any.
 pub fn a_disk_holds_one_contents()
     ensures { (a b : Area) (disk : List ℕ) (c d : LogContents) → AreOf a b c.areas
@@ -47,4 +49,12 @@ pub fn a_closed_area_is_older()
     ensures { (area : Area) (disk : List ℕ) (generation : ℕ) → area.start < area.end
         → IsClosedArea area disk
         → IsOlder generation area disk }
+{}
+
+/// The bytes that gates are, and where the records of an area and the entries of a batch begin.
+pub fn limits_are_these()
+    ensures open { OPEN ≡ 165 }
+    ensures closed { CLOSED ≡ 0 }
+    ensures records { RECORDS_AT ≡ 30 }
+    ensures entries { ENTRIES_AT ≡ 15 }
 {}

@@ -2,6 +2,8 @@
 ghost use Rattle.std.specs.Prelude.{◌≡◌, ◌≤◌, ◌+◌, ◌++◌, ◌↔◌, IsTrue, length, take, drop};
 ghost use Rattle.std.specs.Int.{to_be_bytes, w16, w32, w64};
 
+use byteorder::{BigEndian, ByteOrder};
+
 /// A gate that is open; any other byte is a closed one.
 pub const OPEN: u8 = 0xA5;
 
@@ -74,10 +76,10 @@ impl Header {
         ensures { result ≡ header_bytes self }
     {
         let mut bytes = [self.version; Self::LEN];
-        bytes[1..9].copy_from_slice(&self.generation.to_be_bytes());
-        bytes[9..17].copy_from_slice(&self.sequence.to_be_bytes());
-        bytes[17..21].copy_from_slice(&self.record_count.to_be_bytes());
-        bytes[21..29].copy_from_slice(&self.records_len.to_be_bytes());
+        BigEndian::write_u64(&mut bytes[1..], self.generation);
+        BigEndian::write_u64(&mut bytes[9..], self.sequence);
+        BigEndian::write_u32(&mut bytes[17..], self.record_count);
+        BigEndian::write_u64(&mut bytes[21..], self.records_len);
         bytes
     }
 
@@ -129,25 +131,19 @@ fn u16_at(bytes: &[u8], at: usize) -> u16
     requires { at + 2 ≤ length bytes.now }
     ensures { to_be_bytes w16 result ≡ take 2 (drop at bytes.now) }
 {
-    let mut number = [0; 2];
-    number.copy_from_slice(&bytes[at..at + 2]);
-    u16::from_be_bytes(number)
+    BigEndian::read_u16(&bytes[at..])
 }
 
 fn u32_at(bytes: &[u8], at: usize) -> u32
     requires { at + 4 ≤ length bytes.now }
     ensures { to_be_bytes w32 result ≡ take 4 (drop at bytes.now) }
 {
-    let mut number = [0; 4];
-    number.copy_from_slice(&bytes[at..at + 4]);
-    u32::from_be_bytes(number)
+    BigEndian::read_u32(&bytes[at..])
 }
 
 fn u64_at(bytes: &[u8], at: usize) -> u64
     requires { at + 8 ≤ length bytes.now }
     ensures { to_be_bytes w64 result ≡ take 8 (drop at bytes.now) }
 {
-    let mut number = [0; 8];
-    number.copy_from_slice(&bytes[at..at + 8]);
-    u64::from_be_bytes(number)
+    BigEndian::read_u64(&bytes[at..])
 }

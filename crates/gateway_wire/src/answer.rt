@@ -9,7 +9,7 @@ use lw_types::{Bytes, Refusal};
 use std::alloc::Global;
 
 /// The kind of content that an answer to an application is.
-const ANSWER: u8 = 0x13;
+pub const ANSWER: u8 = 0x13;
 
 /// The most bytes of an answer's line: its frame has a content of at most 700.
 pub const LONGEST_ANSWER: usize = 699;

@@ -7,7 +7,7 @@ use lw_types::{Bytes, LONGEST_FRAME};
 use std::alloc::{AllocError, Global};
 
 /// The kind of content that a downlink is.
-const DOWNLINK: u8 = 0x11;
+pub const DOWNLINK: u8 = 0x11;
 
 /// How many bytes of content stand before the PHYPayload.
 const HEAD: usize = 20;

@@ -1,18 +1,21 @@
 //! What is said on the links: frames for gateways, lines of applications and to them, and the list
-//! of a table.
+//! of a network's devices.
 #![tactic(auto)]
 
 mod answer;
 mod downlink;
 mod emission;
+pub mod laws;
 mod list;
 mod recipient;
 mod report;
 mod request;
 mod word_values;
 
-pub use answer::{AnswerFrame, LONGEST_ANSWER_FRAME, answer_frame, refused_line};
-pub use downlink::{LONGEST_WIRE_FRAME, WireFrame};
+pub use answer::{
+    ANSWER, AnswerFrame, LONGEST_ANSWER, LONGEST_ANSWER_FRAME, answer_frame, refused_line,
+};
+pub use downlink::{DOWNLINK, LONGEST_WIRE_FRAME, WireFrame};
 pub use emission::{Emission, app_line, gateway_bytes};
 pub use list::list_text;
 pub use recipient::Recipient;

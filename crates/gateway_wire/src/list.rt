@@ -1,4 +1,4 @@
-// The list of a table's devices.
+// The list of a network's devices.
 ghost use Rattle.std.specs.Prelude.{◌≡◌, MatchResult, OnOk, IfOk, ◌++◌, unwrap_or};
 ghost use Rattle.std.specs.String.{string_bytes};
 ghost use Rattle.lw_types.specs.declared.refusal.Refusal.TheVariants.{OutOfMemory};
@@ -6,18 +6,16 @@ ghost use Rattle.gateway_wire.specs.DeviceList.{device_line, last_line, list_tex
 
 use devices::Device;
 use lw_types::{JoinNonce, Refusal};
-use sessions::Table;
 use std::alloc::{AllocError, Global};
 use std::fmt;
 
-/// A line for each device, in order of slot, and a last line with their number and `seq`, the
-/// number of the last decision. Each line ends with a newline.
-pub fn list_text(alloc: Global, table: &Table, seq: u64) -> Result<String, Refusal>
-    ensures { MatchResult result (λ text. string_bytes text ≡ list_text table.now.devices seq)
+/// A line for each device of a table, in order of slot, and a last line with their number and `seq`,
+/// the number of the last decision. Each line ends with a newline.
+pub fn list_text(alloc: Global, devices: &[Device], seq: u64) -> Result<String, Refusal>
+    ensures { MatchResult result (λ text. string_bytes text ≡ list_text devices.now seq)
         (λ e. e ≡ OutOfMemory) }
 {
     let mut text = String::new(alloc);
-    let devices = table.devices();
     for (slot, device) in devices.iter().enumerate() {
         let line = device_line(alloc, slot, device)?;
         text.push_str(line.as_str())?;

@@ -1,2 +1,3 @@
+pub mod Crash
 pub mod Failing
 pub mod Recovers

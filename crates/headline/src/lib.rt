@@ -10,6 +10,7 @@ ghost use Rattle.world.specs.Answers.{AreRight};
 ghost use Rattle.world.specs.Calls.{AreForetold, outlook_after_opening};
 ghost use Rattle.world.specs.Course.{beginning, course_of, new_store};
 ghost use Rattle.sessions.specs.Marks.{AreOnce};
+ghost use Rattle.headline.specs.Crash.{IsOpenedAfterCrash};
 ghost use Rattle.headline.specs.Failing.{ArmsNothing};
 ghost use Rattle.headline.specs.Recovers.{Recovers};
 
@@ -27,8 +28,8 @@ use world::{Answer, Step, World, run};
 /// failure.
 ///
 /// Where it isn't refused, each answer is the right one, a failed call of the disk comes where it
-/// is due, and the store has the table and the number that a beginning of the decided commands
-/// leaves. That beginning holds every command of which an effect has left. And over all lives no
+/// is due, the disk crashed to just this image of what it had, of which every image would have done,
+/// and the store has the table and the number that a beginning of the decided commands leaves. That beginning holds every command of which an effect has left. And over all lives no
 /// mark was used up twice by what has left: no JoinNonce of a device stands in two accepts.
 pub fn crash_after<D: Sim + Drop>(
     alloc: Global,
@@ -43,6 +44,10 @@ pub fn crash_after<D: Sim + Drop>(
     ensures calls { IfOk result (λ found. AreForetold
         (record { failed = D.failures disk; coming = outlook_after_opening (D.outlook disk) })
         steps.now found.0.items) }
+    ensures crash { IfOk result (λ found. IsOpenedAfterCrash (new_store net_id slots)
+        (course_of (new_store net_id slots) (beginning (new_store net_id slots)) steps.now
+        found.0.items)
+        image.now (store_state D.state found.1)) }
     ensures recovers { IfOk result (λ found. Recovers (new_store net_id slots)
         (course_of (new_store net_id slots) (beginning (new_store net_id slots)) steps.now
         found.0.items)

@@ -7,4 +7,4 @@ pub mod laws;
 mod queues;
 mod written_fields;
 
-pub use device_record::{read_device, write_device};
+pub use device_record::{LONGEST_RECORD, read_device, write_device};

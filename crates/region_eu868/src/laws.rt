@@ -1,6 +1,8 @@
 //! Laws of the region's tables. Each stands on a function that does nothing.
-ghost use Rattle.std.specs.Prelude.{◌≤◌, ℕ, ℤ, slice_index};
+ghost use Rattle.std.specs.Prelude.{◌≡◌, ◌≤◌, ℕ, ℤ, slice_index};
 ghost use Rattle.region_eu868.specs.Region.{margin_of, max_payloads, IsMargin};
+
+use crate::RX2_FREQUENCY;
 
 /// No MACPayload is longer than 250 bytes.
 pub fn payloads_are_short()
@@ -11,4 +13,9 @@ pub fn payloads_are_short()
 pub fn margins_are_small()
     ensures of_any { (snr : ℤ) (data_rate m : ℕ) → IsMargin snr data_rate m → m ≤ 254 }
     ensures computed { (snr : ℤ) (data_rate : ℕ) → margin_of snr data_rate ≤ 254 }
+{}
+
+/// RX2 is at 869.525 MHz.
+pub fn limits_are_these()
+    ensures { RX2_FREQUENCY ≡ 869525000 }
 {}

@@ -67,7 +67,7 @@ fn write_emission<W: Write>(out: &mut W, emission: &Emission) -> io::Result<()> 
 }
 
 fn write_list<W: Write>(alloc: Global, out: &mut W, table: &Table, seq: u64) -> io::Result<()> {
-    match list_text(alloc, table, seq) {
+    match list_text(alloc, table.devices(), seq) {
         Ok(text) => out.write_all(text.as_bytes()),
         Err(refusal) => write_refusal(out, refusal),
     }

@@ -1,5 +1,5 @@
 //! Laws of this crate's types. Nothing here is of use but its contracts.
-ghost use Rattle.std.specs.Prelude.{◌≤◌, ◌<◌, ◌^◌, ◌+◌, ℕ, List, [], SomeIff};
+ghost use Rattle.std.specs.Prelude.{◌≡◌, ◌≤◌, ◌<◌, ◌^◌, ◌+◌, ℕ, List, [], SomeIff};
 ghost use Rattle.lw_types.specs.declared.frame_copy.FrameCopy.{FrameCopy};
 ghost use Rattle.devices.specs.declared.command.Command.{Command};
 ghost use Rattle.sessions.specs.Table.{TableState};
@@ -10,7 +10,7 @@ ghost use Rattle.session_core.specs.Events.{Asks, Hears, IsTurn, Starves, Ticks}
 ghost use Rattle.session_core.specs.Standing.{with_copy};
 ghost use Rattle.session_core.specs.declared.turn.Turn.{Turn};
 
-use crate::{Moment, Most};
+use crate::{LAST_NUMBER, MOST_OUTCOMES, MOST_UNTAKEN, Moment, Most};
 
 /// A take asks for 1 to 64 decisions.
 pub fn most_of(number: u64) -> Option<Most>
@@ -57,3 +57,11 @@ pub fn windows_stand_for_groups()
     dedup::laws::windows_stand_later_too();
     dedup::laws::a_copy_goes_into_its_group();
 }
+
+/// How many decisions wait untaken at most, the number after which none is made, and how many
+/// outcomes are kept.
+pub fn limits_are_these()
+    ensures untaken { MOST_UNTAKEN ≡ 4096 }
+    ensures number { LAST_NUMBER + 1 ≡ 2 ^ 63 }
+    ensures outcomes { MOST_OUTCOMES ≡ 64 }
+{}

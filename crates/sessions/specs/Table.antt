@@ -25,6 +25,10 @@ pub record TableState : Type 0 where
   pub slots : ℕ
   pub devices : List Device
 
+-- a table has this many slots
+abbrev pub IsSlots : ℕ → Type 0
+IsSlots slots = (1 ≤ slots) × (slots ≤ 4096)
+
 -- a table without devices
 abbrev pub empty_table : ℕ → ℕ → TableState
 empty_table net_id slots = record { net_id = net_id; slots = slots; devices = [] }

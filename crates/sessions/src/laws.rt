@@ -5,7 +5,8 @@ ghost use Rattle.devices.specs.declared.command.Command.{Command};
 ghost use Rattle.devices.specs.declared.effect.Effect.{Effect};
 ghost use Rattle.devices.specs.declared.mark.Mark.{Mark};
 ghost use Rattle.sessions.specs.Marks.{AreOnce, HasUsedUp, IsSound, IsSubsequence, marks_of};
-ghost use Rattle.sessions.specs.Table.{TableState, CanPut, empty_table, fold_of, effects_of};
+ghost use Rattle.sessions.specs.Table.{TableState, CanPut, IsSlots, empty_table, fold_of};
+ghost use Rattle.sessions.specs.Table.{effects_of};
 ghost use Rattle.sessions.specs.Decision.{FitsTable, FitAll, ContinueAll, with_decisions};
 ghost use Rattle.sessions.specs.Decision.{without_decisions, commands_of, effects_in};
 ghost use Rattle.sessions.specs.declared.decision.Decision.{Decision};
@@ -85,7 +86,7 @@ pub fn no_mark_stands_twice()
 
 /// A table has from 1 to 4,096 slots.
 pub fn slots_of(number: u64) -> Option<Slots>
-    ensures { SomeIff result ((1 ≤ number) × (number ≤ 4096)) number }
+    ensures { SomeIff result (IsSlots number) number }
 {
     Slots::new(number)
 }

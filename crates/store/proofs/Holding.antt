@@ -71,7 +71,7 @@ pub front_fault : (image bytes : List ℕ) (e : Refusal) → bytes ≡ take 32 i
     → ((e ≡ NotFormatted) ↔ (¬ (IsNamed bytes))) → ((e ≡ WrongVersion) ↔ (IsNamed bytes × (get_or bytes 8 0 ≢ 1)))
     → (e ≡ NotFormatted) ⊎ ((e ≡ WrongVersion) ⊎ (e ≡ Damaged)) → IsFault image e
 front_fault image bytes e is long none unnamed version others = record {
-  none = λ t seq h. let s = store_of t seq image h in none t.net_id t.slots s.net_id_range s.slots_range.0 s.slots_range.1 (is ∙ s.superblock);
+  none = λ t seq h. let s = store_of t seq image h in none t.net_id t.slots s.net_id_range s.slots_range (is ∙ s.superblock);
   first = inl (inr (long, inl (subst (λ (b : List ℕ). SuperblockFault b e) is (record { none = none; not_formatted = unnamed; version = version; others = others }))));
 }
 

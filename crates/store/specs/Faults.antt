@@ -10,7 +10,7 @@ use Rattle.gate_log.specs.declared.layout.Areas.{Areas}
 use Rattle.gate_log.specs.declared.layout.Header.{Header}
 use Rattle.gate_log.specs.declared.layout.TheConstants.{OPEN}
 use Rattle.gate_log.specs.Layout.{HasRoomFor}
-use Rattle.sessions.specs.Table.{TableState}
+use Rattle.sessions.specs.Table.{TableState, IsSlots}
 use Rattle.store_layout.specs.Superblock.{superblock, disk_len}
 use Rattle.store_layout.specs.declared.superblock.TheConstants.Superblock.{LEN}
 use Rattle.store_layout.specs.declared.version.RecordVersion.{RecordVersion}
@@ -25,7 +25,7 @@ IsNamed bytes = take 8 bytes ≡ OPEN ∷ codes "LNSTORE"
 -- no store has these 32 bytes in front
 abbrev pub IsNoSuperblock : List ℕ → Type 0
 IsNoSuperblock bytes =
-    (net_id slots : ℕ) → net_id < 64 → 1 ≤ slots → slots ≤ 4096 → bytes ≢ superblock net_id slots
+    (net_id slots : ℕ) → net_id < 64 → IsSlots slots → bytes ≢ superblock net_id slots
 
 -- what is wrong with them: a closed gate or another name, else another version, else any other
 -- field
@@ -38,7 +38,7 @@ pub record SuperblockFault (bytes : List ℕ) (e : Refusal) : Type 0 where
 -- the store that the superblock speaks of
 pub record IsStoreOf (image : List ℕ) (net_id slots : ℕ) : Type 0 where
   pub net_id_range : net_id < 64
-  pub slots_range : (1 ≤ slots) × (slots ≤ 4096)
+  pub slots_range : IsSlots slots
   pub superblock : take LEN image ≡ superblock net_id slots
 
 -- what is wrong with the length or the superblock
@@ -93,10 +93,6 @@ pub record IsFault (image : List ℕ) (e : Refusal) : Type 0 where
   pub first : FrontFault image e
       ⊎ ((net_id slots : ℕ) × IsStoreOf image net_id slots × (length image ≡ disk_len slots)
       × AreaFault image slots e)
-
--- a store has this many slots
-abbrev pub IsSlots : ℕ → Type 0
-IsSlots slots = (1 ≤ slots) × (slots ≤ 4096)
 
 -- why no store of this number of slots is made on a disk of this length
 pub record IsFormatRefusal (slots len : ℕ) (e : Refusal) : Type 0 where

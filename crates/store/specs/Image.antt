@@ -5,7 +5,7 @@ use Rattle.gate_log.specs.declared.layout.Areas.{Areas}
 use Rattle.gate_log.specs.declared.layout.Header.{Header}
 use Rattle.gate_log.specs.Areas.{AreOf, LogContents, Holds, IsLiveArea, NoLiveArea}
 use Rattle.gate_log.specs.Layout.{BatchValue}
-use Rattle.sessions.specs.Table.{TableState, empty_table}
+use Rattle.sessions.specs.Table.{TableState, IsSlots, empty_table}
 use Rattle.sessions.specs.declared.batch.TheConstants.Batch.{MOST}
 use Rattle.store_layout.specs.Superblock.{area_len, disk_len, superblock}
 use Rattle.store_layout.specs.declared.superblock.TheConstants.Superblock.{LEN}
@@ -74,7 +74,7 @@ pub record Restores (version : RecordVersion) (net_id slots : ℕ) (header : Hea
 pub record Says (version : RecordVersion) (c : LogContents) (t : TableState)
     (seq : ℕ) : Type 0 where
   pub net_id : t.net_id < 64
-  pub slots : (1 ≤ t.slots) × (t.slots ≤ 4096)
+  pub slots : IsSlots t.slots
   pub areas : AreAreas t.slots c.areas
   pub front : c.front ≡ superblock t.net_id t.slots
   pub size : c.size ≡ disk_len t.slots

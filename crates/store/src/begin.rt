@@ -4,7 +4,7 @@ ghost use Rattle.lw_types.specs.declared.refusal.Refusal.TheVariants.{Failed, Ou
 ghost use Rattle.lw_types.specs.declared.refusal.Refusal.TheVariants.{OutOfStep};
 ghost use Rattle.sessions.specs.Decision.{IsLegalContinuation};
 ghost use Rattle.store.specs.Commit.{IsUnderWay, MayFollow, tip_of};
-ghost use Rattle.store.specs.Phases.{IsBegunOn, begun_change, begun_size};
+ghost use Rattle.store.specs.Phases.{HasEntries, IsBegunOn, begun_change, begun_size};
 
 use crate::commit::Commit;
 use crate::{Begun, Store};
@@ -39,6 +39,7 @@ impl<D: Disk> Store<D> {
             → IsLegalContinuation (store_state D.state self.old).table
             (store_state D.state self.old).seq batch }
         ensures batch { IfOk result (λ begun. (begun_change begun).decisions ≡ batch) }
+        ensures entries { IfOk result (HasEntries (store_state D.state self.old).version) }
         ensures begun { IsSettled (store_state D.state self.old)
             → IfOk result (IsBegunOn (store_state D.state self.old)) }
     {

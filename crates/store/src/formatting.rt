@@ -8,10 +8,10 @@ ghost use Rattle.disk.specs.State.{EveryImage, IsTorn, NothingOpen, bytes_after_
 ghost use Rattle.gate_log.specs.declared.layout.TheConstants.{RECORDS_AT};
 ghost use Rattle.gate_log.specs.Areas.{HoldsIn, IsClosedArea};
 ghost use Rattle.gate_log.specs.Layout.{checkpoint, fresh_header};
-ghost use Rattle.sessions.specs.Table.{empty_table};
+ghost use Rattle.sessions.specs.Table.{IsSlots, empty_table};
 ghost use Rattle.store_layout.specs.Superblock.{disk_len, superblock as superblock_bytes};
 ghost use Rattle.store_layout.specs.Superblock.{superblock_body};
-ghost use Rattle.store.specs.Faults.{IsFormatRefusal, IsSlots};
+ghost use Rattle.store.specs.Faults.{IsFormatRefusal};
 ghost use Rattle.store.specs.Formatting.{IsFormatImage, IsShut};
 ghost use Rattle.store.specs.Image.{area_a, area_b};
 ghost use Rattle.store.specs.State.{store_state, disk_of, IsSettled};
@@ -50,6 +50,7 @@ pub fn format<D: Disk + Drop>(
         (λ store. IsClosedArea (area_b slots) (D.state (disk_of store)).content) }
     ensures fits { IfOk result (λ _. IsSlots slots
         × (length (D.state disk).content ≡ disk_len slots)) }
+    ensures generation { IfOk result (λ store. (store_state D.state store).log.generation ≡ 1) }
     ensures refused { IfErr result (IsFormatRefusal slots (length (D.state disk).content)) }
     ensures unarmed { D.outlook disk ≡ AllSucceed → MatchResult result
         (λ store. D.outlook (disk_of store) ≡ AllSucceed)
@@ -64,8 +65,8 @@ pub fn format<D: Disk + Drop>(
 /// Makes a store without devices. Refused with `Damaged` exactly where `slots` is not from 1 to
 /// 4,096, else with `WrongSize` exactly where the disk hasn't the length of such a store, else with
 /// `DeviceFailed` exactly where a call of the disk failed, and with `OutOfMemory` for want of
-/// memory, before any call. With a refusal the disk comes back. It makes eight calls of the disk,
-/// and its cost grows with the number of slots.
+/// memory, before any call. With a refusal the disk comes back, as it was but for `DeviceFailed`. It
+/// makes eight calls of the disk, and its cost grows with the number of slots.
 ///
 /// Whatever a crash leaves of a disk on which it failed, or was cut between two calls: no store,
 /// the new one, or all but the first byte as it was.
@@ -85,8 +86,11 @@ pub fn format_back<D: Disk>(
         (λ store. IsClosedArea (area_b slots) (D.state (disk_of store)).content) }
     ensures fits { IfOk result (λ _. IsSlots slots
         × (length (D.state disk).content ≡ disk_len slots)) }
+    ensures generation { IfOk result (λ store. (store_state D.state store).log.generation ≡ 1) }
     ensures refused { IfErr result
         (λ e. IsFormatRefusal slots (length (D.state disk).content) e.1) }
+    ensures device { IfErr result (λ e. (e.1 ≡ DeviceFailed → D.failures e.0 ≡ D.failures disk + 1)
+        × (e.1 ≢ DeviceFailed → e.0 ≡ disk)) }
     ensures unarmed { D.outlook disk ≡ AllSucceed → MatchResult result
         (λ store. D.outlook (disk_of store) ≡ AllSucceed)
         (λ e. e.1 ≢ DeviceFailed) }

@@ -13,10 +13,7 @@ use disk::Disk;
 use gate_log::Header;
 use lw_types::Refusal;
 use std::alloc::Global;
-use store_layout::{laws, put_table};
-
-/// The most bytes that an entry has.
-const LONGEST_ENTRY: usize = 4185;
+use store_layout::{LONGEST_ENTRY, laws, put_table};
 
 impl<D: Disk> Store<D> {
     ghost use Rattle.store.specs.State.{store_state, IsSettled};

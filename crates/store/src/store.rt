@@ -5,14 +5,14 @@ ghost use Rattle.gate_log.specs.Log.{log_state, disk_of as disk_of_log};
 ghost use Rattle.store.specs.Image.{HaveLength};
 
 use disk::{Disk, Sim};
-use gate_log::Log;
+use gate_log::{ENTRIES_AT, Log};
 use lw_types::Refusal;
 use sessions::Table;
-use store_layout::RecordVersion;
+use store_layout::{RESERVED_ENTRY, RecordVersion};
 
 /// The bytes of the journal that the largest batch takes: its gate and head, 64 entries of the bytes
-/// that are reserved for each (see [`store_layout::Superblock::area_len`]), and the next gate.
-pub const LARGEST_BATCH: u64 = 15 + 64 * 4_305 + 1;
+/// that are reserved for each, and the next gate.
+pub const LARGEST_BATCH: u64 = ENTRIES_AT + 64 * RESERVED_ENTRY + 1;
 
 /// A durable table with its journal on a disk. After a call of the disk has failed, it answers no
 /// `begin` but with [`Refusal::Failed`]: it is closed, and its disk opened again.

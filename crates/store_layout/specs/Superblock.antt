@@ -1,12 +1,13 @@
 -- The first 32 bytes of a store, and where its areas lie.
 use Rattle.std.specs.Prelude.{ℕ, ◌+◌, ◌*◌, List, ◌∷◌, ◌++◌, replicate, codes}
 use Rattle.std.specs.Int.{bytes_high_first}
-use Rattle.gate_log.specs.declared.layout.TheConstants.{OPEN}
+use Rattle.gate_log.specs.declared.layout.TheConstants.{OPEN, RECORDS_AT}
+use Rattle.store_layout.specs.declared.superblock.TheConstants.{JOURNAL_ROOM, RESERVED_ENTRY}
 
--- the length of an area with room for the entry of each slot, of which 5 bytes and 4,300 of a record
--- are reserved, and a mebibyte of batches
+-- the length of an area: a gate and a header, the room for an entry of each slot, and the room for
+-- batches
 abbrev pub area_len : ℕ → ℕ
-area_len slots = 30 + slots * 4305 + 1048576
+area_len slots = RECORDS_AT + slots * RESERVED_ENTRY + JOURNAL_ROOM
 
 -- a superblock and two areas
 abbrev pub disk_len : ℕ → ℕ

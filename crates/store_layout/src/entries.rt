@@ -11,12 +11,15 @@ ghost use Rattle.store_layout.specs.Entries.{entries_of, entries_of_table, entry
 use crate::version::RecordVersion;
 use devices::Device;
 use lw_types::Refusal;
-use record_codec::laws;
+use record_codec::{LONGEST_RECORD, laws};
 use sessions::{Batch, Decision, Table};
 use std::alloc::{AllocError, Global};
 
 /// The kind of an entry that is a whole record.
 const WHOLE: u8 = 1;
+
+/// The most bytes of an entry: 5, and those of the largest record.
+pub const LONGEST_ENTRY: usize = 5 + LONGEST_RECORD;
 
 /// What a store keeps of one device, by its kind.
 #[derive(Drop)]
@@ -85,7 +88,7 @@ pub fn batch_entries(
         (λ bytes. (bytes.items ≡ entries version (entries_of batch.now))
         × AreEntries version (entries_of batch.now))
         (λ e. e ≡ OutOfMemory) }
-    ensures short { IfOk result (λ bytes. length bytes.items ≤ length batch.now * 4185) }
+    ensures short { IfOk result (λ bytes. length bytes.items ≤ length batch.now * LONGEST_ENTRY) }
 {
     crate::laws::entries_are_short();
     crate::laws::decisions_replay();

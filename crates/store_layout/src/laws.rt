@@ -9,6 +9,7 @@ ghost use Rattle.store_layout.specs.declared.version.RecordVersion.{RecordVersio
 ghost use Rattle.store_layout.specs.Entries.{AreEntries, Replay, entries, entries_of};
 ghost use Rattle.store_layout.specs.Entries.{entries_of_table, put_all};
 
+use crate::{JOURNAL_ROOM, LONGEST_ENTRY, RESERVED_ENTRY};
 use record_codec::laws;
 
 /// The entries of decisions that were made of a table replay on it, and lead to the table that the
@@ -51,7 +52,7 @@ pub fn bytes_replay_in_one_way()
 /// An entry has at most 4,185 bytes.
 pub fn entries_are_short()
     ensures { (version : RecordVersion) (es : List Entry) → AreEntries version es
-        → length (entries version es) ≤ length es * 4185 }
+        → length (entries version es) ≤ length es * LONGEST_ENTRY }
 {
     laws::records_are_short();
 }
@@ -62,4 +63,11 @@ pub fn entries_keep_the_network()
         → u.net_id ≡ t.net_id }
     ensures slots { (t u : TableState) (es : List Entry) → put_all t es ≡ Some u
         → u.slots ≡ t.slots }
+{}
+
+/// The room of an area, and the most bytes of an entry.
+pub fn limits_are_these()
+    ensures reserved { RESERVED_ENTRY ≡ 4305 }
+    ensures journal { JOURNAL_ROOM ≡ 1048576 }
+    ensures entry { LONGEST_ENTRY ≡ 4185 }
 {}

@@ -6,6 +6,6 @@ pub mod laws;
 mod superblock;
 mod version;
 
-pub use entries::{Entry, batch_entries, put_entry, put_table, replay};
-pub use superblock::Superblock;
+pub use entries::{Entry, LONGEST_ENTRY, batch_entries, put_entry, put_table, replay};
+pub use superblock::{JOURNAL_ROOM, RESERVED_ENTRY, Superblock};
 pub use version::RecordVersion;

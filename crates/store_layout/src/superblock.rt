@@ -3,11 +3,19 @@ ghost use Rattle.std.specs.Prelude.{◌≡◌, ◌≢◌, ◌<◌, ◌≤◌, �
 ghost use Rattle.std.specs.Prelude.{◌⊎◌, codes, take, slice_index};
 ghost use Rattle.lw_types.specs.declared.refusal.Refusal.TheVariants.{NotFormatted, WrongVersion};
 ghost use Rattle.lw_types.specs.declared.refusal.Refusal.TheVariants.{Damaged};
+ghost use Rattle.sessions.specs.Table.{IsSlots};
 ghost use Rattle.store_layout.specs.Superblock.{superblock, area_len, disk_len};
 
-use gate_log::OPEN;
+use gate_log::{OPEN, RECORDS_AT};
 use lw_types::{NetId, Refusal};
 use sessions::Slots;
+
+/// The bytes of an area that are reserved for the entry of each slot: 5 bytes, and 4,300 for a
+/// record. The largest has 4,180; the others are left to later versions of records.
+pub const RESERVED_ENTRY: u64 = 5 + 4_300;
+
+/// The bytes of an area that are left for batches: a mebibyte.
+pub const JOURNAL_ROOM: u64 = 1_048_576;
 
 /// The network of a store, and how many devices it has room for.
 #[derive(Clone, Copy, PartialEq, Eq)]
@@ -23,8 +31,7 @@ impl Superblock {
     /// The bytes, with an open gate in front.
     pub fn to_bytes(&self) -> [u8; 32]
         ensures bytes { result ≡ superblock self.now.net_id self.now.slots }
-        ensures in_range { (self.now.net_id < 64)
-            × ((1 ≤ self.now.slots) × (self.now.slots ≤ 4096)) }
+        ensures in_range { (self.now.net_id < 64) × IsSlots self.now.slots }
     {
         let [_, n2, n1, n0] = u32::from(self.net_id.get()).to_be_bytes();
         let [s3, s2, s1, s0] = (self.slots.get() as u32).to_be_bytes();
@@ -35,14 +42,13 @@ impl Superblock {
         ]
     }
 
-    /// The length of one area in bytes: a header, what is reserved for the entry of each slot, and a
-    /// mebibyte of batches. An entry is 5 bytes and a record, for which 4,300 bytes are reserved: the
-    /// largest has 4,180, and the others are left to later versions of records.
+    /// The length of one area in bytes: a gate and a header, [`RESERVED_ENTRY`] for each slot, and
+    /// [`JOURNAL_ROOM`].
     pub fn area_len(&self) -> u64
         ensures len { result ≡ area_len self.now.slots }
         ensures small { result < 2 ^ 32 }
     {
-        30 + self.slots.get() * 4305 + 1_048_576
+        RECORDS_AT + self.slots.get() * RESERVED_ENTRY + JOURNAL_ROOM
     }
 
     /// The length of the whole disk in bytes.
@@ -57,8 +63,8 @@ impl Superblock {
     /// `Damaged` where another field is out of its range.
     pub fn from_bytes(bytes: &[u8; 32]) -> Result<Self, Refusal>
         ensures found { IfOk result (λ s. bytes.now ≡ superblock s.net_id s.slots) }
-        ensures in_range { IfOk result (λ s. (s.net_id < 64) × ((1 ≤ s.slots) × (s.slots ≤ 4096))) }
-        ensures only { (net_id slots : ℕ) → net_id < 64 → 1 ≤ slots → slots ≤ 4096
+        ensures in_range { IfOk result (λ s. (s.net_id < 64) × IsSlots s.slots) }
+        ensures only { (net_id slots : ℕ) → net_id < 64 → IsSlots slots
             → bytes.now ≡ superblock net_id slots
             → result ≡ Ok (record { net_id = net_id; slots = slots }) }
         ensures not_formatted { (result ≡ Err NotFormatted)

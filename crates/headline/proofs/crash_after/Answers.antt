@@ -18,6 +18,20 @@ returns-in_ok-store-in-Ok-clause-calls g c =
     let calls : CallRecord = record { failed = g.D.Disk.failures c.args.disk; coming = outlook_after_opening (g.D.Disk.outlook c.args.disk) } in
     (c.in-Ok.ensures.calls calls c.in_ok-world.ensures.calls).0
 
+pub returns-in_ok-store-in-Ok-clause-crash : goal.returns-in_ok-store-in-Ok-clause-crash
+returns-in_ok-store-in-Ok-clause-crash g c =
+    let origin = new_store c.args.net_id c.args.slots in
+    let course = course_of origin (beginning origin) c.args.steps.now c.in-Ok.answers.items in
+    let followed = (c.in-Ok.ensures.course origin (beginning origin) c.in_ok-world.ensures.course).1 in
+    record {
+      before = g.D.Disk.state c.close-disk.result;
+      survives = (c.close-disk.ensures.course origin course followed).0;
+      left = (g.D.Disk.state c.crash.new.self).content;
+      crashed = c.crash.ensures.image;
+      permitted = c.crash.ensures.permitted;
+      opened = c.in_ok-store-in-Ok.ensures.opened g.met.D.Sim.is_honest;
+    }
+
 pub returns-in_ok-store-in-Ok-clause-recovers : goal.returns-in_ok-store-in-Ok-clause-recovers
 returns-in_ok-store-in-Ok-clause-recovers g c =
     let origin = new_store c.args.net_id c.args.slots in

@@ -7,7 +7,7 @@ use Rattle.gateway_wire.proofs.list.list_text.Goals as goal
 
 pub loop-slot-preserved : goal.loop-slot-preserved
 loop-slot-preserved c =
-    let devices = c.devices-devices.result.now in
+    let devices = c.args.devices.now in
     let d = c.index-devices-slot.result in
     let more = device_lines-take_more devices c.loop-slot.slot d c.loop-slot-test.true c.index-devices-slot.is in
     let line = c.in_ok-line.ensures in
@@ -18,8 +18,7 @@ loop-slot-preserved c =
 
 pub returns : goal.returns
 returns c =
-    let devices = c.devices-devices.result.now in
-    let is = c.devices-devices.ensures.devices in
+    let devices = c.args.devices.now in
     let end : c.loop-slot.slot ≡ length devices = omega arith in
     let lines : string_bytes c.loop-slot.text ≡ device_lines 0 devices =
     c.loop-slot.invariant ∙ ap (device_lines 0) (ap (λ n. take n devices) end ∙ take-length devices) in

@@ -24,7 +24,7 @@ returns-in_err-superblock-clause-refused g c honest =
     let bytes = c.in_ok-bytes.bytes in
     let k = c.in_err-superblock.ensures in
     front_fault content bytes e (c.in_ok-bytes.ensures.bytes honest) (omega (arith, c.if-len.false, c.len.ensures))
-    (λ n s a b d is. no_ok e _ (k.only n s a b d is))
+    (λ n s a few is. no_ok e _ (k.only n s a few is))
     (λ named. k.not_formatted.0 (ap Err named), λ un. same_err e _ (k.not_formatted.1 un))
     (λ version. k.version.0 (ap Err version), λ un. same_err e _ (k.version.1 un))
     k.refused)
@@ -38,6 +38,6 @@ returns-then-len-disk_len-clause-refused g c honest other =
     size_fault content s.net_id s.slots (omega (arith, c.if-len.false, c.len.ensures))
     (record { net_id_range = k.in_range.0; slots_range = k.in_range.1; superblock = sym bytes ∙ k.found })
     (λ n m is.
-    let same = same_ok s _ (k.only n m is.net_id_range is.slots_range.0 is.slots_range.1 (bytes ∙ is.superblock)) in
+    let same = same_ok s _ (k.only n m is.net_id_range is.slots_range (bytes ∙ is.superblock)) in
     (ap (λ (x : Superblock). x.net_id) (sym same), ap (λ (x : Superblock). x.slots) (sym same)))
     (λ same. c.if-len-disk_len.true (c.len-2.ensures ∙ (c.in_ok-bytes.ensures.reads.same_length ∙ (same ∙ sym c.disk_len.ensures))))

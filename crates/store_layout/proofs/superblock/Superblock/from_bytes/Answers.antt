@@ -12,10 +12,10 @@ four_bytes : (n a b c d : ℕ) → n ≤ 4096 → a ≡ n / 16777216 % 256 → b
 four_bytes n a b c d small ha hb hc hd = omega arith
 
 pub returns-in-Some-Some-clause-only : goal.returns-in-Some-Some-clause-only
-returns-in-Some-Some-clause-only c net slots low some most is =
+returns-in-Some-Some-clause-only c net slots low few is =
     let at : (i : ℕ) → get_or c.args.bytes.now i 0 ≡ get_or (superblock net slots) i 0 = λ i. ap (λ bs. get_or bs i 0) is in
     let net_is : c.from_be_bytes-net_id.result ≡ net = c.from_be_bytes-net_id.ensures ∙ three_bytes net _ _ _ low (at 9) (at 10) (at 11) in
-    let slots_is : c.from_be_bytes-slots.result ≡ slots = c.from_be_bytes-slots.ensures ∙ four_bytes slots _ _ _ _ most (at 12) (at 13) (at 14) (at 15) in
+    let slots_is : c.from_be_bytes-slots.result ≡ slots = c.from_be_bytes-slots.ensures ∙ four_bytes slots _ _ _ _ few.1 (at 12) (at 13) (at 14) (at 15) in
     let n : c.in-Some-Some.net_id ≡ net = c.in-Some-Some.ensures.1 ∙ net_is in
     let s : c.in-Some-Some.slots ≡ slots = c.in-Some-Some.ensures'.1 ∙ (c.from.ensures ∙ slots_is) in
     let block : ℕ → ℕ → Superblock = λ n s. record { net_id = n; slots = s } in
