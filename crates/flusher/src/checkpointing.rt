@@ -1,8 +1,8 @@
 // Whole checkpoints.
-ghost use Rattle.std.specs.Prelude.{◌≡◌, ◌⊎◌, true, false, IfOk, IfErr, OnOk, MatchResult};
+ghost use Rattle.std.specs.Prelude.{◌≡◌, ◌⊎◌, ◌+◌, true, false, IfOk, IfErr, OnOk, MatchResult};
 ghost use Rattle.disk.specs.State.{EveryImage};
 ghost use Rattle.flusher.specs.Calls.{AreStoreCalls, IsUntouched, LastFailed, NoneFailed};
-ghost use Rattle.flusher.specs.Cycle.{IsReady, IsUnready};
+ghost use Rattle.flusher.specs.Cycle.{ChecksWhereFull, IsReady, IsUnready};
 ghost use Rattle.lw_types.specs.declared.refusal.Refusal.TheVariants.{DeviceFailed};
 ghost use Rattle.store.specs.Checkpointing.{FitsOther, IsCheckpointOn, checkpoint_size};
 ghost use Rattle.store.specs.Image.{HoldsTable};
@@ -21,6 +21,8 @@ pub(crate) fn make_room<D: Disk>(alloc: Global, store: &mut Store<D>) -> Result<
         (LastFailed D.failures D.outlook store.old store.new) e) }
     ensures ready { OnOk result (IsReady (store_state D.state store.old)) }
     ensures roomy { OnOk result (IsRoomy (store_state D.state store.new)) }
+    ensures checkpoint { D.honest → IsSettled (store_state D.state store.old) → OnOk result
+        (ChecksWhereFull (store_state D.state store.old) (store_state D.state store.new)) }
     ensures images { D.honest → IsSettled (store_state D.state store.old) → MatchResult result
         (λ _. IsSettled (store_state D.state store.new))
         (λ _. EveryImage (D.state (disk_of store.new))
@@ -45,6 +47,9 @@ fn publish<D: Disk>(store: &mut Store<D>, checkpoint: Checkpoint) -> Result<(), 
     requires { FitsOther (store_state D.state store.old) (checkpoint_size checkpoint) }
     ensures calls { AreStoreCalls D.failures D.outlook store.old store.new result }
     ensures roomy { OnOk result (IsRoomy (store_state D.state store.new)) }
+    ensures generation { D.honest → IsCheckpointOn (store_state D.state store.old) checkpoint
+        → OnOk result ((store_state D.state store.new).log.generation
+        ≡ (store_state D.state store.old).log.generation + 1) }
     ensures images { D.honest → IsCheckpointOn (store_state D.state store.old) checkpoint
         → MatchResult result
         (λ _. IsSettled (store_state D.state store.new))
@@ -65,6 +70,8 @@ fn close_gate<D: Disk>(store: &mut Store<D>, checkpoint: Checkpoint) -> Result<C
     requires { FitsOther (store_state D.state store.old) (checkpoint_size checkpoint) }
     ensures calls { AreStoreCalls D.failures D.outlook store.old store.new result }
     ensures closed { OnOk result ((store_state D.state store.new).log.other_open ≡ false) }
+    ensures generation { OnOk result ((store_state D.state store.new).log.generation
+        ≡ (store_state D.state store.old).log.generation) }
     ensures fits { IfOk result (λ phase. FitsOther (store_state D.state store.new)
         (checkpoint_size phase)) }
     ensures images { D.honest → IsCheckpointOn (store_state D.state store.old) checkpoint

@@ -1,5 +1,5 @@
 // Whole commits.
-ghost use Rattle.std.specs.Prelude.{◌≡◌, ◌⊎◌, true, IfErr, IfOk, MatchResult};
+ghost use Rattle.std.specs.Prelude.{◌≡◌, ◌⊎◌, true, IfErr, IfOk, MatchResult, OnOk};
 ghost use Rattle.disk.specs.State.{EveryImage};
 ghost use Rattle.flusher.specs.Calls.{AreStoreCalls, IsUntouched, LastFailed, NoneFailed};
 ghost use Rattle.flusher.specs.Cycle.{Commits, HoldsWithOrWithout, IsUncommitted};
@@ -35,6 +35,8 @@ pub(crate) fn commit<D: Disk>(
         (λ _. Commits (store_state D.state store.old) (store_state D.state store.new) batch)
         (λ _. ((store_state D.state store.new).table ≡ (store_state D.state store.old).table)
         × ((store_state D.state store.new).seq ≡ (store_state D.state store.old).seq)) }
+    ensures generation { OnOk result ((store_state D.state store.new).log.generation
+        ≡ (store_state D.state store.old).log.generation) }
     ensures images { D.honest → IsSettled (store_state D.state store.old) → MatchResult result
         (λ _. IsSettled (store_state D.state store.new))
         (λ _. EveryImage (D.state (disk_of store.new))
@@ -63,6 +65,8 @@ fn write<D: Disk>(store: &mut Store<D>, begun: Begun) -> Result<Durable, Refusal
     ensures seq { MatchResult result
         (λ _. (store_state D.state store.new).seq ≡ (begun_change begun).seq)
         (λ _. (store_state D.state store.new).seq ≡ (store_state D.state store.old).seq) }
+    ensures generation { OnOk result ((store_state D.state store.new).log.generation
+        ≡ (store_state D.state store.old).log.generation) }
     ensures images { D.honest → IsBegunOn (store_state D.state store.old) begun → MatchResult result
         (λ _. IsSettled (store_state D.state store.new))
         (λ _. EveryImage (D.state (disk_of store.new))

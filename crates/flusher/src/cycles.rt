@@ -3,8 +3,8 @@ ghost use Rattle.std.specs.Prelude.{◌≡◌, ◌≢◌, ◌⊎◌, ◌==◌, t
 ghost use Rattle.std.specs.Prelude.{IfErr, OnErr, OnOk, MatchBool, MatchResult};
 ghost use Rattle.disk.specs.State.{EveryImage};
 ghost use Rattle.flusher.specs.Calls.{IsUntouched, LastFailed, NoneFailed};
-ghost use Rattle.flusher.specs.Cycle.{Commits, HoldsWithOrWithout, IsReady, IsUncommitted};
-ghost use Rattle.flusher.specs.Cycle.{IsUnready};
+ghost use Rattle.flusher.specs.Cycle.{ChecksWhereFull, Commits, HoldsWithOrWithout, IsReady};
+ghost use Rattle.flusher.specs.Cycle.{IsUncommitted, IsUnready};
 ghost use Rattle.flusher.specs.Released.{effects_of_all};
 ghost use Rattle.lw_types.specs.declared.refusal.Refusal.TheVariants.{DeviceFailed};
 ghost use Rattle.sessions.specs.Decision.{commands_of, effects_in};
@@ -58,6 +58,10 @@ pub fn cycle<D: Disk, F: Feed, C: FnMut(Vec<Released>)>(
         × C.step out.old released tt out.new)))))) }
 
     ensures ready { OnOk result (IsReady (store_state D.state store.old)) }
+
+    // A checkpoint was written exactly where the largest batch had no room.
+    ensures checkpoint { D.honest → IsSettled (store_state D.state store.old) → OnOk result
+        (ChecksWhereFull (store_state D.state store.old) (store_state D.state store.new)) }
 
     // Nothing left, and the store has what it had.
     ensures held_back { OnErr result (out.new ≡ out.old) }

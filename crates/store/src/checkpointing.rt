@@ -55,6 +55,8 @@ impl Checkpoint {
         ensures table { (store_state D.state store.new).table
             ≡ (store_state D.state store.old).table }
         ensures seq { (store_state D.state store.new).seq ≡ (store_state D.state store.old).seq }
+        ensures generation { OnOk result ((store_state D.state store.new).log.generation
+            ≡ (store_state D.state store.old).log.generation) }
         ensures call { IsOneCall D.failures D.outlook store.old store.new result }
     {
         let Checkpoint { phase: checkpoint } = self;
@@ -83,6 +85,8 @@ impl Checkpoint {
         ensures table { (store_state D.state store.new).table
             ≡ (store_state D.state store.old).table }
         ensures seq { (store_state D.state store.new).seq ≡ (store_state D.state store.old).seq }
+        ensures generation { OnOk result ((store_state D.state store.new).log.generation
+            ≡ (store_state D.state store.old).log.generation) }
         ensures call { IsOneCall D.failures D.outlook store.old store.new result }
     {
         let Checkpoint { phase } = self;
@@ -115,6 +119,8 @@ impl Retiring {
         ensures table { (store_state D.state store.new).table
             ≡ (store_state D.state store.old).table }
         ensures seq { (store_state D.state store.new).seq ≡ (store_state D.state store.old).seq }
+        ensures generation { OnOk result ((store_state D.state store.new).log.generation
+            ≡ (store_state D.state store.old).log.generation) }
         ensures call { IsOneCall D.failures D.outlook store.old store.new result }
     {
         let Retiring { phase, checkpoint } = self;
@@ -150,6 +156,8 @@ impl CheckpointWritten {
         ensures table { (store_state D.state store.new).table
             ≡ (store_state D.state store.old).table }
         ensures seq { (store_state D.state store.new).seq ≡ (store_state D.state store.old).seq }
+        ensures generation { OnOk result ((store_state D.state store.new).log.generation
+            ≡ (store_state D.state store.old).log.generation) }
         ensures call { IsOneCall D.failures D.outlook store.old store.new result }
     {
         let CheckpointWritten { phase } = self;
@@ -181,6 +189,8 @@ impl CheckpointSynced {
         ensures table { (store_state D.state store.new).table
             ≡ (store_state D.state store.old).table }
         ensures seq { (store_state D.state store.new).seq ≡ (store_state D.state store.old).seq }
+        ensures generation { OnOk result ((store_state D.state store.new).log.generation
+            ≡ (store_state D.state store.old).log.generation) }
         ensures call { IsOneCall D.failures D.outlook store.old store.new result }
     {
         let CheckpointSynced { phase } = self;

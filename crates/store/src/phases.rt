@@ -62,6 +62,8 @@ impl Begun {
         ensures table { (store_state D.state store.new).table
             ≡ (store_state D.state store.old).table }
         ensures seq { (store_state D.state store.new).seq ≡ (store_state D.state store.old).seq }
+        ensures generation { OnOk result ((store_state D.state store.new).log.generation
+            ≡ (store_state D.state store.old).log.generation) }
         ensures call { IsOneCall D.failures D.outlook store.old store.new result }
     {
         let Begun { phase, commit } = self;
@@ -95,6 +97,8 @@ impl Written {
         ensures table { (store_state D.state store.new).table
             ≡ (store_state D.state store.old).table }
         ensures seq { (store_state D.state store.new).seq ≡ (store_state D.state store.old).seq }
+        ensures generation { OnOk result ((store_state D.state store.new).log.generation
+            ≡ (store_state D.state store.old).log.generation) }
         ensures call { IsOneCall D.failures D.outlook store.old store.new result }
     {
         let Written { phase, commit } = self;
@@ -129,6 +133,8 @@ impl BodySynced {
         ensures table { (store_state D.state store.new).table
             ≡ (store_state D.state store.old).table }
         ensures seq { (store_state D.state store.new).seq ≡ (store_state D.state store.old).seq }
+        ensures generation { OnOk result ((store_state D.state store.new).log.generation
+            ≡ (store_state D.state store.old).log.generation) }
         ensures call { IsOneCall D.failures D.outlook store.old store.new result }
     {
         let BodySynced { phase, commit } = self;
@@ -170,6 +176,8 @@ impl GateWritten {
         ensures seq { MatchResult result
             (λ _. (store_state D.state store.new).seq ≡ (gate_written_change self).seq)
             (λ _. (store_state D.state store.new).seq ≡ (store_state D.state store.old).seq) }
+        ensures generation { OnOk result ((store_state D.state store.new).log.generation
+            ≡ (store_state D.state store.old).log.generation) }
         ensures call { IsOneCall D.failures D.outlook store.old store.new result }
     {
         let GateWritten { phase, commit } = self;
