@@ -36,8 +36,8 @@ IsUnchecked s failure e =
 abbrev pub IsUnready : StoreState → Type 0 → Refusal → Type 0
 IsUnready s failure e = (e ≡ OutOfMemory) ⊎ ((¬ (IsRoomy s)) × IsUnchecked s failure e)
 
--- a checkpoint was written exactly where the journal lacked room for the largest batch: it is of the
--- next generation
+-- a checkpoint was written exactly where the journal lacked room for the largest batch: it is of
+-- the next generation
 abbrev pub ChecksWhereFull : StoreState → StoreState → Type 0
 ChecksWhereFull old new =
     (IsRoomy old → new.log.generation ≡ old.log.generation)

@@ -6,9 +6,9 @@ use std::alloc::Global;
 use std::sync::Wait;
 use store::Store;
 
-/// Repeats [`cycle`] until one is refused, or until `done` answers true after an empty batch. It waits
-/// nowhere itself: `done` is where the flusher waits for decisions. Each cycle is as `cycle` says, so
-/// the effects of the one that was refused didn't leave. It need not return.
+/// Repeats [`cycle`] until one is refused, or until `done` answers true after an empty batch. It
+/// waits nowhere itself: `done` is where the flusher waits for decisions. Each cycle is as `cycle`
+/// says, so the effects of the one that was refused didn't leave. It need not return.
 pub fn serve<R: Wait, D: Disk, F: Feed, C: FnMut(Vec<Released>), S: FnMut() -> bool>(
     rt: &R,
     store: &mut Store<D>,

@@ -47,8 +47,8 @@ fn read_awaited(fields: &mut FieldReader<'_>) -> Option<Option<Tag>>
     }
 }
 
-/// The most bytes of a record: that of a device with two sessions, a full MAC queue, and 16 items of
-/// 242 bytes.
+/// The most bytes of a record: that of a device with two sessions, a full MAC queue, and 16 items
+/// of 242 bytes.
 pub const LONGEST_RECORD: usize = 4_180;
 
 /// A record whose fields are there and in their ranges. What takes memory is still in the bytes.

@@ -65,8 +65,8 @@ pub fn format<D: Disk + Drop>(
 /// Makes a store without devices. Refused with `Damaged` exactly where `slots` is not from 1 to
 /// 4,096, else with `WrongSize` exactly where the disk hasn't the length of such a store, else with
 /// `DeviceFailed` exactly where a call of the disk failed, and with `OutOfMemory` for want of
-/// memory, before any call. With a refusal the disk comes back, as it was but for `DeviceFailed`. It
-/// makes eight calls of the disk, and its cost grows with the number of slots.
+/// memory, before any call. With a refusal the disk comes back, as it was but for `DeviceFailed`.
+/// It makes eight calls of the disk, and its cost grows with the number of slots.
 ///
 /// Whatever a crash leaves of a disk on which it failed, or was cut between two calls: no store,
 /// the new one, or all but the first byte as it was.

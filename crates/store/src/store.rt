@@ -10,8 +10,8 @@ use lw_types::Refusal;
 use sessions::Table;
 use store_layout::{RESERVED_ENTRY, RecordVersion};
 
-/// The bytes of the journal that the largest batch takes: its gate and head, 64 entries of the bytes
-/// that are reserved for each, and the next gate.
+/// The bytes of the journal that the largest batch takes: its gate and head, 64 entries of the
+/// bytes that are reserved for each, and the next gate.
 pub const LARGEST_BATCH: u64 = ENTRIES_AT + 64 * RESERVED_ENTRY + 1;
 
 /// A durable table with its journal on a disk. After a call of the disk has failed, it answers no

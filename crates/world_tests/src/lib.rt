@@ -1,9 +1,11 @@
-//! Tests of worlds, beside a plain model whose contract is the definition, and of the public call of
-//! `headline`. They stand above those crates, so that each of these is proved once.
+//! Tests of worlds, beside a plain model whose contract is the definition, and of the public call
+//! of `headline`. They stand above those crates, so that each of these is proved once.
 #![tactic(auto)]
 
 #[cfg(test)]
 mod answers;
+#[cfg(test)]
+mod crash_tests;
 mod flight;
 #[cfg(test)]
 mod gathering;

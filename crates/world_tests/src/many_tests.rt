@@ -1,8 +1,7 @@
 // Many devices, whose decisions wait and are taken in more than one batch.
 use crate::letters::add_letters;
 use crate::steps::provision;
-use crate::worlds::{answers_to, first_difference, net_id, new_disk};
-use disk::Image;
+use crate::worlds::{answers_to, first_difference};
 use lw_types::Refusal;
 use std::alloc::Global;
 use world::{Answer, Step};
@@ -91,24 +90,4 @@ fn openings(alloc: Global) -> Result<usize, Refusal> {
 #[test]
 fn a_store_of_4096_devices_is_opened(rt: HostRuntime) {
     assert_eq!(rt; openings(rt.alloc()), Ok(1));
-}
-
-// Whether each step was answered, and the store that is opened after a crash has its five devices
-// and its number.
-fn is_found_again(alloc: Global) -> Result<bool, Refusal> {
-    let steps = steps_of(alloc, &FIVE)?;
-    let (answers, store) = headline::crash_after(
-        alloc,
-        new_disk(alloc, 8)?,
-        net_id()?,
-        8,
-        &steps,
-        &Image::Old,
-    )?;
-    Ok((answers.len(), store.table().devices().len(), store.seq()) == (steps.len(), 5, 5))
-}
-
-#[test]
-fn what_was_released_is_found_again(rt: HostRuntime) {
-    assert_eq!(rt; is_found_again(rt.alloc()), Ok(true));
 }
