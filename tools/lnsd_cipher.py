@@ -7,8 +7,10 @@ from outside import aes
 
 try:
     from cryptography.hazmat.primitives.ciphers import Cipher, algorithms, modes
+
+    NAME = "cryptography"
 except ImportError:
-    Cipher = None
+    Cipher, NAME = None, "examples/outside"
 
 
 @functools.lru_cache(maxsize=16384)
@@ -55,8 +57,9 @@ def cmac(key, message):
     return chain.update(message)[-16:]
 
 
-if Cipher:
-    aes.encrypt, aes.decrypt, aes.cmac, aes.xored = encrypt, decrypt, cmac, xored
-else:
+if not Cipher:
     aes.round_keys = functools.lru_cache(maxsize=16384)(aes.round_keys)
+    encrypt, decrypt = aes.encrypt, aes.decrypt
+else:
+    aes.encrypt, aes.decrypt, aes.cmac, aes.xored = encrypt, decrypt, cmac, xored
 aes.check()
