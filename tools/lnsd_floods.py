@@ -63,8 +63,8 @@ def copies(trials):
         for it in links:
             it.hands_in(frame, Copy(it.eui))
         words = application.hears().split(" ")
-        trials.compare("how many copies count", words[:4] + words[6:7],
-                       ["up", lnsd_load.dev_eui(0), "1", "1", "32"])
+        due = ["up", lnsd_load.dev_eui(0), "1", "1", "32"]
+        trials.compare("how many copies count", words[:4] + words[6:7], due)
         frame = sent(device, 0)
         first, better = Copy(links[0].eui, snr=-30), Copy(links[0].eui, snr=10)
         links[0].say(wire.copy_of(frame, first) + wire.copy_of(frame, better))
@@ -188,11 +188,11 @@ def never_ends(trials):
         told = [it for it in mute.rest() if it.startswith(b"\x13queued ")]
         mute.close()
         dropped = int(said.split()[1]) if said else -1
-        trials.compare("status, output, faulted", (status, out, said.split("\n")[1:]),
-                       (0, "", ["faulted 0", ""]))
+        came = (status, out, said.split("\n")[1:])
+        trials.compare("status, output, faulted", came, (0, "", ["faulted 0", ""]))
         # of the piece that was not sent whole some lines may have come all the same
-        trials.holds(f"{seq} decided, {len(told)} told, {dropped} dropped",
-                     seq <= len(told) + dropped <= seq + 1024)
+        is_so = seq <= len(told) + dropped <= seq + 1024
+        trials.holds(f"{seq} decided, {len(told)} told, {dropped} dropped", is_so)
         print(f"  {seq} decided, {len(told)} told, {dropped} dropped; its end took {took:.1f} s")
 
 

@@ -224,10 +224,10 @@ def played(links, frames, first, count, rate):
     them. `frames` are those of `made`."""
     order = [(it % len(frames), 1 + it // len(frames)) for it in range(first, first + count)]
     gateways = len(links.gateways)
-    plan = [
-        [((number + more) % gateways, said) for more, said in enumerate(frames[number][counter - 1])]
-        for number, counter in order
-    ]
+    plan = []
+    for number, counter in order:
+        said = frames[number][counter - 1]
+        plan.append([((number + more) % gateways, it) for more, it in enumerate(said)])
     process, moments = sending(plan, links, rate, count)
     pieces = noted(links, count, lambda: not process.is_alive())
     process.join(10)

@@ -57,9 +57,8 @@ def syncs(folder):
 
 def memory(pid):
     """VmRSS and VmHWM of a process in MiB."""
-    kib = {
-        it: commands.number_in(f"/proc/{pid}/status", rf"{it}:\s+(\d+)") for it in ("VmRSS", "VmHWM")
-    }
+    of = f"/proc/{pid}/status"
+    kib = {it: commands.number_in(of, rf"{it}:\s+(\d+)") for it in ("VmRSS", "VmHWM")}
     return {name: round(value / 1024, 1) for name, value in kib.items()}
 
 

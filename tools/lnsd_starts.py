@@ -3,8 +3,10 @@ import os
 import socket
 
 from lnsd_trials import OWNER, as_nobody, records
+from server.links import Application
 from server.program import HOST, free_port
 
+WRONG_IDS = ("000040", "FFFFFF", "00002a", "2A", "00002A0", "", "0x002A", "-0002A", "  002A")
 FORMATS = ("--netid", "00002A", "--slots", "8")
 
 
@@ -19,7 +21,7 @@ def words(trials):
         wrong += [("serve", store, "--listen", f"{HOST}:1"), form, ("format", *FORMATS)]
         wrong += [(*serve, it) for it in ("0", "81", "-1", "x", "", "1.0", "99999999999999999999")]
         wrong += [(*form, "--netid", "00002A"), (*form, "--slots", "8"), (*form, *FORMATS, "x")]
-        for netid in ("000040", "FFFFFF", "00002a", "2A", "00002A0", "", "0x002A", "-0002A", "  002A"):
+        for netid in WRONG_IDS:
             wrong.append((*form, "--netid", netid, "--slots", "8"))
         for slots in ("0", "4097", "-1", "x", "", "99999999999999999999"):
             wrong.append((*form, "--netid", "00002A", "--slots", slots))
@@ -47,34 +49,37 @@ def served(store, port=None):
     return ("serve", store, "--listen", f"{HOST}:{port or free_port()}", "--links", "1")
 
 
+def spoilt(good):
+    """Contents that are no stores, by name, each with the number of its refusal."""
+    live = 32 + int.from_bytes(good[16:24], "big")
+
+    def changed(at, to):
+        return good[:at] + to + good[at + len(to) :]
+
+    return {
+        "no bytes": (b"", 46),
+        "31 bytes": (good[:31], 46),
+        "a text": (b"hello\n" * 100, 43),
+        "zeros": (bytes(len(good)), 43),
+        "a closed gate": (changed(0, b"\x00"), 43),
+        "another name": (changed(1, b"x"), 43),
+        "another version": (changed(8, b"\x7f"), 45),
+        "a NetID above the last": (changed(9, b"\x00\x00\x40"), 44),
+        "no slots": (changed(12, bytes(4)), 44),
+        "a byte short": (good[:-1], 46),
+        "a byte long": (good + b"\x00", 46),
+        "no area": (changed(32, b"\x00")[:live] + b"\x00" + good[live + 1 :], 44),
+        "another version of the live area": (changed(live + 1, b"\x7f"), 45),
+        "a record that is none": (changed(live + 30, b"\x07"), 44),
+        "more records than there are": (changed(live + 18, b"\x00\x00\x00\x02"), 44),
+    }
+
+
 def files(trials):
-    """Files that are no stores, short, damaged, in use, or not there."""
+    """Files that are no stores, short, damaged, or not there. None of them is changed."""
     with trials.store(records=records(1, OWNER)) as program:
         with open(program.store, "rb") as file:
-            good = file.read()
-        area = int.from_bytes(good[16:24], "big")
-        live = 32 + area
-
-        def changed(at, to):
-            return good[:at] + to + good[at + len(to) :]
-
-        made = {
-            "no bytes": (b"", 46),
-            "31 bytes": (good[:31], 46),
-            "a text": (b"hello\n" * 100, 43),
-            "zeros": (bytes(len(good)), 43),
-            "a closed gate": (changed(0, b"\x00"), 43),
-            "another name": (changed(1, b"x"), 43),
-            "another version": (changed(8, b"\x7f"), 45),
-            "a NetID above the last": (changed(9, b"\x00\x00\x40"), 44),
-            "no slots": (changed(12, bytes(4)), 44),
-            "a byte short": (good[:-1], 46),
-            "a byte long": (good + b"\x00", 46),
-            "no area": (changed(32, b"\x00")[:live] + b"\x00" + good[live + 1 :], 44),
-            "another version of the live area": (changed(live + 1, b"\x7f"), 45),
-            "a record that is none": (changed(live + 30, b"\x07"), 44),
-            "more records than there are": (changed(live + 18, b"\x00\x00\x00\x02"), 44),
-        }
+            made = spoilt(file.read())
         for name, (content, number) in made.items():
             path = os.path.join(program.folder, name.replace(" ", "-"))
             with open(path, "wb") as file:
@@ -121,8 +126,6 @@ def uses(trials):
         command(trials, program, "file", *served(missing, port))
         command(trials, program, "refused 43", *served(nothing, port))
         address = program.serve(1)
-        from server.links import Application
-
         with Application(address, OWNER) as it:
             command(trials, program, "file", "list", program.store)
             command(trials, program, "file", *served(program.store))

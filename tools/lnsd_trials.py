@@ -68,7 +68,6 @@ class Trials:
         try:
             trial(self)
         except (Failed, Ended, Silent, ValueError, OSError) as why:
-            if __import__("os").environ.get("TB"): __import__("traceback").print_exc()
             self.wrong(f"{type(why).__name__}: {why}")
         how = "as it should be" if len(self.faults) == before else "WRONG"
         print(f"{topic:<66} {how}, {time.monotonic() - begun:.1f} s", flush=True)
