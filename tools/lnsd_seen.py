@@ -30,11 +30,13 @@ class Meter(Device):
         return {"dev_eui": self.dev_eui, "join_eui": JOIN_EUI, "app_key": key}
 
     def request(self, chance):
-        """An item with a tag of its own, which is its payload too, or a MAC command."""
+        """An item with a tag of its own, which its payload begins with, or a MAC command."""
         if chance.random() < 0.2:
             return f"mac {self.dev_eui} 06"
         tag, self.next_tag = self.next_tag, self.next_tag + 1
-        return f"queue {self.dev_eui} {tag} 7 {chance.choice('cu')} {tag:08X}"
+        # some are long, so that the journal fills
+        payload = f"{tag:08X}" + "00" * chance.choice((0, 50, 190))
+        return f"queue {self.dev_eui} {tag} 7 {chance.choice('cu')} {payload}"
 
     def frame(self, chance):
         """What it sends: a Join-Request, something new, or what it sent before."""
@@ -127,7 +129,7 @@ class Seen:
         meter.owes_ack = frame[0] == 0xA0
         if len(frame) - 4 > end:
             clear = crypted(keys[1], DOWN, address, counter, frame[end + 1 : -4])
-            self.mark(self.items, name[0], int.from_bytes(clear, "big"), "item")
+            self.mark(self.items, name[0], int.from_bytes(clear[:4], "big"), "item")
 
     def accept(self, frame):
         """A Join-Accept: only the device that it is for can open it."""
