@@ -84,6 +84,11 @@ def commands_in(payload, lengths):
     return found
 
 
+def is_taken(copy):
+    """Whether a copy isn't refused for its channel or its data rate."""
+    return copy.frequency in CHANNELS and copy.data_rate < len(LARGEST)
+
+
 def best(copies):
     """The best copy."""
     return min(copies, key=lambda it: (-it.snr, -it.rssi, it.gateway))
