@@ -10,6 +10,10 @@ from server import wire
 from server.links import Application, Gateway, Link
 
 REQUESTS = 400_000
+# what a link that doesn't read holds unread, in bytes
+ROOM = 4096
+# uplinks with long payloads, 8 of each device
+LONG = 16_000
 # what the network keeps of the end for a peer that doesn't read, in seconds
 PATIENCE = 10
 
@@ -41,10 +45,12 @@ def gateways(trials):
     with trials.store(records=records(1, OWNER)) as program:
         address = program.serve(66)
         application = Application(address, OWNER)
+        last = Link(address)
         first = await_links([Gateway(address, it) for it in euis(64)])
-        last = await_links(Gateway(address, EUI))
+        last.say(wire.gateway_greeting(EUI))
+        await_links(last)
         device = lnsd_load.device(0)
-        last.hands_in(sent(device, 0), HEARD)
+        last.say(wire.copy_of(sent(device, 0), HEARD))
         heard = Copy(euis(64)[63])
         time.sleep(0.4)
         first[63].hands_in(sent(device, 0), heard)
@@ -149,7 +155,7 @@ def never_reads(trials):
     """An application asks 400,000 times and reads nothing; then it reads what is left."""
     with trials.store() as program:
         address = program.serve(3)
-        mute = Application(address, 9, patience=60)
+        mute = Application(address, 9, patience=60, room=ROOM)
         pair = Pair(address)
         pair.greet()
         pair.play(trials)
@@ -169,31 +175,65 @@ def never_reads(trials):
         trials.ended(program)
 
 
+def long_uplinks(program, address):
+    """An application is told of long payloads, faster than it reads: 2.5 MB of lines and more."""
+    gateway, mute = Gateway(address, EUI), Application(address, OWNER, patience=60, room=ROOM)
+    await_links(gateway)
+    devices = [lnsd_load.device(it) for it in range(LONG // 8)]
+    said = [wire.copy_of(it.uplink(7, bytes(222)), HEARD) for _ in range(8) for it in devices]
+    for at in range(0, LONG, 40):
+        gateway.say(b"".join(said[at : at + 40]))
+        time.sleep(0.01)
+    time.sleep(0.5)
+    for it in (gateway, mute):
+        it.end()
+    return gateway, mute
+
+
+def is_told(link):
+    """How many lines `up` come until the server closes the link."""
+    return sum(it.startswith(b"\x13up ") for it in link.rest(30))
+
+
+def reads_late(trials):
+    """An application reads nothing until all inputs have ended: each line is told or counted."""
+    with trials.store(4096, records(LONG // 8, OWNER)) as program:
+        gateway, mute = long_uplinks(program, program.serve(2))
+        time.sleep(2)
+        trials.compare("whether it waits for the application", program.server.poll(), None)
+        told = is_told(mute)
+        status, out, said = program.ended()
+        count_of(trials, program, (status, out, said), told, 0)
+        for it in (gateway, mute):
+            it.close()
+
+
 def never_ends(trials):
-    """An application is told more than it reads, and stays: the end waits ten seconds for it."""
-    count = 60_000
-    devices = 4096
-    with trials.store(devices, records(devices, OWNER)) as program:
-        address = program.serve(1)
-        mute = Application(address, OWNER, patience=60)
-        for at in range(count):
-            # these are decided, but for those that wait behind 4,096 others
-            mute.say(wire.request(f"queue {lnsd_load.dev_eui(at % devices)} {at} 7 u -"))
-        mute.end()
+    """An application neither reads nor closes: the end waits ten seconds for it."""
+    with trials.store(4096, records(LONG // 8, OWNER)) as program:
+        gateway, mute = long_uplinks(program, program.serve(2))
         begun = time.monotonic()
-        status, out, said = program.ended(60)
+        came = program.ended(60)
         took = time.monotonic() - begun
-        trials.holds(f"it took {took:.1f} s to end", took < PATIENCE + 8)
-        seq = int(program.list()[-1].split(" ")[3]) - devices
-        told = [it for it in mute.rest() if it.startswith(b"\x13queued ")]
-        mute.close()
-        dropped = int(said.split()[1]) if said else -1
-        came = (status, out, said.split("\n")[1:])
-        trials.compare("status, output, faulted", came, (0, "", ["faulted 0", ""]))
-        # of the piece that was not sent whole some lines may have come all the same
-        is_so = seq <= len(told) + dropped <= seq + 1024
-        trials.holds(f"{seq} decided, {len(told)} told, {dropped} dropped", is_so)
-        print(f"  {seq} decided, {len(told)} told, {dropped} dropped; its end took {took:.1f} s")
+        trials.holds(f"it took {took:.1f} s to end", PATIENCE - 2 < took < PATIENCE + 8)
+        # of the piece that wasn't sent whole some lines may have come all the same
+        count_of(trials, program, came, is_told(mute), 64)
+        print(f"  its end took {took:.1f} s")
+        for it in (gateway, mute):
+            it.close()
+
+
+def count_of(trials, program, came, told, more):
+    """What was told and what was dropped is all that was decided, or so much more."""
+    status, out, said = came
+    ending = (status, out, said.split("\n")[1:])
+    trials.compare("status, output, faulted", ending, (0, "", ["faulted 0", ""]))
+    dropped = int(said.split()[1]) if said.startswith("dropped ") else -1
+    decided = int(program.list()[-1].split(" ")[3]) - LONG // 8
+    words = f"{decided} decided, {told} told, {dropped} dropped"
+    print(f"  {words}")
+    trials.compare("how many were decided", decided, LONG)
+    trials.holds(words, decided <= told + dropped <= decided + more and dropped > 0)
 
 
 def eighty(trials):
@@ -257,6 +297,7 @@ TRIALS = {
     "the 1,025th window": windows,
     "requests faster than the disk": backlog,
     "400,000 requests of an application that doesn't read": never_reads,
+    "an application that reads nothing until the end": reads_late,
     "an application that neither reads nor closes, at the end": never_ends,
     "80 links at once": eighty,
     "an application that isn't linked": unlinked,

@@ -159,11 +159,11 @@ def names(trials):
     """The second link of a name, and that what stands behind its greeting isn't read."""
     with trials.store() as program:
         address = program.serve(4)
-        pair = Pair(address)
+        pair, second, third = Pair(address), Link(address), Link(address)
         pair.greet()
         await_links(pair)
-        second = Link(address, wire.application_greeting(OWNER) + wire.request(PROVISION))
-        third = Link(address, wire.gateway_greeting(EUI))
+        second.say(wire.application_greeting(OWNER) + wire.request(PROVISION))
+        third.say(wire.gateway_greeting(EUI))
         await_links(second)
         pair.play(trials)
         third.say(wire.copy_of(pair.device.uplink(7, b"\x04\xd2"), HEARD))

@@ -28,19 +28,23 @@ def address_of(text):
     return host.strip("[]"), int(port)
 
 
-def connected(address, patience=PATIENCE):
-    """A connection, once somebody listens there."""
+def connected(address, patience=PATIENCE, room=None):
+    """A connection, once somebody listens there. `room` is what it holds unread, in bytes."""
     last = time.monotonic() + patience
     while True:
+        it = socket.socket(socket.AF_INET6 if ":" in address[0] else socket.AF_INET)
         try:
-            it = socket.create_connection(address, timeout=max(0.1, last - time.monotonic()))
+            if room:
+                it.setsockopt(socket.SOL_SOCKET, socket.SO_RCVBUF, room)
+            it.settimeout(max(0.1, last - time.monotonic()))
+            it.connect(address)
             # where nobody listens, TCP may link a port of this machine with itself
             if it.getsockname() != it.getpeername():
                 it.setsockopt(socket.IPPROTO_TCP, socket.TCP_NODELAY, 1)
                 return it
-            it.close()
         except OSError:
             pass
+        it.close()
         if time.monotonic() >= last:
             raise Silent(f"nobody listens on {address[0]}:{address[1]}")
         time.sleep(0.01)
@@ -49,9 +53,9 @@ def connected(address, patience=PATIENCE):
 class Link:
     """One end of a link. What is said is bytes of whole frames; what is read is contents."""
 
-    def __init__(self, address, greeting=b"", patience=PATIENCE):
+    def __init__(self, address, greeting=b"", patience=PATIENCE, room=None):
         self.patience = patience
-        self.socket = connected(address, patience)
+        self.socket = connected(address, patience, room)
         self.frames = wire.Frames()
         self.contents = deque()
         self.is_over = False
