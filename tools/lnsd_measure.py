@@ -79,8 +79,8 @@ def switches(pid):
 
 
 def calls(pid, seconds):
-    """The system calls that a process begins in that time, as lines of strace, or None where there
-    is no strace, or it may not look."""
+    """The system calls that a process ends in that time, as lines of strace, or None where there is
+    no strace, or it may not look."""
     if not shutil.which("strace"):
         return None
     with tempfile.NamedTemporaryFile() as told:
@@ -91,8 +91,9 @@ def calls(pid, seconds):
         it.send_signal(signal.SIGINT)
         it.communicate(timeout=10)
         lines = told.read().decode(errors="replace").splitlines()
-    # what was under way when it began to look ends as it stops looking
-    return [line for line in lines if "<detached" not in line] if may_look else None
+    # what each thread waits in while strace looks has a line too, without a result
+    done = [line for line in lines if " = " in line or " resumed>" in line]
+    return done if may_look else None
 
 
 def idle(pid, seconds):
