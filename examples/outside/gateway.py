@@ -1,4 +1,4 @@
-"""What a gateway does with a downlink, by docs/FORMATS.md."""
+"""How a gateway hears a frame, and what it does with a downlink, by docs/FORMATS.md."""
 
 from dataclasses import dataclass
 
@@ -6,6 +6,22 @@ from .device import Rejected
 
 SECOND = 1_000_000
 WRAP = 2**32
+
+
+@dataclass
+class Copy:
+    """How a gateway heard a frame."""
+
+    gateway: str
+    frequency: int = 868_100_000
+    data_rate: int = 5
+    snr: int = -20
+    rssi: int = -95
+    stamp: int = 50_000
+
+    def heard(self):
+        """The words behind the count of copies in a line `up`."""
+        return f"{self.gateway} {self.frequency} {self.data_rate} {self.snr} {self.rssi}"
 
 
 @dataclass
@@ -24,11 +40,9 @@ class Order:
         return words if self.rx2 is None else f"{words}, or in RX2 at {self.rx2}"
 
 
-def read_order(line):
-    """The order in a line `gw` of `lns-sim`."""
-    kind, eui, text = line.split(" ")
-    told, content = int(text[:4], 16), bytes.fromhex(text[4:])
-    if kind != "gw" or told != len(content) or content[:9] != bytes.fromhex("11" + eui):
+def order_of(eui, content):
+    """The order in the content of a frame for this gateway."""
+    if len(content) < 32 or content[:9] != bytes.fromhex("11" + eui):
         raise Rejected("no downlink for this gateway")
     stamp = int.from_bytes(content[9:13], "big")
     delay, second = content[18:20]
@@ -39,3 +53,12 @@ def read_order(line):
         rx2=(stamp + second * SECOND) % WRAP if second else None,
         frame=content[20:],
     )
+
+
+def read_order(line):
+    """The order in a line `gw` of `lns-sim`."""
+    kind, eui, text = line.split(" ")
+    told, content = int(text[:4], 16), bytes.fromhex(text[4:])
+    if kind != "gw" or told != len(content):
+        raise Rejected("no downlink for a gateway")
+    return order_of(eui, content)

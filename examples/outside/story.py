@@ -1,9 +1,8 @@
 """A story: the lines of a script, the answer that is due to each, and the page that tells them."""
 
 import textwrap
-from dataclasses import dataclass
 
-from .gateway import read_order
+from .gateway import Copy, read_order
 
 WIDTH = 100
 # a page shows at most so many lines in a row, else the first and the last of them
@@ -43,22 +42,6 @@ def shown_lines(lines, start):
         shown += shown_line(numbers, script, answers)
         start = end + 1
     return shown
-
-
-@dataclass
-class Copy:
-    """How a gateway heard a frame."""
-
-    gateway: str
-    frequency: int = 868_100_000
-    data_rate: int = 5
-    snr: int = -20
-    rssi: int = -95
-    stamp: int = 50_000
-
-    def heard(self):
-        """The words behind the count of copies in a line `up`."""
-        return f"{self.gateway} {self.frequency} {self.data_rate} {self.snr} {self.rssi}"
 
 
 class Story:

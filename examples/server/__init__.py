@@ -1,0 +1,1 @@
+"""The outside of the server program lnsd: what gateways, applications and devices do."""

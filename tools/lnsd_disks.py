@@ -1,0 +1,136 @@
+"""Trials of lnsd on a disk whose syncs fail or are slow. The C library's fdatasync is replaced in
+the program's process, so a C compiler is needed; where there is none, nothing is tried."""
+import os
+import shutil
+import subprocess
+import time
+
+import lnsd_load
+from lnsd_trials import EUI, OWNER, Pair, end_all, records
+from server import wire
+from server.links import Application, Ended, Gateway
+
+SOURCE = r"""
+#define _GNU_SOURCE
+#include <dlfcn.h>
+#include <errno.h>
+#include <stdlib.h>
+#include <unistd.h>
+
+static long number(const char *name) { const char *it = getenv(name); return it ? atol(it) : 0; }
+
+/* only one thread of the program syncs */
+int fdatasync(int file) {
+    static long calls;
+    calls += 1;
+    if (calls <= number("SLOW_SYNCS")) usleep(1000 * number("SLOW_MS"));
+    if (calls == number("FAILING_SYNC")) { errno = EIO; return -1; }
+    int (*real)(int) = (int (*)(int))dlsym(RTLD_NEXT, "fdatasync");
+    return real(file);
+}
+"""
+# of a run of `Pair.play` and two more uplinks: one for the opening, and two a commit
+SYNCS, WAITING, ASKED = 11, 4096, 5000
+
+
+def with_disk(program, **settings):
+    """The environment in which the program's syncs are so, or None without a compiler."""
+    compiler = shutil.which("cc")
+    if not compiler:
+        print("  there is no C compiler, so this isn't tried: apt-get install gcc")
+        return None
+    source = os.path.join(program.folder, "syncs.c")
+    with open(source, "w", encoding="utf-8") as file:
+        file.write(SOURCE)
+    made = f"{source}.so"
+    subprocess.run([compiler, "-shared", "-fPIC", "-o", made, source, "-ldl"], check=True)
+    return {**os.environ, "LD_PRELOAD": made, **{it: str(to) for it, to in settings.items()}}
+
+
+def failing(trials):
+    """Each sync of a short run fails: the links are closed, `lnsd: refused 40`, and what had left
+    is there; a sync that comes later does no harm."""
+    for number in range(1, SYNCS + 2):
+        with trials.store() as program:
+            how = with_disk(program, FAILING_SYNC=number)
+            if how:
+                fails(trials, program, how, number)
+
+
+def fails(trials, program, how, number):
+    """The run whose sync of this number fails."""
+    if number == 1:
+        came = program.run("list", program.store, env=how)
+        trials.compare("a list whose sync fails", came, (1, "", "lnsd: refused 40\n"))
+        return
+    pair = Pair(program.serve(2, env=how))
+    pair.greet()
+    before, left = trials.passed, 0
+    try:
+        pair.play(trials)
+        pair.sends(trials)
+        pair.sends(trials)
+    except Ended:
+        left = trials.passed - before
+        trials.compare("the server's end", program.ended(), (1, "", "lnsd: refused 40\n"))
+        trials.holds(f"sync {number} failed, and it went on", number <= SYNCS)
+    else:
+        left = trials.passed - before
+        trials.holds(f"sync {number} failed, and nobody knew", number > SYNCS)
+        end_all(trials, pair.links())
+        trials.ended(program)
+    # each of the pair's comparisons is of what one decision let out
+    seq = int(program.list()[-1].split(" ")[3])
+    trials.holds(f"{seq} decisions are there, and {left} had left", seq >= left)
+
+
+def slow(trials):
+    """Syncs of 100 ms: what waits goes into one batch, and nothing else waits for the disk."""
+    with trials.store(32, records(20, OWNER)) as program:
+        how = with_disk(program, SLOW_SYNCS=1_000_000, SLOW_MS=100)
+        if not how:
+            return
+        address = program.serve(2, env=how)
+        application, gateway = Application(address, OWNER), Gateway(address, EUI)
+        begun = time.monotonic()
+        for it in range(20):
+            application.asks(f"queue {lnsd_load.dev_eui(it)} {it} 7 u -")
+        for _ in range(3):
+            application.asks("hello")
+        came = [application.hears() for _ in range(3)]
+        trials.compare("refusals, which don't wait", came, ["refused 51"] * 3)
+        trials.holds("a refusal waited for the disk", time.monotonic() - begun < 0.15)
+        came = [application.hears() for _ in range(20)]
+        due = [f"queued {lnsd_load.dev_eui(it)} {it}" for it in range(20)]
+        trials.compare("answers", came, due)
+        took = time.monotonic() - begun
+        trials.holds(f"20 requests took {took:.2f} s, more than two batches", 0.2 <= took < 0.75)
+        end_all(trials, [application, gateway])
+        trials.ended(program)
+
+
+def backlog(trials):
+    """The first commit takes a second: of 5,000 requests meanwhile 4,096 wait, and 23 is the
+    answer to the others; each is answered."""
+    with trials.store(4096, records(4096, OWNER)) as program:
+        how = with_disk(program, SLOW_SYNCS=3, SLOW_MS=500)
+        if not how:
+            return
+        application = Application(program.serve(1, env=how), OWNER, patience=60)
+        lines = (f"mac {lnsd_load.dev_eui(it % 4096)} 06" for it in range(ASKED))
+        application.say(b"".join(map(wire.request, lines)))
+        came = [application.hears() for _ in range(ASKED)]
+        made = sum(it.startswith("macqueued ") for it in came)
+        trials.compare("refused 23", came.count("refused 23"), ASKED - made)
+        trials.holds(f"{made} were decided", WAITING < made <= WAITING + 64)
+        end_all(trials, [application])
+        trials.ended(program)
+        seq = int(program.list()[-1].split(" ")[3])
+        trials.compare("decisions in the list", seq, 4096 + made)
+
+
+TRIALS = {
+    "a disk whose nth sync fails": failing,
+    "a disk whose syncs are slow": slow,
+    "4,096 decisions that wait for the disk": backlog,
+}

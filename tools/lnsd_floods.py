@@ -1,0 +1,305 @@
+"""Trials of lnsd with more than it takes: windows, copies, decisions, links, and a link that never
+reads."""
+import threading
+import time
+
+import lnsd_load
+from lnsd_trials import EUI, HEARD, OWNER, Pair, await_links, end_all, records
+from outside.gateway import Copy
+from server import wire
+from server.links import Application, Gateway, Link
+
+REQUESTS = 400_000
+# what a link that doesn't read holds unread, in bytes
+ROOM = 4096
+# uplinks with long payloads, 8 of each device
+LONG = 16_000
+# what the network keeps of the end for a peer that doesn't read, in seconds
+PATIENCE = 10
+
+
+def euis(count):
+    return [f"{0xE000000000000000 + it:016X}" for it in range(count)]
+
+
+def up(number, counter, copies, heard):
+    """The line of a device's uplink."""
+    words = f"up {lnsd_load.dev_eui(number)} 1 {counter} 7"
+    text = wire.byte_text(lnsd_load.payload(number, counter))
+    return f"{words} {text} {copies} {heard.heard()}"
+
+
+def sent(device, number):
+    """The device's next uplink."""
+    return device.uplink(7, lnsd_load.payload(number, device.next_up))
+
+
+def finish(trials, program, links, dropped=0, faulted=0):
+    """All inputs end, and the server then."""
+    end_all(trials, links)
+    trials.ended(program, dropped, faulted)
+
+
+def gateways(trials):
+    """64 gateways are linked, and a 65th is read no further."""
+    with trials.store(records=records(1, OWNER)) as program:
+        address = program.serve(66)
+        application = Application(address, OWNER)
+        last = Link(address)
+        first = await_links([Gateway(address, it) for it in euis(64)])
+        last.say(wire.gateway_greeting(EUI))
+        await_links(last)
+        device = lnsd_load.device(0)
+        last.say(wire.copy_of(sent(device, 0), HEARD))
+        heard = Copy(euis(64)[63])
+        time.sleep(0.4)
+        first[63].hands_in(sent(device, 0), heard)
+        trials.compare("what the 64th heard", application.hears(), up(0, 2, 1, heard))
+        finish(trials, program, [application, *first, last], faulted=1)
+
+
+def copies(trials):
+    """40 gateways hear one frame, and 32 copies count; one gateway's second copy doesn't."""
+    with trials.store(records=records(1, OWNER)) as program:
+        address = program.serve(41)
+        application = Application(address, OWNER)
+        links = await_links([Gateway(address, it) for it in euis(40)])
+        device = lnsd_load.device(0)
+        frame = sent(device, 0)
+        for it in links:
+            it.hands_in(frame, Copy(it.eui))
+        words = application.hears().split(" ")
+        due = ["up", lnsd_load.dev_eui(0), "1", "1", "32"]
+        trials.compare("how many copies count", words[:4] + words[6:7], due)
+        frame = sent(device, 0)
+        first, better = Copy(links[0].eui, snr=-30), Copy(links[0].eui, snr=10)
+        links[0].say(wire.copy_of(frame, first) + wire.copy_of(frame, better))
+        trials.compare("a gateway's second copy", application.hears(), up(0, 2, 1, first))
+        for heard in (Copy(links[0].eui, 868_200_000), Copy(links[0].eui, data_rate=6)):
+            links[0].hands_in(sent(device, 0), heard)
+        time.sleep(0.4)
+        best = [Copy(links[1].eui, snr=-20, rssi=-90), Copy(links[2].eui, snr=-20, rssi=-80)]
+        frame = sent(device, 0)
+        for link, heard in zip(links[1:3], best):
+            link.hands_in(frame, heard)
+        trials.compare("the best copy", application.hears(), up(0, 5, 2, best[1]))
+        finish(trials, program, [application, *links])
+
+
+def windows(trials):
+    """1,024 windows are open: the next frame is refused, and taken once they are closed."""
+    with trials.store(records=records(2, OWNER)) as program:
+        address = program.serve(2)
+        application, gateway = Application(address, OWNER), Gateway(address, EUI)
+        await_links(gateway)
+        device, other = lnsd_load.device(0), lnsd_load.device(1)
+        frame, taken = sent(device, 0), sent(other, 1)
+        flood = [taken, *(b"\xff" + it.to_bytes(11, "big") for it in range(1023)), frame]
+        gateway.say(b"".join(wire.copy_of(it, HEARD) for it in flood))
+        trials.compare("the frame in the first window", application.hears(), up(1, 1, 1, HEARD))
+        time.sleep(0.4)
+        gateway.hands_in(frame, HEARD)
+        trials.compare("the frame that found none", application.hears(), up(0, 1, 1, HEARD))
+        finish(trials, program, [application, gateway])
+
+
+def backlog(trials):
+    """Requests faster than the disk: each is answered or counted, and 23 where 4,096 wait."""
+    count, devices = 20_000, 4096
+    with trials.store(devices, records(devices, OWNER)) as program:
+        address = program.serve(3)
+        pair = [Application(address, 7), Gateway(address, EUI)]
+        application = Application(address, OWNER)
+        asked = b"".join(
+            wire.request(f"mac {lnsd_load.dev_eui(it % devices)} 06") for it in range(count)
+        )
+        sender = threading.Thread(target=application.say, args=(asked,), daemon=True)
+        sender.start()
+        came = heard_until(application, count)
+        sender.join()
+        for it in (application, *pair):
+            it.end()
+        came += [wire.line_of(it) for it in application.rest()]
+        for it in (application, *pair):
+            it.close()
+        status, _, said = program.ended()
+        made = [it for it in came if it.startswith("macqueued ")]
+        others = {it for it in came if not it.startswith("macqueued ")}
+        dropped = int(said.split()[1]) if said else -1
+        trials.compare("status and faulted", (status, said.split("\n")[1:]), (0, ["faulted 0", ""]))
+        trials.holds(f"{others} came", others <= {"refused 23"})
+        seq = int(program.list()[-1].split(" ")[3]) - devices
+        trials.compare("answers and dropped ones", len(made) + dropped, seq)
+        refused = len(came) - len(made)
+        trials.holds(f"{refused} were refused, and {seq} decided", refused <= count - seq)
+        print(f"  {seq} decided, {dropped} of these dropped; refused 23 came {refused} times")
+
+
+def heard_until(application, count, quiet=1.5):
+    """Lines until so many came, or nothing has for a while."""
+    came, last = [], time.monotonic()
+    while len(came) < count and time.monotonic() - last < quiet:
+        try:
+            application.more(0.2)
+            last = time.monotonic()
+        except Exception:  # nothing came in this time
+            continue
+        came += [wire.line_of(it) for it in application.contents]
+        application.contents.clear()
+        if application.is_over:
+            break
+    return came
+
+
+def never_reads(trials):
+    """An application asks 400,000 times and reads nothing; then it reads what is left."""
+    with trials.store() as program:
+        address = program.serve(3)
+        mute = Application(address, 9, patience=60, room=ROOM)
+        pair = Pair(address)
+        pair.greet()
+        pair.play(trials)
+        begun = time.monotonic()
+        asked = wire.request("x") * 4000
+        for _ in range(REQUESTS // 4000):
+            mute.say(asked)
+        print(f"  {REQUESTS} requests took {time.monotonic() - begun:.1f} s to send", flush=True)
+        pair.sends(trials)
+        for it in (mute, *pair.links()):
+            it.end()
+        left = mute.rest(30)
+        trials.compare("what it was told", set(left), {b"\x13refused 51"})
+        trials.holds(f"{len(left)} answers", 1024 <= len(left) <= REQUESTS)
+        mute.close()
+        end_all(trials, pair.links())
+        trials.ended(program)
+
+
+def long_uplinks(program, address):
+    """An application is told of long payloads, faster than it reads: 2.5 MB of lines and more."""
+    gateway, mute = Gateway(address, EUI), Application(address, OWNER, patience=60, room=ROOM)
+    await_links(gateway)
+    devices = [lnsd_load.device(it) for it in range(LONG // 8)]
+    said = [wire.copy_of(it.uplink(7, bytes(222)), HEARD) for _ in range(8) for it in devices]
+    for at in range(0, LONG, 40):
+        gateway.say(b"".join(said[at : at + 40]))
+        time.sleep(0.01)
+    time.sleep(0.5)
+    for it in (gateway, mute):
+        it.end()
+    return gateway, mute
+
+
+def is_told(link):
+    """How many lines `up` come until the server closes the link."""
+    return sum(it.startswith(b"\x13up ") for it in link.rest(30))
+
+
+def reads_late(trials):
+    """An application reads nothing until all inputs have ended: each line is told or counted."""
+    with trials.store(4096, records(LONG // 8, OWNER)) as program:
+        gateway, mute = long_uplinks(program, program.serve(2))
+        time.sleep(2)
+        trials.compare("whether it waits for the application", program.server.poll(), None)
+        told = is_told(mute)
+        status, out, said = program.ended()
+        count_of(trials, program, (status, out, said), told, 0)
+        for it in (gateway, mute):
+            it.close()
+
+
+def never_ends(trials):
+    """An application neither reads nor closes: the end waits ten seconds for it."""
+    with trials.store(4096, records(LONG // 8, OWNER)) as program:
+        gateway, mute = long_uplinks(program, program.serve(2))
+        begun = time.monotonic()
+        came = program.ended(60)
+        took = time.monotonic() - begun
+        trials.holds(f"it took {took:.1f} s to end", PATIENCE - 2 < took < PATIENCE + 8)
+        # of the piece that wasn't sent whole some lines may have come all the same
+        count_of(trials, program, came, is_told(mute), 64)
+        print(f"  its end took {took:.1f} s")
+        for it in (gateway, mute):
+            it.close()
+
+
+def count_of(trials, program, came, told, more):
+    """What was told and what was dropped is all that was decided, or so much more."""
+    status, out, said = came
+    ending = (status, out, said.split("\n")[1:])
+    trials.compare("status, output, faulted", ending, (0, "", ["faulted 0", ""]))
+    dropped = int(said.split()[1]) if said.startswith("dropped ") else -1
+    decided = int(program.list()[-1].split(" ")[3]) - LONG // 8
+    words = f"{decided} decided, {told} told, {dropped} dropped"
+    print(f"  {words}")
+    trials.compare("how many were decided", decided, LONG)
+    trials.holds(words, decided <= told + dropped <= decided + more and dropped > 0)
+
+
+def eighty(trials):
+    """64 gateways and 16 applications at once: each hears what is its own."""
+    with trials.store(32, records(32)) as program:
+        address = program.serve(80)
+        links = [Gateway(address, it) for it in euis(64)]
+        owners = [Application(address, it) for it in range(16)]
+        await_links(links, 0.5)
+        devices = [lnsd_load.device(it) for it in range(32)]
+        for number, device in enumerate(devices):
+            frame = sent(device, number)
+            for it in links[number : number + 32]:
+                it.hands_in(frame, Copy(it.eui))
+        for number in range(32):
+            due = up(number, 1, 32, Copy(euis(64)[number]))
+            application = owners[number % 16]
+            lines = [application.hears()]
+            if lines[0] != due and number < 16:
+                lines.append(application.hears())
+                application.contents.extendleft(b"\x13" + it.encode() for it in lines if it != due)
+            trials.holds(f"{lines} came to application {number % 16}, without {due}", due in lines)
+        for it in owners:
+            it.asks(f"queue {lnsd_load.dev_eui(it.number)} {it.number} 7 c -")
+        for it in owners:
+            due = f"queued {lnsd_load.dev_eui(it.number)} {it.number}"
+            trials.compare("an answer", it.hears(), due)
+        finish(trials, program, [*links, *owners])
+
+
+def unlinked(trials):
+    """What is for an application that isn't linked is dropped and counted, and stays durable."""
+    with trials.store(records=records(5, OWNER)) as program:
+        address = program.serve(1)
+        gateway = Gateway(address, EUI)
+        for number in range(5):
+            gateway.hands_in(sent(lnsd_load.device(number), number), HEARD)
+        finish(trials, program, [gateway], dropped=5)
+        due = [f"{it} {lnsd_load.dev_eui(it)} 1 1 1 0 0" for it in range(5)]
+        trials.compare("the list", program.list(), [*due, "devices 5 seq 10"])
+
+
+def refused_link(trials):
+    """A link beyond those that it was told to take is refused, and disturbs nobody."""
+    with trials.store() as program:
+        address = program.serve(2)
+        pair = Pair(address)
+        pair.greet()
+        pair.play(trials)
+        try:
+            Link(address, patience=0.3).close()
+            trials.wrong("a third link was taken")
+        except Exception as why:  # it isn't linked
+            trials.holds(f"{why}", "nobody listens" in str(why))
+        finish(trials, program, pair.links())
+
+
+TRIALS = {
+    "a 65th gateway": gateways,
+    "the 33rd copy, a gateway's second one, the best one": copies,
+    "the 1,025th window": windows,
+    "requests faster than the disk": backlog,
+    "400,000 requests of an application that doesn't read": never_reads,
+    "an application that reads nothing until the end": reads_late,
+    "an application that neither reads nor closes, at the end": never_ends,
+    "80 links at once": eighty,
+    "an application that isn't linked": unlinked,
+    "a link too many": refused_link,
+}

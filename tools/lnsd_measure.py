@@ -1,0 +1,135 @@
+"""What a run of lnsd takes: a disk's syncs, a process's time and memory, how often it wakes."""
+import math
+import os
+import platform
+import re
+import shutil
+import signal
+import subprocess
+import tempfile
+import time
+
+import commands
+
+MOST_SYNCS, BATCH = 400, 700
+
+
+def share(values, part):
+    """The value that so great a part of the values doesn't exceed."""
+    ordered = sorted(values)
+    return ordered[max(0, math.ceil(part * len(ordered)) - 1)]
+
+
+def spread(nanoseconds):
+    """Median and 99th percentile in ms, and the percentiles from 0 to 100 that a plot needs."""
+    values = sorted(it / 1e6 for it in nanoseconds)
+    if not values:
+        return {"count": 0}
+    percentiles = [round(share(values, it / 1000), 4) for it in range(0, 1001, 5)]
+    return {
+        "count": len(values),
+        "median_ms": round(share(values, 0.5), 3),
+        "p99_ms": round(share(values, 0.99), 3),
+        "largest_ms": round(values[-1], 3),
+        "percentiles_ms": percentiles,
+    }
+
+
+def syncs(folder):
+    """How long `fdatasync` takes here, as a commit calls it: behind a write of a batch, and behind
+    one of a byte, in a file of which every block is there. Two syncs are one commit's."""
+    single, pairs = [], []
+    with tempfile.TemporaryFile(dir=folder) as file:
+        number = file.fileno()
+        os.pwrite(number, bytes(2 << 20), 0)
+        os.fsync(number)
+        for it in range(MOST_SYNCS):
+            took = 0
+            for written in (os.urandom(BATCH), b"\xa5"):
+                os.pwrite(number, written, 32 + it * BATCH)
+                begun = time.monotonic_ns()
+                os.fdatasync(number)
+                single.append(time.monotonic_ns() - begun)
+                took += single[-1]
+            pairs.append(took)
+    return {"one": spread(single), "two": spread(pairs)}
+
+
+def memory(pid):
+    """VmRSS and VmHWM of a process in MiB."""
+    of = f"/proc/{pid}/status"
+    kib = {it: commands.number_in(of, rf"{it}:\s+(\d+)") for it in ("VmRSS", "VmHWM")}
+    return {name: round(value / 1024, 1) for name, value in kib.items()}
+
+
+def seconds_of(pid):
+    """The processor time that a process has taken."""
+    with open(f"/proc/{pid}/stat", encoding="utf-8") as file:
+        words = file.read().rpartition(")")[2].split()
+    return (int(words[11]) + int(words[12])) / os.sysconf("SC_CLK_TCK")
+
+
+def switches(pid):
+    """How often the threads of a process were taken off a processor, by their own will or not."""
+    total = 0
+    for task in os.listdir(f"/proc/{pid}/task"):
+        with open(f"/proc/{pid}/task/{task}/status", encoding="utf-8") as file:
+            total += sum(map(int, re.findall(r"ctxt_switches:\s+(\d+)", file.read())))
+    return total
+
+
+def calls(pid, seconds):
+    """The system calls that a process ends in that time, as lines of strace, or None where there is
+    no strace, or it may not look."""
+    if not shutil.which("strace"):
+        return None
+    with tempfile.NamedTemporaryFile() as told:
+        words = ["strace", "-f", "-qq", "-o", told.name, "-p", str(pid)]
+        it = subprocess.Popen(words, stderr=subprocess.PIPE)
+        time.sleep(seconds)
+        may_look = it.poll() is None
+        it.send_signal(signal.SIGINT)
+        it.communicate(timeout=10)
+        lines = told.read().decode(errors="replace").splitlines()
+    # what each thread waits in while strace looks has a line too, without a result
+    done = [line for line in lines if " = " in line or " resumed>" in line]
+    return done if may_look else None
+
+
+def idle(pid, seconds):
+    """How a process that has nothing to do spends that time."""
+    begun, before = seconds_of(pid), switches(pid)
+    time.sleep(seconds)
+    found = {"seconds": seconds, "switches": switches(pid) - before}
+    found["processor_ms"] = round(1000 * (seconds_of(pid) - begun), 1)
+    called = calls(pid, seconds)
+    found["system_calls"] = None if called is None else len(called)
+    found["first_calls"] = (called or [])[:5]
+    return found
+
+
+def by_command(*words):
+    """The first line that a command prints, or nothing."""
+    try:
+        it = subprocess.run(words, capture_output=True, check=False, cwd=commands.ROOT, timeout=20)
+    except (OSError, subprocess.TimeoutExpired):
+        return ""
+    return it.stdout.decode().partition("\n")[0].strip()
+
+
+def machine(folder):
+    """What the figures are of."""
+    with open("/proc/cpuinfo", encoding="utf-8") as file:
+        model = re.search(r"model name\s*:\s*(.*)", file.read())
+    total = commands.number_in("/proc/meminfo", r"MemTotal:\s+(\d+)")
+    return {
+        "processor": model[1] if model else platform.machine(),
+        "processors": len(os.sched_getaffinity(0)),
+        "memory_gib": round(total / 2**20, 1),
+        "kernel": platform.release(),
+        "file_system": by_command("stat", "-f", "-c", "%T", folder),
+        "python": platform.python_version(),
+        "load_average": os.getloadavg()[0],
+        "date": time.strftime("%Y-%m-%d %H:%M UTC", time.gmtime()),
+        "commit": by_command("git", "rev-parse", "--short", "HEAD"),
+    }

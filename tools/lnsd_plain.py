@@ -1,0 +1,324 @@
+"""A plain model of a whole network, by docs/FORMATS.md: a table in memory, a frame or a request at
+a time, and what comes of it. It has no windows, no store and no time: a frame is handed in with
+all its copies."""
+import re
+from dataclasses import dataclass, field
+
+from outside import network
+from outside.frames import UP, crypted, data_mic
+from outside.aes import cmac
+
+CHANNELS = (868_100_000, 868_300_000, 868_500_000)
+LARGEST = (59, 59, 59, 123, 250, 250)
+# in quarters of a dB
+FLOORS = (-80, -70, -60, -50, -40, -30)
+UP_LENGTHS = {2: 0, 3: 1, 4: 0, 5: 1, 6: 2, 7: 1, 8: 0, 9: 0, 10: 1, 13: 0}
+QUEUED_LENGTHS = {3: 4, 4: 1, 6: 0}
+GAP = 16384
+NUMBER = "(0|[1-9][0-9]{0,9})"
+EUI, HEX = "([0-9A-F]{16})", "((?:[0-9A-F]{2})+|-)"
+REQUESTS = {
+    "provision": re.compile(f"provision {EUI} {EUI} ([0-9A-F]{{32}}) ([0-5]) ([1-9]|1[0-5])"),
+    "queue": re.compile(f"queue {EUI} {NUMBER} {NUMBER} ([cu]) {HEX}"),
+    "mac": re.compile(f"mac {EUI} {HEX}"),
+}
+
+
+class Refused(Exception):
+    """A frame or a request is refused, with the number of the refusal."""
+
+
+@dataclass
+class Session:
+    """A session, with the frames that are due in it."""
+
+    join_nonce: int
+    frames: network.Session
+    last_up: int = -1
+    next_down: int = 0
+
+
+@dataclass
+class Device:
+    """A device's record."""
+
+    slot: int
+    dev_eui: str
+    join_eui: str
+    app_key: str
+    application: int
+    offset: int
+    delay: int
+    dev_nonce: int = -1
+    granted: int = 0
+    current: Session | None = None
+    pending: Session | None = None
+    awaited: int | None = None
+    mac: bytes = b""
+    items: list = field(default_factory=list)
+
+    def listed(self):
+        """Its line of a list."""
+        it = self.current
+        session = f"{it.join_nonce} {it.last_up} {it.next_down}" if it else "- - -"
+        return f"{self.slot} {self.dev_eui} {self.granted} {session} {len(self.items)}"
+
+
+def bytes_of(text):
+    return b"" if text == "-" else bytes.fromhex(text)
+
+
+def text_of(payload):
+    return payload.hex().upper() or "-"
+
+
+def commands_in(payload, lengths):
+    """The whole commands at the front of a payload."""
+    place, found = 0, []
+    while place < len(payload) and payload[place] in lengths:
+        end = place + 1 + lengths[payload[place]]
+        if end > len(payload):
+            break
+        found.append(payload[place:end])
+        place = end
+    return found
+
+
+def is_taken(copy):
+    """Whether a copy isn't refused for its channel or its data rate."""
+    return copy.frequency in CHANNELS and copy.data_rate < len(LARGEST)
+
+
+def best(copies):
+    """The best copy."""
+    return min(copies, key=lambda it: (-it.snr, -it.rssi, it.gateway))
+
+
+@dataclass
+class Uplink:
+    """The fields of an uplink."""
+
+    confirmed: bool
+    address: int
+    asks: bool
+    ack: bool
+    low: int
+    options: bytes
+    port: int | None
+    hidden: bytes
+
+
+def uplink_of(frame):
+    """The uplink in a frame's bytes."""
+    if not 12 <= len(frame) <= 255 or frame[0] not in (0x40, 0x80) or frame[5] & 0x10:
+        raise Refused(1)
+    end = 8 + (frame[5] & 15)
+    body = frame[:-4]
+    if end > len(body) or len(body) - 8 - (len(body) > end) > 242:
+        raise Refused(1)
+    return Uplink(
+        confirmed=frame[0] == 0x80,
+        address=int.from_bytes(frame[1:5], "little"),
+        asks=bool(frame[5] & 0x40),
+        ack=bool(frame[5] & 0x20),
+        low=int.from_bytes(frame[6:8], "little"),
+        options=body[8:end],
+        port=body[end] if len(body) > end else None,
+        hidden=body[end + 1 :],
+    )
+
+
+def counter_of(session, low):
+    """The counter that a frame has in a session, and whether it is a repeat."""
+    if session.last_up >= 0 and low == session.last_up & 0xFFFF:
+        return session.last_up, True
+    first = session.last_up + 1
+    counter = first + (low - first) % 0x10000
+    if counter - session.last_up > GAP or counter >= 2**32:
+        raise Refused(5)
+    return counter, False
+
+
+class Network:
+    """All devices. Each call answers what leaves: ("app", number, line) or ("gw", EUI, hex)."""
+
+    def __init__(self, slots):
+        self.slots, self.seq = slots, 0
+        self.devices = []
+
+    def named(self, dev_eui):
+        return next((it for it in self.devices if it.dev_eui == dev_eui), None)
+
+    def listed(self):
+        """The lines of its list."""
+        lines = [it.listed() for it in self.devices]
+        return [*lines, f"devices {len(self.devices)} seq {self.seq}"]
+
+    def ask(self, application, line):
+        """What a request is answered."""
+        kind = line.partition(" ")[0]
+        found = REQUESTS[kind].fullmatch(line) if kind in REQUESTS else None
+        if not found:
+            raise Refused(51)
+        answer = getattr(self, kind)(application, *found.groups())
+        self.seq += 1
+        return [("app", application, answer)]
+
+    def provision(self, application, dev_eui, join_eui, app_key, offset, delay):
+        if self.named(dev_eui):
+            raise Refused(16)
+        if len(self.devices) == self.slots:
+            raise Refused(17)
+        it = (dev_eui, join_eui, app_key, application, int(offset), int(delay))
+        self.devices.append(Device(len(self.devices), *it))
+        return f"provisioned {dev_eui} {len(self.devices) - 1}"
+
+    def owned(self, application, dev_eui):
+        device = self.named(dev_eui)
+        if not device or device.application != application:
+            raise Refused(7)
+        return device
+
+    def queue(self, application, dev_eui, tag, port, confirmed, payload):
+        tag, port, payload = int(tag), int(port), bytes_of(payload)
+        if tag >= 2**32 or port > 255:
+            raise Refused(51)
+        device = self.owned(application, dev_eui)
+        if len(payload) > 242:
+            raise Refused(14)
+        if not 1 <= port <= 223:
+            raise Refused(15)
+        if len(device.items) == 16:
+            raise Refused(12)
+        device.items.append((tag, port, confirmed == "c", payload))
+        return f"queued {dev_eui} {tag}"
+
+    def mac_queued(self, application, dev_eui, commands):
+        device, commands = self.owned(application, dev_eui), bytes_of(commands)
+        if not commands or b"".join(commands_in(commands, QUEUED_LENGTHS)) != commands:
+            raise Refused(18)
+        if len(device.mac) + len(commands) > 64:
+            raise Refused(13)
+        device.mac += commands
+        return f"macqueued {dev_eui} {text_of(commands)}"
+
+    mac = mac_queued
+
+    def heard(self, frame, copies):
+        """What a frame with all its copies leads to."""
+        if frame[:1] == b"\x00" and len(frame) == 23:
+            left = self.joined(frame, best(copies))
+        else:
+            left = self.sent(frame, uplink_of(frame), copies)
+        self.seq += 1
+        return left
+
+    def joined(self, frame, copy):
+        device = self.named(frame[9:17][::-1].hex().upper())
+        if not device:
+            raise Refused(7)
+        if device.join_eui != frame[1:9][::-1].hex().upper():
+            raise Refused(8)
+        if cmac(bytes.fromhex(device.app_key), frame[:-4])[:4] != frame[-4:]:
+            raise Refused(4)
+        nonce = int.from_bytes(frame[17:19], "little")
+        if nonce <= device.dev_nonce:
+            raise Refused(9)
+        if device.granted == 0xFFFFFF:
+            raise Refused(10)
+        device.dev_nonce, device.granted = nonce, device.granted + 1
+        how = (device.slot, device.app_key, device.granted, nonce, device.offset, device.delay)
+        device.pending = Session(device.granted, network.Session(*how))
+        return [left_to(device.pending.frames.accept(copy))]
+
+    def fit(self, frame, uplink):
+        """The device and the session of an uplink, its counter, and whether it is a repeat."""
+        if uplink.options and uplink.port == 0:
+            raise Refused(11)
+        refusal = 3
+        for device in self.devices:
+            for session in filter(None, (device.pending, device.current)):
+                if session.frames.address != uplink.address:
+                    continue
+                try:
+                    counter, repeats = counter_of(session, uplink.low)
+                except Refused:
+                    refusal = refusal if refusal == 4 else 5
+                    continue
+                key = session.frames.keys[0]
+                if data_mic(key, UP, uplink.address, counter, frame[:-4]) == frame[-4:]:
+                    return device, session, counter, repeats
+                refusal = 4
+        raise Refused(refusal)
+
+    def sent(self, frame, uplink, copies):
+        device, session, counter, repeats = self.fit(frame, uplink)
+        if repeats:
+            if not uplink.confirmed:
+                raise Refused(6)
+            return answered(device, session, best(copies), b"", None, True)
+        left, owner = [], device.application
+        if device.awaited is not None:
+            is_acked = uplink.ack and session is not device.pending
+            word = "acked" if is_acked else "lost"
+            left.append(("app", owner, f"{word} {device.dev_eui} {device.awaited}"))
+            device.awaited = None
+        if session is device.pending:
+            device.current, device.pending = session, None
+        session.last_up = counter
+        key = session.frames.keys[0 if uplink.port == 0 else 1]
+        clear = crypted(key, UP, uplink.address, counter, uplink.hidden)
+        commands = commands_in(clear if uplink.port == 0 else uplink.options, UP_LENGTHS)
+        told = b"".join(it for it in commands if it[0] not in (2, 13))
+        name = f"{device.dev_eui} {session.join_nonce}"
+        if told:
+            left.append(("app", owner, f"mac {name} {text_of(told)}"))
+        if uplink.port is not None and 1 <= uplink.port <= 223:
+            how = f"{len(copies)} {best(copies).heard()}"
+            line = f"up {name} {counter} {uplink.port} {text_of(clear)} {how}"
+            left.append(("app", owner, line))
+        return left + replied(device, session, uplink, copies, b"\x02" in commands)
+
+
+def replied(device, session, uplink, copies, checks):
+    """The downlink behind a new uplink, where one is due."""
+    copy, options = best(copies), b""
+    if checks:
+        margin = (copy.snr - FLOORS[copy.data_rate]) // 4
+        options = bytes([2, min(max(margin, 0), 254), len(copies)])
+    taken = b""
+    for command in commands_in(device.mac, QUEUED_LENGTHS):
+        if len(options) + len(taken) + len(command) > 15:
+            break
+        taken += command
+    options += taken
+    item = device.items[0] if device.items else None
+    room = LARGEST[max(0, copy.data_rate - device.offset)] - 8 - len(options)
+    if item and len(item[3]) > room:
+        item = None
+    if not (uplink.confirmed or uplink.asks or checks or device.mac or item):
+        return []
+    if session.next_down < 2**32:
+        device.mac = device.mac[len(taken) :]
+        if item:
+            device.items.pop(0)
+            device.awaited = item[0] if item[2] else None
+    return answered(device, session, copy, options, item, uplink.confirmed)
+
+
+def answered(device, session, copy, options, item, ack):
+    """A downlink under the next counter, or that none is left."""
+    if session.next_down == 2**32:
+        line = f"spent {device.dev_eui} {session.join_nonce}"
+        return [("app", device.application, line)]
+    counter, session.next_down = session.next_down, session.next_down + 1
+    waits = bool(device.mac or device.items)
+    how = {"f_opts": options, "ack": ack, "pending": waits}
+    shown = (item[1], item[3], item[2]) if item else None
+    return [left_to(session.frames.downlink(copy, counter, shown, **how))]
+
+
+def left_to(line):
+    """A line `gw` of the simulator as what leaves."""
+    _, gateway, text = line.split(" ")
+    return ("gw", gateway, text[4:])

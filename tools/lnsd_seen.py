@@ -1,0 +1,195 @@
+"""What devices, gateways and applications have seen over all lives of a server, and whether the
+store's list may come after it. It knows the marks: uplink counters, JoinNonces, downlink counters
+and items."""
+import time
+from collections import Counter
+
+import lnsd_cipher  # its AES is the quick one, so it comes before those that use it
+from outside import network
+from outside.device import Device
+from outside.frames import DOWN, crypted, data_mic, opened_accept, session_keys
+
+JOIN_EUI = "0102030405060708"
+REST = 0.45
+
+
+class Meter(Device):
+    """A device under load. Those that keep their session are sent items; the others join again and
+    again."""
+
+    def __init__(self, number, application):
+        key = lnsd_cipher.encrypt(b"keys of devices ", number.to_bytes(16, "big"))
+        super().__init__(f"{0xC0FFEE0000000000 + number:016X}", JOIN_EUI, key.hex().upper())
+        self.application, self.slot = application, None
+        self.keeps = number % 3 > 0
+        self.rests_until, self.sent = 0.0, []
+        self.owes_ack, self.next_tag = False, 1
+
+    def words(self):
+        key = self.app_key.hex().upper()
+        return {"dev_eui": self.dev_eui, "join_eui": JOIN_EUI, "app_key": key}
+
+    def request(self, chance):
+        """An item with a tag of its own, which its payload begins with, or a MAC command."""
+        if chance.random() < 0.2:
+            return f"mac {self.dev_eui} 06"
+        tag, self.next_tag = self.next_tag, self.next_tag + 1
+        # some are long, so that the journal fills
+        payload = f"{tag:08X}" + "00" * chance.choice((0, 50, 190))
+        return f"queue {self.dev_eui} {tag} 7 {chance.choice('cu')} {payload}"
+
+    def frame(self, chance):
+        """What it sends: a Join-Request, something new, or what it sent before."""
+        self.rests_until = time.monotonic() + REST
+        if not self.keys or not self.keeps and chance.random() < 0.2:
+            return self.join_request()
+        if self.sent and chance.random() < 0.15:
+            return chance.choice(self.sent)
+        how = {"confirmed": chance.random() < 0.3, "ack": self.owes_ack}
+        how["f_opts"] = chance.choice((b"", b"", b"\x02", b"\x06\xff\x14"))
+        self.owes_ack = False
+        frame = self.uplink(7, self.next_up.to_bytes(4, "big"), **how)
+        self.sent = [*self.sent[-2:], frame]
+        return frame
+
+
+class Seen:
+    """The marks that were seen, and the comparisons."""
+
+    def __init__(self):
+        self.ups, self.accepts, self.downlinks = {}, {}, {}
+        self.items, self.answers = Counter(), 0
+        self.queued, self.keys, self.meters = {}, {}, {}
+        self.last, self.seq = {}, 0
+        self.passed, self.faults = 0, []
+
+    def wrong(self, words):
+        self.faults.append(words)
+
+    def expect(self, what, came, due):
+        if came == due:
+            self.passed += 1
+        else:
+            self.wrong(f"{what}: {came}, and not {due}")
+
+    def holds(self, is_so, words):
+        if is_so:
+            self.passed += 1
+        else:
+            self.wrong(words)
+
+    def begin(self):
+        """A new life: what is under way at the devices is given up."""
+        for it in self.meters.values():
+            it.rests_until = 0.0
+
+    def counts(self):
+        return len(self.ups), len(self.accepts), len(self.downlinks), self.answers
+
+    def mark(self, of, name, number, what):
+        """A mark that may come once, and not behind a greater one."""
+        of[name, number] = of.get((name, number), 0) + 1
+        self.holds(of[name, number] == 1, f"{what} {number} of {name} came twice")
+        last = self.last.get((what, name), -1)
+        self.holds(number > last, f"{what} {number} of {name} came behind {last}")
+        self.last[what, name] = max(number, last)
+
+    def line(self, application, line):
+        """A line that an application heard."""
+        kind, *words = line.split(" ")
+        if kind == "refused":
+            self.holds(words[0] in ("12", "13"), f"{line} came to application {application}")
+            return
+        meter = self.meters[words[0]]
+        self.holds(meter.application == application, f"{line} came to application {application}")
+        if kind == "up":
+            name, counter = (words[0], int(words[1])), int(words[2])
+            self.mark(self.ups, name, counter, "uplink counter")
+            self.expect(f"the payload of {line}", words[4], f"{counter:08X}")
+            return
+        self.answers += 1
+        if kind == "provisioned":
+            meter.slot = int(words[1])
+        if kind == "queued":
+            self.queued.setdefault(words[0], []).append(int(words[1]))
+
+    def frame(self, frame):
+        """A frame that a gateway is to send."""
+        if frame[0] == 0x20:
+            self.accept(frame)
+            return
+        address = int.from_bytes(frame[1:5], "little")
+        name, keys = self.keys.get(address, (None, None))
+        counter = int.from_bytes(frame[6:8], "little")
+        if not name or data_mic(keys[0], DOWN, address, counter, frame[:-4]) != frame[-4:]:
+            self.wrong(f"a downlink that no session opens: {frame.hex().upper()}")
+            return
+        self.mark(self.downlinks, name, counter, "downlink counter")
+        meter, end = self.meters[name[0]], 8 + (frame[5] & 15)
+        meter.owes_ack = frame[0] == 0xA0
+        if len(frame) - 4 > end:
+            clear = crypted(keys[1], DOWN, address, counter, frame[end + 1 : -4])
+            self.mark(self.items, name[0], int.from_bytes(clear[:4], "big"), "item")
+
+    def accept(self, frame):
+        """A Join-Accept: only the device that it is for can open it."""
+        # the one that sent last is tried first
+        for it in sorted(self.meters.values(), key=lambda it: -it.rests_until):
+            fields, is_right = opened_accept(it.app_key, frame)
+            if not is_right:
+                continue
+            join_nonce = int.from_bytes(fields[:3], "little")
+            self.mark(self.accepts, it.dev_eui, join_nonce, "JoinNonce")
+            it.take_accept(frame)
+            it.sent = []
+            keys = session_keys(it.app_key, join_nonce, network.NET_ID, it.dev_nonce)
+            self.keys[network.address(it.slot, join_nonce)] = ((it.dev_eui, join_nonce), keys)
+            return
+        self.wrong(f"an accept that no device opens: {frame.hex().upper()}")
+
+    def compare(self, lines, meters):
+        """A list against all that was seen."""
+        *devices, total = lines
+        listed = {it.split(" ")[1]: it.split(" ") for it in devices}
+        for it in meters:
+            if it.slot is not None:
+                self.device(it, listed.get(it.dev_eui))
+        seq = int(total.split(" ")[3])
+        self.holds(seq >= self.seq, f"seq {seq} came behind {self.seq}")
+        self.seq = seq
+
+    def device(self, meter, words):
+        """One device's line of a list."""
+        if not words:
+            self.wrong(f"{meter.dev_eui} isn't in the list, though it was provisioned")
+            return
+        shown, dev_eui = " ".join(words), meter.dev_eui
+        slot, _, granted, join_nonce, last_up, next_down, items = words
+        self.expect(f"the slot in {shown}", int(slot), meter.slot)
+        seen = self.last.get(("JoinNonce", dev_eui), 0)
+        self.holds(int(granted) >= seen, f"{shown}, though JoinNonce {seen} was in an accept")
+        marks = [name for what, name in self.last if what == "uplink counter"]
+        sessions = [name[1] for name in marks if name[0] == dev_eui]
+        if not sessions:
+            return
+        name = (dev_eui, max(sessions))
+        is_so = join_nonce != "-" and int(join_nonce) >= name[1]
+        self.holds(is_so, f"{shown}, though session {name[1]} sent")
+        if join_nonce == str(name[1]):
+            last = self.last["uplink counter", name]
+            down = self.last.get(("downlink counter", name), -1)
+            self.holds(int(last_up) >= last, f"{shown}, though uplink {last} came out")
+            self.holds(int(next_down) > down, f"{shown}, though downlink {down} was sent")
+        if meter.keeps:
+            self.item_count(meter, shown, int(next_down), int(items))
+
+    def item_count(self, meter, shown, next_down, items):
+        """Each item that was queued waits, has left, or left unseen in a downlink of its own."""
+        name = meter.dev_eui
+        left = sum(1 for device, _ in self.items if device == name)
+        unseen = next_down - sum(1 for session, _ in self.downlinks if session[0] == name)
+        told = len(self.queued.get(name, []))
+        why = f"though {told} items were queued, {left} left, and {unseen} downlinks weren't seen"
+        self.holds(items >= told - left - unseen, f"{shown}, {why}")
+        asked = meter.next_tag - 1
+        self.holds(items <= asked - left, f"{shown}, though {left} items left of {asked}")

@@ -1,0 +1,72 @@
+"""Device records and the areas of a store, written by docs/FORMATS.md: a table is put into a store
+that lnsd has formatted, so that a run begins with thousands of devices."""
+import os
+from dataclasses import dataclass
+
+OPEN, CLOSED = b"\xa5", b"\x00"
+SUPERBLOCK, NAME = 32, b"LNSTORE"
+
+
+def big(number, length):
+    return number.to_bytes(length, "big")
+
+
+@dataclass
+class Record:
+    """A device's record. A session is its JoinNonce, NwkSKey and AppSKey, and the current one has
+    its last uplink and its next downlink counter behind these; an item is its tag, its port,
+    whether it is confirmed, and its payload."""
+
+    dev_eui: str
+    join_eui: str
+    app_key: str
+    application: int
+    offset: int = 0
+    delay: int = 1
+    dev_nonce: int | None = None
+    granted: int = 0
+    current: tuple | None = None
+    pending: tuple | None = None
+    awaited: int | None = None
+    mac: bytes = b""
+    items: tuple = ()
+
+    def encoded(self):
+        """Its bytes."""
+        out = bytes.fromhex(self.dev_eui + self.join_eui + self.app_key)
+        out += bytes([self.application, self.offset, self.delay, self.dev_nonce is not None])
+        out += big(self.dev_nonce or 0, 2) + big(self.granted, 3)
+        out += big(self.current is not None, 1)
+        if self.current:
+            join_nonce, nwk_key, app_key, last_up, next_down = self.current
+            out += big(join_nonce, 3) + nwk_key + app_key + big(last_up, 4) + big(next_down, 8)
+        out += big(self.pending is not None, 1)
+        if self.pending:
+            join_nonce, nwk_key, app_key = self.pending
+            out += big(join_nonce, 3) + nwk_key + app_key
+        out += big(self.awaited is not None, 1) + big(self.awaited or 0, 4)
+        out += big(len(self.mac), 1) + self.mac + big(len(self.items), 1)
+        for tag, port, confirmed, payload in self.items:
+            out += big(tag, 4) + bytes([port, confirmed, len(payload)]) + payload
+        return out
+
+
+def put(path, records):
+    """Puts a table of these records, in order of slot, into a store that has none. The second
+    area becomes the live one, with generation 2 and no batch."""
+    entries = bytearray()
+    for slot, record in enumerate(records):
+        encoded = record.encoded()
+        entries += b"\x01" + big(slot, 2) + big(len(encoded), 2) + encoded
+    with open(path, "r+b") as file:
+        front = file.read(SUPERBLOCK)
+        if front[:1] != OPEN or front[1:8] != NAME or front[8] != 1:
+            raise ValueError(f"{path} is no store of version 1")
+        slots, area = int.from_bytes(front[12:16], "big"), int.from_bytes(front[16:24], "big")
+        if len(records) > slots:
+            raise ValueError(f"{len(records)} devices don't fit into {slots} slots")
+        header = b"\x01" + big(2, 8) + big(len(records), 8) + big(len(records), 4)
+        file.seek(SUPERBLOCK + area)
+        file.write(OPEN + header + big(len(entries), 8) + entries + CLOSED)
+        file.flush()
+        os.fsync(file.fileno())

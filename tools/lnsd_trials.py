@@ -1,0 +1,156 @@
+"""What trials of lnsd share: comparisons that are counted, a healthy gateway with an application
+beside others, and devices that are there from the beginning."""
+import os
+import shutil
+import time
+from contextlib import contextmanager
+
+import lnsd_load
+import lnsd_store
+from outside import network
+from outside.device import Device
+from outside.gateway import Copy
+from server import wire
+from server.links import Ended, Link, Silent
+from server.program import Failed, Program
+
+DEV_EUI, JOIN_EUI = "1112131415161718", "0102030405060708"
+APP_KEY = "2B7E151628AED2A6ABF7158809CF4F3C"
+OWNER, EUI = 3, "00000000000000B1"
+PROVISION = f"provision {DEV_EUI} {JOIN_EUI} {APP_KEY} 0 1"
+HEARD = Copy(EUI)
+
+
+class Trials:
+    """The comparisons of a run."""
+
+    def __init__(self, path):
+        self.path = path
+        self.passed, self.faults = 0, []
+        self.topic = ""
+
+    def compare(self, what, came, due):
+        """Counts a comparison."""
+        if came == due:
+            self.passed += 1
+        else:
+            self.wrong(f"{what}: {short(came)} came, and not {short(due)}")
+
+    def holds(self, what, is_so):
+        """Counts what has to be so."""
+        if is_so:
+            self.passed += 1
+        else:
+            self.wrong(what)
+
+    def wrong(self, words):
+        self.faults.append(f"{self.topic}: {words}")
+        print(f"  {self.topic}: {words}", flush=True)
+
+    def ended(self, program, dropped=0, faulted=0):
+        """The server ends by itself, with these numbers."""
+        said = f"dropped {dropped}\nfaulted {faulted}\n"
+        self.compare("the server's end", program.ended(), (0, "", said))
+
+    @contextmanager
+    def store(self, slots=8, records=()):
+        """A program with a store, which has these records."""
+        with Program(self.path) as program:
+            self.compare("lnsd format", program.format(slots=slots), (0, "", ""))
+            if records:
+                lnsd_store.put(program.store, records)
+            yield program
+
+    def run(self, topic, trial):
+        """Does one trial, and says how it went."""
+        self.topic = topic
+        before, begun = len(self.faults), time.monotonic()
+        try:
+            trial(self)
+        except (Failed, Ended, Silent, ValueError, OSError) as why:
+            self.wrong(f"{type(why).__name__}: {why}")
+        how = "as it should be" if len(self.faults) == before else "WRONG"
+        print(f"{topic:<66} {how}, {time.monotonic() - begun:.1f} s", flush=True)
+
+
+def short(value):
+    """A value, cut where it is long."""
+    text = value.hex().upper() if isinstance(value, bytes) else repr(value)
+    return text if len(text) < 300 else f"{text[:140]} .. {text[-140:]}"
+
+
+class Pair:
+    """A healthy gateway and an application, of which all bytes that come are known."""
+
+    def __init__(self, address, piece=700):
+        self.application = Link(address)
+        self.gateway = Link(address)
+        self.piece = piece
+        self.device = Device(DEV_EUI, JOIN_EUI, APP_KEY)
+        self.session = network.Session(0, APP_KEY, 1, 1)
+
+    def say(self, link, said):
+        """Says it in pieces."""
+        for at in range(0, len(said), self.piece):
+            link.say(said[at : at + self.piece])
+
+    def greet(self):
+        self.say(self.application, wire.application_greeting(OWNER))
+        self.say(self.gateway, wire.gateway_greeting(EUI))
+
+    def play(self, trials):
+        """A provisioning, a join and an uplink, with what has to come, byte for byte."""
+        self.say(self.application, wire.request(PROVISION))
+        due = f"provisioned {DEV_EUI} 0"
+        trials.compare("the provisioning", self.application.read(), b"\x13" + due.encode())
+        self.say(self.gateway, wire.copy_of(self.device.join_request(), HEARD))
+        accept = bytes.fromhex(self.session.accept(HEARD).split(" ")[2])[2:]
+        came = self.gateway.read()
+        trials.compare("the accept", came, accept)
+        self.device.take_accept(came[20:])
+        self.sends(trials)
+
+    def sends(self, trials):
+        """An uplink, with what has to come."""
+        counter = self.device.next_up
+        self.say(self.gateway, wire.copy_of(self.device.uplink(7, b"\x04\xd2"), HEARD))
+        due = f"up {DEV_EUI} 1 {counter} 7 04D2 1 {HEARD.heard()}"
+        trials.compare("the uplink", self.application.read(), b"\x13" + due.encode())
+
+    def links(self):
+        return [self.application, self.gateway]
+
+
+def end_all(trials, links):
+    """All inputs end, and nothing more comes."""
+    for it in links:
+        it.end()
+    for it in links:
+        trials.compare("what came behind it all", it.rest(), [])
+        it.close()
+
+
+def records(count, application=None):
+    """Devices in their session, owned by that application, or by 16 in turn."""
+    made = [lnsd_load.record(it, 16) for it in range(count)]
+    for it in made:
+        it.application = it.application if application is None else application
+    return made
+
+
+def await_links(links, seconds=0.3):
+    """Gives the server time to read the greetings: nothing answers these."""
+    time.sleep(seconds)
+    return links
+
+
+def as_nobody(program):
+    """How to run the program as a user to whom permissions apply, and where it lies then."""
+    if os.getuid():
+        return {}, program.path
+    copied = os.path.join(program.folder, "lnsd")
+    shutil.copy(program.path, copied)
+    for it in (program.folder, copied):
+        os.chmod(it, 0o755)
+    return {"user": 65534, "group": 65534, "extra_groups": []}, copied
+

@@ -1,0 +1,42 @@
+"""Words that the commands around lnsd share: the program, folders, and numbers of a range."""
+import argparse
+import os
+from pathlib import Path
+
+import commands
+
+ROOT = Path(__file__).resolve().parents[1]
+BUILT = f"{ROOT}/crates/lnsd/out/lnsd"
+
+
+def number(least, most):
+    """The reader of a number from `least` to `most`."""
+
+    def read(text):
+        if text.isascii() and text.isdigit() and least <= int(text) <= most:
+            return int(text)
+        raise argparse.ArgumentTypeError(f"{text} is no number from {least} to {most}")
+
+    return read
+
+
+def program(text):
+    """A program that is there."""
+    if not (os.path.isfile(text) and os.access(text, os.X_OK)):
+        more = "; bin/build lnsd makes it" if text == BUILT else ""
+        raise argparse.ArgumentTypeError(f"there is no program {text}{more}")
+    return os.path.abspath(text)
+
+
+def folder(text):
+    """A folder that is there."""
+    if not os.path.isdir(text):
+        raise argparse.ArgumentTypeError(f"there is no folder {text}")
+    return os.path.abspath(text)
+
+
+def words(text):
+    """The words of a command that runs the program."""
+    it = commands.Words(text)
+    it.add_argument("--program", type=program, metavar="FILE", default=BUILT)
+    return it
