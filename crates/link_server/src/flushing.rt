@@ -45,7 +45,7 @@ fn let_out<B: Books, R: Wait>(
 ) {
     let mut marks = [false; MOST_LINKS as usize];
     let lost = route(&hall.directory.lock(rt), outlets, released, &mut marks);
-    hall.signals.count_dropped(lost);
+    hall.signals.count_dropped(lost as u64);
     for (link, is_marked) in hall.links.iter().zip(marks) {
         if is_marked {
             link.bell.unpark();

@@ -5,7 +5,7 @@ use crate::host::Host;
 use crate::link::Link;
 use crate::moments::LifeClock;
 use devices::{Application, Command};
-use gateway_wire::{Request, read_line};
+use gateway_wire::{Recipient, Request, read_line};
 use link_messages::{Fed, Feeder, Line, Message, Peer};
 use lw_types::{FrameCopy, Refusal};
 use rtrb::Producer;
@@ -47,6 +47,14 @@ fn read_some(stream: &TcpStream, buffer: &mut [u8]) -> Heard {
         Ok(n) => Heard::Bytes(n),
         Err(e) if e.kind() == ErrorKind::Interrupted => Heard::Nothing,
         Err(_) => Heard::End,
+    }
+}
+
+// As whom a peer is told of effects.
+fn name_of(peer: &Peer) -> Recipient {
+    match peer {
+        Peer::Gateway(gateway) => Recipient::Gateway(*gateway),
+        Peer::Application(application) => Recipient::Application(*application),
     }
 }
 
@@ -116,11 +124,8 @@ impl<'x, B: Books, R: Wait, G: Gate, C: LifeClock> Worker<'x, B, R, G, C> {
 
     // A name that is taken is a fault of whoever greets with it.
     fn greet(&self, peer: &Peer) -> bool {
-        let is_new = self
-            .hall
-            .directory
-            .lock(self.host.rt)
-            .greet(peer, self.number);
+        let name = name_of(peer);
+        let is_new = self.hall.directory.lock(self.host.rt).greet(name, self.number);
         if !is_new {
             self.hall.signals.count_fault();
         }

@@ -2,13 +2,13 @@
 use link_server::{Gate, LifeClock};
 use session_core::Moment;
 use std::sync::Wait;
-use std::sync::atomic::AtomicU64;
 use std::sync::atomic::Ordering::SeqCst;
+use std::sync::atomic::{AtomicBool, AtomicU64};
 use std::thread;
 use std::thread::Parker;
 
-/// How often a thread looks again before it gives up.
-pub const TURNS: u32 = 1_000_000;
+// How often a thread looks again before it gives up.
+const TURNS: u32 = 1_000_000;
 
 /// A clock that stands still, so that windows are closed by the last tick alone.
 #[derive(Clone, Copy)]
@@ -24,11 +24,13 @@ impl LifeClock for StandingClock {
     }
 }
 
-/// Which call each of two workers has come to.
+/// The call to which each of two workers has come, and whether a sync is held.
 #[derive(Drop)]
 pub struct Marks {
     first: AtomicU64,
     second: AtomicU64,
+    held: AtomicBool,
+    late: AtomicBool,
 }
 
 impl Marks {
@@ -36,40 +38,79 @@ impl Marks {
         Marks {
             first: AtomicU64::new(0),
             second: AtomicU64::new(0),
+            held: AtomicBool::new(false),
+            late: AtomicBool::new(false),
         }
     }
 
-    fn of(&self, worker: usize) -> &AtomicU64 {
-        if worker == 1 { &self.first } else { &self.second }
-    }
-
-    pub fn reach(&self, worker: usize, call: u64) {
-        self.of(worker).store(call, SeqCst);
-    }
-
-    /// Waits until a worker has come to a call. Whether it did in time.
-    pub fn wait_for(&self, worker: usize, call: u64) -> bool {
-        for _ in 0..TURNS {
-            if self.of(worker).load(SeqCst) >= call {
-                return true;
-            }
-            thread::yield_now();
+    fn reach(&self, worker: usize, call: u64) {
+        match worker {
+            1 => self.first.store(call, SeqCst),
+            _ => self.second.store(call, SeqCst),
         }
-        false
+    }
+
+    /// Holds a sync until both workers have come to their third calls. Whether they did in time.
+    pub fn hold_sync(&self) -> bool {
+        self.held.store(true, SeqCst);
+        wait(|| self.first.load(SeqCst) >= 3 && self.second.load(SeqCst) >= 3)
+    }
+
+    fn fail(&self) {
+        self.late.store(true, SeqCst);
+    }
+
+    /// Whether a worker was let go because its turns had run out.
+    pub fn is_late(&self) -> bool {
+        self.late.load(SeqCst)
     }
 }
 
-/// Holds the first worker before its second call until the second one has come to its third.
+// Whether it becomes so in time.
+fn wait<F: Fn() -> bool>(is_so: F) -> bool
+    requires { F.IsAlwaysCallable is_so }
+{
+    for _ in 0..TURNS {
+        if is_so() {
+            return true;
+        }
+        thread::yield_now();
+    }
+    false
+}
+
+/// Holds two workers before their second calls until a sync is held.
 #[derive(Drop)]
-pub struct HoldFirst {
-    pub marks: Marks,
+pub struct HoldBoth<'x> {
+    pub marks: &'x Marks,
 }
 
-impl Gate for HoldFirst {
+impl<'x> Gate for HoldBoth<'x> {
     fn pass(&self, worker: usize, call: u64) {
-        if worker == 1 && call == 2 && !self.marks.wait_for(2, 3) {
-            return;
-        }
         self.marks.reach(worker, call);
+        if call == 2 && !wait(|| self.marks.held.load(SeqCst)) {
+            self.marks.fail();
+        }
+    }
+}
+
+/// Holds the second worker before its first call until the first one has come to its second, and this
+/// one there until the second one has come to its third.
+#[derive(Drop)]
+pub struct HoldFirst<'x> {
+    pub marks: &'x Marks,
+}
+
+impl<'x> Gate for HoldFirst<'x> {
+    fn pass(&self, worker: usize, call: u64) {
+        self.marks.reach(worker, call);
+        let in_time = match (worker, call) {
+            (2, 1) => wait(|| self.marks.first.load(SeqCst) >= 2),
+            (1, 2) => wait(|| self.marks.second.load(SeqCst) >= 3),
+            _ => true,
+        };
+        if !in_time {
+            self.marks.fail();
+        }
     }
 }

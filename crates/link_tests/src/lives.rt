@@ -5,11 +5,11 @@ use link_server::{Gate, LifeClock, LinkCount, ServeFault, Served, serve_links};
 use lw_types::{NetId, Refusal};
 use sessions::Slots;
 use std::alloc::Global;
+use std::io;
 use std::io::{Read, Write};
 use std::net::{Net, Shutdown, TcpListener, TcpStream};
 use std::sync::Wait;
 use std::thread::Threads;
-use std::io;
 use store::{Store, disk_len, format};
 
 /// The number of slots of the stores.
@@ -60,12 +60,7 @@ pub fn clients<R: Net<Listener = TcpListener, Stream = TcpStream>>(
 }
 
 /// Serves these clients, and gives them back.
-pub fn serve<
-    R: Threads + Wait + Sync,
-    D: Disk + Drop,
-    G: Gate + Sync,
-    C: LifeClock + Sync,
->(
+pub fn serve<R: Threads + Wait + Sync, D: Disk + Drop, G: Gate + Sync, C: LifeClock + Sync>(
     rt: &R,
     alloc: Global,
     store: Store<D>,
@@ -90,6 +85,16 @@ pub fn heard(alloc: Global, client: &mut TcpStream) -> Result<Vec<u8>, Refusal> 
         }
     }
     Ok(all)
+}
+
+/// Whether each of these clients hears what is wanted of it, and nothing more.
+pub fn hears(alloc: Global, links: Vec<TcpStream>, wanted: &Vec<Vec<u8>>) -> Result<bool, Refusal> {
+    let mut same = links.len() == wanted.len();
+    for (link, wanted) in links.into_iter().zip(wanted) {
+        let mut link = link;
+        same = same && heard(alloc, &mut link)?.as_slice() == wanted.as_slice();
+    }
+    Ok(same)
 }
 
 /// What each of several texts, parted by semicolons, stands for.
