@@ -11,15 +11,15 @@ abbrev pub IsNumberOf : Text → List Row → ℕ → Type 0
 IsNumberOf id rows n = (text : Text) × (one_of id rows ≡ Some text)
     × (digits_value 10 (without_leading_plus text) ≡ n)
 
--- a command, with the values of its words and options, asks for this
-abbrev pub AsksFor : Option (Text × List Row) → Mode → Type 0
-AsksFor asked (mode.Format file net_id slots) = (rows : List Row)
+-- a command, with the values of its words and options, calls for this
+abbrev pub CallsFor : Option (Text × List Row) → Mode → Type 0
+CallsFor asked (mode.Format file net_id slots) = (rows : List Row)
     × (asked ≡ Some (codes "format", rows)) × (first_of (codes "file") rows ≡ Some file.now)
     × (first_of (codes "netid") rows ≡ Some (net_id_text net_id))
     × IsNumberOf (codes "slots") rows slots
-AsksFor asked (mode.List file) = (rows : List Row)
+CallsFor asked (mode.List file) = (rows : List Row)
     × (asked ≡ Some (codes "list", rows)) × (first_of (codes "file") rows ≡ Some file.now)
-AsksFor asked (mode.Serve file listen links) = (rows : List Row)
+CallsFor asked (mode.Serve file listen links) = (rows : List Row)
     × (asked ≡ Some (codes "serve", rows)) × (first_of (codes "file") rows ≡ Some file.now)
     × (first_of (codes "listen") rows ≡ Some listen.now)
     × IsNumberOf (codes "links") rows links

@@ -5,5 +5,5 @@ mod line;
 mod mode;
 mod read;
 
-pub use mode::{LinkCount, Mode, Slots, Usage};
+pub use mode::{Mode, Usage};
 pub use read::words;

@@ -1,12 +1,6 @@
 // What words ask for.
 use lw_types::{NetId, Ranged};
 
-/// The number of slots of a store, from 1 to 4,096.
-pub type Slots = Ranged<1, 4096>;
-
-/// The number of links of a server, from 1 to 80: at most 64 gateways and 16 applications.
-pub type LinkCount = Ranged<1, 80>;
-
 /// What `lnsd` is asked for.
 #[derive(Clone, Copy)]
 pub enum Mode<'a> {
@@ -14,7 +8,7 @@ pub enum Mode<'a> {
     Format {
         file: &'a str,
         net_id: NetId,
-        slots: Slots,
+        slots: Ranged<1, 4096>,
     },
     /// To print the devices of the store in a file.
     List {
@@ -25,7 +19,7 @@ pub enum Mode<'a> {
     Serve {
         file: &'a str,
         listen: &'a str,
-        links: LinkCount,
+        links: Ranged<1, 80>,
     },
 }
 

@@ -1,20 +1,20 @@
 // Words that are read.
 ghost use Rattle.std.specs.Prelude.{IfOk, IfSome, map};
 ghost use Rattle.clap.specs.Words.{subcommand_of, subcommand_rows_of};
-ghost use Rattle.command_words.specs.Asked.{AsksFor};
+ghost use Rattle.command_words.specs.Asked.{CallsFor};
 ghost use Rattle.command_words.specs.CommandLine.{lnsd_line};
 
 use crate::line::lnsd;
-use crate::mode::{LinkCount, Mode, Slots, Usage};
+use crate::mode::{Mode, Usage};
 use clap::error::ErrorKind;
 use clap::{ArgMatches, Command, Error};
-use lw_types::{FromText, NetId};
+use lw_types::{FromText, NetId, Ranged};
 use std::alloc::{AllocError, Global};
 
 /// What these words, which come without the program's name, ask for. `Words` has clap's text where
 /// they are wrong, `Help` where they ask for help or for the version.
 pub fn words<'a>(alloc: Global, words: &'a [&'a str]) -> Result<Mode<'a>, Usage>
-    ensures { IfOk result (AsksFor (subcommand_of lnsd_line (map (λ w. w.now) words.entry.now))) }
+    ensures { IfOk result (CallsFor (subcommand_of lnsd_line (map (λ w. w.now) words.entry.now))) }
 {
     let Ok(mut command) = lnsd(alloc) else {
         return Err(Usage::Memory);
@@ -52,14 +52,14 @@ fn wrong_net_id(alloc: Global, command: &mut Command<'_>) -> Usage {
 }
 
 fn mode_of<'a>(matches: &ArgMatches<'a>) -> Option<Mode<'a>>
-    ensures { IfSome result (AsksFor (subcommand_rows_of matches.now)) }
+    ensures { IfSome result (CallsFor (subcommand_rows_of matches.now)) }
 {
     let (name, matches) = matches.subcommand()?;
     let file = matches.get_str("file")?;
     match name {
         "format" => {
             let net_id = NetId::from_text(matches.get_str("netid")?)?;
-            let slots = Slots::new(u64::from(matches.get_one::<u16>("slots")?))?;
+            let slots = Ranged::new(u64::from(matches.get_one::<u16>("slots")?))?;
             Some(Mode::Format {
                 file,
                 net_id,
@@ -69,7 +69,7 @@ fn mode_of<'a>(matches: &ArgMatches<'a>) -> Option<Mode<'a>>
         "list" => Some(Mode::List { file }),
         "serve" => {
             let listen = matches.get_str("listen")?;
-            let links = LinkCount::new(u64::from(matches.get_one::<u16>("links")?))?;
+            let links = Ranged::new(u64::from(matches.get_one::<u16>("links")?))?;
             Some(Mode::Serve {
                 file,
                 listen,
