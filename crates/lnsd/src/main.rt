@@ -1,5 +1,5 @@
-//! `lnsd`: a LoRaWAN network server. It makes the store of a network in a file, lists its devices, and
-//! serves gateways and applications over TCP.
+//! `lnsd`: a LoRaWAN network server. It makes the store of a network in a file, lists its devices,
+//! and serves gateways and applications over TCP.
 #![tactic(auto)]
 
 use gateway_server::{Fault, command, fail};
