@@ -41,11 +41,7 @@ impl Directory {
 
     /// Gives a link the name of whoever greets on it, where no link has this name, and, of a gateway,
     /// fewer than 64 are linked. Else nothing is changed.
-    pub(crate) fn greet(&mut self, name: Recipient, link: usize) -> bool
-        ensures granted { result ≡ may_greet self.old name }
-        ensures greeted { MatchBool result (IsGreeted self.old name link self.new)
-            (self.new ≡ self.old) }
-    {
+    pub(crate) fn greet(&mut self, name: Recipient, link: usize) -> bool {
         match name {
             Recipient::Gateway(gateway) => self.greet_gateway(gateway, link),
             Recipient::Application(application) => self.greet_application(application, link),

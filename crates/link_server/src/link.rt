@@ -1,4 +1,6 @@
 // A link to a gateway or an application.
+ghost use Rattle.std.specs.Prelude.{◌≡◌, length, IfOk};
+
 use crate::ServeFault;
 use lw_types::{Ranged, Refusal};
 use std::alloc::Global;
@@ -49,9 +51,11 @@ pub(crate) fn accept(
     alloc: Global,
     listener: TcpListener,
     count: LinkCount,
-) -> Result<Vec<Link>, ServeFault> {
+) -> Result<Vec<Link>, ServeFault>
+    ensures { IfOk result (λ links. length links.items ≡ count) }
+{
     let mut links = Vec::new(alloc);
-    for _ in 0..count.get() {
+    for _number in 0..count.get() {
         let stream = accept_one(&listener)?;
         if links.push(Link::new(stream)).is_err() {
             return Err(ServeFault::Refused(Refusal::OutOfMemory));

@@ -50,6 +50,14 @@ fn read_some(stream: &TcpStream, buffer: &mut [u8]) -> Heard {
     }
 }
 
+// The application at the other end of a link.
+fn asking(peer: Option<Peer>) -> Option<Application> {
+    match peer? {
+        Peer::Application(application) => Some(application),
+        Peer::Gateway(_) => None,
+    }
+}
+
 // As whom a peer is told of effects.
 fn name_of(peer: &Peer) -> Recipient {
     match peer {
@@ -125,7 +133,11 @@ impl<'x, B: Books, R: Wait, G: Gate, C: LifeClock> Worker<'x, B, R, G, C> {
     // A name that is taken is a fault of whoever greets with it.
     fn greet(&self, peer: &Peer) -> bool {
         let name = name_of(peer);
-        let is_new = self.hall.directory.lock(self.host.rt).greet(name, self.number);
+        let is_new = self
+            .hall
+            .directory
+            .lock(self.host.rt)
+            .greet(name, self.number);
         if !is_new {
             self.hall.signals.count_fault();
         }
@@ -146,7 +158,7 @@ impl<'x, B: Books, R: Wait, G: Gate, C: LifeClock> Worker<'x, B, R, G, C> {
 
     // An application asks, and is told a refusal.
     fn hear_line(&mut self, line: &Line) {
-        let Some(Peer::Application(application)) = self.feeder.peer() else {
+        let Some(application) = asking(self.feeder.peer()) else {
             return;
         };
         let refused = match read_line(self.host.alloc, line.as_str()) {

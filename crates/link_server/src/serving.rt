@@ -1,5 +1,5 @@
 // One life of a server.
-ghost use Rattle.std.specs.Prelude.{◌≡◌, ◌≤◌, ◌+◌, length, sum, IfOk};
+ghost use Rattle.std.specs.Prelude.{◌≡◌, ◌≤◌, ◌+◌, length, sum, Err, IfOk};
 
 use crate::crew::Crew;
 use crate::directory::Directory;
@@ -65,7 +65,10 @@ pub fn serve_links<R: Threads + Wait + Sync, D: Disk + Drop, G: Gate + Sync, C: 
     serve_life::<Brand, R, D, G, C>(&host, store, opening, Blank::new(seats), Blank::new(1))
 }
 
-fn failed<D: Disk>(store: Store<D>, fault: ServeFault) -> Served<D> {
+fn failed<D: Disk>(store: Store<D>, fault: ServeFault) -> Served<D>
+    ensures store { result.store ≡ store }
+    ensures fault { result.result ≡ Err fault }
+{
     Served {
         store,
         result: Err(fault),
@@ -121,7 +124,7 @@ fn serve_life<
         store,
         result,
         seats,
-    } = run(host, &hall, store, taker, crew);
+    } = run(&*host, &hall, store, taker, crew);
     let Hall {
         sessions,
         signals,

@@ -121,8 +121,8 @@ impl<'x, R: Wait> Sender<'x, R> {
                 return false;
             }
             match write_some(&self.link.stream, rest) {
-                Wrote::Bytes(n) => {
-                    rest = &rest[n..];
+                Wrote::Some(left) => {
+                    rest = left;
                     waits = 0;
                 }
                 Wrote::Nothing if self.inlet.is_finished() => waits = waits.saturating_add(1),
@@ -135,17 +135,18 @@ impl<'x, R: Wait> Sender<'x, R> {
 }
 
 /// What one write did.
-enum Wrote {
-    Bytes(usize),
+enum Wrote<'a> {
+    /// It took some bytes, and these are left.
+    Some(&'a [u8]),
     Nothing,
     End,
 }
 
-fn write_some(stream: &TcpStream, bytes: &[u8]) -> Wrote {
+fn write_some<'a>(stream: &TcpStream, bytes: &'a [u8]) -> Wrote<'a> {
     let mut stream = stream;
     match stream.write(bytes) {
         Ok(0) => Wrote::End,
-        Ok(n) => Wrote::Bytes(n),
+        Ok(n) => Wrote::Some(&bytes[n..]),
         Err(e) if is_passing(e.kind()) => Wrote::Nothing,
         Err(_) => Wrote::End,
     }
