@@ -32,7 +32,11 @@ abbrev pub top_line : App
 top_line =
     let app = new_app (codes "lnsd") in
     record app {
-      top = record app.top { no_binary_name = true; subcommand_required = true; has_version = true };
+      top = record app.top {
+        no_binary_name = true;
+        subcommand_required = true;
+        has_version = true;
+      };
     }
 
 abbrev pub lnsd_line : App

@@ -1,7 +1,7 @@
 // Words that are read.
-ghost use Rattle.std.specs.Prelude.{IfOk, IfSome, map};
-ghost use Rattle.clap.specs.Words.{subcommand_of, subcommand_rows_of};
-ghost use Rattle.command_words.specs.Asked.{CallsFor};
+ghost use Rattle.std.specs.Prelude.{◌≡◌, [], IfErr, IfOk, IfSome, None, map};
+ghost use Rattle.clap.specs.Words.{fault_of, kind_of, subcommand_of, subcommand_rows_of};
+ghost use Rattle.command_words.specs.Asked.{CallsFor, CallsForNothing, IsToldOf, IsUsageOf};
 ghost use Rattle.command_words.specs.CommandLine.{lnsd_line};
 
 use crate::line::lnsd;
@@ -14,7 +14,10 @@ use std::alloc::{AllocError, Global};
 /// What these words, which come without the program's name, ask for. `Words` has clap's text where
 /// they are wrong, `Help` where they ask for help or for the version.
 pub fn words<'a>(alloc: Global, words: &'a [&'a str]) -> Result<Mode<'a>, Usage>
-    ensures { IfOk result (CallsFor (subcommand_of lnsd_line (map (λ w. w.now) words.entry.now))) }
+    ensures mode { IfOk result
+        (CallsFor (subcommand_of lnsd_line (map (λ w. w.now) words.entry.now))) }
+    ensures taken { IfOk result (λ _. fault_of lnsd_line (map (λ w. w.now) words.entry.now) ≡ []) }
+    ensures usage { IfErr result (IsUsageOf (map (λ w. w.now) words.entry.now)) }
 {
     let Ok(mut command) = lnsd(alloc) else {
         return Err(Usage::Memory);
@@ -30,7 +33,9 @@ pub fn words<'a>(alloc: Global, words: &'a [&'a str]) -> Result<Mode<'a>, Usage>
 }
 
 // What is told where no matches were found.
-fn usage_of(alloc: Global, error: &Error) -> Usage {
+fn usage_of(alloc: Global, error: &Error) -> Usage
+    ensures { IsToldOf (kind_of error.now) result }
+{
     if error.kind() == ErrorKind::OutOfMemory {
         return Usage::Memory;
     }
@@ -42,7 +47,9 @@ fn usage_of(alloc: Global, error: &Error) -> Usage {
 }
 
 // What is told of a NetID that is none, the one value that clap doesn't read itself.
-fn wrong_net_id(alloc: Global, command: &mut Command<'_>) -> Usage {
+fn wrong_net_id(alloc: Global, command: &mut Command<'_>) -> Usage
+    ensures { IsToldOf ErrorKind.ValueValidation result }
+{
     let message = "invalid value for '--netid <HEX>': it has 6 upper-case hexadecimal digits, \
         from 000000 to 00003F";
     match command.error(ErrorKind::ValueValidation, message) {
@@ -52,7 +59,8 @@ fn wrong_net_id(alloc: Global, command: &mut Command<'_>) -> Usage {
 }
 
 fn mode_of<'a>(matches: &ArgMatches<'a>) -> Option<Mode<'a>>
-    ensures { IfSome result (CallsFor (subcommand_rows_of matches.now)) }
+    ensures some { IfSome result (CallsFor (subcommand_rows_of matches.now)) }
+    ensures none { result ≡ None → CallsForNothing (subcommand_rows_of matches.now) }
 {
     let (name, matches) = matches.subcommand()?;
     let file = matches.get_str("file")?;
