@@ -11,7 +11,7 @@ use Rattle.clap.specs.declared.parser.matches.SubCommand.{SubCommand}
 use Rattle.clap.specs.declared.parser.matches.ArgMatches.TheViews.{out-ArgMatches, out-SubCommand}
 use Rattle.std.specs.Box.{box_value}
 use Rattle.clap.proofs.WalkLemmas.{first_value-rows, one_text-rows}
-use Rattle.command_words.specs.Asked.{CallsForNothing, IsNumberOf}
+use Rattle.command_words.specs.Asked.{HasNoMode, IsNumberOf}
 use Rattle.command_words.specs.declared.mode.Mode.TheVariants as mode
 use Rattle.lw_types.specs.Hex.{net_id_text}
 
@@ -48,7 +48,7 @@ number_met E G parses f id r n none value is = go (one_text f id) refl
     go None e = absurd (none-some n (sym (none e) ∙ is))
     go (Some t) e = let got = read t r is (value t e) in (t, sym (one_text-rows f id) ∙ e, got.0, got.1)
 
--- ---- commands that call for nothing
+-- ---- commands that ask for no mode
 
 starts : (a b : Text) → a ≡ b → slice_index a 0 ≡ slice_index b 0
 starts a b e = ap (λ t. slice_index t 0) e
@@ -65,7 +65,7 @@ names_are : (asked : Option (Text × List Row)) (a b : Text) (rs qs : List Row) 
 names_are asked a b rs qs e h = ap (λ p. p.0) (same (a, rs) (b, qs) (sym e ∙ h))
 
 pub no_file : (asked : Option (Text × List Row)) (name : Text) (rows : List Row) → asked ≡ Some (name, rows)
-    → first_of (codes "file") rows ≡ None → CallsForNothing asked
+    → first_of (codes "file") rows ≡ None → HasNoMode asked
 no_file asked name rows e none (mode.Format file net_id slots) fits h =
     none-some file.now (sym none ∙ ap (first_of (codes "file")) (sym (rows_are asked name _ rows h.0 e h.1)) ∙ h.2)
 no_file asked name rows e none (mode.List file) fits h =
@@ -88,7 +88,7 @@ serve_list e = let bad : slice_index (codes "serve") 0 ≡ slice_index (codes "l
 -- a `format` without a NetID or a number of slots
 pub no_format : (asked : Option (Text × List Row)) (rows : List Row) → asked ≡ Some (codes "format", rows)
     → ((n s : ℕ) → n < 64 → 1 ≤ s → s ≤ 4096 → first_of (codes "netid") rows ≡ Some (net_id_text n) → IsNumberOf (codes "slots") rows s → ⊥)
-    → CallsForNothing asked
+    → HasNoMode asked
 no_format asked rows e never (mode.Format file net_id slots) fits h =
     let are = rows_are asked _ _ rows h.0 e h.1 in
     never net_id slots fits.0 fits.1 fits.2 (ap (first_of (codes "netid")) (sym are) ∙ h.3) (subst (λ rs. IsNumberOf (codes "slots") rs slots) are h.4)
@@ -100,7 +100,7 @@ no_format asked rows e never (mode.Serve file listen links) fits h =
 -- a `serve` without an address or a number of links
 pub no_serve : (asked : Option (Text × List Row)) (rows : List Row) → asked ≡ Some (codes "serve", rows)
     → ((t : Text) (s : ℕ) → 1 ≤ s → s ≤ 80 → first_of (codes "listen") rows ≡ Some t → IsNumberOf (codes "links") rows s → ⊥)
-    → CallsForNothing asked
+    → HasNoMode asked
 no_serve asked rows e never (mode.Serve file listen links) fits h =
     let are = rows_are asked _ _ rows h.0 e h.1 in
     never listen.now links fits.0 fits.1 (ap (first_of (codes "listen")) (sym are) ∙ h.3) (subst (λ rs. IsNumberOf (codes "links") rs links) are h.4)

@@ -3,7 +3,7 @@ use Rattle.std.proofs.Common.{List, inl, inr, rules}
 use Rattle.clap.specs.Words.{HasKind, Text, fault_of, kind_of, subcommand_of}
 use Rattle.clap.specs.declared.error.Error.{Error}
 use Rattle.clap.specs.declared.error.kind.ErrorKind.TheVariants.{ValueValidation}
-use Rattle.command_words.specs.Asked.{CallsForNothing, IsShown, IsToldOf, IsUsageOf}
+use Rattle.command_words.specs.Asked.{HasNoMode, IsShown, IsToldOf, IsUsageOf}
 use Rattle.command_words.specs.CommandLine.{lnsd_line}
 use Rattle.command_words.specs.declared.mode.Usage.{Usage}
 use Rattle.command_words.specs.declared.mode.Usage.TheVariants as usage
@@ -20,7 +20,7 @@ not_shown : IsShown ValueValidation → ⊥
 not_shown (inl e) = search rules
 not_shown (inr e) = search rules
 
-pub of_no_mode : (words : List Text) (u : Usage) → CallsForNothing (subcommand_of lnsd_line words)
+pub of_no_mode : (words : List Text) (u : Usage) → HasNoMode (subcommand_of lnsd_line words)
     → IsToldOf ValueValidation u → IsUsageOf words u
 of_no_mode words (usage.Words text) none h = inr none
 of_no_mode words (usage.Help text) none h = absurd (not_shown h.1)

@@ -17,15 +17,15 @@ IsNumberOf id rows n = (text : Text) × (one_of id rows ≡ Some text)
     × IsNumeral 10 (without_leading_plus text)
     × (digits_value 10 (without_leading_plus text) ≡ n)
 
--- a command, with the values of its words and options, calls for this
-abbrev pub CallsFor : Option (Text × List Row) → Mode → Type 0
-CallsFor asked (mode.Format file net_id slots) = (rows : List Row)
+-- this is what a command asks for, with the values of its words and options
+abbrev pub IsModeOf : Option (Text × List Row) → Mode → Type 0
+IsModeOf asked (mode.Format file net_id slots) = (rows : List Row)
     × (asked ≡ Some (codes "format", rows)) × (first_of (codes "file") rows ≡ Some file.now)
     × (first_of (codes "netid") rows ≡ Some (net_id_text net_id))
     × IsNumberOf (codes "slots") rows slots
-CallsFor asked (mode.List file) = (rows : List Row)
+IsModeOf asked (mode.List file) = (rows : List Row)
     × (asked ≡ Some (codes "list", rows)) × (first_of (codes "file") rows ≡ Some file.now)
-CallsFor asked (mode.Serve file listen links) = (rows : List Row)
+IsModeOf asked (mode.Serve file listen links) = (rows : List Row)
     × (asked ≡ Some (codes "serve", rows)) × (first_of (codes "file") rows ≡ Some file.now)
     × (first_of (codes "listen") rows ≡ Some listen.now)
     × IsNumberOf (codes "links") rows links
@@ -36,9 +36,9 @@ IsInRange (mode.Format file net_id slots) = (net_id < 64) × (1 ≤ slots) × (s
 IsInRange (mode.List file) = Unit
 IsInRange (mode.Serve file listen links) = (1 ≤ links) × (links ≤ 80)
 
--- a command calls for nothing that is in its ranges
-abbrev pub CallsForNothing : Option (Text × List Row) → Type 0
-CallsForNothing asked = (m : Mode) → IsInRange m → CallsFor asked m → ⊥
+-- a command asks for nothing that is in its ranges
+abbrev pub HasNoMode : Option (Text × List Row) → Type 0
+HasNoMode asked = (m : Mode) → IsInRange m → IsModeOf asked m → ⊥
 
 -- an answer of clap that is a text to show
 abbrev pub IsShown : ErrorKind → Type 0
@@ -55,7 +55,7 @@ IsToldOf kind usage.Memory = Unit
 abbrev pub IsUsageOf : List Text → Usage → Type 0
 IsUsageOf words (usage.Words text) =
     ((kind : ErrorKind) × IsAmong kind (fault_of lnsd_line words) × ¬ IsShown kind)
-    ⊎ CallsForNothing (subcommand_of lnsd_line words)
+    ⊎ HasNoMode (subcommand_of lnsd_line words)
 IsUsageOf words (usage.Help text) =
     (kind : ErrorKind) × IsAmong kind (fault_of lnsd_line words) × IsShown kind
 IsUsageOf words usage.Memory = Unit

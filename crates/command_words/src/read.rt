@@ -1,7 +1,7 @@
 // Words that are read.
 ghost use Rattle.std.specs.Prelude.{◌≡◌, [], IfErr, IfOk, IfSome, None, map};
 ghost use Rattle.clap.specs.Words.{fault_of, kind_of, subcommand_of, subcommand_rows_of};
-ghost use Rattle.command_words.specs.Asked.{CallsFor, CallsForNothing, IsToldOf, IsUsageOf};
+ghost use Rattle.command_words.specs.Asked.{IsModeOf, HasNoMode, IsToldOf, IsUsageOf};
 ghost use Rattle.command_words.specs.CommandLine.{lnsd_line};
 
 use crate::line::lnsd;
@@ -15,7 +15,7 @@ use std::alloc::{AllocError, Global};
 /// they are wrong, `Help` where they ask for help or for the version.
 pub fn words<'a>(alloc: Global, words: &'a [&'a str]) -> Result<Mode<'a>, Usage>
     ensures mode { IfOk result
-        (CallsFor (subcommand_of lnsd_line (map (λ w. w.now) words.entry.now))) }
+        (IsModeOf (subcommand_of lnsd_line (map (λ w. w.now) words.entry.now))) }
     ensures taken { IfOk result (λ _. fault_of lnsd_line (map (λ w. w.now) words.entry.now) ≡ []) }
     ensures usage { IfErr result (IsUsageOf (map (λ w. w.now) words.entry.now)) }
 {
@@ -59,8 +59,8 @@ fn wrong_net_id(alloc: Global, command: &mut Command<'_>) -> Usage
 }
 
 fn mode_of<'a>(matches: &ArgMatches<'a>) -> Option<Mode<'a>>
-    ensures some { IfSome result (CallsFor (subcommand_rows_of matches.now)) }
-    ensures none { result ≡ None → CallsForNothing (subcommand_rows_of matches.now) }
+    ensures some { IfSome result (IsModeOf (subcommand_rows_of matches.now)) }
+    ensures none { result ≡ None → HasNoMode (subcommand_rows_of matches.now) }
 {
     let (name, matches) = matches.subcommand()?;
     let file = matches.get_str("file")?;
