@@ -1,0 +1,61 @@
+-- What words ask for.
+use Rattle.std.specs.Prelude.{◌≡◌, ◌≢◌, ◌<◌, ◌≤◌, ◌⊎◌, ℕ, List, Option, Some, codes}
+use Rattle.std.specs.Str.Parse.{IsNumeral, digits_value, without_leading_plus}
+use Rattle.clap.specs.Words.{IsAmong, Row, Text, fault_of, first_of, one_of, subcommand_of}
+use Rattle.clap.specs.declared.error.kind.ErrorKind.{ErrorKind}
+use Rattle.clap.specs.declared.error.kind.ErrorKind.TheVariants.{DisplayHelp, DisplayVersion, OutOfMemory}
+use Rattle.lw_types.specs.Hex.{net_id_text}
+use Rattle.command_words.specs.declared.mode.Mode.{Mode}
+use Rattle.command_words.specs.declared.mode.Mode.TheVariants as mode
+use Rattle.command_words.specs.declared.mode.Usage.{Usage}
+use Rattle.command_words.specs.declared.mode.Usage.TheVariants as usage
+use Rattle.command_words.specs.CommandLine.{lnsd_line}
+
+-- the value of an option is this number in decimal digits
+abbrev pub IsNumberOf : Text → List Row → ℕ → Type 0
+IsNumberOf id rows n = (text : Text) × (one_of id rows ≡ Some text)
+    × IsNumeral 10 (without_leading_plus text)
+    × (digits_value 10 (without_leading_plus text) ≡ n)
+
+-- this is what a command asks for, with the values of its words and options
+abbrev pub IsModeOf : Option (Text × List Row) → Mode → Type 0
+IsModeOf asked (mode.Format file net_id slots) = (rows : List Row)
+    × (asked ≡ Some (codes "format", rows)) × (first_of (codes "file") rows ≡ Some file.now)
+    × (first_of (codes "netid") rows ≡ Some (net_id_text net_id))
+    × IsNumberOf (codes "slots") rows slots
+IsModeOf asked (mode.List file) = (rows : List Row)
+    × (asked ≡ Some (codes "list", rows)) × (first_of (codes "file") rows ≡ Some file.now)
+IsModeOf asked (mode.Serve file listen links) = (rows : List Row)
+    × (asked ≡ Some (codes "serve", rows)) × (first_of (codes "file") rows ≡ Some file.now)
+    × (first_of (codes "listen") rows ≡ Some listen.now)
+    × IsNumberOf (codes "links") rows links
+
+-- its numbers are in their ranges
+abbrev pub IsInRange : Mode → Type 0
+IsInRange (mode.Format file net_id slots) = (net_id < 64) × (1 ≤ slots) × (slots ≤ 4096)
+IsInRange (mode.List file) = Unit
+IsInRange (mode.Serve file listen links) = (1 ≤ links) × (links ≤ 80)
+
+-- a command asks for nothing that is in its ranges
+abbrev pub HasNoMode : Option (Text × List Row) → Type 0
+HasNoMode asked = (m : Mode) → IsInRange m → IsModeOf asked m → ⊥
+
+-- an answer of clap that is a text to show
+abbrev pub IsShown : ErrorKind → Type 0
+IsShown kind = (kind ≡ DisplayHelp) ⊎ (kind ≡ DisplayVersion)
+
+-- what is told of an answer of clap
+abbrev pub IsToldOf : ErrorKind → Usage → Type 0
+IsToldOf kind (usage.Words text) = (kind ≢ OutOfMemory) × ¬ IsShown kind
+IsToldOf kind (usage.Help text) = (kind ≢ OutOfMemory) × IsShown kind
+IsToldOf kind usage.Memory = Unit
+
+-- why these words ask for no mode: clap finds a fault of them or has a text to show, or it finds
+-- none, and the NetID or a number is none
+abbrev pub IsUsageOf : List Text → Usage → Type 0
+IsUsageOf words (usage.Words text) =
+    ((kind : ErrorKind) × IsAmong kind (fault_of lnsd_line words) × ¬ IsShown kind)
+    ⊎ HasNoMode (subcommand_of lnsd_line words)
+IsUsageOf words (usage.Help text) =
+    (kind : ErrorKind) × IsAmong kind (fault_of lnsd_line words) × IsShown kind
+IsUsageOf words usage.Memory = Unit

@@ -1,0 +1,35 @@
+// What words ask for.
+use lw_types::{NetId, Ranged};
+
+/// What `lnsd` is asked for.
+#[derive(Clone, Copy)]
+pub enum Mode<'a> {
+    /// To make the store of a network, with room for so many devices, in a new file.
+    Format {
+        file: &'a str,
+        net_id: NetId,
+        slots: Ranged<1, 4096>,
+    },
+    /// To print the devices of the store in a file.
+    List {
+        file: &'a str,
+    },
+    /// To serve so many links, which connect to an address, from the store in a file. Whether there
+    /// is such an address isn't known from the words.
+    Serve {
+        file: &'a str,
+        listen: &'a str,
+        links: Ranged<1, 80>,
+    },
+}
+
+/// Why words ask for nothing that is to be done.
+#[derive(Drop)]
+pub enum Usage {
+    /// They are wrong: the text for standard error.
+    Words(String),
+    /// They ask for help, or for the version: the text for standard output.
+    Help(String),
+    /// There was no memory to read them, or for that text.
+    Memory,
+}

@@ -1,0 +1,89 @@
+// Words that are read.
+ghost use Rattle.std.specs.Prelude.{◌≡◌, [], IfErr, IfOk, IfSome, None, map};
+ghost use Rattle.clap.specs.Words.{fault_of, kind_of, subcommand_of, subcommand_rows_of};
+ghost use Rattle.command_words.specs.Asked.{IsModeOf, HasNoMode, IsToldOf, IsUsageOf};
+ghost use Rattle.command_words.specs.CommandLine.{lnsd_line};
+
+use crate::line::lnsd;
+use crate::mode::{Mode, Usage};
+use clap::error::ErrorKind;
+use clap::{ArgMatches, Command, Error};
+use lw_types::{FromText, NetId, Ranged};
+use std::alloc::{AllocError, Global};
+
+/// What these words, which come without the program's name, ask for. `Words` has clap's text where
+/// they are wrong, `Help` where they ask for help or for the version.
+pub fn words<'a>(alloc: Global, words: &'a [&'a str]) -> Result<Mode<'a>, Usage>
+    ensures mode { IfOk result
+        (IsModeOf (subcommand_of lnsd_line (map (λ w. w.now) words.entry.now))) }
+    ensures taken { IfOk result (λ _. fault_of lnsd_line (map (λ w. w.now) words.entry.now) ≡ []) }
+    ensures usage { IfErr result (IsUsageOf (map (λ w. w.now) words.entry.now)) }
+{
+    let Ok(mut command) = lnsd(alloc) else {
+        return Err(Usage::Memory);
+    };
+    let matches = match command.try_get_matches_from_mut(words) {
+        Ok(matches) => matches,
+        Err(error) => return Err(usage_of(alloc, &error)),
+    };
+    match mode_of(&matches) {
+        Some(mode) => Ok(mode),
+        None => Err(wrong_net_id(alloc, &mut command)),
+    }
+}
+
+// What is told where no matches were found.
+fn usage_of(alloc: Global, error: &Error) -> Usage
+    ensures { IsToldOf (kind_of error.now) result }
+{
+    if error.kind() == ErrorKind::OutOfMemory {
+        return Usage::Memory;
+    }
+    match error.to_string(alloc) {
+        Err(_) => Usage::Memory,
+        Ok(text) if error.use_stderr() => Usage::Words(text),
+        Ok(text) => Usage::Help(text),
+    }
+}
+
+// What is told of a NetID that is none, the one value that clap doesn't read itself.
+fn wrong_net_id(alloc: Global, command: &mut Command<'_>) -> Usage
+    ensures { IsToldOf ErrorKind.ValueValidation result }
+{
+    let message = "invalid value for '--netid <HEX>': it has 6 upper-case hexadecimal digits, \
+        from 000000 to 00003F";
+    match command.error(ErrorKind::ValueValidation, message) {
+        Err(AllocError) => Usage::Memory,
+        Ok(error) => usage_of(alloc, &error),
+    }
+}
+
+fn mode_of<'a>(matches: &ArgMatches<'a>) -> Option<Mode<'a>>
+    ensures some { IfSome result (IsModeOf (subcommand_rows_of matches.now)) }
+    ensures none { result ≡ None → HasNoMode (subcommand_rows_of matches.now) }
+{
+    let (name, matches) = matches.subcommand()?;
+    let file = matches.get_str("file")?;
+    match name {
+        "format" => {
+            let net_id = NetId::from_text(matches.get_str("netid")?)?;
+            let slots = Ranged::new(u64::from(matches.get_one::<u16>("slots")?))?;
+            Some(Mode::Format {
+                file,
+                net_id,
+                slots,
+            })
+        }
+        "list" => Some(Mode::List { file }),
+        "serve" => {
+            let listen = matches.get_str("listen")?;
+            let links = Ranged::new(u64::from(matches.get_one::<u16>("links")?))?;
+            Some(Mode::Serve {
+                file,
+                listen,
+                links,
+            })
+        }
+        _ => None,
+    }
+}

@@ -1,0 +1,33 @@
+// Why a command failed.
+use link_server::ServeFault;
+use lw_types::Refusal;
+use thiserror::Error;
+
+/// Why a command failed. Its text is what standard error has behind `lnsd: `.
+#[derive(Debug, Drop, Error)]
+pub enum Fault {
+    /// A store is to be made in a file that is there already.
+    #[error("exists")]
+    Exists,
+    /// A file can't be made, or can't be opened to be read and written; or another process has it.
+    #[error("file")]
+    File,
+    /// An address can't be listened on, or no link could be accepted there.
+    #[error("listen")]
+    Listen,
+    /// The system's clock can't be read.
+    #[error("clock")]
+    Clock,
+    /// The store refused, or its disk failed, or there was no memory.
+    #[error("refused {number}", number = .0.number())]
+    Refused(#[from] Refusal),
+}
+
+impl From<ServeFault> for Fault {
+    fn from(fault: ServeFault) -> Self {
+        match fault {
+            ServeFault::Listen => Fault::Listen,
+            ServeFault::Refused(refusal) => Fault::Refused(refusal),
+        }
+    }
+}

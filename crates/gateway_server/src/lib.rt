@@ -1,0 +1,15 @@
+//! The commands of `lnsd`: a store in a file is made, listed and served. What they do stands in the
+//! crates below; here files, addresses, the clock and the words that a user reads come to it.
+#![tactic(auto)]
+
+mod fault;
+mod running;
+mod serving;
+mod stores;
+
+pub use command_words::{Mode, Usage, words};
+pub use fault::Fault;
+pub use link_server::{
+    Gate, LifeClock, LinkCount, Monotonic, OpenGate, Report, ServeFault, Served, serve_links,
+};
+pub use running::{command, fail};

@@ -1,0 +1,116 @@
+// Commands, from their words to their status.
+ghost use Rattle.std.specs.Prelude.{◌≡◌, ◌≤◌, IfErr, IfOk};
+
+use crate::Fault;
+use crate::serving::serve;
+use crate::stores::{format, list};
+use command_words::{Mode, Usage, words};
+use link_server::Report;
+use lw_types::Refusal;
+use std::alloc::Global;
+use std::fs::File;
+use std::io;
+use std::io::Write;
+use std::net::{Net, TcpListener, TcpStream};
+use std::rt::{Clock, Files};
+use std::sync::Wait;
+use std::thread::Threads;
+
+/// Does what these words ask for, which come without the program's name. `out` is standard output,
+/// `err` is standard error. Gives the status of the process: 0 where it was done, also where help
+/// was asked for; 1 where it failed, or what it tells couldn't be written; 2 for words that ask for
+/// nothing.
+pub fn command<R, O: Write, E: Write>(
+    rt: &R,
+    alloc: Global,
+    texts: &[&str],
+    out: &mut O,
+    err: &mut E,
+) -> u8
+where
+    R: Files<File = File> + Net<Listener = TcpListener, Stream = TcpStream>,
+    R: Clock + Threads + Wait + Sync,
+    ensures status { result ≤ 2 }
+    ensures quiet { result ≡ 2 → out.new ≡ out.old }
+{
+    match words(alloc, texts) {
+        Ok(mode) => match obey(rt, alloc, &mode, out, err) {
+            Ok(status) => status,
+            Err(fault) => fail(err, &fault),
+        },
+        Err(Usage::Help(text)) => status_of(&tell(out, text.as_str())),
+        Err(Usage::Words(text)) => {
+            let _ = tell(err, text.as_str());
+            2
+        }
+        Err(Usage::Memory) => fail(err, &Fault::Refused(Refusal::OutOfMemory)),
+    }
+}
+
+/// Tells on standard error why a command failed, and gives the status of one that did, 1.
+pub fn fail<E: Write>(err: &mut E, fault: &Fault) -> u8
+    ensures { result ≡ 1 }
+{
+    let _ = writeln!(err, "lnsd: {fault}");
+    1
+}
+
+// The status of what was done.
+fn obey<R, O: Write, E: Write>(
+    rt: &R,
+    alloc: Global,
+    mode: &Mode<'_>,
+    out: &mut O,
+    err: &mut E,
+) -> Result<u8, Fault>
+where
+    R: Files<File = File> + Net<Listener = TcpListener, Stream = TcpStream>,
+    R: Clock + Threads + Wait + Sync,
+    ensures status { IfOk result (λ status. status ≤ 1) }
+    ensures quiet { IfErr result (λ _. out.new ≡ out.old) }
+{
+    match *mode {
+        Mode::Format {
+            file,
+            net_id,
+            slots,
+        } => {
+            format(rt, alloc, file, net_id, slots)?;
+            Ok(0)
+        }
+        Mode::List { file } => {
+            let text = list(rt, alloc, file)?;
+            Ok(status_of(&tell(out, text.as_str())))
+        }
+        Mode::Serve {
+            file,
+            listen,
+            links,
+        } => {
+            let report = serve(rt, alloc, file, listen, links)?;
+            Ok(status_of(&tell_report(err, &report)))
+        }
+    }
+}
+
+fn tell<W: Write>(to: &mut W, text: &str) -> io::Result<()> {
+    to.write_all(text.as_bytes())?;
+    to.flush()
+}
+
+fn tell_report<E: Write>(err: &mut E, report: &Report) -> io::Result<()> {
+    let (dropped, faulted) = (report.dropped, report.faulted);
+    writeln!(err, "dropped {dropped}")?;
+    writeln!(err, "faulted {faulted}")?;
+    err.flush()
+}
+
+// The status of a command that was done, by whether what it has to tell could be written.
+fn status_of(told: &io::Result<()>) -> u8
+    ensures { result ≤ 1 }
+{
+    match told {
+        Ok(()) => 0,
+        Err(_) => 1,
+    }
+}

@@ -1,0 +1,58 @@
+// Stores in files.
+use crate::Fault;
+use disk::FileDisk;
+use gateway_wire::list_text;
+use lw_types::NetId;
+use sessions::Slots;
+use std::alloc::Global;
+use std::fs;
+use std::fs::File;
+use std::io::ErrorKind;
+use std::rt::Files;
+use store::{Store, disk_len, format_back, open};
+
+/// Makes a store without devices in a new file. Where that fails there is no file, as before.
+pub(crate) fn format<R: Files<File = File>>(
+    rt: &R,
+    alloc: Global,
+    file: &str,
+    net_id: NetId,
+    slots: Slots,
+) -> Result<(), Fault> {
+    let disk = match FileDisk::create(rt, file, disk_len(slots)) {
+        Ok(disk) => disk,
+        Err(error) if error.kind() == ErrorKind::AlreadyExists => return Err(Fault::Exists),
+        Err(_) => return Err(Fault::File),
+    };
+    match format_back(alloc, disk, net_id, slots.get()) {
+        Ok(_) => Ok(()),
+        Err((disk, refusal)) => {
+            // removed before its lock is given up, so that nobody opens it in between
+            let _ = fs::remove_file(rt, file);
+            drop(disk);
+            Err(Fault::Refused(refusal))
+        }
+    }
+}
+
+/// The list of the devices of the store in a file, and the number of its last decision.
+pub(crate) fn list<R: Files<File = File>>(
+    rt: &R,
+    alloc: Global,
+    file: &str,
+) -> Result<String, Fault> {
+    let store = open_store(rt, alloc, file)?;
+    Ok(list_text(alloc, store.table().devices(), store.seq())?)
+}
+
+/// Opens the store in a file.
+pub(crate) fn open_store<R: Files<File = File>>(
+    rt: &R,
+    alloc: Global,
+    file: &str,
+) -> Result<Store<FileDisk>, Fault> {
+    match FileDisk::open(rt, file) {
+        Ok(disk) => Ok(open(alloc, disk)?),
+        Err(_) => Err(Fault::File),
+    }
+}

@@ -1,0 +1,16 @@
+// Where workers can be held.
+
+/// Passed by each worker before each of its calls of the sessions, so that a test can hold one there.
+pub trait Gate {
+    /// A worker is about to make a call. Workers are numbered from 1 in the order in which their links
+    /// were accepted, and each one's calls from 1.
+    fn pass(&self, worker: usize, call: u64);
+}
+
+/// The server's own gate, at which nobody waits.
+#[derive(Clone, Copy)]
+pub struct OpenGate;
+
+impl Gate for OpenGate {
+    fn pass(&self, _worker: usize, _call: u64) {}
+}

@@ -1,0 +1,33 @@
+// What the threads of a life share.
+use crate::directory::Directory;
+use crate::link::Link;
+use crate::signals::Signals;
+use session_core::{Books, Shared};
+use std::sync::Mutex;
+
+/// The links, and what is behind a lock. No thread holds both locks at once, and none of them while
+/// it reads, writes or syncs.
+#[derive(Drop)]
+pub(crate) struct Hall<B: Books> {
+    pub(crate) links: Vec<Link>,
+    pub(crate) sessions: Mutex<Shared<B>>,
+    pub(crate) directory: Mutex<Directory>,
+    pub(crate) signals: Signals,
+}
+
+impl<B: Books> Hall<B> {
+    /// The store is at fault: the links are closed, and each thread ends.
+    pub(crate) fn stop(&self) {
+        self.signals.stop();
+        for link in &self.links {
+            link.close();
+        }
+    }
+
+    /// The senders look at their rings again.
+    pub(crate) fn ring_senders(&self) {
+        for link in &self.links {
+            link.bell.unpark();
+        }
+    }
+}

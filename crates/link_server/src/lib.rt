@@ -1,0 +1,30 @@
+//! The server's threads over sockets. Gateways and applications have a link each, with a worker that
+//! reads it and a sender that writes it. One closer closes the windows that are due, and one flusher
+//! commits what was decided, and routes what may leave to the links. [`serve_links`] is one life of
+//! them.
+#![tactic(auto)]
+
+mod closing;
+mod crew;
+mod directory;
+mod flushing;
+mod gate;
+mod hall;
+mod host;
+mod link;
+mod moments;
+mod outgoing;
+mod reading;
+mod report;
+mod routing;
+mod running;
+mod serving;
+mod signals;
+mod threads;
+mod writing;
+
+pub use gate::{Gate, OpenGate};
+pub use link::LinkCount;
+pub use moments::{LifeClock, Monotonic};
+pub use report::{Report, ServeFault, Served};
+pub use serving::serve_links;

@@ -1,0 +1,201 @@
+// A worker reads a link, and hands in what is said on it.
+use crate::gate::Gate;
+use crate::hall::Hall;
+use crate::host::Host;
+use crate::link::Link;
+use crate::moments::LifeClock;
+use devices::{Application, Command};
+use gateway_wire::{Recipient, Request, read_line};
+use link_messages::{Fed, Feeder, Line, Message, Peer};
+use lw_types::{FrameCopy, Refusal};
+use rtrb::Producer;
+use session_core::{Books, Seat, Sessions, Turn};
+use std::io::{ErrorKind, Read};
+use std::net::TcpStream;
+use std::sync::Wait;
+
+// How much is read at a time, in bytes.
+const PIECE: usize = 8192;
+
+/// A link's worker.
+#[derive(Drop)]
+pub(crate) struct Worker<'x, B: Books, R: Wait, G: Gate, C: LifeClock> {
+    pub(crate) host: &'x Host<'x, R, G, C>,
+    pub(crate) hall: &'x Hall<B>,
+    pub(crate) link: &'x Link,
+    // The place of its link among all, from 0.
+    pub(crate) number: usize,
+    // The calls of the sessions so far.
+    pub(crate) calls: u64,
+    pub(crate) feeder: Feeder,
+    pub(crate) seat: Seat<B>,
+    pub(crate) refusals: Producer<Refusal>,
+}
+
+/// What one read gave.
+enum Heard {
+    Bytes(usize),
+    Nothing,
+    End,
+}
+
+// A link that was reset has ended as one that was closed.
+fn read_some(stream: &TcpStream, buffer: &mut [u8]) -> Heard {
+    let mut stream = stream;
+    match stream.read(buffer) {
+        Ok(0) => Heard::End,
+        Ok(n) => Heard::Bytes(n),
+        Err(e) if e.kind() == ErrorKind::Interrupted => Heard::Nothing,
+        Err(_) => Heard::End,
+    }
+}
+
+// The application at the other end of a link.
+fn asking(peer: Option<Peer>) -> Option<Application> {
+    match peer? {
+        Peer::Application(application) => Some(application),
+        Peer::Gateway(_) => None,
+    }
+}
+
+// As whom a peer is told of effects.
+fn name_of(peer: &Peer) -> Recipient {
+    match peer {
+        Peer::Gateway(gateway) => Recipient::Gateway(*gateway),
+        Peer::Application(application) => Recipient::Application(*application),
+    }
+}
+
+impl<'x, B: Books, R: Wait, G: Gate, C: LifeClock> Worker<'x, B, R, G, C> {
+    /// Reads the link until it says nothing more or may not, and gives the seat back.
+    pub(crate) fn run(self) -> Seat<B> {
+        let mut worker = self;
+        let mut buffer = [0u8; PIECE];
+        for _ in worker.host.rt.forever() {
+            match read_some(&worker.link.stream, &mut buffer) {
+                Heard::Nothing => {}
+                Heard::End => {
+                    worker.end();
+                    break;
+                }
+                Heard::Bytes(n) => {
+                    let piece = buffer.get(..n).unwrap_or(&[]);
+                    if !worker.hear_piece(piece) || worker.hall.signals.is_stopped() {
+                        break;
+                    }
+                }
+            }
+        }
+        worker.hall.signals.end_input();
+        worker.seat
+    }
+
+    // The input has ended: inside a frame, that is a fault.
+    fn end(&self) {
+        if self.feeder.end().is_err() {
+            self.hall.signals.count_fault();
+        }
+    }
+
+    // Whether the link is read on.
+    fn hear_piece(&mut self, piece: &[u8]) -> bool {
+        // Without memory the link is read no further, which is no fault of its own.
+        let Ok(fed) = self.feeder.feed(piece) else {
+            return false;
+        };
+        let Fed { messages, fault } = fed;
+        for message in messages {
+            if !self.hear(message) {
+                return false;
+            }
+        }
+        if fault.is_some() {
+            self.hall.signals.count_fault();
+        }
+        fault.is_none()
+    }
+
+    // Whether the link is read on.
+    fn hear(&mut self, message: Message) -> bool {
+        match message {
+            Message::Greeting(peer) => self.greet(&peer),
+            Message::Copy(copy) => {
+                self.hear_copy(copy);
+                true
+            }
+            Message::Line(line) => {
+                self.hear_line(&line);
+                true
+            }
+        }
+    }
+
+    // A name that is taken is a fault of whoever greets with it.
+    fn greet(&self, peer: &Peer) -> bool {
+        let name = name_of(peer);
+        let is_new = self
+            .hall
+            .directory
+            .lock(self.host.rt)
+            .greet(name, self.number);
+        if !is_new {
+            self.hall.signals.count_fault();
+        }
+        is_new
+    }
+
+    // Where it is refused, nobody is told.
+    fn hear_copy(&mut self, copy: FrameCopy) {
+        self.pass_gate();
+        let moment = self.host.clock.now();
+        let turn = self
+            .hall
+            .sessions
+            .hear(self.host.rt, &mut self.seat, moment, copy);
+        self.hall.signals.tell_opened();
+        self.tell_flusher(&turn);
+    }
+
+    // An application asks, and is told a refusal.
+    fn hear_line(&mut self, line: &Line) {
+        let Some(application) = asking(self.feeder.peer()) else {
+            return;
+        };
+        let refused = match read_line(self.host.alloc, line.as_str()) {
+            Ok(request) => self.ask(application, request),
+            Err(refusal) => Some(refusal),
+        };
+        if let Some(refusal) = refused {
+            let _ = self.refusals.push(refusal);
+            self.link.bell.unpark();
+        }
+    }
+
+    fn ask(&mut self, application: Application, request: Request) -> Option<Refusal> {
+        self.pass_gate();
+        let moment = self.host.clock.now();
+        let sessions = &self.hall.sessions;
+        let seat = &mut self.seat;
+        let turn = match request.into_command(application) {
+            Command::Provision(value) => sessions.provision(self.host.rt, seat, moment, value),
+            Command::Queue(value) => sessions.queue(self.host.rt, seat, moment, value),
+            Command::Heard(_) => unreachable!(),
+            Command::QueueMac(value) => sessions.queue_mac(self.host.rt, seat, moment, value),
+        };
+        self.tell_flusher(&turn);
+        turn.refused
+    }
+
+    fn pass_gate(&mut self) {
+        self.calls = self.calls.saturating_add(1);
+        self.host
+            .gate
+            .pass(self.number.saturating_add(1), self.calls);
+    }
+
+    fn tell_flusher(&self, turn: &Turn) {
+        if turn.from < turn.to {
+            self.hall.signals.ring_flusher();
+        }
+    }
+}

@@ -1,0 +1,38 @@
+// What comes of serving.
+use disk::Disk;
+use lw_types::Refusal;
+use store::Store;
+use thiserror::Error;
+
+/// What came of a life whose inputs all ended.
+#[derive(Drop)]
+pub struct Report {
+    /// The effects that were lost: their gateway or application had no link, or the link's ring was
+    /// full, or the link was gone or took nothing any more.
+    pub dropped: u64,
+    /// The links that were read no further because of what they said.
+    pub faulted: u64,
+    /// The decisions that were made.
+    pub made: u64,
+    /// How many of them each worker made, in the order in which their links were accepted, and the
+    /// closer last.
+    pub shares: Vec<u64>,
+}
+
+/// Why a life ended before its inputs did.
+#[derive(Debug, Drop, Error)]
+pub enum ServeFault {
+    /// No link could be accepted.
+    #[error("listen")]
+    Listen,
+    /// The store, or want of memory.
+    #[error("refused {number}", number = .0.number())]
+    Refused(Refusal),
+}
+
+/// The store as the life left it, and what came of it.
+#[derive(Drop)]
+pub struct Served<D: Disk> {
+    pub store: Store<D>,
+    pub result: Result<Report, ServeFault>,
+}

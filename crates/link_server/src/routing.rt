@@ -1,0 +1,37 @@
+// Released effects go into the rings of their links.
+
+use crate::directory::Directory;
+use flusher::Released;
+use gateway_wire::Recipient;
+use outbox::Outlet;
+
+/// Puts an effect into the ring of its link, and gives the link's number. `None` where there is no
+/// such link, or its ring is full: the effect is lost.
+fn route_one(directory: &Directory, outlets: &mut [Outlet], released: Released) -> Option<usize> {
+    let number = directory.link_of(Recipient::of(released.effect()))?;
+    if number >= outlets.len() {
+        return None;
+    }
+    match outlets[number].put(released) {
+        Ok(()) => Some(number),
+        Err(_) => None,
+    }
+}
+
+/// Puts effects into the rings of their links, in order, and marks those links. How many were lost.
+pub(crate) fn route(
+    directory: &Directory,
+    outlets: &mut [Outlet],
+    released: Vec<Released>,
+    marks: &mut [bool],
+) -> usize {
+    let mut lost: usize = 0;
+    for one in released {
+        match route_one(directory, outlets, one) {
+            Some(number) if number < marks.len() => marks[number] = true,
+            Some(_) => {}
+            None => lost = lost.saturating_add(1),
+        }
+    }
+    lost
+}

@@ -1,0 +1,186 @@
+// The threads of a life are started and joined.
+use crate::closing::Closer;
+use crate::crew::{Crew, Post};
+use crate::flushing::flush;
+use crate::gate::Gate;
+use crate::hall::Hall;
+use crate::host::Host;
+use crate::moments::LifeClock;
+use crate::outgoing::Outgoing;
+use crate::reading::Worker;
+use crate::threads::{start_closer, start_sender, start_worker};
+use crate::writing::Sender;
+use disk::Disk;
+use link_messages::Feeder;
+use lw_types::Refusal;
+use session_core::{Books, Seat, Taker};
+use std::alloc::Global;
+use std::sync::Wait;
+use std::thread;
+use std::thread::{JoinHandle, Scope, Threads};
+use store::Store;
+
+/// What is left of a life: the store, how it ended, and the seats that came back, in the order of the
+/// links and the closer's last.
+#[derive(Drop)]
+pub(crate) struct Ended<D: Disk, B: Books> {
+    pub(crate) store: Store<D>,
+    pub(crate) result: Result<(), Refusal>,
+    pub(crate) seats: Vec<Seat<B>>,
+}
+
+/// Starts the threads of a life, flushes until it ends, and joins them.
+pub(crate) fn run<
+    'x,
+    B: Books + Send + Sync,
+    R: Threads + Wait + Sync,
+    D: Disk + Drop,
+    G: Gate + Sync,
+    C: LifeClock + Sync,
+>(
+    host: &'x Host<'x, R, G, C>,
+    hall: &'x Hall<B>,
+    store: Store<D>,
+    taker: Taker<B>,
+    crew: Crew<B>,
+) -> Ended<D, B> {
+    thread::scope(thread::scope_env(), host.rt, move |scope| {
+        run_in(scope, host, hall, store, taker, crew)
+    })
+}
+
+fn run_in<
+    's,
+    E,
+    B: Books + Send + Sync,
+    R: Threads + Wait + Sync,
+    D: Disk + Drop,
+    G: Gate + Sync,
+    C: LifeClock + Sync,
+>(
+    scope: &Scope<'s, E>,
+    host: &'s Host<'s, R, G, C>,
+    hall: &'s Hall<B>,
+    store: Store<D>,
+    taker: Taker<B>,
+    crew: Crew<B>,
+) -> Ended<D, B> {
+    let Crew {
+        posts,
+        closer,
+        outlets,
+    } = crew;
+    let mut store = store;
+    let mut started = Started {
+        seated: Vec::new(host.alloc),
+        senders: Vec::new(host.alloc),
+        is_whole: true,
+    };
+    for (number, post) in posts.into_iter().enumerate() {
+        started.start_link(scope, host, hall, number, post);
+    }
+    let closer = Closer {
+        host,
+        hall,
+        seat: closer,
+    };
+    started.keep_seated(start_closer(host.alloc, scope, closer));
+    let result = if started.is_whole {
+        flush(host.rt, host.alloc, hall, &mut store, taker, outlets)
+    } else {
+        Err(Refusal::OutOfMemory)
+    };
+    if result.is_err() {
+        hall.stop();
+    }
+    Ended {
+        store,
+        result,
+        seats: started.join(host.rt, host.alloc),
+    }
+}
+
+// The threads that were started. Where one couldn't be, or can't be joined, they aren't whole.
+#[derive(Drop)]
+struct Started<B: Books> {
+    // In the order of their links, and the closer last.
+    seated: Vec<JoinHandle<Seat<B>>>,
+    senders: Vec<JoinHandle<()>>,
+    is_whole: bool,
+}
+
+impl<B: Books + Send + Sync> Started<B> {
+    fn start_link<'s, E, R: Threads + Wait + Sync, G: Gate + Sync, C: LifeClock + Sync>(
+        &mut self,
+        scope: &Scope<'s, E>,
+        host: &'s Host<'s, R, G, C>,
+        hall: &'s Hall<B>,
+        number: usize,
+        post: Post<B>,
+    ) {
+        let Some(link) = hall.links.get(number) else {
+            return;
+        };
+        let Post {
+            seat,
+            refused,
+            inlet,
+            refusals,
+        } = post;
+        let worker = Worker {
+            host,
+            hall,
+            link,
+            number,
+            calls: 0,
+            feeder: Feeder::new(host.alloc),
+            seat,
+            refusals: refused,
+        };
+        self.keep_seated(start_worker(host.alloc, scope, worker));
+        let sender = Sender {
+            rt: host.rt,
+            alloc: host.alloc,
+            signals: &hall.signals,
+            link,
+            inlet,
+            refusals,
+            outgoing: Outgoing::new(host.alloc),
+            is_broken: false,
+        };
+        self.keep_sender(start_sender(host.alloc, scope, number, sender));
+    }
+
+    fn keep_seated(&mut self, thread: Option<JoinHandle<Seat<B>>>) {
+        let is_kept = match thread {
+            Some(thread) => self.seated.push(thread).is_ok(),
+            None => false,
+        };
+        self.is_whole = self.is_whole && is_kept;
+    }
+
+    fn keep_sender(&mut self, thread: Option<JoinHandle<()>>) {
+        let is_kept = match thread {
+            Some(thread) => self.senders.push(thread).is_ok(),
+            None => false,
+        };
+        self.is_whole = self.is_whole && is_kept;
+    }
+
+    // The seats that come back.
+    fn join<R: Threads>(self, rt: &R, alloc: Global) -> Vec<Seat<B>> {
+        let Started {
+            seated,
+            senders,
+            ..
+        } = self;
+        let mut seats = Vec::new(alloc);
+        for thread in seated {
+            let _ = seats.push(thread.join(rt));
+        }
+        for thread in senders {
+            thread.join(rt);
+        }
+        seats
+    }
+}

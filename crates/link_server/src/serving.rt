@@ -1,0 +1,173 @@
+// One life of a server.
+ghost use Rattle.std.specs.Prelude.{◌≡◌, ◌≤◌, ◌+◌, length, sum, Err, IfOk};
+
+use crate::crew::Crew;
+use crate::directory::Directory;
+use crate::gate::Gate;
+use crate::hall::Hall;
+use crate::host::Host;
+use crate::link::{Link, LinkCount, accept};
+use crate::moments::LifeClock;
+use crate::running::{Ended, run};
+use crate::signals::Signals;
+use crate::{Report, ServeFault, Served};
+use disk::Disk;
+use lw_types::Refusal;
+use session_core::{Books, Core, Seat, Shared};
+use std::alloc::Global;
+use std::marker::Brand;
+use std::net::TcpListener;
+use std::sync::ledger::Blank;
+use std::sync::{Mutex, Wait};
+use std::thread::Threads;
+use store::Store;
+
+/// Accepts so many links, and serves them until the inputs of all have ended: what they say is decided,
+/// committed to the store, and what may leave goes out on their links. Gives the store back with what
+/// came of it.
+///
+/// Each link has a worker, which passes the gate before each of its calls, and a sender. A link is read
+/// no further behind bytes that are no message (51), a length above 700 (50), an end inside a frame
+/// (52), a greeting with a name that a link has, or of a gateway where 64 are linked; also where it
+/// can't be for want of memory. Its sender goes on. At the end a last tick closes what windows are
+/// open, 200 ms past the effective time, what is left is committed, and each sender writes what waits.
+///
+/// A store that fails ends the life at once: the links are closed, and what waits for them is lost. In
+/// each case every thread is joined. A peer that takes nothing, and closes nothing either, is given up
+/// at the end after ten seconds. It need not return: inputs may never end.
+pub fn serve_links<R: Threads + Wait + Sync, D: Disk + Drop, G: Gate + Sync, C: LifeClock + Sync>(
+    rt: &R,
+    alloc: Global,
+    store: Store<D>,
+    listener: TcpListener,
+    links: LinkCount,
+    gate: &G,
+    clock: &C,
+) -> Served<D>
+    ensures shares { IfOk result.result (λ report. sum report.shares.items ≡ report.made) }
+{
+    let links = match accept(alloc, listener, links) {
+        Ok(links) => links,
+        Err(fault) => return failed(store, fault),
+    };
+    let core = match Core::new(alloc, store.table(), store.seq()) {
+        Ok(core) => core,
+        Err(refusal) => return failed(store, ServeFault::Refused(refusal)),
+    };
+    let host = Host {
+        rt,
+        alloc,
+        gate,
+        clock,
+    };
+    let seats = links.len() as u64 + 1;
+    let opening = Opening { links, core };
+    serve_life::<Brand, R, D, G, C>(&host, store, opening, Blank::new(seats), Blank::new(1))
+}
+
+fn failed<D: Disk>(store: Store<D>, fault: ServeFault) -> Served<D>
+    ensures store { result.store ≡ store }
+    ensures fault { result.result ≡ Err fault }
+{
+    Served {
+        store,
+        result: Err(fault),
+    }
+}
+
+// The links of a life, and its core before anything came to it.
+#[derive(Drop)]
+struct Opening {
+    links: Vec<Link>,
+    core: Core,
+    ghost few: { length links.items ≤ 80 },
+    ghost none_made: { core.decisions.made ≡ 0 },
+    ghost none_taken: { core.decisions.taken ≡ 0 },
+}
+
+fn serve_life<
+    B: Books + Send + Sync,
+    R: Threads + Wait + Sync,
+    D: Disk + Drop,
+    G: Gate + Sync,
+    C: LifeClock + Sync,
+>(
+    host: &Host<'_, R, G, C>,
+    store: Store<D>,
+    opening: Opening,
+    made: Blank,
+    taken: Blank,
+) -> Served<D>
+    requires made { (made.name ≡ B.made_name) × (made.parts ≡ B.made_parts)
+        × (made.parts ≡ length opening.links.items + 1) }
+    requires taken { (taken.name ≡ B.taken_name) × (taken.parts ≡ 1) }
+    ensures shares { IfOk result.result (λ report. sum report.shares.items ≡ report.made) }
+{
+    let Opening { links, core } = opening;
+    let all = links.len() as u64 + 1;
+    let (mut shared, taker) = Shared::<B>::new(core, all, made, taken);
+    let crew = match Crew::new(host.alloc, &mut shared, links.len()) {
+        Ok(crew) => crew,
+        Err(refusal) => return failed(store, ServeFault::Refused(refusal)),
+    };
+    let directory = match Directory::new(host.alloc) {
+        Ok(directory) => directory,
+        Err(_) => return failed(store, ServeFault::Refused(Refusal::OutOfMemory)),
+    };
+    let hall = Hall {
+        signals: Signals::new(links.len() as u64),
+        links,
+        sessions: Mutex::new(shared),
+        directory: Mutex::new(directory),
+    };
+    let Ended {
+        store,
+        result,
+        seats,
+    } = run(&*host, &hall, store, taker, crew);
+    let Hall {
+        sessions,
+        signals,
+        ..
+    } = hall;
+    let result = match result {
+        Ok(()) => report(host.alloc, sessions.into_inner(), &signals, all, seats),
+        Err(refusal) => Err(ServeFault::Refused(refusal)),
+    };
+    Served { store, result }
+}
+
+// A seat that didn't come back is of a thread that was never started, for want of memory.
+fn report<B: Books>(
+    alloc: Global,
+    shared: Shared<B>,
+    signals: &Signals,
+    all: u64,
+    seats: Vec<Seat<B>>,
+) -> Result<Report, ServeFault>
+    requires { all ≡ B.made_parts }
+    ensures { IfOk result (λ report. sum report.shares.items ≡ report.made) }
+{
+    let Ok(shares) = shares_of(alloc, &seats) else {
+        return Err(ServeFault::Refused(Refusal::OutOfMemory));
+    };
+    let Some(made) = shared.settle(all, seats) else {
+        return Err(ServeFault::Refused(Refusal::OutOfMemory));
+    };
+    Ok(Report {
+        dropped: signals.dropped(),
+        faulted: signals.faulted(),
+        made,
+        shares,
+    })
+}
+
+fn shares_of<B: Books>(alloc: Global, seats: &Vec<Seat<B>>) -> Result<Vec<u64>, Refusal>
+    ensures { IfOk result (λ shares. shares.items ≡ seats.now.items) }
+{
+    let mut shares = Vec::new(alloc);
+    for seat in seats {
+        shares.push(seat.share())?;
+    }
+    Ok(shares)
+}

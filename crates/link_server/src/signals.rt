@@ -1,0 +1,114 @@
+// What the threads of a life tell each other. Whoever waits looks, finds nothing, and parks; whoever
+// rings changes something first, and rings then. So no change is missed.
+use std::sync::Wait;
+use std::sync::atomic::Ordering::SeqCst;
+use std::sync::atomic::{AtomicBool, AtomicU64};
+use std::thread::Parker;
+
+#[derive(Drop)]
+pub(crate) struct Signals {
+    // How many links may still say something.
+    open_inputs: AtomicU64,
+    faulted: AtomicU64,
+    dropped: AtomicU64,
+    // The store is at fault, and the links are closed.
+    stopped: AtomicBool,
+    // The last tick was made.
+    ticked: AtomicBool,
+    // The closer waits for a window to open.
+    closer_idle: AtomicBool,
+    // Rings for the flusher: something was decided, or the last tick was made.
+    decided: Parker,
+    // Rings for the closer: a window is open, or all inputs have ended, or the life is stopped.
+    pub(crate) opened: Parker,
+}
+
+impl Signals {
+    pub(crate) fn new(inputs: u64) -> Self {
+        Signals {
+            open_inputs: AtomicU64::new(inputs),
+            faulted: AtomicU64::new(0),
+            dropped: AtomicU64::new(0),
+            stopped: AtomicBool::new(false),
+            ticked: AtomicBool::new(false),
+            closer_idle: AtomicBool::new(false),
+            decided: Parker::new(),
+            opened: Parker::new(),
+        }
+    }
+
+    /// A link is read no further because of what it said.
+    pub(crate) fn count_fault(&self) {
+        self.faulted.fetch_add(1, SeqCst);
+    }
+
+    pub(crate) fn faulted(&self) -> u64 {
+        self.faulted.load(SeqCst)
+    }
+
+    /// So many effects were lost for want of a link or of room.
+    pub(crate) fn count_dropped(&self, count: u64) {
+        self.dropped.fetch_add(count, SeqCst);
+    }
+
+    pub(crate) fn dropped(&self) -> u64 {
+        self.dropped.load(SeqCst)
+    }
+
+    /// A link says nothing more.
+    pub(crate) fn end_input(&self) {
+        if self.open_inputs.fetch_sub(1, SeqCst) == 1 {
+            self.opened.unpark();
+        }
+    }
+
+    /// Whether no link says anything more, or the life is stopped.
+    pub(crate) fn is_over(&self) -> bool {
+        self.is_stopped() || self.open_inputs.load(SeqCst) == 0
+    }
+
+    pub(crate) fn stop(&self) {
+        self.stopped.store(true, SeqCst);
+        self.opened.unpark();
+    }
+
+    pub(crate) fn is_stopped(&self) -> bool {
+        self.stopped.load(SeqCst)
+    }
+
+    /// Something was decided.
+    pub(crate) fn ring_flusher(&self) {
+        self.decided.unpark();
+    }
+
+    /// Waits until something was decided.
+    pub(crate) fn wait_for_decisions<R: Wait>(&self, rt: &R) {
+        self.decided.park(rt);
+    }
+
+    /// Nothing is decided any more.
+    pub(crate) fn tell_ticked(&self) {
+        self.ticked.store(true, SeqCst);
+        self.decided.unpark();
+    }
+
+    pub(crate) fn is_ticked(&self) -> bool {
+        self.ticked.load(SeqCst)
+    }
+
+    /// The closer is about to look for a window, and waits where it finds none.
+    pub(crate) fn set_idle(&self) {
+        self.closer_idle.store(true, SeqCst);
+    }
+
+    pub(crate) fn clear_idle(&self) {
+        self.closer_idle.store(false, SeqCst);
+    }
+
+    /// A window may have opened. The closer is rung where it waits for one, and not for each frame.
+    pub(crate) fn tell_opened(&self) {
+        if self.closer_idle.swap(false, SeqCst) {
+            self.opened.unpark();
+        }
+    }
+}

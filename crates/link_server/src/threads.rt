@@ -1,0 +1,65 @@
+// The threads of a life, each with its name.
+use crate::closing::Closer;
+use crate::gate::Gate;
+use crate::moments::LifeClock;
+use crate::reading::Worker;
+use crate::writing::Sender;
+use session_core::{Books, Seat};
+use std::alloc::Global;
+use std::sync::Wait;
+use std::thread::{Builder, JoinHandle, Scope};
+
+/// Starts a worker; `None` where that can't be.
+pub(crate) fn start_worker<
+    'x,
+    E,
+    B: Books + Send + Sync,
+    R: Wait + Sync,
+    G: Gate + Sync,
+    C: LifeClock + Sync,
+>(
+    alloc: Global,
+    scope: &Scope<'x, E>,
+    worker: Worker<'x, B, R, G, C>,
+) -> Option<JoinHandle<Seat<B>>> {
+    let number = worker.number;
+    let name = format!(in alloc; "link-{number}-in").ok()?;
+    Builder::new()
+        .name(name)
+        .spawn_scoped(scope, move || worker.run())
+        .ok()
+}
+
+/// Starts a sender; `None` where that can't be.
+pub(crate) fn start_sender<'x, E, R: Wait + Sync>(
+    alloc: Global,
+    scope: &Scope<'x, E>,
+    number: usize,
+    sender: Sender<'x, R>,
+) -> Option<JoinHandle<()>> {
+    let name = format!(in alloc; "link-{number}-out").ok()?;
+    Builder::new()
+        .name(name)
+        .spawn_scoped(scope, move || sender.run())
+        .ok()
+}
+
+/// Starts the closer; `None` where that can't be.
+pub(crate) fn start_closer<
+    'x,
+    E,
+    B: Books + Send + Sync,
+    R: Wait + Sync,
+    G: Gate + Sync,
+    C: LifeClock + Sync,
+>(
+    alloc: Global,
+    scope: &Scope<'x, E>,
+    closer: Closer<'x, B, R, G, C>,
+) -> Option<JoinHandle<Seat<B>>> {
+    let name = String::from_str(alloc, "closer").ok()?;
+    Builder::new()
+        .name(name)
+        .spawn_scoped(scope, move || closer.run())
+        .ok()
+}

@@ -1,0 +1,173 @@
+// A sender writes a link.
+use crate::link::Link;
+use crate::outgoing::Outgoing;
+use crate::signals::Signals;
+use devices::Effect;
+use gateway_wire::{Emission, answer_frame, refused_line};
+use lw_types::Refusal;
+use outbox::Inlet;
+use rtrb::Consumer;
+use std::alloc::Global;
+use std::io::{ErrorKind, Write};
+use std::net::{Shutdown, TcpStream};
+use std::sync::Wait;
+
+// How many refusals, and how many effects, are put together before they are sent.
+const SOME: u32 = 64;
+
+// How many writes in a row may wait in vain once nothing more comes. Each waits a second.
+const PATIENCE: u32 = 10;
+
+/// A link's sender.
+#[derive(Drop)]
+pub(crate) struct Sender<'x, R: Wait> {
+    pub(crate) rt: &'x R,
+    pub(crate) alloc: Global,
+    pub(crate) signals: &'x Signals,
+    pub(crate) link: &'x Link,
+    pub(crate) inlet: Inlet,
+    pub(crate) refusals: Consumer<Refusal>,
+    pub(crate) outgoing: Outgoing,
+    // The link takes nothing any more.
+    pub(crate) is_broken: bool,
+}
+
+/// How many effects were taken, and how many of them are in the frames that are to be sent.
+#[derive(Clone, Copy)]
+struct Gathered {
+    taken: u64,
+    added: u64,
+}
+
+impl<'x, R: Wait> Sender<'x, R> {
+    /// Writes what leaves on the link until nothing more can come, and says then that nothing will.
+    pub(crate) fn run(self) {
+        let mut sender = self;
+        let _ = sender.outgoing.reserve();
+        for _ in sender.rt.forever() {
+            if sender.signals.is_stopped() {
+                break;
+            }
+            // What was put before the end was told is seen by the looks behind this one.
+            let is_last = sender.inlet.is_finished();
+            if sender.send_some() {
+                continue;
+            }
+            if is_last {
+                break;
+            }
+            sender.link.bell.park(sender.rt);
+        }
+        let _ = sender.link.stream.shutdown(Shutdown::Write);
+    }
+
+    // Sends some of what waits, refusals first. Whether there was something.
+    fn send_some(&mut self) -> bool {
+        self.outgoing.clear();
+        let is_told = self.gather_refusals();
+        let Gathered { taken, added } = self.gather_effects();
+        let mut lost = taken.saturating_sub(added);
+        if !self.is_broken && !self.outgoing.is_empty() && !self.send() {
+            self.is_broken = true;
+            lost = taken;
+        }
+        self.signals.count_dropped(lost);
+        is_told || taken > 0
+    }
+
+    // Whether there was one.
+    fn gather_refusals(&mut self) -> bool {
+        let mut some = false;
+        for _ in 0..SOME {
+            let Ok(refusal) = self.refusals.pop() else {
+                break;
+            };
+            some = true;
+            if !self.is_broken {
+                let _ = add_refusal(self.alloc, refusal, &mut self.outgoing);
+            }
+        }
+        some
+    }
+
+    fn gather_effects(&mut self) -> Gathered {
+        let mut taken: u64 = 0;
+        let mut added: u64 = 0;
+        for _ in 0..SOME {
+            if self.outgoing.is_much() {
+                break;
+            }
+            let Some(effect) = self.inlet.take() else {
+                break;
+            };
+            taken = taken.saturating_add(1);
+            if !self.is_broken && add_effect(self.alloc, &effect, &mut self.outgoing).is_ok() {
+                added = added.saturating_add(1);
+            }
+        }
+        Gathered { taken, added }
+    }
+
+    // Whether the link took all of it. While it takes nothing the sender waits, for ever, unless
+    // nothing more comes: then it gives the link up.
+    fn send(&mut self) -> bool {
+        let mut rest = self.outgoing.as_slice();
+        let mut waits: u32 = 0;
+        for _ in self.rt.forever() {
+            if rest.is_empty() {
+                return true;
+            }
+            if self.signals.is_stopped() || waits >= PATIENCE {
+                return false;
+            }
+            match write_some(&self.link.stream, rest) {
+                Wrote::Some(left) => {
+                    rest = left;
+                    waits = 0;
+                }
+                Wrote::Nothing if self.inlet.is_finished() => waits = waits.saturating_add(1),
+                Wrote::Nothing => {}
+                Wrote::End => return false,
+            }
+        }
+        unreachable!()
+    }
+}
+
+/// What one write did.
+enum Wrote<'a> {
+    /// It took some bytes, and these are left.
+    Some(&'a [u8]),
+    Nothing,
+    End,
+}
+
+fn write_some<'a>(stream: &TcpStream, bytes: &'a [u8]) -> Wrote<'a> {
+    let mut stream = stream;
+    match stream.write(bytes) {
+        Ok(0) => Wrote::End,
+        Ok(n) => Wrote::Some(&bytes[n..]),
+        Err(e) if is_passing(e.kind()) => Wrote::Nothing,
+        Err(_) => Wrote::End,
+    }
+}
+
+fn is_passing(kind: ErrorKind) -> bool {
+    kind == ErrorKind::Interrupted || kind == ErrorKind::WouldBlock
+}
+
+fn add_refusal(alloc: Global, refusal: Refusal, outgoing: &mut Outgoing) -> Result<(), Refusal> {
+    let line = refused_line(alloc, refusal)?;
+    let frame = answer_frame(alloc, &line)?;
+    outgoing.add(frame.as_slice())
+}
+
+fn add_effect(alloc: Global, effect: &Effect, outgoing: &mut Outgoing) -> Result<(), Refusal> {
+    match Emission::of(alloc, effect)? {
+        Emission::Gateway { frame, .. } => outgoing.add(frame.as_slice()),
+        Emission::Application { line, .. } => {
+            let frame = answer_frame(alloc, &line)?;
+            outgoing.add(frame.as_slice())
+        }
+    }
+}

@@ -1,0 +1,60 @@
+// Commands of these tests, and their files.
+use gateway_server::command;
+use std::alloc::Global;
+use std::fs::File;
+use std::net::{Net, TcpListener, TcpStream};
+use std::rt::{Clock, Files};
+use std::sync::Wait;
+use std::thread::Threads;
+use std::{env, fs, io, process};
+
+/// How a command ends: with its status, and what it writes on standard output and standard error.
+#[derive(Clone, Copy)]
+pub struct Told<'a> {
+    pub status: u8,
+    pub out: &'a str,
+    pub err: &'a str,
+}
+
+/// A command that is done.
+pub fn done(out: &str) -> Told<'_> {
+    Told {
+        status: 0,
+        out,
+        err: "",
+    }
+}
+
+/// A command that fails.
+pub fn failed(err: &str) -> Told<'_> {
+    Told {
+        status: 1,
+        out: "",
+        err,
+    }
+}
+
+/// Whether these words end so.
+pub fn ends<R>(rt: &R, alloc: Global, words: &[&str], told: &Told<'_>) -> bool
+where
+    R: Files<File = File> + Net<Listener = TcpListener, Stream = TcpStream>,
+    R: Clock + Threads + Wait + Sync,
+{
+    let (mut out, mut err) = (Vec::new(alloc), Vec::new(alloc));
+    let status = command(rt, alloc, words, &mut out, &mut err);
+    status == told.status
+        && out.as_slice() == told.out.as_bytes()
+        && err.as_slice() == told.err.as_bytes()
+}
+
+/// A path in the folder of temporary files, which no other process has.
+pub fn path_of(rt: &HostRuntime, name: &str) -> io::Result<String> {
+    let folder = env::temp_dir(rt)?;
+    let folder = folder.as_path().as_str();
+    let number = process::id(rt.process());
+    Ok(format!(in rt.alloc(); "{folder}/bozintar-{number}-{name}")?)
+}
+
+pub fn remove<R: Files<File = File>>(rt: &R, path: &str) {
+    let _ = fs::remove_file(rt, path);
+}

@@ -1,0 +1,115 @@
+// What fails first, and output that can't be written.
+use crate::asked::{Told, done, ends, failed, path_of, remove};
+use gateway_server::{Fault, command, fail};
+use lw_types::Refusal;
+use std::io;
+use std::io::{ErrorKind, Write};
+use std::net::TcpListener;
+
+#[test]
+fn words_come_before_the_file_and_the_file_before_the_address(rt: HostRuntime) {
+    let alloc = rt.alloc();
+    let path = path_of(&rt, "order").expect(&rt, "a path");
+    let file = path.as_str();
+    let serve = ["serve", file, "--listen", "nonsense", "--links", "1"];
+    assert!(rt; ends(&rt, alloc, &serve, &failed("lnsd: file\n")));
+    let format = ["format", file, "--netid", "00002A", "--slots", "8"];
+    assert!(rt; ends(&rt, alloc, &format, &done("")));
+    assert!(rt; ends(&rt, alloc, &serve, &failed("lnsd: listen\n")));
+    let (mut out, mut err) = (Vec::new(alloc), Vec::new(alloc));
+    let format = ["format", file, "--netid", "00002A", "--slots", "0"];
+    assert!(rt; command(&rt, alloc, &format, &mut out, &mut err) == 2);
+    assert!(rt; out.is_empty() && !err.is_empty());
+    remove(&rt, file);
+    let below = path_of(&rt, "none/store").expect(&rt, "a path");
+    let format = [
+        "format",
+        below.as_str(),
+        "--netid",
+        "00002A",
+        "--slots",
+        "8",
+    ];
+    assert!(rt; ends(&rt, alloc, &format, &failed("lnsd: file\n")));
+}
+
+#[test]
+fn an_address_in_use_is_not_listened_on(rt: HostRuntime) {
+    let alloc = rt.alloc();
+    let path = path_of(&rt, "address").expect(&rt, "a path");
+    let file = path.as_str();
+    let format = ["format", file, "--netid", "00002A", "--slots", "8"];
+    assert!(rt; ends(&rt, alloc, &format, &done("")));
+    let listener = TcpListener::bind(&rt, "127.0.0.1:0").expect(&rt, "a listener");
+    let address = listener.local_addr().expect(&rt, "an address");
+    let address = format!(in alloc; "{address}").expect(&rt, "memory");
+    let serve = ["serve", file, "--listen", address.as_str(), "--links", "1"];
+    assert!(rt; ends(&rt, alloc, &serve, &failed("lnsd: listen\n")));
+    assert!(rt; ends(&rt, alloc, &["list", file], &done("devices 0 seq 0\n")));
+    remove(&rt, file);
+}
+
+#[test]
+fn help_is_told_on_standard_output(rt: HostRuntime) {
+    let alloc = rt.alloc();
+    let (mut out, mut err) = (Vec::new(alloc), Vec::new(alloc));
+    assert!(rt; command(&rt, alloc, &["--help"], &mut out, &mut err) == 0);
+    assert!(rt; !out.is_empty() && err.is_empty());
+    let told = Told {
+        status: 0,
+        out: "lnsd 0.1.0\n",
+        err: "",
+    };
+    assert!(rt; ends(&rt, alloc, &["--version"], &told));
+    let (mut out, mut err) = (Vec::new(alloc), Vec::new(alloc));
+    assert!(rt; command(&rt, alloc, &[], &mut out, &mut err) == 2);
+    assert!(rt; out.is_empty() && !err.is_empty());
+}
+
+// Takes no byte.
+#[derive(Drop)]
+struct Closed;
+
+impl Write for Closed {
+    fn write(&mut self, _buf: &[u8]) -> io::Result<usize> {
+        Err(io::Error::from(ErrorKind::BrokenPipe))
+    }
+
+    fn flush(&mut self) -> io::Result<()> {
+        Ok(())
+    }
+}
+
+#[test]
+fn output_that_is_closed_is_a_failure(rt: HostRuntime) {
+    let alloc = rt.alloc();
+    let path = path_of(&rt, "closed").expect(&rt, "a path");
+    let file = path.as_str();
+    let format = ["format", file, "--netid", "00002A", "--slots", "8"];
+    assert!(rt; command(&rt, alloc, &format, &mut Closed, &mut Closed) == 0);
+    let mut err = Vec::new(alloc);
+    assert!(rt; command(&rt, alloc, &["list", file], &mut Closed, &mut err) == 1);
+    assert!(rt; command(&rt, alloc, &["--help"], &mut Closed, &mut err) == 1);
+    assert!(rt; err.is_empty());
+    assert!(rt; command(&rt, alloc, &["stop"], &mut Closed, &mut Closed) == 2);
+    assert!(rt;
+        command(
+            &rt,
+            alloc,
+            &["list", "none/store"],
+            &mut Closed,
+            &mut Closed
+        ) == 1
+    );
+    remove(&rt, file);
+}
+
+#[test]
+fn faults_have_words(rt: HostRuntime) {
+    let alloc = rt.alloc();
+    let mut err = Vec::new(alloc);
+    assert!(rt; fail(&mut err, &Fault::Refused(Refusal::OutOfMemory)) == 1);
+    assert!(rt; fail(&mut err, &Fault::Refused(Refusal::DeviceFailed)) == 1);
+    assert!(rt; fail(&mut err, &Fault::Clock) == 1);
+    assert!(rt; err.as_slice() == b"lnsd: refused 30\nlnsd: refused 40\nlnsd: clock\n".as_slice());
+}

@@ -1,0 +1,161 @@
+// Words, and what they ask for.
+use gateway_server::{Mode, Usage, words};
+use std::alloc::{AllocError, Global};
+
+// Words, and what they ask for: a command with its values, help, or nothing. A NetID is told as its
+// number.
+const ROWS: &[(&str, &str)] = &[
+    ("format store --netid 00002A --slots 8", "format store 42 8"),
+    ("format store --slots 1 --netid 000000", "format store 0 1"),
+    (
+        "format --netid=00003F --slots=4096 store",
+        "format store 63 4096",
+    ),
+    ("format store --netid 00002A --slots 0", "wrong"),
+    ("format store --netid 00002A --slots 4097", "wrong"),
+    ("format store --netid 00002A --slots -1", "wrong"),
+    ("format store --netid 00002A --slots 70000", "wrong"),
+    ("format store --netid 00002A --slots eight", "wrong"),
+    ("format store --netid 000040 --slots 8", "wrong"),
+    ("format store --netid 00002a --slots 8", "wrong"),
+    ("format store --netid 2A --slots 8", "wrong"),
+    ("format store --netid 0000002A --slots 8", "wrong"),
+    ("format store --netid --slots 8", "wrong"),
+    ("format store --netid 00002A", "wrong"),
+    ("format store --slots 8", "wrong"),
+    ("format --netid 00002A --slots 8", "wrong"),
+    (
+        "format store --netid 00002A --netid 00002A --slots 8",
+        "wrong",
+    ),
+    ("format store other --netid 00002A --slots 8", "wrong"),
+    ("format store --netid 00002A --slots 8 --links 2", "wrong"),
+    ("format --help", "help"),
+    ("list store", "list store"),
+    ("list -- --help", "list --help"),
+    ("list", "wrong"),
+    ("list one two", "wrong"),
+    ("list -h", "help"),
+    ("help list", "help"),
+    (
+        "serve store --listen 127.0.0.1:5600 --links 1",
+        "serve store 127.0.0.1:5600 1",
+    ),
+    (
+        "serve --links 80 --listen [::1]:5600 store",
+        "serve store [::1]:5600 80",
+    ),
+    (
+        "serve store --listen nonsense --links 2",
+        "serve store nonsense 2",
+    ),
+    ("serve store --listen 127.0.0.1:5600 --links 0", "wrong"),
+    ("serve store --listen 127.0.0.1:5600 --links 81", "wrong"),
+    ("serve store --listen 127.0.0.1:5600", "wrong"),
+    ("serve store --links 2", "wrong"),
+    ("serve --listen 127.0.0.1:5600 --links 2", "wrong"),
+    ("serve --help", "help"),
+    ("--help", "help"),
+    ("-h", "help"),
+    ("help", "help"),
+    ("--version", "help"),
+    ("-V", "help"),
+    ("", "wrong"),
+    ("stop", "wrong"),
+    ("store", "wrong"),
+    ("Format store --netid 00002A --slots 8", "wrong"),
+    ("--netid 00002A", "wrong"),
+];
+
+fn asked(alloc: Global, line: &str) -> Result<String, AllocError> {
+    let all: Vec<&str> = line
+        .split(' ')
+        .filter(|word| !word.is_empty())
+        .collect(alloc)?;
+    match words(alloc, all.as_slice()) {
+        Ok(mode) => asked_of(alloc, &mode),
+        Err(Usage::Words(_)) => String::from_str(alloc, "wrong"),
+        Err(Usage::Help(_)) => String::from_str(alloc, "help"),
+        Err(Usage::Memory) => Err(AllocError),
+    }
+}
+
+fn asked_of(alloc: Global, mode: &Mode<'_>) -> Result<String, AllocError> {
+    match *mode {
+        Mode::Format {
+            file,
+            net_id,
+            slots,
+        } => {
+            let (net_id, slots) = (net_id.get(), slots.get());
+            format!(in alloc; "format {file} {net_id} {slots}")
+        }
+        Mode::List { file } => format!(in alloc; "list {file}"),
+        Mode::Serve {
+            file,
+            listen,
+            links,
+        } => {
+            let links = links.get();
+            format!(in alloc; "serve {file} {listen} {links}")
+        }
+    }
+}
+
+#[test]
+fn words_ask_for_one_thing(rt: HostRuntime) {
+    for (line, wanted) in ROWS {
+        let told = asked(rt.alloc(), line).expect(&rt, "memory");
+        assert!(rt; told.as_str() == *wanted, "{line}: {told}");
+    }
+}
+
+// What help has to tell of each word, with its unit and its range.
+const HELPS: &[(&str, &[&str])] = &[
+    (
+        "--help",
+        &[
+            "format",
+            "list",
+            "serve",
+            "lnsd format store --netid 00002A --slots 64",
+        ],
+    ),
+    (
+        "format --help",
+        &[
+            "FILE",
+            "000000 to 00003F",
+            "from 1 to 4096",
+            "lnsd format store",
+        ],
+    ),
+    ("list --help", &["FILE", "lnsd list store"]),
+    (
+        "serve --help",
+        &[
+            "FILE",
+            "TCP port",
+            "from 1 to 80",
+            "--listen 127.0.0.1:5600",
+        ],
+    ),
+];
+
+fn help_of(alloc: Global, line: &str) -> Option<String> {
+    let all: Vec<&str> = line.split(' ').collect(alloc).ok()?;
+    match words(alloc, all.as_slice()) {
+        Err(Usage::Help(text)) => Some(text),
+        _ => None,
+    }
+}
+
+#[test]
+fn help_tells_of_each_word(rt: HostRuntime) {
+    for (line, tells) in HELPS {
+        let text = help_of(rt.alloc(), line).expect(&rt, "help");
+        for it in *tells {
+            assert!(rt; text.contains(*it), "{line}: {it}");
+        }
+    }
+}
