@@ -127,9 +127,9 @@ def machine(folder):
         "processors": len(os.sched_getaffinity(0)),
         "memory_gib": round(total / 2**20, 1),
         "kernel": platform.release(),
-        "file_system": by_command("stat", "-f", "-c", "%T", folder),
+        "file_system": by_command("findmnt", "-n", "-o", "FSTYPE", "-T", folder) or "unknown",
         "python": platform.python_version(),
         "load_average": os.getloadavg()[0],
         "date": time.strftime("%Y-%m-%d %H:%M UTC", time.gmtime()),
-        "commit": by_command("git", "rev-parse", "--short", "HEAD"),
+        "commit": by_command("git", "rev-parse", "--short", "HEAD") or "unknown",
     }
