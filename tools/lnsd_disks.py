@@ -85,9 +85,9 @@ def fails(trials, program, how, number):
 
 
 def slow(trials):
-    """Syncs of 100 ms: what waits goes into one batch, and nothing else waits for the disk."""
+    """Syncs of 300 ms: what waits goes into one batch, and nothing else waits for the disk."""
     with trials.store(32, records(20, OWNER)) as program:
-        how = with_disk(program, SLOW_SYNCS=1_000_000, SLOW_MS=100)
+        how = with_disk(program, SLOW_SYNCS=1_000_000, SLOW_MS=300)
         if not how:
             return
         address = program.serve(2, env=how)
@@ -99,12 +99,12 @@ def slow(trials):
             application.asks("hello")
         came = [application.hears() for _ in range(3)]
         trials.compare("refusals, which don't wait", came, ["refused 51"] * 3)
-        trials.holds("a refusal waited for the disk", time.monotonic() - begun < 0.15)
+        trials.holds("a refusal waited for the disk", time.monotonic() - begun < 0.3)
         came = [application.hears() for _ in range(20)]
         due = [f"queued {lnsd_load.dev_eui(it)} {it}" for it in range(20)]
         trials.compare("answers", came, due)
         took = time.monotonic() - begun
-        trials.holds(f"20 requests took {took:.2f} s, more than two batches", 0.2 <= took < 0.75)
+        trials.holds(f"20 requests took {took:.2f} s, more than two batches", 0.6 <= took < 2)
         end_all(trials, [application, gateway])
         trials.ended(program)
 
