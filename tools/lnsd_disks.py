@@ -5,6 +5,7 @@ import shutil
 import subprocess
 import time
 
+import lnsd_floods
 import lnsd_load
 from lnsd_trials import EUI, OWNER, Pair, end_all, records
 from server import wire
@@ -84,6 +85,21 @@ def fails(trials, program, how, number):
     trials.holds(f"{seq} decisions are there, and {left} had left", seq >= left)
 
 
+def stuck(trials):
+    """A sync fails while an application doesn't read what it is sent: the end doesn't wait."""
+    with trials.store(4096, records(lnsd_floods.LONG // 8, OWNER)) as program:
+        how = with_disk(program, FAILING_SYNC=300)
+        if not how:
+            return
+        begun = time.monotonic()
+        try:
+            lnsd_floods.long_uplinks(program, program.serve(2, env=how))
+        except Ended:
+            pass
+        trials.compare("the server's end", program.ended(), (1, "", "lnsd: refused 40\n"))
+        trials.holds("it took too long", time.monotonic() - begun < 12)
+
+
 def slow(trials):
     """Syncs of 300 ms: what waits goes into one batch, and nothing else waits for the disk."""
     with trials.store(32, records(20, OWNER)) as program:
@@ -131,6 +147,7 @@ def backlog(trials):
 
 TRIALS = {
     "a disk whose nth sync fails": failing,
+    "a disk that fails while an application doesn't read": stuck,
     "a disk whose syncs are slow": slow,
     "4,096 decisions that wait for the disk": backlog,
 }
