@@ -177,6 +177,8 @@ class Seen:
         name = (dev_eui, max(sessions))
         is_so = join_nonce != "-" and int(join_nonce) >= name[1]
         self.holds(is_so, f"{shown}, though session {name[1]} sent")
+        if join_nonce == "-":
+            return
         if join_nonce == str(name[1]):
             last = self.last["uplink counter", name]
             down = self.last.get(("downlink counter", name), -1)
