@@ -22,8 +22,8 @@ def machine(found):
     of = found["machine"]
     return [
         f"{of['processor']}, {of['processors']} processors, {of['memory_gib']} GiB; Linux",
-        f"{of['kernel']}, {of['file_system']}; {of['date']}, commit {of['commit']}. Before it the load",
-        f"average was {of['load_average']:.1f}, where 0 is a machine that does nothing else.",
+        f"{of['kernel']}, {of['file_system']}; {of['date']}, commit {of['commit']}. Before the run",
+        f"the load average was {of['load_average']:.1f}, where a machine at rest has 0.",
         "",
     ]
 
@@ -35,10 +35,11 @@ def uplinks(found):
         lost = it["sent"] - it["came"]
         told = f"{it['uplinks_a_second']:,.0f}", f"{it['sent']:,}", lost
         cells.append((*told, *spread(it["latency"]), f"{it['processor_us_an_uplink']} µs"))
+        cells.append(("two syncs meanwhile", "", "", *spread(it["syncs"]["two"]), ""))
     head = ("Uplinks a second", "sent", "lost", "median", "99th", "largest", "processor time each")
-    two = found["syncs_before"]["two"]
-    cells.append(("two syncs alone, before", "", "", *spread(two), ""))
-    cells.append(("two syncs alone, after", "", "", *spread(found["syncs_after"]["two"]), ""))
+    for name in ("before", "after"):
+        two = spread(found[f"syncs_{name}"]["two"])
+        cells.append((f"two syncs alone, {name}", "", "", *two, ""))
     return table(head, *cells)
 
 
