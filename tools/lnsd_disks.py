@@ -5,6 +5,7 @@ import shutil
 import subprocess
 import time
 
+import lnsd_floods
 import lnsd_load
 from lnsd_trials import EUI, OWNER, Pair, end_all, records
 from server import wire
@@ -84,10 +85,25 @@ def fails(trials, program, how, number):
     trials.holds(f"{seq} decisions are there, and {left} had left", seq >= left)
 
 
+def stuck(trials):
+    """A sync fails while an application doesn't read what it is sent: the end doesn't wait."""
+    with trials.store(4096, records(lnsd_floods.LONG // 8, OWNER)) as program:
+        how = with_disk(program, FAILING_SYNC=300)
+        if not how:
+            return
+        begun = time.monotonic()
+        try:
+            lnsd_floods.long_uplinks(program, program.serve(2, env=how))
+        except Ended:
+            pass
+        trials.compare("the server's end", program.ended(), (1, "", "lnsd: refused 40\n"))
+        trials.holds("it took too long", time.monotonic() - begun < 12)
+
+
 def slow(trials):
-    """Syncs of 100 ms: what waits goes into one batch, and nothing else waits for the disk."""
+    """Syncs of 300 ms: what waits goes into one batch, and nothing else waits for the disk."""
     with trials.store(32, records(20, OWNER)) as program:
-        how = with_disk(program, SLOW_SYNCS=1_000_000, SLOW_MS=100)
+        how = with_disk(program, SLOW_SYNCS=1_000_000, SLOW_MS=300)
         if not how:
             return
         address = program.serve(2, env=how)
@@ -99,12 +115,12 @@ def slow(trials):
             application.asks("hello")
         came = [application.hears() for _ in range(3)]
         trials.compare("refusals, which don't wait", came, ["refused 51"] * 3)
-        trials.holds("a refusal waited for the disk", time.monotonic() - begun < 0.15)
+        trials.holds("a refusal waited for the disk", time.monotonic() - begun < 0.3)
         came = [application.hears() for _ in range(20)]
         due = [f"queued {lnsd_load.dev_eui(it)} {it}" for it in range(20)]
         trials.compare("answers", came, due)
         took = time.monotonic() - begun
-        trials.holds(f"20 requests took {took:.2f} s, more than two batches", 0.2 <= took < 0.75)
+        trials.holds(f"20 requests took {took:.2f} s, more than two batches", 0.6 <= took < 2)
         end_all(trials, [application, gateway])
         trials.ended(program)
 
@@ -131,6 +147,7 @@ def backlog(trials):
 
 TRIALS = {
     "a disk whose nth sync fails": failing,
+    "a disk that fails while an application doesn't read": stuck,
     "a disk whose syncs are slow": slow,
     "4,096 decisions that wait for the disk": backlog,
 }

@@ -4,7 +4,7 @@ import threading
 import time
 
 import lnsd_load
-from lnsd_trials import EUI, HEARD, OWNER, Pair, await_links, end_all, records
+from lnsd_trials import EUI, HEARD, OWNER, PROVISION, Pair, await_links, end_all, records
 from outside.gateway import Copy
 from server import wire
 from server.links import Application, Gateway, Link
@@ -264,6 +264,35 @@ def eighty(trials):
         finish(trials, program, [*links, *owners])
 
 
+def full_table(trials):
+    """16 applications provision side by side: one device each of them, and then more than fit. No
+    slot is given twice."""
+    slots, each, rounds = 4096, 30, 9
+    with trials.store(slots) as program:
+        address = program.serve(16)
+        owners = await_links([Application(address, it) for it in range(16)])
+        for it in owners:
+            it.asks(PROVISION)
+        came = sorted(it.hears().split(" ")[0] for it in owners)
+        trials.compare("who got the device", came, ["provisioned"] + ["refused"] * 15)
+        given, refused = {0}, 0
+        for number in range(rounds):
+            for it in owners:
+                names = (f"{it.number:08X}{number * each + at:08X}" for at in range(each))
+                lines = (f"provision {name} {name} {'0' * 32} 0 1" for name in names)
+                it.say(b"".join(map(wire.request, lines)))
+            for it in owners:
+                for _ in range(each):
+                    kind, *words = it.hears().split(" ")
+                    refused += kind == "refused" and words == ["17"]
+                    given |= {int(words[1])} if kind == "provisioned" else set()
+        trials.compare("slots that were given", len(given), slots)
+        trials.compare("refused 17", refused, 16 * each * rounds + 1 - slots)
+        finish(trials, program, owners)
+        lines = program.list()
+        trials.compare("the list's last line", lines[-1], f"devices {slots} seq {slots}")
+
+
 def unlinked(trials):
     """What is for an application that isn't linked is dropped and counted, and stays durable."""
     with trials.store(records=records(5, OWNER)) as program:
@@ -300,6 +329,7 @@ TRIALS = {
     "an application that reads nothing until the end": reads_late,
     "an application that neither reads nor closes, at the end": never_ends,
     "80 links at once": eighty,
+    "a table that 16 applications fill side by side": full_table,
     "an application that isn't linked": unlinked,
     "a link too many": refused_link,
 }

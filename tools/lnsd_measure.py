@@ -1,5 +1,6 @@
 """What a run of lnsd takes: a disk's syncs, a process's time and memory, how often it wakes."""
 import math
+import multiprocessing
 import os
 import platform
 import re
@@ -8,6 +9,7 @@ import signal
 import subprocess
 import tempfile
 import time
+from contextlib import contextmanager
 
 import commands
 
@@ -35,24 +37,61 @@ def spread(nanoseconds):
     }
 
 
-def syncs(folder):
-    """How long `fdatasync` takes here, as a commit calls it: behind a write of a batch, and behind
-    one of a byte, in a file of which every block is there. Two syncs are one commit's."""
-    single, pairs = [], []
+def committed(number, place):
+    """The syncs of one commit: behind a write of a batch, and behind one of a byte, in ns."""
+    took = []
+    for written in (os.urandom(BATCH), b"\xa5"):
+        os.pwrite(number, written, place)
+        begun = time.monotonic_ns()
+        os.fdatasync(number)
+        took.append(time.monotonic_ns() - begun)
+    return took
+
+
+@contextmanager
+def file_in(folder):
+    """A file of two mebibytes of which every block is there, as a store's are."""
     with tempfile.TemporaryFile(dir=folder) as file:
-        number = file.fileno()
-        os.pwrite(number, bytes(2 << 20), 0)
-        os.fsync(number)
-        for it in range(MOST_SYNCS):
-            took = 0
-            for written in (os.urandom(BATCH), b"\xa5"):
-                os.pwrite(number, written, 32 + it * BATCH)
-                begun = time.monotonic_ns()
-                os.fdatasync(number)
-                single.append(time.monotonic_ns() - begun)
-                took += single[-1]
-            pairs.append(took)
-    return {"one": spread(single), "two": spread(pairs)}
+        os.pwrite(file.fileno(), bytes(2 << 20), 0)
+        os.fsync(file.fileno())
+        yield file.fileno()
+
+
+def told(pairs):
+    """The spreads of single syncs, and of the two of a commit."""
+    return {"one": spread(sum(pairs, [])), "two": spread(map(sum, pairs))}
+
+
+def syncs(folder):
+    """How long `fdatasync` takes here, as a commit calls it, where nothing else is asked."""
+    with file_in(folder) as number:
+        return told([committed(number, it * BATCH) for it in range(MOST_SYNCS)])
+
+
+class Probe:
+    """Makes such syncs all the while in a process of its own, a commit's ten times a second."""
+
+    def __init__(self, folder):
+        context = multiprocessing.get_context("fork")
+        self.found, ends = context.Pipe(duplex=False)
+        self.stop = context.Event()
+        self.process = context.Process(target=self.go_on, args=(folder, ends), daemon=True)
+
+    def go_on(self, folder, ends):
+        pairs = []
+        with file_in(folder) as number:
+            while not self.stop.wait(0.1):
+                pairs.append(committed(number, len(pairs) % 2000 * BATCH))
+        ends.send(pairs)
+
+    def __enter__(self):
+        self.process.start()
+        return self
+
+    def __exit__(self, *_):
+        self.stop.set()
+        self.pairs = self.found.recv() if self.found.poll(10) else []
+        self.process.join(10)
 
 
 def memory(pid):
@@ -127,9 +166,9 @@ def machine(folder):
         "processors": len(os.sched_getaffinity(0)),
         "memory_gib": round(total / 2**20, 1),
         "kernel": platform.release(),
-        "file_system": by_command("stat", "-f", "-c", "%T", folder),
+        "file_system": by_command("findmnt", "-n", "-o", "FSTYPE", "-T", folder) or "unknown",
         "python": platform.python_version(),
         "load_average": os.getloadavg()[0],
         "date": time.strftime("%Y-%m-%d %H:%M UTC", time.gmtime()),
-        "commit": by_command("git", "rev-parse", "--short", "HEAD"),
+        "commit": by_command("git", "rev-parse", "--short", "HEAD") or "unknown",
     }

@@ -24,6 +24,7 @@ class Meter(Device):
         self.keeps = number % 3 > 0
         self.rests_until, self.sent = 0.0, []
         self.owes_ack, self.next_tag = False, 1
+        self.is_joining = False
 
     def words(self):
         key = self.app_key.hex().upper()
@@ -41,7 +42,8 @@ class Meter(Device):
     def frame(self, chance):
         """What it sends: a Join-Request, something new, or what it sent before."""
         self.rests_until = time.monotonic() + REST
-        if not self.keys or not self.keeps and chance.random() < 0.2:
+        self.is_joining = not self.keys or not self.keeps and chance.random() < 0.2
+        if self.is_joining:
             return self.join_request()
         if self.sent and chance.random() < 0.15:
             return chance.choice(self.sent)
@@ -133,8 +135,8 @@ class Seen:
 
     def accept(self, frame):
         """A Join-Accept: only the device that it is for can open it."""
-        # the one that sent last is tried first
-        for it in sorted(self.meters.values(), key=lambda it: -it.rests_until):
+        # those that asked for one are tried first
+        for it in sorted(self.meters.values(), key=lambda it: not it.is_joining):
             fields, is_right = opened_accept(it.app_key, frame)
             if not is_right:
                 continue
@@ -175,6 +177,8 @@ class Seen:
         name = (dev_eui, max(sessions))
         is_so = join_nonce != "-" and int(join_nonce) >= name[1]
         self.holds(is_so, f"{shown}, though session {name[1]} sent")
+        if join_nonce == "-":
+            return
         if join_nonce == str(name[1]):
             last = self.last["uplink counter", name]
             down = self.last.get(("downlink counter", name), -1)

@@ -139,6 +139,26 @@ def applications(trials):
         trials.ended(program, faulted=len(faulty))
 
 
+def counts(trials):
+    """What stands before a fault counts, and what stands behind it doesn't."""
+    with trials.store() as program:
+        address = program.serve(3)
+        pair, faulty = Pair(address), Link(address)
+        pair.greet()
+        pair.play(trials)
+        heard = Copy(own_eui(1))
+        good, late = (pair.device.uplink(7, b"\x04\xd2") for _ in range(2))
+        said = wire.gateway_greeting(heard.gateway) + wire.copy_of(good, heard)
+        faulty.say(said + bytes.fromhex("02BD") + wire.copy_of(late, heard))
+        due = f"up {pair.device.dev_eui} 1 1 7 04D2 1 {heard.heard()}"
+        trials.compare("the uplink before a fault", pair.application.read(), b"\x13" + due.encode())
+        faulty.say(wire.copy_of(late, heard))
+        time.sleep(0.4)
+        pair.sends(trials)
+        end_all(trials, [faulty, *pair.links()])
+        trials.ended(program, faulted=1)
+
+
 def lines(trials, link):
     """Lines with their answers."""
     eui, key = "A" * 16, "0" * 32
@@ -201,6 +221,7 @@ TRIALS = {
     "these streams, cut after every byte": cut,
     "these streams, byte by byte": in_pieces,
     "applications with a fault, and lines that are no requests": applications,
+    "what stands before a fault, and behind it": counts,
     "the second link of a name": names,
     "links that are silent, half open, or reset": silent,
 }

@@ -2,7 +2,7 @@
 
 import textwrap
 
-from .gateway import Copy, read_order
+from .gateway import read_order
 
 WIDTH = 100
 # a page shows at most so many lines in a row, else the first and the last of them

@@ -2,7 +2,8 @@
 
 from dataclasses import replace
 
-from outside.story import Copy, Story
+from outside.gateway import Copy
+from outside.story import Story
 
 from .people import B1, B2, B3, METER, listed, meter, provision, session, told, up
 

@@ -1,6 +1,7 @@
 """The shortest story with a radio frame and a power cut in it."""
 
-from outside.story import Copy, Story
+from outside.gateway import Copy
+from outside.story import Story
 
 from .people import B1, METER, listed, meter, provision, session, told, up
 

@@ -1,6 +1,7 @@
 """Power cuts at each moment of a commit: what the device sees when it sends again."""
 
-from outside.story import Copy, Story
+from outside.gateway import Copy
+from outside.story import Story
 
 from .people import B1, METER, listed, meter, provision, session, told, up
 

@@ -2,7 +2,8 @@
 
 from dataclasses import replace
 
-from outside.story import Copy, Story
+from outside.gateway import Copy
+from outside.story import Story
 
 from .people import APP_KEY, B1, JOIN_EUI, METER, meter, provision, session, told, up
 
