@@ -9,6 +9,7 @@ mod crew;
 mod directory;
 mod flushing;
 mod gate;
+mod gathering;
 mod hall;
 mod host;
 mod link;
