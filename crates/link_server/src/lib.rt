@@ -5,20 +5,20 @@
 #![tactic(auto)]
 
 mod closing;
-mod crew;
+mod context;
 mod directory;
 mod flushing;
 mod gate;
 mod gathering;
-mod hall;
-mod host;
 mod link;
 mod moments;
 mod outgoing;
+mod parts;
 mod reading;
 mod report;
 mod routing;
 mod running;
+mod server;
 mod serving;
 mod signals;
 mod threads;
