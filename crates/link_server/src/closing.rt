@@ -45,8 +45,8 @@ impl<'x, B: Books, R: Wait, G: Gate, C: LifeClock> Closer<'x, B, R, G, C> {
         closer.seat
     }
 
-    // Until the oldest window is due; where there is none, until one opens. The flag is set before the
-    // look, so that a window which opens behind the look finds it set, and rings.
+    // Until the oldest window is due; where there is none, until one opens. The flag is set before
+    // the look, so that a window which opens behind the look finds it set, and rings.
     fn wait_for_window(&self) {
         let signals = &self.server.signals;
         signals.set_idle();

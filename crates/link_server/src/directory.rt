@@ -40,8 +40,8 @@ impl Directory {
         })
     }
 
-    /// Gives a link the name of whoever greets on it, where no link has this name, and, of a gateway,
-    /// fewer than 64 are linked. Else nothing is changed.
+    /// Gives a link the name of whoever greets on it, where no link has this name, and, of a
+    /// gateway, fewer than 64 are linked. Else nothing is changed.
     pub(crate) fn greet(&mut self, name: Recipient, link: usize) -> bool
         ensures granted { result ≡ may_greet self.old name }
         ensures greeted { MatchBool result (IsGreeted self.old name link self.new)
@@ -55,7 +55,8 @@ impl Directory {
 
     fn greet_gateway(&mut self, gateway: Eui, link: usize) -> bool
         ensures granted { result ≡ may_greet self.old (names.Gateway gateway) }
-        ensures greeted { MatchBool result (IsGreeted self.old (names.Gateway gateway) link self.new)
+        ensures greeted { MatchBool result
+            (IsGreeted self.old (names.Gateway gateway) link self.new)
             (self.new ≡ self.old) }
     {
         if self.gateways.len() >= MOST_GATEWAYS || self.gateway_link(gateway).is_some() {

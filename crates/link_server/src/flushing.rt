@@ -11,8 +11,9 @@ use std::alloc::Global;
 use std::sync::Wait;
 use store::Store;
 
-/// Commits, and lets effects out, until nothing is decided any more and all is committed; then tells the
-/// senders that nothing more comes. A refusal closes the links, and what waits for them is lost.
+/// Commits, and lets effects out, until nothing is decided any more and all is committed; then
+/// tells the senders that nothing more comes. A refusal closes the links, and what waits for them
+/// is lost.
 pub(crate) fn flush<B: Books, R: Wait, D: Disk>(
     rt: &R,
     alloc: Global,
@@ -61,8 +62,8 @@ fn let_out<B: Books, R: Wait>(
     }
 }
 
-// Whether nothing is left, behind an empty batch. The last tick may have been made behind that batch,
-// so one more is asked for once the tick is seen. Else waits for a decision.
+// Whether nothing is left, behind an empty batch. The last tick may have been made behind that
+// batch, so one more is asked for once the tick is seen. Else waits for a decision.
 fn is_done<B: Books, R: Wait>(rt: &R, server: &Server<B>, is_ticked: &mut bool) -> bool {
     if *is_ticked {
         return true;

@@ -22,9 +22,9 @@ pub(crate) struct Gathered {
     pub(crate) lost: u64,
 }
 
-/// Takes effects from a ring, and puts their frames behind those that are to be sent, until there are
-/// enough or no more. An effect for whose frame there is no memory is lost, and on a broken link each
-/// one is.
+/// Takes effects from a ring, and puts their frames behind those that are to be sent, until there
+/// are enough or no more. An effect for whose frame there is no memory is lost, and on a broken
+/// link each one is.
 pub(crate) fn gather(
     alloc: Global,
     inlet: &mut Inlet,
@@ -53,7 +53,8 @@ pub(crate) fn gather(
     Gathered { taken, lost }
 }
 
-// Whether the frame of an effect is put behind the others. It isn't without memory, or on a broken link.
+// Whether the frame of an effect is put behind the others. It isn't without memory, or on a broken
+// link.
 fn is_put(alloc: Global, effect: Effect, outgoing: &mut Outgoing, is_broken: bool) -> bool
     ensures { MatchBool result (outgoing.new ≡ outgoing.old ++ frame_of effect)
         (outgoing.new ≡ outgoing.old) }

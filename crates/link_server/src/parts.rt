@@ -10,8 +10,8 @@ use std::alloc::Global;
 // The places of each of a link's two rings.
 const PLACES: usize = 1024;
 
-/// What the two threads of a link own: the worker a seat and the end of a ring into which refusals go,
-/// the sender the ends from which effects and refusals come.
+/// What the two threads of a link own: the worker a seat and the end of a ring into which refusals
+/// go, the sender the ends from which effects and refusals come.
 #[derive(Drop)]
 pub(crate) struct LinkParts<B: Books> {
     pub(crate) seat: Seat<B>,
@@ -20,7 +20,8 @@ pub(crate) struct LinkParts<B: Books> {
     pub(crate) refusals: Consumer<Refusal>,
 }
 
-/// The parts of each link's threads, the closer's seat, and the flusher's outlets, one for each link.
+/// The parts of each link's threads, the closer's seat, and the flusher's outlets, one for each
+/// link.
 #[derive(Drop)]
 pub(crate) struct Parts<B: Books> {
     pub(crate) links: Vec<LinkParts<B>>,
@@ -29,7 +30,8 @@ pub(crate) struct Parts<B: Books> {
 }
 
 impl<B: Books> Parts<B> {
-    /// The parts of so many links. It takes every seat. Refused with `OutOfMemory` for want of memory.
+    /// The parts of so many links. It takes every seat. Refused with `OutOfMemory` for want of
+    /// memory.
     pub(crate) fn new(alloc: Global, shared: &mut Shared<B>, links: usize) -> Result<Self, Refusal>
         requires { shared.old.left ≡ links + 1 }
     {

@@ -20,8 +20,8 @@ use std::thread;
 use std::thread::{JoinHandle, Scope, Threads};
 use store::Store;
 
-/// What is left of a life: the store, how it ended, and the seats that came back, in the order of the
-/// links and the closer's last.
+/// What is left of a life: the store, how it ended, and the seats that came back, in the order of
+/// the links and the closer's last.
 #[derive(Drop)]
 pub(crate) struct Ended<D: Disk, B: Books> {
     pub(crate) store: Store<D>,

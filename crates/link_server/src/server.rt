@@ -5,8 +5,8 @@ use crate::signals::Signals;
 use session_core::{Books, Shared};
 use std::sync::Mutex;
 
-/// The links, what stands behind a lock, and the signals. No thread holds both locks at once, nor one of
-/// them while it reads, writes or syncs.
+/// The links, what stands behind a lock, and the signals. No thread holds both locks at once, nor
+/// one of them while it reads, writes or syncs.
 #[derive(Drop)]
 pub(crate) struct Server<B: Books> {
     pub(crate) links: Vec<Link>,

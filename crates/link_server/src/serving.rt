@@ -22,24 +22,25 @@ use std::sync::{Mutex, Wait};
 use std::thread::Threads;
 use store::Store;
 
-/// Accepts so many links, closes the listener, and serves the links until the inputs of all have ended:
-/// what they say is decided and committed to the store, and what may leave goes out on them. Gives the
-/// store back with what came of it.
+/// Accepts so many links, closes the listener, and serves the links until the inputs of all have
+/// ended: what they say is decided and committed to the store, and what may leave goes out on them.
+/// Gives the store back with what came of it.
 ///
-/// Each link has a worker, which passes the gate before each of its calls, and a sender, with a ring of
-/// 1,024 effects and one of 1,024 refusals. A link is read no further behind bytes that are no message,
-/// a length above 700, an end inside a frame, a greeting under a name that a link has, or of a gateway
-/// where 64 are linked; and, which counts as no fault, where there is no memory for its messages. Its
-/// sender goes on, and its name stays its own. An effect is dropped whose gateway or application isn't
-/// linked, or whose link's ring is full; so is a refusal, uncounted, that finds its ring full.
+/// Each link has a worker, which passes the gate before each of its calls, and a sender, with a
+/// ring of 1,024 effects and one of 1,024 refusals. A link is read no further behind bytes that are
+/// no message, a length above 700, an end inside a frame, a greeting under a name that a link has,
+/// or of a gateway where 64 are linked; and, which counts as no fault, where there is no memory for
+/// its messages. Its sender goes on, and its name stays its own. An effect is dropped whose gateway
+/// or application isn't linked, or whose link's ring is full; so is a refusal, uncounted, that
+/// finds its ring full.
 ///
 /// At the end a last tick closes the windows that are open, 200 ms past the effective time, what is
-/// left is committed, and each sender writes what waits. A peer that takes nothing for ten seconds then
-/// is given up, and what is left for it is dropped. A store that fails ends the life at once: the links
-/// are closed, and what waits for them is lost. Every thread is joined in each case.
+/// left is committed, and each sender writes what waits. A peer that takes nothing for ten seconds
+/// then is given up, and what is left for it is dropped. A store that fails ends the life at once:
+/// the links are closed, and what waits for them is lost. Every thread is joined in each case.
 ///
-/// Nothing polls: a worker waits in its read, a sender and the flusher for a bell, and the closer until
-/// the oldest window is due. It need not return: an input may never end.
+/// Nothing polls: a worker waits in its read, a sender and the flusher for a bell, and the closer
+/// until the oldest window is due. It need not return: an input may never end.
 pub fn serve_links<R: Threads + Wait + Sync, D: Disk + Drop, G: Gate + Sync, C: LifeClock + Sync>(
     rt: &R,
     alloc: Global,
