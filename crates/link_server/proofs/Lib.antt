@@ -1,0 +1,2 @@
+mod Routed
+mod Together

@@ -1,6 +1,6 @@
 -- Who is linked, and at which link.
-use Rattle.std.specs.Prelude.{◌≡◌, ◌==◌, ◌++◌, ◌∷◌, ◌&&◌, ℕ, Bool, List, [], Option, Some, None, length, nat_lt}
-use Rattle.std.specs.Prelude.{is_none, slice_index_or, slice_set}
+use Rattle.std.specs.Prelude.{◌≡◌, ◌==◌, ◌++◌, ◌∷◌, ◌&&◌, ℕ, Bool, List, [], Option, Some, None}
+use Rattle.std.specs.Prelude.{is_none, length, nat_lt, slice_index_or, slice_set}
 use Rattle.std.specs.List.{find}
 use Rattle.std.specs.Option.{option_map}
 use Rattle.gateway_wire.specs.declared.recipient.Recipient.{Recipient}

@@ -1,5 +1,5 @@
 -- How released effects come into the rings of their links.
-use Rattle.std.specs.Prelude.{◌≡◌, ◌+◌, ◌++◌, ◌∷◌, ℕ, List, [], Option, Some, None, map, slice_get}
+use Rattle.std.specs.Prelude.{◌≡◌, ◌+◌, ◌++◌, ◌∷◌, ℕ, List, [], Option, Some, map, slice_get}
 use Rattle.std.specs.Prelude.{slice_index_or, slice_set, MatchOption}
 use Rattle.std.specs.Option.{option_map_or}
 use Rattle.devices.specs.declared.effect.Effect.{Effect}

@@ -26,7 +26,8 @@ pub(crate) struct Directory {
 }
 
 impl Directory {
-    ghost use Rattle.std.specs.Prelude.{◌≡◌, [], None, IfOk, MatchBool, IsNone};
+    ghost use Rattle.std.specs.Prelude.{◌≡◌, None, IfOk, MatchBool};
+    ghost use Rattle.gateway_wire.specs.declared.recipient.Recipient.TheVariants as names;
     ghost use Rattle.link_server.specs.Linked.{gateway_link, link_of, may_greet, IsGreeted};
 
     /// Nobody is linked. All the memory that it ever takes is taken here.
@@ -39,16 +40,25 @@ impl Directory {
         })
     }
 
-    /// Gives a link the name of whoever greets on it, where no link has this name, and, of a gateway,
-    /// fewer than 64 are linked. Else nothing is changed.
-    pub(crate) fn greet(&mut self, name: Recipient, link: usize) -> bool {
+    /// Gives a link the name of whoever greets on it, where no link has this name, and, of a
+    /// gateway, fewer than 64 are linked. Else nothing is changed.
+    pub(crate) fn greet(&mut self, name: Recipient, link: usize) -> bool
+        ensures granted { result ≡ may_greet self.old name }
+        ensures greeted { MatchBool result (IsGreeted self.old name link self.new)
+            (self.new ≡ self.old) }
+    {
         match name {
             Recipient::Gateway(gateway) => self.greet_gateway(gateway, link),
             Recipient::Application(application) => self.greet_application(application, link),
         }
     }
 
-    fn greet_gateway(&mut self, gateway: Eui, link: usize) -> bool {
+    fn greet_gateway(&mut self, gateway: Eui, link: usize) -> bool
+        ensures granted { result ≡ may_greet self.old (names.Gateway gateway) }
+        ensures greeted { MatchBool result
+            (IsGreeted self.old (names.Gateway gateway) link self.new)
+            (self.new ≡ self.old) }
+    {
         if self.gateways.len() >= MOST_GATEWAYS || self.gateway_link(gateway).is_some() {
             return false;
         }
@@ -56,7 +66,12 @@ impl Directory {
         added.is_ok()
     }
 
-    fn greet_application(&mut self, application: Application, link: usize) -> bool {
+    fn greet_application(&mut self, application: Application, link: usize) -> bool
+        ensures granted { result ≡ may_greet self.old (names.Application application) }
+        ensures greeted { MatchBool result
+            (IsGreeted self.old (names.Application application) link self.new)
+            (self.new ≡ self.old) }
+    {
         let place = application.get() as usize;
         if self.applications[place].is_some() {
             return false;

@@ -1,9 +1,10 @@
 // Where workers can be held.
 
-/// Passed by each worker before each of its calls of the sessions, so that a test can hold one there.
+/// Passed by each worker before each of its calls of the sessions, so that a test can hold one
+/// there.
 pub trait Gate {
-    /// A worker is about to make a call. Workers are numbered from 1 in the order in which their links
-    /// were accepted, and each one's calls from 1.
+    /// A worker is about to make a call. Workers are numbered from 1 in the order in which their
+    /// links were accepted, and each one's calls from 1.
     fn pass(&self, worker: usize, call: u64);
 }
 

@@ -1,23 +1,24 @@
-//! The server's threads over sockets. Gateways and applications have a link each, with a worker that
-//! reads it and a sender that writes it. One closer closes the windows that are due, and one flusher
-//! commits what was decided, and routes what may leave to the links. [`serve_links`] is one life of
-//! them.
+//! The server's threads over sockets. Gateways and applications have a link each, with a worker
+//! that reads it and a sender that writes it. One closer closes the windows that are due, and one
+//! flusher commits what was decided, and routes what may leave to the links. [`serve_links`] is one
+//! life of them.
 #![tactic(auto)]
 
 mod closing;
-mod crew;
+mod context;
 mod directory;
 mod flushing;
 mod gate;
-mod hall;
-mod host;
+mod gathering;
 mod link;
 mod moments;
 mod outgoing;
+mod parts;
 mod reading;
 mod report;
 mod routing;
 mod running;
+mod server;
 mod serving;
 mod signals;
 mod threads;

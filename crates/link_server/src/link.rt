@@ -28,8 +28,8 @@ pub(crate) struct Link {
 }
 
 impl Link {
-    // What is sent leaves at once and not with what is sent next. Where the system refuses an option
-    // the link works without it.
+    // What is sent leaves at once and not with what is sent next. Where the system refuses an
+    // option the link works without it.
     fn new(stream: TcpStream) -> Self {
         let _ = stream.set_nodelay(true);
         let _ = stream.set_write_timeout(Some(Duration::from_secs(WRITE_WAIT)));
@@ -46,7 +46,8 @@ impl Link {
     }
 }
 
-/// Accepts so many links, and then closes the listener, so that whoever comes later is told at once.
+/// Accepts so many links, and then closes the listener, so that whoever comes later is told at
+/// once.
 pub(crate) fn accept(
     alloc: Global,
     listener: TcpListener,

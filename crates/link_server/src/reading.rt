@@ -1,9 +1,9 @@
 // A worker reads a link, and hands in what is said on it.
+use crate::context::Context;
 use crate::gate::Gate;
-use crate::hall::Hall;
-use crate::host::Host;
 use crate::link::Link;
 use crate::moments::LifeClock;
+use crate::server::Server;
 use devices::{Application, Command};
 use gateway_wire::{Recipient, Request, read_line};
 use link_messages::{Fed, Feeder, Line, Message, Peer};
@@ -20,8 +20,8 @@ const PIECE: usize = 8192;
 /// A link's worker.
 #[derive(Drop)]
 pub(crate) struct Worker<'x, B: Books, R: Wait, G: Gate, C: LifeClock> {
-    pub(crate) host: &'x Host<'x, R, G, C>,
-    pub(crate) hall: &'x Hall<B>,
+    pub(crate) context: &'x Context<'x, R, G, C>,
+    pub(crate) server: &'x Server<B>,
     pub(crate) link: &'x Link,
     // The place of its link among all, from 0.
     pub(crate) number: usize,
@@ -71,7 +71,7 @@ impl<'x, B: Books, R: Wait, G: Gate, C: LifeClock> Worker<'x, B, R, G, C> {
     pub(crate) fn run(self) -> Seat<B> {
         let mut worker = self;
         let mut buffer = [0u8; PIECE];
-        for _ in worker.host.rt.forever() {
+        for _ in worker.context.rt.forever() {
             match read_some(&worker.link.stream, &mut buffer) {
                 Heard::Nothing => {}
                 Heard::End => {
@@ -80,20 +80,20 @@ impl<'x, B: Books, R: Wait, G: Gate, C: LifeClock> Worker<'x, B, R, G, C> {
                 }
                 Heard::Bytes(n) => {
                     let piece = buffer.get(..n).unwrap_or(&[]);
-                    if !worker.hear_piece(piece) || worker.hall.signals.is_stopped() {
+                    if !worker.hear_piece(piece) || worker.server.signals.is_stopped() {
                         break;
                     }
                 }
             }
         }
-        worker.hall.signals.end_input();
+        worker.server.signals.end_input();
         worker.seat
     }
 
     // The input has ended: inside a frame, that is a fault.
     fn end(&self) {
         if self.feeder.end().is_err() {
-            self.hall.signals.count_fault();
+            self.server.signals.count_fault();
         }
     }
 
@@ -110,7 +110,7 @@ impl<'x, B: Books, R: Wait, G: Gate, C: LifeClock> Worker<'x, B, R, G, C> {
             }
         }
         if fault.is_some() {
-            self.hall.signals.count_fault();
+            self.server.signals.count_fault();
         }
         fault.is_none()
     }
@@ -134,12 +134,12 @@ impl<'x, B: Books, R: Wait, G: Gate, C: LifeClock> Worker<'x, B, R, G, C> {
     fn greet(&self, peer: &Peer) -> bool {
         let name = name_of(peer);
         let is_new = self
-            .hall
+            .server
             .directory
-            .lock(self.host.rt)
+            .lock(self.context.rt)
             .greet(name, self.number);
         if !is_new {
-            self.hall.signals.count_fault();
+            self.server.signals.count_fault();
         }
         is_new
     }
@@ -147,12 +147,12 @@ impl<'x, B: Books, R: Wait, G: Gate, C: LifeClock> Worker<'x, B, R, G, C> {
     // Where it is refused, nobody is told.
     fn hear_copy(&mut self, copy: FrameCopy) {
         self.pass_gate();
-        let moment = self.host.clock.now();
+        let moment = self.context.clock.now();
         let turn = self
-            .hall
+            .server
             .sessions
-            .hear(self.host.rt, &mut self.seat, moment, copy);
-        self.hall.signals.tell_opened();
+            .hear(self.context.rt, &mut self.seat, moment, copy);
+        self.server.signals.tell_opened();
         self.tell_flusher(&turn);
     }
 
@@ -161,7 +161,7 @@ impl<'x, B: Books, R: Wait, G: Gate, C: LifeClock> Worker<'x, B, R, G, C> {
         let Some(application) = asking(self.feeder.peer()) else {
             return;
         };
-        let refused = match read_line(self.host.alloc, line.as_str()) {
+        let refused = match read_line(self.context.alloc, line.as_str()) {
             Ok(request) => self.ask(application, request),
             Err(refusal) => Some(refusal),
         };
@@ -173,14 +173,14 @@ impl<'x, B: Books, R: Wait, G: Gate, C: LifeClock> Worker<'x, B, R, G, C> {
 
     fn ask(&mut self, application: Application, request: Request) -> Option<Refusal> {
         self.pass_gate();
-        let moment = self.host.clock.now();
-        let sessions = &self.hall.sessions;
+        let moment = self.context.clock.now();
+        let sessions = &self.server.sessions;
         let seat = &mut self.seat;
         let turn = match request.into_command(application) {
-            Command::Provision(value) => sessions.provision(self.host.rt, seat, moment, value),
-            Command::Queue(value) => sessions.queue(self.host.rt, seat, moment, value),
+            Command::Provision(value) => sessions.provision(self.context.rt, seat, moment, value),
+            Command::Queue(value) => sessions.queue(self.context.rt, seat, moment, value),
             Command::Heard(_) => unreachable!(),
-            Command::QueueMac(value) => sessions.queue_mac(self.host.rt, seat, moment, value),
+            Command::QueueMac(value) => sessions.queue_mac(self.context.rt, seat, moment, value),
         };
         self.tell_flusher(&turn);
         turn.refused
@@ -188,14 +188,14 @@ impl<'x, B: Books, R: Wait, G: Gate, C: LifeClock> Worker<'x, B, R, G, C> {
 
     fn pass_gate(&mut self) {
         self.calls = self.calls.saturating_add(1);
-        self.host
+        self.context
             .gate
             .pass(self.number.saturating_add(1), self.calls);
     }
 
     fn tell_flusher(&self, turn: &Turn) {
         if turn.from < turn.to {
-            self.hall.signals.ring_flusher();
+            self.server.signals.ring_flusher();
         }
     }
 }

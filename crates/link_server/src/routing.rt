@@ -1,4 +1,7 @@
 // Released effects go into the rings of their links.
+ghost use Rattle.std.specs.Prelude.{◌≡◌, length};
+ghost use Rattle.flusher.specs.Released.{effect_of, effects_of_all};
+ghost use Rattle.link_server.specs.Routing.{IsRouted, IsRoutedOne};
 
 use crate::directory::Directory;
 use flusher::Released;
@@ -7,7 +10,9 @@ use outbox::Outlet;
 
 /// Puts an effect into the ring of its link, and gives the link's number. `None` where there is no
 /// such link, or its ring is full: the effect is lost.
-fn route_one(directory: &Directory, outlets: &mut [Outlet], released: Released) -> Option<usize> {
+fn route_one(directory: &Directory, outlets: &mut [Outlet], released: Released) -> Option<usize>
+    ensures { IsRoutedOne directory.now (effect_of released) result outlets.old outlets.new }
+{
     let number = directory.link_of(Recipient::of(released.effect()))?;
     if number >= outlets.len() {
         return None;
@@ -24,13 +29,16 @@ pub(crate) fn route(
     outlets: &mut [Outlet],
     released: Vec<Released>,
     marks: &mut [bool],
-) -> usize {
+) -> usize
+    ensures { IsRouted directory.now (effects_of_all released.items) result outlets.old
+        outlets.new }
+{
     let mut lost: usize = 0;
     for one in released {
         match route_one(directory, outlets, one) {
             Some(number) if number < marks.len() => marks[number] = true,
             Some(_) => {}
-            None => lost = lost.saturating_add(1),
+            None => lost += 1,
         }
     }
     lost

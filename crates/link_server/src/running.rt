@@ -1,13 +1,13 @@
 // The threads of a life are started and joined.
 use crate::closing::Closer;
-use crate::crew::{Crew, Post};
+use crate::context::Context;
 use crate::flushing::flush;
 use crate::gate::Gate;
-use crate::hall::Hall;
-use crate::host::Host;
 use crate::moments::LifeClock;
 use crate::outgoing::Outgoing;
+use crate::parts::{LinkParts, Parts};
 use crate::reading::Worker;
+use crate::server::Server;
 use crate::threads::{start_closer, start_sender, start_worker};
 use crate::writing::Sender;
 use disk::Disk;
@@ -20,8 +20,8 @@ use std::thread;
 use std::thread::{JoinHandle, Scope, Threads};
 use store::Store;
 
-/// What is left of a life: the store, how it ended, and the seats that came back, in the order of the
-/// links and the closer's last.
+/// What is left of a life: the store, how it ended, and the seats that came back, in the order of
+/// the links and the closer's last.
 #[derive(Drop)]
 pub(crate) struct Ended<D: Disk, B: Books> {
     pub(crate) store: Store<D>,
@@ -38,14 +38,14 @@ pub(crate) fn run<
     G: Gate + Sync,
     C: LifeClock + Sync,
 >(
-    host: &'x Host<'x, R, G, C>,
-    hall: &'x Hall<B>,
+    context: &'x Context<'x, R, G, C>,
+    server: &'x Server<B>,
     store: Store<D>,
     taker: Taker<B>,
-    crew: Crew<B>,
+    parts: Parts<B>,
 ) -> Ended<D, B> {
-    thread::scope(thread::scope_env(), host.rt, move |scope| {
-        run_in(scope, host, hall, store, taker, crew)
+    thread::scope(thread::scope_env(), context.rt, move |scope| {
+        run_in(scope, context, server, store, taker, parts)
     })
 }
 
@@ -59,44 +59,49 @@ fn run_in<
     C: LifeClock + Sync,
 >(
     scope: &Scope<'s, E>,
-    host: &'s Host<'s, R, G, C>,
-    hall: &'s Hall<B>,
+    context: &'s Context<'s, R, G, C>,
+    server: &'s Server<B>,
     store: Store<D>,
     taker: Taker<B>,
-    crew: Crew<B>,
+    parts: Parts<B>,
 ) -> Ended<D, B> {
-    let Crew {
-        posts,
+    let Parts {
+        links,
         closer,
         outlets,
-    } = crew;
+    } = parts;
     let mut store = store;
     let mut started = Started {
-        seated: Vec::new(host.alloc),
-        senders: Vec::new(host.alloc),
+        seated: Vec::new(context.alloc),
+        senders: Vec::new(context.alloc),
         is_whole: true,
     };
-    for (number, post) in posts.into_iter().enumerate() {
-        started.start_link(scope, host, hall, number, post);
+    for (number, parts) in links.into_iter().enumerate() {
+        started.start_link(scope, context, server, number, parts);
     }
     let closer = Closer {
-        host,
-        hall,
+        context,
+        server,
         seat: closer,
     };
-    started.keep_seated(start_closer(host.alloc, scope, closer));
+    started.keep_seated(start_closer(context.alloc, scope, closer));
     let result = if started.is_whole {
-        flush(host.rt, host.alloc, hall, &mut store, taker, outlets)
+        flush(
+            context.rt,
+            context.alloc,
+            server,
+            &mut store,
+            taker,
+            outlets,
+        )
     } else {
+        server.stop();
         Err(Refusal::OutOfMemory)
     };
-    if result.is_err() {
-        hall.stop();
-    }
     Ended {
         store,
         result,
-        seats: started.join(host.rt, host.alloc),
+        seats: started.join(context.rt, context.alloc),
     }
 }
 
@@ -113,42 +118,42 @@ impl<B: Books + Send + Sync> Started<B> {
     fn start_link<'s, E, R: Threads + Wait + Sync, G: Gate + Sync, C: LifeClock + Sync>(
         &mut self,
         scope: &Scope<'s, E>,
-        host: &'s Host<'s, R, G, C>,
-        hall: &'s Hall<B>,
+        context: &'s Context<'s, R, G, C>,
+        server: &'s Server<B>,
         number: usize,
-        post: Post<B>,
+        parts: LinkParts<B>,
     ) {
-        let Some(link) = hall.links.get(number) else {
+        let Some(link) = server.links.get(number) else {
             return;
         };
-        let Post {
+        let LinkParts {
             seat,
             refused,
             inlet,
             refusals,
-        } = post;
+        } = parts;
         let worker = Worker {
-            host,
-            hall,
+            context,
+            server,
             link,
             number,
             calls: 0,
-            feeder: Feeder::new(host.alloc),
+            feeder: Feeder::new(context.alloc),
             seat,
             refusals: refused,
         };
-        self.keep_seated(start_worker(host.alloc, scope, worker));
+        self.keep_seated(start_worker(context.alloc, scope, worker));
         let sender = Sender {
-            rt: host.rt,
-            alloc: host.alloc,
-            signals: &hall.signals,
+            rt: context.rt,
+            alloc: context.alloc,
+            signals: &server.signals,
             link,
             inlet,
             refusals,
-            outgoing: Outgoing::new(host.alloc),
+            outgoing: Outgoing::new(context.alloc),
             is_broken: false,
         };
-        self.keep_sender(start_sender(host.alloc, scope, number, sender));
+        self.keep_sender(start_sender(context.alloc, scope, number, sender));
     }
 
     fn keep_seated(&mut self, thread: Option<JoinHandle<Seat<B>>>) {

@@ -1,14 +1,14 @@
 // One life of a server.
 ghost use Rattle.std.specs.Prelude.{◌≡◌, ◌≤◌, ◌+◌, length, sum, Err, IfOk};
 
-use crate::crew::Crew;
+use crate::context::Context;
 use crate::directory::Directory;
 use crate::gate::Gate;
-use crate::hall::Hall;
-use crate::host::Host;
 use crate::link::{Link, LinkCount, accept};
 use crate::moments::LifeClock;
+use crate::parts::Parts;
 use crate::running::{Ended, run};
+use crate::server::Server;
 use crate::signals::Signals;
 use crate::{Report, ServeFault, Served};
 use disk::Disk;
@@ -22,19 +22,25 @@ use std::sync::{Mutex, Wait};
 use std::thread::Threads;
 use store::Store;
 
-/// Accepts so many links, and serves them until the inputs of all have ended: what they say is decided,
-/// committed to the store, and what may leave goes out on their links. Gives the store back with what
-/// came of it.
+/// Accepts so many links, closes the listener, and serves the links until the inputs of all have
+/// ended: what they say is decided and committed to the store, and what may leave goes out on them.
+/// Gives the store back with what came of it.
 ///
-/// Each link has a worker, which passes the gate before each of its calls, and a sender. A link is read
-/// no further behind bytes that are no message (51), a length above 700 (50), an end inside a frame
-/// (52), a greeting with a name that a link has, or of a gateway where 64 are linked; also where it
-/// can't be for want of memory. Its sender goes on. At the end a last tick closes what windows are
-/// open, 200 ms past the effective time, what is left is committed, and each sender writes what waits.
+/// Each link has a worker, which passes the gate before each of its calls, and a sender, with a
+/// ring of 1,024 effects and one of 1,024 refusals. A link is read no further behind bytes that are
+/// no message, a length above 700, an end inside a frame, a greeting under a name that a link has,
+/// or of a gateway where 64 are linked; and, which counts as no fault, where there is no memory for
+/// its messages. Its sender goes on, and its name stays its own. An effect is dropped whose gateway
+/// or application isn't linked, or whose link's ring is full; so is a refusal, uncounted, that
+/// finds its ring full.
 ///
-/// A store that fails ends the life at once: the links are closed, and what waits for them is lost. In
-/// each case every thread is joined. A peer that takes nothing, and closes nothing either, is given up
-/// at the end after ten seconds. It need not return: inputs may never end.
+/// At the end a last tick closes the windows that are open, 200 ms past the effective time, what is
+/// left is committed, and each sender writes what waits. A peer that takes nothing for ten seconds
+/// then is given up, and what is left for it is dropped. A store that fails ends the life at once:
+/// the links are closed, and what waits for them is lost. Every thread is joined in each case.
+///
+/// Nothing polls: a worker waits in its read, a sender and the flusher for a bell, and the closer
+/// until the oldest window is due. It need not return: an input may never end.
 pub fn serve_links<R: Threads + Wait + Sync, D: Disk + Drop, G: Gate + Sync, C: LifeClock + Sync>(
     rt: &R,
     alloc: Global,
@@ -54,7 +60,7 @@ pub fn serve_links<R: Threads + Wait + Sync, D: Disk + Drop, G: Gate + Sync, C: 
         Ok(core) => core,
         Err(refusal) => return failed(store, ServeFault::Refused(refusal)),
     };
-    let host = Host {
+    let context = Context {
         rt,
         alloc,
         gate,
@@ -62,7 +68,7 @@ pub fn serve_links<R: Threads + Wait + Sync, D: Disk + Drop, G: Gate + Sync, C: 
     };
     let seats = links.len() as u64 + 1;
     let opening = Opening { links, core };
-    serve_life::<Brand, R, D, G, C>(&host, store, opening, Blank::new(seats), Blank::new(1))
+    serve_life::<Brand, R, D, G, C>(&context, store, opening, Blank::new(seats), Blank::new(1))
 }
 
 fn failed<D: Disk>(store: Store<D>, fault: ServeFault) -> Served<D>
@@ -75,7 +81,7 @@ fn failed<D: Disk>(store: Store<D>, fault: ServeFault) -> Served<D>
     }
 }
 
-// The links of a life, and its core before anything came to it.
+// The links of a life, and its core, to which nothing has come yet.
 #[derive(Drop)]
 struct Opening {
     links: Vec<Link>,
@@ -92,7 +98,7 @@ fn serve_life<
     G: Gate + Sync,
     C: LifeClock + Sync,
 >(
-    host: &Host<'_, R, G, C>,
+    context: &Context<'_, R, G, C>,
     store: Store<D>,
     opening: Opening,
     made: Blank,
@@ -106,15 +112,15 @@ fn serve_life<
     let Opening { links, core } = opening;
     let all = links.len() as u64 + 1;
     let (mut shared, taker) = Shared::<B>::new(core, all, made, taken);
-    let crew = match Crew::new(host.alloc, &mut shared, links.len()) {
-        Ok(crew) => crew,
+    let parts = match Parts::new(context.alloc, &mut shared, links.len()) {
+        Ok(parts) => parts,
         Err(refusal) => return failed(store, ServeFault::Refused(refusal)),
     };
-    let directory = match Directory::new(host.alloc) {
+    let directory = match Directory::new(context.alloc) {
         Ok(directory) => directory,
         Err(_) => return failed(store, ServeFault::Refused(Refusal::OutOfMemory)),
     };
-    let hall = Hall {
+    let server = Server {
         signals: Signals::new(links.len() as u64),
         links,
         sessions: Mutex::new(shared),
@@ -124,14 +130,14 @@ fn serve_life<
         store,
         result,
         seats,
-    } = run(&*host, &hall, store, taker, crew);
-    let Hall {
+    } = run(&*context, &server, store, taker, parts);
+    let Server {
         sessions,
         signals,
         ..
-    } = hall;
+    } = server;
     let result = match result {
-        Ok(()) => report(host.alloc, sessions.into_inner(), &signals, all, seats),
+        Ok(()) => report(context.alloc, sessions.into_inner(), &signals, all, seats),
         Err(refusal) => Err(ServeFault::Refused(refusal)),
     };
     Served { store, result }

@@ -1,5 +1,5 @@
-// What the threads of a life tell each other. Whoever waits looks, finds nothing, and parks; whoever
-// rings changes something first, and rings then. So no change is missed.
+// What the threads of a life tell each other. Whoever waits looks, finds nothing, and parks;
+// whoever rings changes something first, and rings then. So no change is missed.
 use std::sync::Wait;
 use std::sync::atomic::Ordering::SeqCst;
 use std::sync::atomic::{AtomicBool, AtomicU64};

@@ -1,9 +1,8 @@
 // A sender writes a link.
+use crate::gathering::{Gathered, add_refusal, gather};
 use crate::link::Link;
 use crate::outgoing::Outgoing;
 use crate::signals::Signals;
-use devices::Effect;
-use gateway_wire::{Emission, answer_frame, refused_line};
 use lw_types::Refusal;
 use outbox::Inlet;
 use rtrb::Consumer;
@@ -12,7 +11,7 @@ use std::io::{ErrorKind, Write};
 use std::net::{Shutdown, TcpStream};
 use std::sync::Wait;
 
-// How many refusals, and how many effects, are put together before they are sent.
+// How many refusals are put together before they are sent.
 const SOME: u32 = 64;
 
 // How many writes in a row may wait in vain once nothing more comes. Each waits a second.
@@ -30,13 +29,6 @@ pub(crate) struct Sender<'x, R: Wait> {
     pub(crate) outgoing: Outgoing,
     // The link takes nothing any more.
     pub(crate) is_broken: bool,
-}
-
-/// How many effects were taken, and how many of them are in the frames that are to be sent.
-#[derive(Clone, Copy)]
-struct Gathered {
-    taken: u64,
-    added: u64,
 }
 
 impl<'x, R: Wait> Sender<'x, R> {
@@ -65,12 +57,12 @@ impl<'x, R: Wait> Sender<'x, R> {
     fn send_some(&mut self) -> bool {
         self.outgoing.clear();
         let is_told = self.gather_refusals();
-        let Gathered { taken, added } = self.gather_effects();
-        let mut lost = taken.saturating_sub(added);
-        if !self.is_broken && !self.outgoing.is_empty() && !self.send() {
+        let Gathered { taken, lost } = self.gather_effects();
+        let is_sent = self.is_broken || self.send();
+        if !is_sent {
             self.is_broken = true;
-            lost = taken;
         }
+        let lost = if is_sent { lost } else { taken };
         self.signals.count_dropped(lost);
         is_told || taken > 0
     }
@@ -91,21 +83,12 @@ impl<'x, R: Wait> Sender<'x, R> {
     }
 
     fn gather_effects(&mut self) -> Gathered {
-        let mut taken: u64 = 0;
-        let mut added: u64 = 0;
-        for _ in 0..SOME {
-            if self.outgoing.is_much() {
-                break;
-            }
-            let Some(effect) = self.inlet.take() else {
-                break;
-            };
-            taken = taken.saturating_add(1);
-            if !self.is_broken && add_effect(self.alloc, &effect, &mut self.outgoing).is_ok() {
-                added = added.saturating_add(1);
-            }
-        }
-        Gathered { taken, added }
+        gather(
+            self.alloc,
+            &mut self.inlet,
+            &mut self.outgoing,
+            self.is_broken,
+        )
     }
 
     // Whether the link took all of it. While it takes nothing the sender waits, for ever, unless
@@ -154,20 +137,4 @@ fn write_some<'a>(stream: &TcpStream, bytes: &'a [u8]) -> Wrote<'a> {
 
 fn is_passing(kind: ErrorKind) -> bool {
     kind == ErrorKind::Interrupted || kind == ErrorKind::WouldBlock
-}
-
-fn add_refusal(alloc: Global, refusal: Refusal, outgoing: &mut Outgoing) -> Result<(), Refusal> {
-    let line = refused_line(alloc, refusal)?;
-    let frame = answer_frame(alloc, &line)?;
-    outgoing.add(frame.as_slice())
-}
-
-fn add_effect(alloc: Global, effect: &Effect, outgoing: &mut Outgoing) -> Result<(), Refusal> {
-    match Emission::of(alloc, effect)? {
-        Emission::Gateway { frame, .. } => outgoing.add(frame.as_slice()),
-        Emission::Application { line, .. } => {
-            let frame = answer_frame(alloc, &line)?;
-            outgoing.add(frame.as_slice())
-        }
-    }
 }

@@ -22,8 +22,8 @@ const SAID: &str = "0002 0203 0051 03 |provision 1112131415161718 01020304050607
 const HEARD: &str = "001F 13 |provisioned 1112131415161718 0|;\
      0025 11 00000000000000B1 0000C350 33BE27A0 05 05 06 20 40A8AE29D75BA396C02EF9C963CAD8BE;";
 
-// The nth call of a disk fails, and the links stay open until the life closes them: how it ends, how
-// many bytes are heard, and the number that the disk holds afterwards.
+// The nth call of a disk fails, and the links stay open until the life closes them: how it ends,
+// how many bytes are heard, and the number that the disk holds afterwards.
 fn fail<R: Net<Listener = TcpListener, Stream = TcpStream> + Threads + Wait + Sync>(
     rt: &R,
     alloc: Global,

@@ -94,8 +94,8 @@ impl<'x> Gate for HoldBoth<'x> {
     }
 }
 
-/// Holds the second worker before its first call until the first one has come to its second, and this
-/// one there until the second one has come to its third.
+/// Holds the second worker before its first call until the first one has come to its second, and
+/// this one there until the second one has come to its third.
 #[derive(Drop)]
 pub struct HoldFirst<'x> {
     pub marks: &'x Marks,

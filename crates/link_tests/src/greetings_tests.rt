@@ -27,8 +27,8 @@ fn greet<R: Net<Listener = TcpListener, Stream = TcpStream> + Threads + Wait + S
     Ok((report.faulted, report.made))
 }
 
-// Two gateways of one name; two applications of one name, of which one alone is heard; an application
-// and a gateway of one number; a greeting that comes twice on a link.
+// Two gateways of one name; two applications of one name, of which one alone is heard; an
+// application and a gateway of one number; a greeting that comes twice on a link.
 const ROWS: &[(&str, (u64, u64))] = &[
     ("0009 00 0000000000000003;0009 00 0000000000000003", (1, 0)),
     (

@@ -20,9 +20,9 @@ const HELD: &str = "0002 0201 \
      0051 03 |provision 0000000000000004 0102030405060708 2B7E151628AED2A6ABF7158809CF4F3C 0 1|\
      0051 03 |provision 0000000000000004 0102030405060708 2B7E151628AED2A6ABF7158809CF4F3C 0 1|";
 
-// The first sync is held until each of two workers has made a second decision, and come to its third
-// call: how many decisions are made, and how many syncs. All that was decided meanwhile is one batch,
-// so there are two of them, with two syncs each, and one more is of the opening.
+// The first sync is held until each of two workers has made a second decision, and come to its
+// third call: how many decisions are made, and how many syncs. All that was decided meanwhile is
+// one batch, so there are two of them, with two syncs each, and one more is of the opening.
 fn hold_sync<R: Net<Listener = TcpListener, Stream = TcpStream> + Threads + Wait + Sync>(
     rt: &R,
     alloc: Global,
@@ -84,9 +84,9 @@ fn has_items(devices: &[Device]) -> bool {
     same
 }
 
-// The first worker is held before its second call until the second one has come to its third: whether
-// that was in time, whether each application hears the answers to what it asked, and each device has its item;
-// how many decisions each worker made, and the closer.
+// The first worker is held before its second call until the second one has come to its third:
+// whether that was in time, whether each application hears the answers to what it asked, and each
+// device has its item; how many decisions each worker made, and the closer.
 fn hold_first<R: Net<Listener = TcpListener, Stream = TcpStream> + Threads + Wait + Sync>(
     rt: &R,
     alloc: Global,

@@ -11,13 +11,14 @@ use std::sync::Wait;
 use std::thread::Threads;
 use store::Store;
 
-// What clients say, and what they hear, a text each; how many effects are dropped, how many links are
-// faulted, and how many decisions are made; and the list of the store afterwards. The lives come one
-// after another over one store.
+// What clients say, and what they hear, a text each; how many effects are dropped, how many links
+// are faulted, and how many decisions are made; and the list of the store afterwards. The lives
+// come one after another over one store.
 type Row = (&'static str, &'static str, (u64, u64, u64), &'static str);
 
-// A device is provisioned and joins; its uplink comes to a life in which its application isn't linked;
-// and what is no request, or is for another application's device, is refused. The frames were made by a device and a network that are none of ours (examples/outside).
+// A device is provisioned and joins; its uplink comes to a life in which its application isn't
+// linked; and what is no request, or is for another application's device, is refused. The frames
+// were made by a device and a network that are none of ours (examples/outside).
 const ROWS: &[Row] = &[
     (
         "0002 0203 0051 03 |provision 1112131415161718 0102030405060708 \

@@ -47,6 +47,41 @@ where
         && err.as_slice() == told.err.as_bytes()
 }
 
+/// Whether a store of network 00002A with 8 slots is made there.
+pub fn formats<R>(rt: &R, alloc: Global, file: &str) -> bool
+where
+    R: Files<File = File> + Net<Listener = TcpListener, Stream = TcpStream>,
+    R: Clock + Threads + Wait + Sync,
+{
+    let words = ["format", file, "--netid", "00002A", "--slots", "8"];
+    ends(rt, alloc, &words, &done(""))
+}
+
+/// Whether listing what is there ends so.
+pub fn lists<R>(rt: &R, alloc: Global, file: &str, told: &Told<'_>) -> bool
+where
+    R: Files<File = File> + Net<Listener = TcpListener, Stream = TcpStream>,
+    R: Clock + Threads + Wait + Sync,
+{
+    ends(rt, alloc, &["list", file], told)
+}
+
+/// Whether serving two links at an address from what is there ends so.
+pub fn serves<'a, R>(
+    rt: &R,
+    alloc: Global,
+    file: &'a str,
+    address: &'a str,
+    told: &Told<'_>,
+) -> bool
+where
+    R: Files<File = File> + Net<Listener = TcpListener, Stream = TcpStream>,
+    R: Clock + Threads + Wait + Sync,
+{
+    let words = ["serve", file, "--listen", address, "--links", "2"];
+    ends(rt, alloc, &words, told)
+}
+
 /// A path in the folder of temporary files, which no other process has.
 pub fn path_of(rt: &HostRuntime, name: &str) -> io::Result<String> {
     let folder = env::temp_dir(rt)?;

@@ -1,5 +1,5 @@
 // What fails first, and output that can't be written.
-use crate::asked::{Told, done, ends, failed, path_of, remove};
+use crate::asked::{Told, done, ends, failed, formats, lists, path_of, remove, serves};
 use gateway_server::{Fault, command, fail};
 use lw_types::Refusal;
 use std::io;
@@ -11,25 +11,21 @@ fn words_come_before_the_file_and_the_file_before_the_address(rt: HostRuntime) {
     let alloc = rt.alloc();
     let path = path_of(&rt, "order").expect(&rt, "a path");
     let file = path.as_str();
-    let serve = ["serve", file, "--listen", "nonsense", "--links", "1"];
-    assert!(rt; ends(&rt, alloc, &serve, &failed("lnsd: file\n")));
-    let format = ["format", file, "--netid", "00002A", "--slots", "8"];
-    assert!(rt; ends(&rt, alloc, &format, &done("")));
-    assert!(rt; ends(&rt, alloc, &serve, &failed("lnsd: listen\n")));
+    assert!(rt; serves(&rt, alloc, file, "nonsense", &failed("lnsd: file\n")));
+    assert!(rt; formats(&rt, alloc, file));
+    assert!(rt; serves(&rt, alloc, file, "nonsense", &failed("lnsd: listen\n")));
     let (mut out, mut err) = (Vec::new(alloc), Vec::new(alloc));
     let format = ["format", file, "--netid", "00002A", "--slots", "0"];
     assert!(rt; command(&rt, alloc, &format, &mut out, &mut err) == 2);
     assert!(rt; out.is_empty() && !err.is_empty());
     remove(&rt, file);
-    let below = path_of(&rt, "none/store").expect(&rt, "a path");
-    let format = [
-        "format",
-        below.as_str(),
-        "--netid",
-        "00002A",
-        "--slots",
-        "8",
-    ];
+}
+
+#[test]
+fn a_file_without_a_folder_is_not_made(rt: HostRuntime) {
+    let alloc = rt.alloc();
+    let path = path_of(&rt, "none/store").expect(&rt, "a path");
+    let format = ["format", path.as_str(), "--netid", "00002A", "--slots", "8"];
     assert!(rt; ends(&rt, alloc, &format, &failed("lnsd: file\n")));
 }
 
@@ -38,14 +34,20 @@ fn an_address_in_use_is_not_listened_on(rt: HostRuntime) {
     let alloc = rt.alloc();
     let path = path_of(&rt, "address").expect(&rt, "a path");
     let file = path.as_str();
-    let format = ["format", file, "--netid", "00002A", "--slots", "8"];
-    assert!(rt; ends(&rt, alloc, &format, &done("")));
+    assert!(rt; formats(&rt, alloc, file));
     let listener = TcpListener::bind(&rt, "127.0.0.1:0").expect(&rt, "a listener");
     let address = listener.local_addr().expect(&rt, "an address");
     let address = format!(in alloc; "{address}").expect(&rt, "memory");
-    let serve = ["serve", file, "--listen", address.as_str(), "--links", "1"];
-    assert!(rt; ends(&rt, alloc, &serve, &failed("lnsd: listen\n")));
-    assert!(rt; ends(&rt, alloc, &["list", file], &done("devices 0 seq 0\n")));
+    assert!(rt;
+        serves(
+            &rt,
+            alloc,
+            file,
+            address.as_str(),
+            &failed("lnsd: listen\n")
+        )
+    );
+    assert!(rt; lists(&rt, alloc, file, &done("devices 0 seq 0\n")));
     remove(&rt, file);
 }
 

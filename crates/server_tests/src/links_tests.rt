@@ -1,5 +1,5 @@
 // One life over loopback: a device is provisioned, joins, and is on the disk.
-use crate::asked::{Told, done, ends, path_of, remove};
+use crate::asked::{Told, done, formats, lists, path_of, remove, serves};
 use std::alloc::Global;
 use std::io::{ErrorKind, Read, Write};
 use std::net::{Net, Shutdown, TcpStream};
@@ -62,10 +62,8 @@ fn a_device_joins_over_loopback(rt: HostRuntime) {
     let alloc = rt.alloc();
     let path = path_of(&rt, "loopback").expect(&rt, "a path");
     let file = path.as_str();
-    let format = ["format", file, "--netid", "00002A", "--slots", "8"];
-    assert!(rt; ends(&rt, alloc, &format, &done("")));
+    assert!(rt; formats(&rt, alloc, file));
     let address = address_of(&rt, alloc).expect(&rt, "memory");
-    let serve = ["serve", file, "--listen", address.as_str(), "--links", "2"];
     let told = Told {
         status: 0,
         out: "",
@@ -73,12 +71,12 @@ fn a_device_joins_over_loopback(rt: HostRuntime) {
     };
     let (ended, talked) = join(
         &rt,
-        || ends(&rt, alloc, &serve, &told),
+        || serves(&rt, alloc, file, address.as_str(), &told),
         || talk(&rt, address.as_str()),
     );
     assert!(rt; talked.is_ok_and(|is_so| is_so));
     assert!(rt; ended);
     let list = "0 1112131415161718 1 - - - 0\ndevices 1 seq 2\n";
-    assert!(rt; ends(&rt, alloc, &["list", file], &done(list)));
+    assert!(rt; lists(&rt, alloc, file, &done(list)));
     remove(&rt, file);
 }

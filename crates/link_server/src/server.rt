@@ -5,18 +5,18 @@ use crate::signals::Signals;
 use session_core::{Books, Shared};
 use std::sync::Mutex;
 
-/// The links, and what is behind a lock. No thread holds both locks at once, and none of them while
-/// it reads, writes or syncs.
+/// The links, what stands behind a lock, and the signals. No thread holds both locks at once, nor
+/// one of them while it reads, writes or syncs.
 #[derive(Drop)]
-pub(crate) struct Hall<B: Books> {
+pub(crate) struct Server<B: Books> {
     pub(crate) links: Vec<Link>,
     pub(crate) sessions: Mutex<Shared<B>>,
     pub(crate) directory: Mutex<Directory>,
     pub(crate) signals: Signals,
 }
 
-impl<B: Books> Hall<B> {
-    /// The store is at fault: the links are closed, and each thread ends.
+impl<B: Books> Server<B> {
+    /// Closes the links, so that each thread ends.
     pub(crate) fn stop(&self) {
         self.signals.stop();
         for link in &self.links {

@@ -1,12 +1,12 @@
-// What a life runs on.
+// What a life is given from outside.
 use crate::gate::Gate;
 use crate::moments::LifeClock;
 use std::alloc::Global;
 use std::sync::Wait;
 
-/// The system, its memory, and what a test may put in place of the server's own.
+/// The system and its memory, and the gate and the clock, in whose places a test has its own.
 #[derive(Drop)]
-pub(crate) struct Host<'x, R: Wait, G: Gate, C: LifeClock> {
+pub(crate) struct Context<'x, R: Wait, G: Gate, C: LifeClock> {
     pub(crate) rt: &'x R,
     pub(crate) alloc: Global,
     pub(crate) gate: &'x G,

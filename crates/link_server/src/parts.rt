@@ -1,5 +1,5 @@
 // What the threads of a life own, before they are started.
-ghost use Rattle.std.specs.Prelude.{◌≡◌, ◌+◌, ◌<◌, length, IfOk};
+ghost use Rattle.std.specs.Prelude.{◌≡◌, ◌+◌};
 
 use lw_types::Refusal;
 use outbox::{Inlet, Outlet, ring};
@@ -10,45 +10,47 @@ use std::alloc::Global;
 // The places of each of a link's two rings.
 const PLACES: usize = 1024;
 
-/// What the two threads of a link own: the worker a seat and the way on which refusals go, the sender
-/// the ways on which effects and refusals come.
+/// What the two threads of a link own: the worker a seat and the end of a ring into which refusals
+/// go, the sender the ends from which effects and refusals come.
 #[derive(Drop)]
-pub(crate) struct Post<B: Books> {
+pub(crate) struct LinkParts<B: Books> {
     pub(crate) seat: Seat<B>,
     pub(crate) refused: Producer<Refusal>,
     pub(crate) inlet: Inlet,
     pub(crate) refusals: Consumer<Refusal>,
 }
 
-/// A post for each link, the closer's seat, and the outlets of the flusher, one for each link.
+/// The parts of each link's threads, the closer's seat, and the flusher's outlets, one for each
+/// link.
 #[derive(Drop)]
-pub(crate) struct Crew<B: Books> {
-    pub(crate) posts: Vec<Post<B>>,
+pub(crate) struct Parts<B: Books> {
+    pub(crate) links: Vec<LinkParts<B>>,
     pub(crate) closer: Seat<B>,
     pub(crate) outlets: Vec<Outlet>,
 }
 
-impl<B: Books> Crew<B> {
-    /// The crew of so many links. It takes every seat. Refused with `OutOfMemory` for want of memory.
+impl<B: Books> Parts<B> {
+    /// The parts of so many links. It takes every seat. Refused with `OutOfMemory` for want of
+    /// memory.
     pub(crate) fn new(alloc: Global, shared: &mut Shared<B>, links: usize) -> Result<Self, Refusal>
         requires { shared.old.left ≡ links + 1 }
     {
-        let mut posts = Vec::new(alloc);
+        let mut all = Vec::new(alloc);
         let mut outlets = Vec::new(alloc);
         for _number in 0..links {
             let (outlet, inlet) = ring(alloc, PLACES)?;
             let (refused, refusals) = RingBuffer::new(alloc, PLACES)?;
             let seat = shared.seat();
             outlets.push(outlet)?;
-            posts.push(Post {
+            all.push(LinkParts {
                 seat,
                 refused,
                 inlet,
                 refusals,
             })?;
         }
-        Ok(Crew {
-            posts,
+        Ok(Parts {
+            links: all,
             closer: shared.seat(),
             outlets,
         })

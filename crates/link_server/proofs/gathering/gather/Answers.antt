@@ -1,0 +1,27 @@
+use Rattle.std.proofs.Common.{◌≡◌, ◌+◌, ◌++◌, ◌∷◌, ◌∙◌, List, [], ap, arith, length, length-append, append_assoc, ℕ}
+use Rattle.devices.specs.declared.effect.Effect.{Effect}
+use Rattle.link_server.specs.Sending.{frame_of}
+use Rattle.link_server.proofs.Together.{added_one, lost_one}
+use Rattle.outbox.specs.Ring.{taken_from}
+use Rattle.link_server.proofs.gathering.gather.Goals as goal
+use Rattle.link_server.proofs.gathering.gather.Goals.{then-not-is_put, else-not-is_put}
+
+pub loop-turn-preserved : goal.loop-turn-preserved
+loop-turn-preserved c =
+    let (effects, (bytes, (taken, (count, (out, together))))) = c.loop-turn.invariant.0 in
+    let effect = c.in-Some.effect in
+    let behind = λ (es : List Effect). es ++ effect ∷ [] in
+    let framed = λ (bs : List ℕ). bs ++ frame_of effect in
+    let taken' : taken_from c.take.new.self ≡ taken_from c.args.inlet.now ++ (effects ++ effect ∷ []) =
+    c.in-Some.ensures.taken ∙ (ap behind taken ∙ append_assoc _ effects (effect ∷ [])) in
+    let count' : c.loop-turn.taken + 1 ≡ length (effects ++ effect ∷ []) = omega (arith, count, length-append effects (effect ∷ [])) in
+    elim c.if-not-is_put.branch [
+      | then-not-is_put w ↦ (
+        (effects ++ effect ∷ [], (bytes, (taken', (count', ((rw w.if-not-is_put.true at c.is_put.ensures) ∙ out, rw w.lost-is (lost_one effects effect c.loop-turn.lost bytes together)))))),
+        (omega (arith, c.loop-turn.invariant.1), omega (arith, w.lost-is, c.loop-turn.invariant.1)),
+      )
+      | else-not-is_put w ↦ (
+        (effects ++ effect ∷ [], (bytes ++ frame_of effect, (taken', (count', ((rw w.if-not-is_put.false at c.is_put.ensures) ∙ (ap framed out ∙ append_assoc _ bytes (frame_of effect)), rw w.lost-is (added_one effects effect c.loop-turn.lost bytes together)))))),
+        (omega (arith, c.loop-turn.invariant.1), omega (arith, w.lost-is, c.loop-turn.invariant.1)),
+      )
+    ]

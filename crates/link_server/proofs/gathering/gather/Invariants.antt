@@ -1,0 +1,13 @@
+use Rattle.std.proofs.Common.{◌≡◌, ◌≤◌, ◌++◌, ℕ, List, length}
+use Rattle.devices.specs.declared.effect.Effect.{Effect}
+use Rattle.link_server.specs.Sending.{AreTogether}
+use Rattle.outbox.specs.Ring.{taken_from}
+use Rattle.link_server.proofs.gathering.gather.Given as goal
+
+abbrev pub invariant-loop-turn : goal.invariant-loop-turn
+invariant-loop-turn l =
+    ((effects : List Effect) × ((bytes : List ℕ)
+    × ((taken_from l.inlet ≡ taken_from l.initial.inlet ++ effects)
+    × ((l.taken ≡ length effects) × ((l.outgoing ≡ l.initial.outgoing ++ bytes)
+    × AreTogether effects l.lost bytes)))))
+    × ((l.taken ≤ l._turn) × (l.lost ≤ l._turn))

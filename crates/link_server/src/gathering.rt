@@ -1,0 +1,93 @@
+// Effects and refusals are put together as frames of the wire.
+ghost use Rattle.std.specs.Prelude.{◌≡◌, ◌++◌, ℕ, List, length, MatchBool, MatchResult};
+ghost use Rattle.devices.specs.declared.effect.Effect.{Effect};
+ghost use Rattle.gateway_wire.specs.Answer.{answer_frame, refused_line};
+ghost use Rattle.link_server.specs.Sending.{frame_of, AreTogether};
+ghost use Rattle.outbox.specs.Ring.{taken_from};
+
+use crate::outgoing::Outgoing;
+use devices::Effect;
+use gateway_wire::{Emission, answer_frame, refused_line};
+use lw_types::Refusal;
+use outbox::Inlet;
+use std::alloc::Global;
+
+// How many effects are put together before they are sent.
+const SOME: u64 = 64;
+
+/// How many effects were taken, and how many of them were lost.
+#[derive(Clone, Copy)]
+pub(crate) struct Gathered {
+    pub(crate) taken: u64,
+    pub(crate) lost: u64,
+}
+
+/// Takes effects from a ring, and puts their frames behind those that are to be sent, until there
+/// are enough or no more. An effect for whose frame there is no memory is lost, and on a broken
+/// link each one is.
+pub(crate) fn gather(
+    alloc: Global,
+    inlet: &mut Inlet,
+    outgoing: &mut Outgoing,
+    is_broken: bool,
+) -> Gathered
+    ensures { (effects : List Effect) × ((bytes : List ℕ)
+        × ((taken_from inlet.new ≡ taken_from inlet.old ++ effects)
+        × ((result.taken ≡ length effects) × ((outgoing.new ≡ outgoing.old ++ bytes)
+        × AreTogether effects result.lost bytes)))) }
+{
+    let mut taken: u64 = 0;
+    let mut lost: u64 = 0;
+    for _turn in 0..SOME {
+        if outgoing.is_much() {
+            break;
+        }
+        let Some(effect) = inlet.take() else {
+            break;
+        };
+        taken += 1;
+        if !is_put(alloc, effect, outgoing, is_broken) {
+            lost += 1;
+        }
+    }
+    Gathered { taken, lost }
+}
+
+// Whether the frame of an effect is put behind the others. It isn't without memory, or on a broken
+// link.
+fn is_put(alloc: Global, effect: Effect, outgoing: &mut Outgoing, is_broken: bool) -> bool
+    ensures { MatchBool result (outgoing.new ≡ outgoing.old ++ frame_of effect)
+        (outgoing.new ≡ outgoing.old) }
+{
+    !is_broken && add_effect(alloc, &effect, outgoing).is_ok()
+}
+
+// Puts the frame of an effect behind the others; after an `Err` nothing is changed.
+fn add_effect(alloc: Global, effect: &Effect, outgoing: &mut Outgoing) -> Result<(), Refusal>
+    ensures { MatchResult result (λ _. outgoing.new ≡ outgoing.old ++ frame_of effect.now)
+        (λ _. outgoing.new ≡ outgoing.old) }
+{
+    match Emission::of(alloc, effect)? {
+        Emission::Gateway { frame, .. } => outgoing.add(frame.as_slice()),
+        Emission::Application { line, .. } => {
+            let frame = answer_frame(alloc, &line)?;
+            outgoing.add(frame.as_slice())
+        }
+    }
+}
+
+/// Puts the answer to a request that was refused behind the other frames; after an `Err` nothing is
+/// changed.
+pub(crate) fn add_refusal(
+    alloc: Global,
+    refusal: Refusal,
+    outgoing: &mut Outgoing,
+) -> Result<(), Refusal>
+    ensures { MatchResult result
+        (λ _. outgoing.new ≡ outgoing.old ++ answer_frame (refused_line refusal))
+        (λ _. outgoing.new ≡ outgoing.old) }
+{
+    let line = refused_line(alloc, refusal)?;
+    let frame = answer_frame(alloc, &line)?;
+    outgoing.add(frame.as_slice())
+}
