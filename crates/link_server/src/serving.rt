@@ -35,9 +35,10 @@ use store::Store;
 /// finds its ring full.
 ///
 /// At the end a last tick closes the windows that are open, 200 ms past the effective time, what is
-/// left is committed, and each sender writes what waits. A peer that takes nothing for ten seconds
-/// then is given up, and what is left for it is dropped. A store that fails ends the life at once:
-/// the links are closed, and what waits for them is lost. Every thread is joined in each case.
+/// left is committed, and each sender writes what waits. A peer that takes nothing for eight
+/// seconds then is given up, and what is left for it is dropped. A store that fails ends the life
+/// at once: the links are closed, and what waits for them is lost. Every thread is joined in each
+/// case.
 ///
 /// Nothing polls: a worker waits in its read, a sender and the flusher for a bell, and the closer
 /// until the oldest window is due. It need not return: an input may never end.

@@ -15,7 +15,7 @@ use std::sync::Wait;
 const SOME: u32 = 64;
 
 // How many writes in a row may wait in vain once nothing more comes. Each waits a second.
-const PATIENCE: u32 = 10;
+const PATIENCE: u32 = 8;
 
 /// A link's sender.
 #[derive(Drop)]
