@@ -10,6 +10,7 @@ mod stores;
 pub use command_words::{Mode, Usage, words};
 pub use fault::Fault;
 pub use link_server::{
-    Gate, LifeClock, LinkCount, Monotonic, OpenGate, Report, ServeFault, Served, serve_links,
+    Gate, LifeClock, LifeReport, LinkCount, Monotonic, OpenGate, ServeFault, ServedLife,
+    serve_links,
 };
 pub use running::{command, fail};

@@ -5,7 +5,7 @@ use crate::Fault;
 use crate::serving::serve;
 use crate::stores::{format, list};
 use command_words::{Mode, Usage, words};
-use link_server::Report;
+use link_server::LifeReport;
 use lw_types::Refusal;
 use std::alloc::Global;
 use std::fs::File;
@@ -98,7 +98,7 @@ fn tell<W: Write>(to: &mut W, text: &str) -> io::Result<()> {
     to.flush()
 }
 
-fn tell_report<E: Write>(err: &mut E, report: &Report) -> io::Result<()> {
+fn tell_report<E: Write>(err: &mut E, report: &LifeReport) -> io::Result<()> {
     let (dropped, faulted) = (report.dropped, report.faulted);
     writeln!(err, "dropped {dropped}")?;
     writeln!(err, "faulted {faulted}")?;

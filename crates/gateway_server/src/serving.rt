@@ -1,7 +1,7 @@
 // A store in a file, served.
 use crate::Fault;
 use crate::stores::open_store;
-use link_server::{LinkCount, Monotonic, OpenGate, Report, Served, serve_links};
+use link_server::{LifeReport, LinkCount, Monotonic, OpenGate, ServedLife, serve_links};
 use std::alloc::Global;
 use std::fs::File;
 use std::net::{Net, TcpListener, TcpStream};
@@ -16,7 +16,7 @@ pub(crate) fn serve<R>(
     file: &str,
     listen: &str,
     links: LinkCount,
-) -> Result<Report, Fault>
+) -> Result<LifeReport, Fault>
 where
     R: Files<File = File> + Net<Listener = TcpListener, Stream = TcpStream>,
     R: Clock + Threads + Wait + Sync,
@@ -28,7 +28,7 @@ where
     let Ok(clock) = Monotonic::start(rt) else {
         return Err(Fault::Clock);
     };
-    let Served { store, result } = serve_links(
+    let ServedLife { store, result } = serve_links(
         rt, alloc, store, listener, links, &OpenGate, &clock,
     );
     drop(store);

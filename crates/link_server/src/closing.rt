@@ -2,7 +2,7 @@
 use crate::context::Context;
 use crate::gate::Gate;
 use crate::moments::{LifeClock, later};
-use crate::server::Server;
+use crate::server::LiveServer;
 use dedup::WAIT;
 use session_core::{Books, Moment, Seat, Sessions};
 use std::sync::Wait;
@@ -14,7 +14,7 @@ const PAUSE: u64 = 10;
 #[derive(Drop)]
 pub(crate) struct Closer<'x, B: Books, R: Wait, G: Gate, C: LifeClock> {
     pub(crate) context: &'x Context<'x, R, G, C>,
-    pub(crate) server: &'x Server<B>,
+    pub(crate) server: &'x LiveServer<B>,
     pub(crate) seat: Seat<B>,
 }
 

@@ -1,7 +1,7 @@
 // The flusher commits what was decided, and lets its effects out.
 use crate::link::MOST_LINKS;
 use crate::routing::route;
-use crate::server::Server;
+use crate::server::LiveServer;
 use disk::Disk;
 use flusher::{Drawn, Released, serve};
 use lw_types::Refusal;
@@ -17,7 +17,7 @@ use store::Store;
 pub(crate) fn flush<B: Books, R: Wait, D: Disk>(
     rt: &R,
     alloc: Global,
-    server: &Server<B>,
+    server: &LiveServer<B>,
     store: &mut Store<D>,
     taker: Taker<B>,
     outlets: Vec<Outlet>,
@@ -48,7 +48,7 @@ pub(crate) fn flush<B: Books, R: Wait, D: Disk>(
 // The bell of each link that gets something rings once.
 fn let_out<B: Books, R: Wait>(
     rt: &R,
-    server: &Server<B>,
+    server: &LiveServer<B>,
     outlets: &mut [Outlet],
     released: Vec<Released>,
 ) {
@@ -64,7 +64,7 @@ fn let_out<B: Books, R: Wait>(
 
 // Whether nothing is left, behind an empty batch. The last tick may have been made behind that
 // batch, so one more is asked for once the tick is seen. Else waits for a decision.
-fn is_done<B: Books, R: Wait>(rt: &R, server: &Server<B>, is_ticked: &mut bool) -> bool {
+fn is_done<B: Books, R: Wait>(rt: &R, server: &LiveServer<B>, is_ticked: &mut bool) -> bool {
     if *is_ticked {
         return true;
     }

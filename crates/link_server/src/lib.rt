@@ -27,5 +27,5 @@ mod writing;
 pub use gate::{Gate, OpenGate};
 pub use link::LinkCount;
 pub use moments::{LifeClock, Monotonic};
-pub use report::{Report, ServeFault, Served};
+pub use report::{LifeReport, ServeFault, ServedLife};
 pub use serving::serve_links;

@@ -3,7 +3,7 @@ use crate::context::Context;
 use crate::gate::Gate;
 use crate::link::Link;
 use crate::moments::LifeClock;
-use crate::server::Server;
+use crate::server::LiveServer;
 use devices::{Application, Command};
 use gateway_wire::{Recipient, Request, read_line};
 use link_messages::{Fed, Feeder, Line, Message, Peer};
@@ -21,7 +21,7 @@ const PIECE: usize = 8192;
 #[derive(Drop)]
 pub(crate) struct Worker<'x, B: Books, R: Wait, G: Gate, C: LifeClock> {
     pub(crate) context: &'x Context<'x, R, G, C>,
-    pub(crate) server: &'x Server<B>,
+    pub(crate) server: &'x LiveServer<B>,
     pub(crate) link: &'x Link,
     // The place of its link among all, from 0.
     pub(crate) number: usize,
@@ -33,20 +33,20 @@ pub(crate) struct Worker<'x, B: Books, R: Wait, G: Gate, C: LifeClock> {
 }
 
 /// What one read gave.
-enum Heard {
+enum Incoming {
     Bytes(usize),
     Nothing,
     End,
 }
 
 // A link that was reset has ended as one that was closed.
-fn read_some(stream: &TcpStream, buffer: &mut [u8]) -> Heard {
+fn read_some(stream: &TcpStream, buffer: &mut [u8]) -> Incoming {
     let mut stream = stream;
     match stream.read(buffer) {
-        Ok(0) => Heard::End,
-        Ok(n) => Heard::Bytes(n),
-        Err(e) if e.kind() == ErrorKind::Interrupted => Heard::Nothing,
-        Err(_) => Heard::End,
+        Ok(0) => Incoming::End,
+        Ok(n) => Incoming::Bytes(n),
+        Err(e) if e.kind() == ErrorKind::Interrupted => Incoming::Nothing,
+        Err(_) => Incoming::End,
     }
 }
 
@@ -73,12 +73,12 @@ impl<'x, B: Books, R: Wait, G: Gate, C: LifeClock> Worker<'x, B, R, G, C> {
         let mut buffer = [0u8; PIECE];
         for _ in worker.context.rt.forever() {
             match read_some(&worker.link.stream, &mut buffer) {
-                Heard::Nothing => {}
-                Heard::End => {
+                Incoming::Nothing => {}
+                Incoming::End => {
                     worker.end();
                     break;
                 }
-                Heard::Bytes(n) => {
+                Incoming::Bytes(n) => {
                     let piece = buffer.get(..n).unwrap_or(&[]);
                     if !worker.hear_piece(piece) || worker.server.signals.is_stopped() {
                         break;

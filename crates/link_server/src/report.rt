@@ -6,7 +6,7 @@ use thiserror::Error;
 
 /// What came of a life whose inputs all ended.
 #[derive(Drop)]
-pub struct Report {
+pub struct LifeReport {
     /// The effects that were lost: their gateway or application had no link, or the link's ring was
     /// full, or the link was gone or took nothing any more.
     pub dropped: u64,
@@ -32,7 +32,7 @@ pub enum ServeFault {
 
 /// The store as the life left it, and what came of it.
 #[derive(Drop)]
-pub struct Served<D: Disk> {
+pub struct ServedLife<D: Disk> {
     pub store: Store<D>,
-    pub result: Result<Report, ServeFault>,
+    pub result: Result<LifeReport, ServeFault>,
 }

@@ -7,7 +7,7 @@ use crate::moments::LifeClock;
 use crate::outgoing::Outgoing;
 use crate::parts::{LinkParts, Parts};
 use crate::reading::Worker;
-use crate::server::Server;
+use crate::server::LiveServer;
 use crate::threads::{start_closer, start_sender, start_worker};
 use crate::writing::Sender;
 use disk::Disk;
@@ -23,7 +23,7 @@ use store::Store;
 /// What is left of a life: the store, how it ended, and the seats that came back, in the order of
 /// the links and the closer's last.
 #[derive(Drop)]
-pub(crate) struct Ended<D: Disk, B: Books> {
+pub(crate) struct LifeEnd<D: Disk, B: Books> {
     pub(crate) store: Store<D>,
     pub(crate) result: Result<(), Refusal>,
     pub(crate) seats: Vec<Seat<B>>,
@@ -39,11 +39,11 @@ pub(crate) fn run<
     C: LifeClock + Sync,
 >(
     context: &'x Context<'x, R, G, C>,
-    server: &'x Server<B>,
+    server: &'x LiveServer<B>,
     store: Store<D>,
     taker: Taker<B>,
     parts: Parts<B>,
-) -> Ended<D, B> {
+) -> LifeEnd<D, B> {
     thread::scope(thread::scope_env(), context.rt, move |scope| {
         run_in(scope, context, server, store, taker, parts)
     })
@@ -60,11 +60,11 @@ fn run_in<
 >(
     scope: &Scope<'s, E>,
     context: &'s Context<'s, R, G, C>,
-    server: &'s Server<B>,
+    server: &'s LiveServer<B>,
     store: Store<D>,
     taker: Taker<B>,
     parts: Parts<B>,
-) -> Ended<D, B> {
+) -> LifeEnd<D, B> {
     let Parts {
         links,
         closer,
@@ -98,7 +98,7 @@ fn run_in<
         server.stop();
         Err(Refusal::OutOfMemory)
     };
-    Ended {
+    LifeEnd {
         store,
         result,
         seats: started.join(context.rt, context.alloc),
@@ -119,7 +119,7 @@ impl<B: Books + Send + Sync> Started<B> {
         &mut self,
         scope: &Scope<'s, E>,
         context: &'s Context<'s, R, G, C>,
-        server: &'s Server<B>,
+        server: &'s LiveServer<B>,
         number: usize,
         parts: LinkParts<B>,
     ) {

@@ -8,14 +8,14 @@ use std::sync::Mutex;
 /// The links, what stands behind a lock, and the signals. No thread holds both locks at once, nor
 /// one of them while it reads, writes or syncs.
 #[derive(Drop)]
-pub(crate) struct Server<B: Books> {
+pub(crate) struct LiveServer<B: Books> {
     pub(crate) links: Vec<Link>,
     pub(crate) sessions: Mutex<Shared<B>>,
     pub(crate) directory: Mutex<Directory>,
     pub(crate) signals: Signals,
 }
 
-impl<B: Books> Server<B> {
+impl<B: Books> LiveServer<B> {
     /// Closes the links, so that each thread ends.
     pub(crate) fn stop(&self) {
         self.signals.stop();

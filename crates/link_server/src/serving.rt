@@ -7,10 +7,10 @@ use crate::gate::Gate;
 use crate::link::{Link, LinkCount, accept};
 use crate::moments::LifeClock;
 use crate::parts::Parts;
-use crate::running::{Ended, run};
-use crate::server::Server;
+use crate::running::{LifeEnd, run};
+use crate::server::LiveServer;
 use crate::signals::Signals;
-use crate::{Report, ServeFault, Served};
+use crate::{LifeReport, ServeFault, ServedLife};
 use disk::Disk;
 use lw_types::Refusal;
 use session_core::{Books, Core, Seat, Shared};
@@ -50,7 +50,7 @@ pub fn serve_links<R: Threads + Wait + Sync, D: Disk + Drop, G: Gate + Sync, C: 
     links: LinkCount,
     gate: &G,
     clock: &C,
-) -> Served<D>
+) -> ServedLife<D>
     ensures shares { IfOk result.result (λ report. sum report.shares.items ≡ report.made) }
 {
     let links = match accept(alloc, listener, links) {
@@ -68,15 +68,15 @@ pub fn serve_links<R: Threads + Wait + Sync, D: Disk + Drop, G: Gate + Sync, C: 
         clock,
     };
     let seats = links.len() as u64 + 1;
-    let opening = Opening { links, core };
-    serve_life::<Brand, R, D, G, C>(&context, store, opening, Blank::new(seats), Blank::new(1))
+    let new_life = NewLife { links, core };
+    serve_life::<Brand, R, D, G, C>(&context, store, new_life, Blank::new(seats), Blank::new(1))
 }
 
-fn failed<D: Disk>(store: Store<D>, fault: ServeFault) -> Served<D>
+fn failed<D: Disk>(store: Store<D>, fault: ServeFault) -> ServedLife<D>
     ensures store { result.store ≡ store }
     ensures fault { result.result ≡ Err fault }
 {
-    Served {
+    ServedLife {
         store,
         result: Err(fault),
     }
@@ -84,7 +84,7 @@ fn failed<D: Disk>(store: Store<D>, fault: ServeFault) -> Served<D>
 
 // The links of a life, and its core, to which nothing has come yet.
 #[derive(Drop)]
-struct Opening {
+struct NewLife {
     links: Vec<Link>,
     core: Core,
     ghost few: { length links.items ≤ 80 },
@@ -101,16 +101,16 @@ fn serve_life<
 >(
     context: &Context<'_, R, G, C>,
     store: Store<D>,
-    opening: Opening,
+    new_life: NewLife,
     made: Blank,
     taken: Blank,
-) -> Served<D>
+) -> ServedLife<D>
     requires made { (made.name ≡ B.made_name) × (made.parts ≡ B.made_parts)
-        × (made.parts ≡ length opening.links.items + 1) }
+        × (made.parts ≡ length new_life.links.items + 1) }
     requires taken { (taken.name ≡ B.taken_name) × (taken.parts ≡ 1) }
     ensures shares { IfOk result.result (λ report. sum report.shares.items ≡ report.made) }
 {
-    let Opening { links, core } = opening;
+    let NewLife { links, core } = new_life;
     let all = links.len() as u64 + 1;
     let (mut shared, taker) = Shared::<B>::new(core, all, made, taken);
     let parts = match Parts::new(context.alloc, &mut shared, links.len()) {
@@ -121,18 +121,18 @@ fn serve_life<
         Ok(directory) => directory,
         Err(_) => return failed(store, ServeFault::Refused(Refusal::OutOfMemory)),
     };
-    let server = Server {
+    let server = LiveServer {
         signals: Signals::new(links.len() as u64),
         links,
         sessions: Mutex::new(shared),
         directory: Mutex::new(directory),
     };
-    let Ended {
+    let LifeEnd {
         store,
         result,
         seats,
     } = run(&*context, &server, store, taker, parts);
-    let Server {
+    let LiveServer {
         sessions,
         signals,
         ..
@@ -141,7 +141,7 @@ fn serve_life<
         Ok(()) => report(context.alloc, sessions.into_inner(), &signals, all, seats),
         Err(refusal) => Err(ServeFault::Refused(refusal)),
     };
-    Served { store, result }
+    ServedLife { store, result }
 }
 
 // A seat that didn't come back is of a thread that was never started, for want of memory.
@@ -151,7 +151,7 @@ fn report<B: Books>(
     signals: &Signals,
     all: u64,
     seats: Vec<Seat<B>>,
-) -> Result<Report, ServeFault>
+) -> Result<LifeReport, ServeFault>
     requires { all ≡ B.made_parts }
     ensures { IfOk result (λ report. sum report.shares.items ≡ report.made) }
 {
@@ -161,7 +161,7 @@ fn report<B: Books>(
     let Some(made) = shared.settle(all, seats) else {
         return Err(ServeFault::Refused(Refusal::OutOfMemory));
     };
-    Ok(Report {
+    Ok(LifeReport {
         dropped: signals.dropped(),
         faulted: signals.faulted(),
         made,

@@ -1,7 +1,7 @@
 // Lives of a server over loopback.
 use crate::wire::wire;
 use disk::{Disk, MemDisk};
-use link_server::{Gate, LifeClock, LinkCount, ServeFault, Served, serve_links};
+use link_server::{Gate, LifeClock, LinkCount, ServeFault, ServedLife, serve_links};
 use lw_types::{NetId, Refusal};
 use sessions::Slots;
 use std::alloc::Global;
@@ -67,7 +67,7 @@ pub fn serve<R: Threads + Wait + Sync, D: Disk + Drop, G: Gate + Sync, C: LifeCl
     hall: Hall,
     gate: &G,
     clock: &C,
-) -> (Served<D>, Vec<TcpStream>) {
+) -> (ServedLife<D>, Vec<TcpStream>) {
     let Hall { listener, clients } = hall;
     let count = LinkCount::new(clients.len() as u64).unwrap_or(LinkCount::new(1).unwrap());
     let served = serve_links(rt, alloc, store, listener, count, gate, clock);
