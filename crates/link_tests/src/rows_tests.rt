@@ -57,7 +57,7 @@ fn live<R: Net<Listener = TcpListener, Stream = TcpStream> + Threads + Wait + Sy
     let (served, links) = serve(rt, alloc, store, hall, &OpenGate, &StandingClock);
     let report = served.result.map_err(|fault| refusal_of(fault))?;
     let store = served.store;
-    let told = list_text(alloc, store.table(), store.seq())?;
+    let told = list_text(alloc, store.table().devices(), store.seq())?;
     let same = counts == (report.dropped, report.faulted, report.made);
     let all = hears(alloc, links, &wires(alloc, wanted)?)?;
     Ok((same && all && told.as_str() == list, store))
