@@ -1,7 +1,7 @@
 """Trials of lnsd with streams that are no links' as they should be."""
 import time
 
-from lnsd_trials import EUI, HEARD, OWNER, PROVISION, Pair, await_links, end_all
+from .trials import EUI, HEARD, OWNER, PROVISION, Pair, await_links, end_all
 from outside.gateway import Copy
 from server import wire
 from server.links import Application, Link

@@ -8,8 +8,8 @@ import time
 from array import array
 from dataclasses import dataclass
 
-import lnsd_cipher  # its AES is the quick one, so it comes before those that use it
-import lnsd_store
+from . import cipher  # its AES is the quick one, so it comes before those that use it
+from . import store
 from outside import network
 from outside.device import Device
 from outside.frames import session_keys
@@ -51,11 +51,11 @@ def record(number, applications, is_full=False):
     names = (it.dev_eui, JOIN_EUI, app_key(number), number % applications)
     current = (1, *it.keys, 0, 0)
     if not is_full:
-        return lnsd_store.Record(*names, dev_nonce=1, granted=1, current=current)
+        return store.Record(*names, dev_nonce=1, granted=1, current=current)
     pending = (2, *session_keys(it.app_key, 2, network.NET_ID, 2))
     items = tuple((tag, 7, True, bytes([tag]) * 242) for tag in range(16))
     more = {"dev_nonce": 2, "granted": 2, "pending": pending, "awaited": 99}
-    return lnsd_store.Record(*names, current=current, mac=b"\x06" * 64, items=items, **more)
+    return store.Record(*names, current=current, mac=b"\x06" * 64, items=items, **more)
 
 
 def payload(number, counter):

@@ -1,8 +1,8 @@
 """The random loads of lnsd-model as one script for the simulator lns-sim, and what has to come."""
 import subprocess
 
-import lnsd_plain
-from lnsd_chance import Crowd
+from . import plain
+from .chance import Crowd
 
 # a batch has so many decisions at most, and a checkpoint takes so many device calls
 BATCH, CALLS = 64, 6
@@ -13,7 +13,7 @@ class Script:
     """Lines for the simulator, and the lines that it has to emit, in order."""
 
     def __init__(self, chance, slots):
-        self.model, self.crowd = lnsd_plain.Network(slots), Crowd(chance)
+        self.model, self.crowd = plain.Network(slots), Crowd(chance)
         self.lines, self.due = [f"format 00002A {slots}"], []
         self.now, self.frames = 0, []
 
@@ -31,7 +31,7 @@ class Script:
         self.lines.append(f"{kind} {self.now} {owner} {rest}")
         try:
             self.let_out(self.model.ask(owner, line))
-        except lnsd_plain.Refused:
+        except plain.Refused:
             pass
 
     def hear(self, frame, copies):
@@ -39,9 +39,9 @@ class Script:
         taken = {}
         for it in copies:
             how = f"{it.frequency} {it.data_rate} {it.snr} {it.rssi} {it.stamp}"
-            text = lnsd_plain.text_of(frame)
+            text = plain.text_of(frame)
             self.lines.append(f"hear {self.now} {it.gateway} {how} {text}")
-            if lnsd_plain.is_taken(it):
+            if plain.is_taken(it):
                 taken.setdefault(it.gateway, it)
         return frame, list(taken.values())
 
@@ -58,7 +58,7 @@ class Script:
         for frame, copies in heard:
             try:
                 self.let_out(self.model.heard(frame, copies) if copies else [])
-            except lnsd_plain.Refused:
+            except plain.Refused:
                 pass
         for _ in range(seq, self.model.seq, BATCH):
             self.lines += [f"take {BATCH}", *["call"] * CALLS, "release"]

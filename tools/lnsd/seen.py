@@ -4,7 +4,7 @@ and items."""
 import time
 from collections import Counter
 
-import lnsd_cipher  # its AES is the quick one, so it comes before those that use it
+from . import cipher  # its AES is the quick one, so it comes before those that use it
 from outside import network
 from outside.device import Device
 from outside.frames import DOWN, crypted, data_mic, opened_accept, session_keys
@@ -18,7 +18,7 @@ class Meter(Device):
     again."""
 
     def __init__(self, number, application):
-        key = lnsd_cipher.encrypt(b"keys of devices ", number.to_bytes(16, "big"))
+        key = cipher.encrypt(b"keys of devices ", number.to_bytes(16, "big"))
         super().__init__(f"{0xC0FFEE0000000000 + number:016X}", JOIN_EUI, key.hex().upper())
         self.application, self.slot = application, None
         self.keeps = number % 3 > 0

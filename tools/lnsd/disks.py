@@ -5,9 +5,8 @@ import shutil
 import subprocess
 import time
 
-import lnsd_floods
-import lnsd_load
-from lnsd_trials import EUI, OWNER, Pair, end_all, records
+from . import floods, load
+from .trials import EUI, OWNER, Pair, end_all, records
 from server import wire
 from server.links import Application, Ended, Gateway
 
@@ -87,13 +86,13 @@ def fails(trials, program, how, number):
 
 def stuck(trials):
     """A sync fails while an application doesn't read what it is sent: the end doesn't wait."""
-    with trials.store(4096, records(lnsd_floods.LONG // 8, OWNER)) as program:
+    with trials.store(4096, records(floods.LONG // 8, OWNER)) as program:
         how = with_disk(program, FAILING_SYNC=300)
         if not how:
             return
         begun = time.monotonic()
         try:
-            lnsd_floods.long_uplinks(program, program.serve(2, env=how))
+            floods.long_uplinks(program, program.serve(2, env=how))
         except Ended:
             pass
         trials.compare("the server's end", program.ended(), (1, "", "lnsd: refused 40\n"))
@@ -110,14 +109,14 @@ def slow(trials):
         application, gateway = Application(address, OWNER), Gateway(address, EUI)
         begun = time.monotonic()
         for it in range(20):
-            application.asks(f"queue {lnsd_load.dev_eui(it)} {it} 7 u -")
+            application.asks(f"queue {load.dev_eui(it)} {it} 7 u -")
         for _ in range(3):
             application.asks("hello")
         came = [application.hears() for _ in range(3)]
         trials.compare("refusals, which don't wait", came, ["refused 51"] * 3)
         trials.holds("a refusal waited for the disk", time.monotonic() - begun < 0.3)
         came = [application.hears() for _ in range(20)]
-        due = [f"queued {lnsd_load.dev_eui(it)} {it}" for it in range(20)]
+        due = [f"queued {load.dev_eui(it)} {it}" for it in range(20)]
         trials.compare("answers", came, due)
         took = time.monotonic() - begun
         trials.holds(f"20 requests took {took:.2f} s, more than two batches", 0.6 <= took < 2)
@@ -133,7 +132,7 @@ def backlog(trials):
         if not how:
             return
         application = Application(program.serve(1, env=how), OWNER, patience=60)
-        lines = (f"mac {lnsd_load.dev_eui(it % 4096)} 06" for it in range(ASKED))
+        lines = (f"mac {load.dev_eui(it % 4096)} 06" for it in range(ASKED))
         application.say(b"".join(map(wire.request, lines)))
         came = [application.hears() for _ in range(ASKED)]
         made = sum(it.startswith("macqueued ") for it in came)

@@ -10,7 +10,7 @@ import subprocess
 import tempfile
 import time
 
-from lnsd_measure import spread
+from .measure import spread
 
 TABLE = """CREATE TABLE uplinks (dev_eui BIGINT, join_nonce INT, counter BIGINT, port INT,
     payload {bytes}, gateway BIGINT, hz BIGINT, data_rate INT, snr INT, rssi INT)"""

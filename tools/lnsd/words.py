@@ -5,7 +5,7 @@ from pathlib import Path
 
 import commands
 
-ROOT = Path(__file__).resolve().parents[1]
+ROOT = Path(__file__).resolve().parents[2]
 BUILT = f"{ROOT}/crates/lnsd/out/lnsd"
 
 
@@ -35,7 +35,7 @@ def folder(text):
     return os.path.abspath(text)
 
 
-def words(text):
+def of_program(text):
     """The words of a command that runs the program."""
     it = commands.Words(text)
     it.add_argument("--program", type=program, metavar="FILE", default=BUILT)

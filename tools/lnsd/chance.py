@@ -1,5 +1,5 @@
 """What a crowd of devices and applications does by chance, for comparisons with a plain model."""
-import lnsd_cipher  # its AES is the quick one, so it comes before those that use it
+from . import cipher  # its AES is the quick one, so it comes before those that use it
 from outside.device import Device, Rejected
 from outside.gateway import Copy
 from server.wire import byte_text
@@ -29,7 +29,7 @@ class Sender(Device):
     """A device of the crowd, which may be deaf to what it is sent."""
 
     def __init__(self, number):
-        key = lnsd_cipher.encrypt(b"keys of a crowd ", number.to_bytes(16, "big"))
+        key = cipher.encrypt(b"keys of a crowd ", number.to_bytes(16, "big"))
         super().__init__(f"{0xFACE000000000000 + number:016X}", JOIN_EUI, key.hex().upper())
         self.owner = OWNERS[number % 3]
         self.offset, self.delay = number % 6, 1 + number % 15

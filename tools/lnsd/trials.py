@@ -5,8 +5,7 @@ import shutil
 import time
 from contextlib import contextmanager
 
-import lnsd_load
-import lnsd_store
+from . import load, store
 from outside import network
 from outside.device import Device
 from outside.gateway import Copy
@@ -58,7 +57,7 @@ class Trials:
         with Program(self.path) as program:
             self.compare("lnsd format", program.format(slots=slots), (0, "", ""))
             if records:
-                lnsd_store.put(program.store, records)
+                store.put(program.store, records)
             yield program
 
     def run(self, topic, trial):
@@ -132,7 +131,7 @@ def end_all(trials, links):
 
 def records(count, application=None):
     """Devices in their session, owned by that application, or by 16 in turn."""
-    made = [lnsd_load.record(it, 16) for it in range(count)]
+    made = [load.record(it, 16) for it in range(count)]
     for it in made:
         it.application = it.application if application is None else application
     return made

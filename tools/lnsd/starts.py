@@ -2,7 +2,7 @@
 import os
 import socket
 
-from lnsd_trials import OWNER, as_nobody, records
+from .trials import OWNER, as_nobody, records
 from server.links import Application
 from server.program import HOST, free_port
 

@@ -3,8 +3,8 @@ reads."""
 import threading
 import time
 
-import lnsd_load
-from lnsd_trials import EUI, HEARD, OWNER, PROVISION, Pair, await_links, end_all, records
+from . import load
+from .trials import EUI, HEARD, OWNER, PROVISION, Pair, await_links, end_all, records
 from outside.gateway import Copy
 from server import wire
 from server.links import Application, Gateway, Link
@@ -24,14 +24,14 @@ def euis(count):
 
 def up(number, counter, copies, heard):
     """The line of a device's uplink."""
-    words = f"up {lnsd_load.dev_eui(number)} 1 {counter} 7"
-    text = wire.byte_text(lnsd_load.payload(number, counter))
+    words = f"up {load.dev_eui(number)} 1 {counter} 7"
+    text = wire.byte_text(load.payload(number, counter))
     return f"{words} {text} {copies} {heard.heard()}"
 
 
 def sent(device, number):
     """The device's next uplink."""
-    return device.uplink(7, lnsd_load.payload(number, device.next_up))
+    return device.uplink(7, load.payload(number, device.next_up))
 
 
 def finish(trials, program, links, dropped=0, faulted=0):
@@ -49,7 +49,7 @@ def gateways(trials):
         first = await_links([Gateway(address, it) for it in euis(64)])
         last.say(wire.gateway_greeting(EUI))
         await_links(last)
-        device = lnsd_load.device(0)
+        device = load.device(0)
         last.say(wire.copy_of(sent(device, 0), HEARD))
         heard = Copy(euis(64)[63])
         time.sleep(0.4)
@@ -64,12 +64,12 @@ def copies(trials):
         address = program.serve(41)
         application = Application(address, OWNER)
         links = await_links([Gateway(address, it) for it in euis(40)])
-        device = lnsd_load.device(0)
+        device = load.device(0)
         frame = sent(device, 0)
         for it in links:
             it.hands_in(frame, Copy(it.eui))
         words = application.hears().split(" ")
-        due = ["up", lnsd_load.dev_eui(0), "1", "1", "32"]
+        due = ["up", load.dev_eui(0), "1", "1", "32"]
         trials.compare("how many copies count", words[:4] + words[6:7], due)
         frame = sent(device, 0)
         first, better = Copy(links[0].eui, snr=-30), Copy(links[0].eui, snr=10)
@@ -92,7 +92,7 @@ def windows(trials):
         address = program.serve(2)
         application, gateway = Application(address, OWNER), Gateway(address, EUI)
         await_links(gateway)
-        device, other = lnsd_load.device(0), lnsd_load.device(1)
+        device, other = load.device(0), load.device(1)
         frame, taken = sent(device, 0), sent(other, 1)
         flood = [taken, *(b"\xff" + it.to_bytes(11, "big") for it in range(1023)), frame]
         gateway.say(b"".join(wire.copy_of(it, HEARD) for it in flood))
@@ -111,7 +111,7 @@ def backlog(trials):
         pair = [Application(address, 7), Gateway(address, EUI)]
         application = Application(address, OWNER)
         asked = b"".join(
-            wire.request(f"mac {lnsd_load.dev_eui(it % devices)} 06") for it in range(count)
+            wire.request(f"mac {load.dev_eui(it % devices)} 06") for it in range(count)
         )
         sender = threading.Thread(target=application.say, args=(asked,), daemon=True)
         sender.start()
@@ -179,7 +179,7 @@ def long_uplinks(program, address):
     """An application is told of long payloads, faster than it reads: 2.5 MB of lines and more."""
     gateway, mute = Gateway(address, EUI), Application(address, OWNER, patience=60, room=ROOM)
     await_links(gateway)
-    devices = [lnsd_load.device(it) for it in range(LONG // 8)]
+    devices = [load.device(it) for it in range(LONG // 8)]
     said = [wire.copy_of(it.uplink(7, bytes(222)), HEARD) for _ in range(8) for it in devices]
     for at in range(0, LONG, 40):
         gateway.say(b"".join(said[at : at + 40]))
@@ -243,7 +243,7 @@ def eighty(trials):
         links = [Gateway(address, it) for it in euis(64)]
         owners = [Application(address, it) for it in range(16)]
         await_links(links, 0.5)
-        devices = [lnsd_load.device(it) for it in range(32)]
+        devices = [load.device(it) for it in range(32)]
         for number, device in enumerate(devices):
             frame = sent(device, number)
             for it in links[number : number + 32]:
@@ -257,9 +257,9 @@ def eighty(trials):
                 application.contents.extendleft(b"\x13" + it.encode() for it in lines if it != due)
             trials.holds(f"{lines} came to application {number % 16}, without {due}", due in lines)
         for it in owners:
-            it.asks(f"queue {lnsd_load.dev_eui(it.number)} {it.number} 7 c -")
+            it.asks(f"queue {load.dev_eui(it.number)} {it.number} 7 c -")
         for it in owners:
-            due = f"queued {lnsd_load.dev_eui(it.number)} {it.number}"
+            due = f"queued {load.dev_eui(it.number)} {it.number}"
             trials.compare("an answer", it.hears(), due)
         finish(trials, program, [*links, *owners])
 
@@ -299,9 +299,9 @@ def unlinked(trials):
         address = program.serve(1)
         gateway = Gateway(address, EUI)
         for number in range(5):
-            gateway.hands_in(sent(lnsd_load.device(number), number), HEARD)
+            gateway.hands_in(sent(load.device(number), number), HEARD)
         finish(trials, program, [gateway], dropped=5)
-        due = [f"{it} {lnsd_load.dev_eui(it)} 1 1 1 0 0" for it in range(5)]
+        due = [f"{it} {load.dev_eui(it)} 1 1 1 0 0" for it in range(5)]
         trials.compare("the list", program.list(), [*due, "devices 5 seq 10"])
 
 
