@@ -19,7 +19,7 @@ use std::thread::Threads;
 /// Does what these words ask for, which come without the program's name. `out` is standard output,
 /// `err` is standard error. Gives the status of the process: 0 where it was done, also where help
 /// was asked for; 1 where it failed, or what it tells couldn't be written; 2 for words that ask for
-/// nothing.
+/// nothing. (The contract says that it is one of these, and that with 2 nothing went to `out`.)
 pub fn command<R, O: Write, E: Write>(
     rt: &R,
     alloc: Global,

@@ -11,7 +11,8 @@ use std::io::ErrorKind;
 use std::rt::Files;
 use store::{Store, disk_len, format_back, open};
 
-/// Makes a store without devices in a new file. Where that fails there is no file, as before.
+/// Makes a store without devices in a new file. Where that fails the file is removed again, unless
+/// it was there before; a removal that fails is passed over.
 pub(crate) fn format<R: Files<File = File>>(
     rt: &R,
     alloc: Global,

@@ -7,10 +7,9 @@ use Rattle.store.specs.State.{StoreState, IsOpened}
 use Rattle.world.specs.Course.{Origin, Course}
 use Rattle.world.specs.Follows.{Survives}
 
--- A disk crashed to an image, and a store was opened of what the crash left. Of the disk as it was
--- before, every crash leaves what a beginning of the decided commands leads to, one that holds
--- every command whose batch was released; the image is among these, and the store has what it
--- holds.
+-- A store was opened of what a crash to an image left of some disk. Of that disk every crash leaves
+-- what a beginning of the decided commands leads to, one that holds every command whose batch was
+-- released; what was left is among these, and the store has what it holds.
 pub record IsOpenedAfterCrash (origin : Origin) (c : Course) (image : Image)
     (store : StoreState) : Type 0 where
   pub before : State

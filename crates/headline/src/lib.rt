@@ -28,10 +28,11 @@ use world::{Answer, Step, World, run};
 /// failure.
 ///
 /// Where it isn't refused, each answer is the right one, a failed call of the disk comes where it
-/// is due, the disk crashed to just this image of what it had, of which every image would have
-/// done, and the store has the table and the number that a beginning of the decided commands
-/// leaves. That beginning holds every command of which an effect has left. And over all lives no
-/// mark was used up twice by what has left: no JoinNonce of a device stands in two accepts.
+/// is due, the store was opened of this image of a disk of which every image would have done (that
+/// it is the disk that these steps left is seen in the body, and no clause says so), and it has the
+/// table and the number that a beginning of the decided commands leaves. That beginning holds every
+/// command of which an effect has left. And over all lives no mark was used up twice by what has
+/// left: no JoinNonce of a device stands in two accepts.
 pub fn crash_after<D: Sim + Drop>(
     alloc: Global,
     disk: D,

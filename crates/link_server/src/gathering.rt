@@ -24,7 +24,7 @@ pub(crate) struct Gathered {
 
 /// Takes effects from a ring, and puts their frames behind those that are to be sent, until there
 /// are enough or no more. An effect for whose frame there is no memory is lost, and on a broken
-/// link each one is.
+/// link each one is; that no other one is, no clause says.
 pub(crate) fn gather(
     alloc: Global,
     inlet: &mut Inlet,

@@ -7,8 +7,9 @@ use thiserror::Error;
 /// What came of a life whose inputs all ended.
 #[derive(Drop)]
 pub struct LifeReport {
-    /// The effects that were lost: their gateway or application had no link, or the link's ring was
-    /// full, or the link was gone or took nothing any more.
+    /// The effects that weren't sent: their gateway or application had no link, or the link's ring
+    /// was full, or the link was gone or took nothing any more. Of those that were being written
+    /// when it failed, at most 64, all count, also where it had taken some.
     pub dropped: u64,
     /// The links that were read no further because of what they said.
     pub faulted: u64,
@@ -19,10 +20,10 @@ pub struct LifeReport {
     pub shares: Vec<u64>,
 }
 
-/// Why a life ended before its inputs did.
+/// Why a life has no report.
 #[derive(Debug, Drop, Error)]
 pub enum ServeFault {
-    /// No link could be accepted.
+    /// A link couldn't be accepted, a thousand times in a row.
     #[error("listen")]
     Listen,
     /// The store, or want of memory.

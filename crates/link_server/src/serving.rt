@@ -40,8 +40,12 @@ use store::Store;
 /// at once: the links are closed, and what waits for them is lost. Every thread is joined in each
 /// case.
 ///
-/// Nothing polls: a worker waits in its read, a sender and the flusher for a bell, and the closer
-/// until the oldest window is due. It need not return: an input may never end.
+/// A worker waits in its read, a sender and the flusher for a bell, and the closer until the oldest
+/// window is due. None of them polls, but a sender whose peer takes nothing, which tries again each
+/// second, and the closer where there is no memory. It need not return: an input may never end.
+///
+/// Of all this the contract says that the shares sum to the decisions; what it calls is proved for
+/// itself, and the rest is shown by tests on sockets.
 pub fn serve_links<R: Threads + Wait + Sync, D: Disk + Drop, G: Gate + Sync, C: LifeClock + Sync>(
     rt: &R,
     alloc: Global,

@@ -1,6 +1,6 @@
 //! Tests of the server as a user has it: words, files, addresses, standard output, standard error
-//! and statuses, and one life of two links over loopback. They stand above `gateway_server`, so that
-//! it is proved once.
+//! and statuses, and one life of two links over loopback. They stand above `gateway_server`, so
+//! that it is proved once.
 #![tactic(auto)]
 
 #[cfg(test)]
