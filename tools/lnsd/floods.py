@@ -15,7 +15,7 @@ ROOM = 4096
 # uplinks with long payloads, 8 of each device
 LONG = 16_000
 # what the network keeps of the end for a peer that doesn't read, in seconds
-PATIENCE = 10
+PATIENCE = 8
 
 
 def euis(count):
@@ -209,7 +209,7 @@ def reads_late(trials):
 
 
 def never_ends(trials):
-    """An application neither reads nor closes: the end waits ten seconds for it."""
+    """An application neither reads nor closes: the end waits eight seconds for it."""
     with trials.store(4096, records(LONG // 8, OWNER)) as program:
         gateway, mute = long_uplinks(program, program.serve(2))
         begun = time.monotonic()
