@@ -81,7 +81,7 @@ def commits(found):
     if "sqlite" in peers:
         it = peers["sqlite"]
         cells.append((f"SQLite {it['version']}", 1, f"{it['commits_a_second']:,}", *spread(it)))
-    return table(("What", "clients", "commits a second", "median", "99th", "largest"), *cells)
+    return table(("What", "clients", "durable a second", "median", "99th", "largest"), *cells)
 
 
 def lines(found):
