@@ -88,7 +88,8 @@ def made(devices, rounds, gateways, copies, jobs):
     words = [(part, rounds, gateways, copies) for part in parts]
     if jobs == 1:
         return [it for word in words for it in copies_of(*word)]
-    with multiprocessing.get_context("fork").Pool(jobs) as pool:
+    # spawned, since a pool forks from its own threads, and a lock that one of them holds stays held
+    with multiprocessing.get_context("spawn").Pool(jobs) as pool:
         return [it for part in pool.starmap(copies_of, words) for it in part]
 
 
