@@ -2,6 +2,7 @@ mod Batches
 mod Gates
 mod Headers
 mod Holding
+mod Pairs
 pub mod ReadsOn
 mod Recovering
 mod Slices

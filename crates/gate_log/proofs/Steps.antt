@@ -32,10 +32,10 @@ Keeps = (state : State) → NothingOpen state → EveryImage state (λ image. im
 abbrev pub on_disk : LogState → State → LogState
 on_disk log disk = record { disk = disk; areas = log.areas; next = log.next; generation = log.generation; other_open = log.other_open }
 
-knows_on : (log : LogState) (c : LogContents) (disk : State) → Knows log c → Knows (on_disk log disk) c
+pub knows_on : (log : LogState) (c : LogContents) (disk : State) → Knows log c → Knows (on_disk log disk) c
 knows_on log c disk knows = record { areas = knows.areas; generation = knows.generation; next = knows.next }
 
-other_on : (log : LogState) (c : LogContents) (disk : State) → get_or disk.content c.areas.other.start 0 ≡ get_or log.disk.content c.areas.other.start 0 → KnowsOther log c → KnowsOther (on_disk log disk) c
+pub other_on : (log : LogState) (c : LogContents) (disk : State) → get_or disk.content c.areas.other.start 0 ≡ get_or log.disk.content c.areas.other.start 0 → KnowsOther log c → KnowsOther (on_disk log disk) c
 other_on log c disk same knows = subst (λ (gate : ℕ). MatchBool log.other_open (gate ≡ OPEN) (gate ≢ OPEN)) (sym same) knows
 
 -- what the content holds and every image is, where nothing is open
@@ -50,7 +50,7 @@ content_of c s images = images s.content (record { same_length = refl; kept = λ
 pub synced_images : Keeps → (c : LogContents) (before after : State) → EveryImage before (Holds c) → after.content ≡ before.content → NothingOpen after → EveryImage after (Holds c)
 synced_images keeps c before after images same settled = settled_images keeps c after settled (subst (Holds c) (sym same) (content_of c before images))
 
-live_end : (log : LogState) (c : LogContents) → Knows log c → log.areas.live.end ≡ c.areas.live.end
+pub live_end : (log : LogState) (c : LogContents) → Knows log c → log.areas.live.end ≡ c.areas.live.end
 live_end log c knows = ap (λ (x : Areas). x.live.end) knows.areas
 
 other_start : (log : LogState) (c : LogContents) → Knows log c → log.areas.other.start ≡ c.areas.other.start

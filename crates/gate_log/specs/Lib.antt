@@ -5,6 +5,7 @@ pub mod Live
 pub mod Log
 pub mod Message
 pub mod Opening
+pub mod Pairing
 pub mod Phases
 pub mod Recover
 pub mod Recovered

@@ -13,6 +13,7 @@ mod layout;
 mod live;
 mod log;
 mod opening;
+mod pairing;
 mod phases;
 mod reading;
 mod recover;
@@ -25,5 +26,6 @@ pub use layout::{Area, Areas, CLOSED, EMPTY_AREA_LEN, ENTRIES_AT, Header, OPEN, 
 pub use live::Live;
 pub use log::Log;
 pub use opening::Opening;
+pub use pairing::Paired;
 pub use phases::{Begun, BodySynced, Durable, GateWritten, Written};
 pub use recover::Recovered;

@@ -16,7 +16,7 @@ use std::alloc::{AllocError, Global};
 /// A batch of which nothing is written yet.
 pub struct Begun {
     // The batch's body, and the closed gate of the next batch.
-    bytes: Vec<u8>,
+    pub(crate) bytes: Vec<u8>,
 }
 
 /// A batch whose body is written, and may be torn.
@@ -27,17 +27,17 @@ pub struct Written {
 
 /// A batch whose body is on the disk, behind its closed gate.
 pub struct BodySynced {
-    size: u64,
+    pub(crate) size: u64,
 }
 
 /// A batch whose gate is open, and may be torn.
 pub struct GateWritten {
-    size: u64,
+    pub(crate) size: u64,
 }
 
 /// A batch that every crash leaves.
 pub struct Durable {
-    size: u64,
+    pub(crate) size: u64,
 }
 
 impl Begun {

@@ -325,6 +325,93 @@ fn a_crash_leaves_what_was_or_what_is_written(rt: HostRuntime) {
     }
 }
 
+// Two batches of which the gate of the first and the body of the second share a sync; whether no
+// call of the disk failed.
+fn commit_pair(alloc: Global, log: &mut Log<MemDisk>) -> Result<bool, RecoverError> {
+    if log.room() < 64 {
+        return Err(RecoverError::Damaged);
+    }
+    let Ok(written) = Begun::new(alloc, 1, 1, b"first")?.write(log) else {
+        return Ok(false);
+    };
+    let Ok(synced) = written.sync(log) else {
+        return Ok(false);
+    };
+    let Ok(opened) = synced.open_gate(log) else {
+        return Ok(false);
+    };
+    let following = match Begun::new(alloc, 2, 1, b"second") {
+        Ok(following) => following,
+        Err(error) => {
+            opened.lose();
+            return Err(RecoverError::from(error));
+        }
+    };
+    let Ok(paired) = opened.write_next(following, log) else {
+        return Ok(false);
+    };
+    let Ok((durable, synced)) = paired.sync(log) else {
+        return Ok(false);
+    };
+    durable.finish();
+    let Ok(opened) = synced.open_gate(log) else {
+        return Ok(false);
+    };
+    let Ok(durable) = opened.sync(log) else {
+        return Ok(false);
+    };
+    durable.finish();
+    Ok(true)
+}
+
+// How many batches are left of an image, where the nth call of a pair fails.
+fn left_of_pair(alloc: Global, n: u64, image: &Image) -> Result<usize, RecoverError> {
+    let mut log = fresh(alloc, AREAS, LEN)?;
+    if n > 0 {
+        log.arm(n);
+    }
+    let is_done = commit_pair(alloc, &mut log)?;
+    if is_done != (n > 7) {
+        return Err(RecoverError::Device);
+    }
+    let mut disk = log.close();
+    disk.crash(image);
+    disk.arm(99);
+    match held(alloc, disk)? {
+        (1, 0, 0) => Ok(0),
+        (1, 1, 0) => Ok(1),
+        (1, 1, 2) => Ok(2),
+        _ => Err(RecoverError::Damaged),
+    }
+}
+
+// The call that fails, and how many batches are left of the old bytes, of the new ones and of open
+// gates.
+const PAIRS: &[(u64, usize, usize, usize)] = &[
+    (1, 0, 0, 0),
+    (2, 0, 0, 0),
+    (3, 0, 0, 1),
+    (4, 0, 1, 1),
+    (5, 0, 1, 1),
+    (6, 1, 1, 2),
+    (7, 1, 2, 2),
+    (8, 2, 2, 2),
+];
+
+// Each call of two batches that share a sync fails in turn.
+#[test]
+fn a_crash_leaves_the_batches_whose_gates_are_open(rt: HostRuntime) {
+    for (n, old, new, open) in PAIRS {
+        for (image, count) in [
+            (Image::Old, old),
+            (Image::New, new),
+            (Image::Fill(0xA5), open),
+        ] {
+            assert!(rt; left_of_pair(rt.alloc(), *n, &image) == Ok(*count), "{n}");
+        }
+    }
+}
+
 // A byte that stands nowhere on the disks of these tests.
 const TORN: u8 = 0xDD;
 
