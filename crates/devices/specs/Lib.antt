@@ -5,3 +5,5 @@ pub mod Heard
 pub mod MacQueue
 pub mod Address
 pub mod DeviceStep
+pub mod Parts
+pub mod Becoming

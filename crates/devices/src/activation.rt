@@ -1,5 +1,5 @@
 // Joins granted to a device, and its sessions (TS001-1.0.4 §6.2).
-ghost use Rattle.std.specs.Prelude.{◌≡◌, ◌≤◌, ◌<◌, ◌↔◌, IsTrue, IfSome, unwrap_or};
+ghost use Rattle.std.specs.Prelude.{◌≡◌, ◌≤◌, ◌<◌, ◌↔◌, IsTrue, IfSome, option_map, unwrap_or};
 ghost use Rattle.devices.specs.Activation.{current_nonce};
 
 use crate::NextDown;
@@ -151,6 +151,51 @@ impl Activation {
         ensures { result ≡ self.now.pending }
     {
         self.pending
+    }
+}
+
+impl Activation {
+    ghost use Rattle.devices.specs.Parts.{session_of, counters_of};
+
+    /// Whether the current session is the same one, whatever its counters are.
+    pub fn same_session(&self, other: &Activation) -> bool
+        ensures { IsTrue result ↔ (session_of self.now ≡ session_of other.now) }
+    {
+        session_of(&self.current) == session_of(&other.current)
+    }
+
+    /// Whether the counters of the current session are the same, whatever the session is.
+    pub fn same_counters(&self, other: &Activation) -> bool
+        ensures { IsTrue result ↔ (counters_of self.now ≡ counters_of other.now) }
+    {
+        counters_of(&self.current) == counters_of(&other.current)
+    }
+
+    /// Whether the pending session is the same one.
+    pub fn same_pending(&self, other: &Activation) -> bool
+        ensures { IsTrue result ↔ (self.now.pending ≡ other.now.pending) }
+    {
+        self.pending == other.pending
+    }
+}
+
+// The session without its counters.
+fn session_of(current: &Option<CurrentSession>) -> Option<Session>
+    ensures { result ≡ option_map (λ c. c.session) current.now }
+{
+    match current {
+        None => None,
+        Some(current) => Some(current.session),
+    }
+}
+
+// The counter of the last uplink and that of the next downlink.
+fn counters_of(current: &Option<CurrentSession>) -> Option<(u32, NextDown)>
+    ensures { result ≡ option_map (λ c. (c.last_up, c.next_down)) current.now }
+{
+    match current {
+        None => None,
+        Some(current) => Some((current.last_up, current.next_down)),
     }
 }
 

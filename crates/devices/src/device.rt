@@ -61,3 +61,54 @@ impl Device {
         self == other
     }
 }
+
+// The parts of a record that change together.
+impl Device {
+    ghost use Rattle.devices.specs.Parts.{nonces_of, session_of, counters_of};
+
+    /// Whether both records have the same last DevNonce and the same last JoinNonce granted.
+    pub fn same_nonces(&self, other: &Device) -> bool
+        ensures { IsTrue result ↔ (nonces_of self.now ≡ nonces_of other.now) }
+    {
+        self.last_dev_nonce == other.last_dev_nonce
+            && self.activation.granted() == other.activation.granted()
+    }
+
+    /// Whether both records have the same current session, whatever its counters are.
+    pub fn same_session(&self, other: &Device) -> bool
+        ensures { IsTrue result
+            ↔ (session_of self.now.activation ≡ session_of other.now.activation) }
+    {
+        self.activation.same_session(&other.activation)
+    }
+
+    /// Whether the counters of both records' current sessions are the same, whatever the sessions
+    /// are.
+    pub fn same_counters(&self, other: &Device) -> bool
+        ensures { IsTrue result
+            ↔ (counters_of self.now.activation ≡ counters_of other.now.activation) }
+    {
+        self.activation.same_counters(&other.activation)
+    }
+
+    /// Whether both records have the same pending session.
+    pub fn same_pending(&self, other: &Device) -> bool
+        ensures { IsTrue result ↔ (self.now.activation.pending ≡ other.now.activation.pending) }
+    {
+        self.activation.same_pending(&other.activation)
+    }
+
+    /// Whether the same item is awaited in both records.
+    pub fn same_awaited(&self, other: &Device) -> bool
+        ensures { IsTrue result ↔ (self.now.awaited ≡ other.now.awaited) }
+    {
+        self.awaited == other.awaited
+    }
+
+    /// Whether the same MAC commands wait in both records.
+    pub fn same_mac_queue(&self, other: &Device) -> bool
+        ensures { IsTrue result ↔ (self.now.mac_queue ≡ other.now.mac_queue) }
+    {
+        self.mac_queue == other.mac_queue
+    }
+}

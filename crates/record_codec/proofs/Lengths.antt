@@ -14,7 +14,7 @@ use Rattle.devices.specs.Activation.{Grants}
 use Rattle.byte_fields.specs.Spelling.{counted_bytes, flag, optional}
 use Rattle.record_codec.specs.DeviceRecord.{activation, awaited_bytes, current_session, dev_nonce, granted_bytes, head, item, item_queue, session, spelling, AreGrants, IsCurrentSession, IsDevice, IsItem, IsSession}
 
-abbrev Has : ℕ → ℕ → List ℕ → Type 0
+abbrev pub Has : ℕ → ℕ → List ℕ → Type 0
 Has least most bytes = (least ≤ length bytes) × (length bytes ≤ most)
 
 has-append : (a b c d : ℕ) (first second : List ℕ) → Has a b first → Has c d second → Has (a + c) (b + d) (first ++ second)
@@ -30,15 +30,15 @@ has_flag : (f : Bool) → Has 1 1 (flag f)
 has_flag true = (omega arith, omega arith)
 has_flag false = (omega arith, omega arith)
 
-has_dev_nonce : (o : Option ℕ) → Has 3 3 (dev_nonce o)
+pub has_dev_nonce : (o : Option ℕ) → Has 3 3 (dev_nonce o)
 has_dev_nonce None = (omega arith, omega arith)
 has_dev_nonce (Some n) = (omega arith, omega arith)
 
-has_awaited : (o : Option Tag) → Has 5 5 (awaited_bytes o)
+pub has_awaited : (o : Option Tag) → Has 5 5 (awaited_bytes o)
 has_awaited None = (omega arith, omega arith)
 has_awaited (Some tag) = (omega arith, omega arith)
 
-has_granted : (o : Option ℕ) → Has 3 3 (granted_bytes o)
+pub has_granted : (o : Option ℕ) → Has 3 3 (granted_bytes o)
 has_granted None = (omega arith, omega arith)
 has_granted (Some n) = (omega arith, omega arith)
 
@@ -52,11 +52,11 @@ has_session s h =
 has_current : (c : CurrentSession) → IsCurrentSession c → Has 47 47 (current_session c)
 has_current c h = has-append 35 35 12 12 (session c.session) (to_be_bytes w32 c.last_up ++ to_be_bytes w64 c.next_down) (has_session c.session h.session) (omega arith, omega arith)
 
-has_optional_current : (o : Option CurrentSession) → IfSome o IsCurrentSession → Has 1 48 (optional current_session o)
+pub has_optional_current : (o : Option CurrentSession) → IfSome o IsCurrentSession → Has 1 48 (optional current_session o)
 has_optional_current None h = (omega arith, omega arith)
 has_optional_current (Some c) h = let k = has_current c h in let k0 = k.0 in let k1 = k.1 in (omega arith, omega arith)
 
-has_optional_session : (o : Option Session) → IfSome o IsSession → Has 1 36 (optional session o)
+pub has_optional_session : (o : Option Session) → IfSome o IsSession → Has 1 36 (optional session o)
 has_optional_session None h = (omega arith, omega arith)
 has_optional_session (Some s) h = let k = has_session s h in let k0 = k.0 in let k1 = k.1 in (omega arith, omega arith)
 
@@ -65,10 +65,10 @@ has_activation g h =
     has-append 3 3 2 84 (granted_bytes g.granted) (optional current_session g.current ++ optional session g.pending) (has_granted g.granted)
     (has-append 1 48 1 36 (optional current_session g.current) (optional session g.pending) (has_optional_current g.current h.current) (has_optional_session g.pending h.pending))
 
-has_counted : (bytes : List ℕ) (most : ℕ) → length bytes ≤ most → Has 1 (1 + most) (counted_bytes bytes)
+pub has_counted : (bytes : List ℕ) (most : ℕ) → length bytes ≤ most → Has 1 (1 + most) (counted_bytes bytes)
 has_counted bytes most le = (omega arith, omega arith)
 
-has_item : (i : Item) → IsItem i → Has 7 249 (item i)
+pub has_item : (i : Item) → IsItem i → Has 7 249 (item i)
 has_item i h =
     has-append 4 4 3 245 (to_be_bytes w32 i.tag.0) (i.port ∷ [] ++ (flag i.confirmed ++ counted_bytes i.payload)) (omega arith, omega arith)
     (has-append 1 1 2 244 (i.port ∷ []) (flag i.confirmed ++ counted_bytes i.payload) (omega arith, omega arith)

@@ -1,5 +1,5 @@
 -- Each field of a record is read as it is written.
-use Rattle.std.proofs.Common.{◌≡◌, ℕ, zero, suc, ◌/◌, ◌%◌, ◌^◌, ◌<◌, ◌≤◌, ◌&&◌, Bool, true, false, List, [], ◌∷◌, ◌++◌, Option, Some, None, refl, sym, ap, ◌∙◌, arith, inl, inr, nat_le, ltb}
+use Rattle.std.proofs.Common.{◌≡◌, ℕ, zero, suc, ◌^◌, ◌<◌, ◌≤◌, ◌&&◌, Bool, true, false, List, ◌∷◌, ◌++◌, Option, Some, None, refl, sym, ap, arith, inl, inr, nat_le, ltb}
 use Rattle.std.specs.Prelude.{IfSome, option_map, unwrap_or}
 use Rattle.std.specs.Option.{option_map_or}
 use Rattle.std.specs.Int.{Width, w16, w32, w64, to_be_bytes}
@@ -91,7 +91,7 @@ granted_forth : (o : Option ℕ) → IfSome o IsJoinNonce → (n : ℕ) × Below
 granted_forth None h = (0, omega arith, refl, refl)
 granted_forth (Some n) h = (n, h.1, cond-true (is_join_nonce n) (Some n) None (nonce_test n h), refl)
 
-granted_field : IsField (λ o. IfSome o IsJoinNonce) granted_bytes (seen_as granted_nonce three_be_bytes_at)
+pub granted_field : IsField (λ o. IfSome o IsJoinNonce) granted_bytes (seen_as granted_nonce three_be_bytes_at)
 granted_field = seen_field (Below (2 ^ 24)) nonce three_be_bytes_at three_be_bytes_field granted_nonce (λ o. IfSome o IsJoinNonce) granted_bytes granted_back granted_forth
 
 pub session_field : IsField IsSession session session_at
@@ -104,10 +104,10 @@ session_field =
     (λ x h. (record { join_nonce = h.0; nwk_skey = h.1.0; app_skey = h.1.1 }, refl))
     (λ s h. ((s.join_nonce, (s.nwk_skey, s.app_skey)), (h.join_nonce, (h.nwk_skey, h.app_skey)), refl, refl))
 
-abbrev IsNextDown : ℕ → Type 0
+abbrev pub IsNextDown : ℕ → Type 0
 IsNextDown n = n ≤ 2 ^ 32
 
-next_down_field : IsField IsNextDown (to_be_bytes w64) (that (λ n. nat_le n (2 ^ 32)) (be_at w64))
+pub next_down_field : IsField IsNextDown (to_be_bytes w64) (that (λ n. nat_le n (2 ^ 32)) (be_at w64))
 next_down_field =
     same_field (λ n. Below (2 ^ 64) n × (nat_le n (2 ^ 32) ≡ true)) IsNextDown (to_be_bytes w64) (that (λ n. nat_le n (2 ^ 32)) (be_at w64))
     (that_field (Below (2 ^ 64)) (to_be_bytes w64) (be_at w64) u64_be_field (λ n. nat_le n (2 ^ 32)))

@@ -10,7 +10,7 @@ use Rattle.lw_types.specs.declared.payload.TheConstants.{LONGEST_PAYLOAD}
 use Rattle.lw_types.specs.declared.refusal.Refusal.{Refusal}
 use Rattle.lw_types.specs.declared.refusal.Refusal.TheVariants.{OutOfMemory, Damaged}
 use Rattle.byte_fields.specs.Field.{IsField}
-use Rattle.byte_fields.specs.Reading.{◌>>=◌, both, that, be_at, be_eui_at, byte_at, counted_at, flag_at, key_at, ranged_at}
+use Rattle.byte_fields.specs.Reading.{◌>>=◌, both, be_at, be_eui_at, counted_at, flag_at, key_at, ranged_at}
 use Rattle.byte_fields.specs.Spelling.{flag, counted_bytes}
 use Rattle.byte_fields.specs.FieldLemmas.{IsBytes-after, bind_some, both_field, counted_field, flag_field, same_field, seen_field, some_is, that_field, whole_again, whole_takes}
 use Rattle.byte_fields.specs.NumberLemmas.{Below, Between, IsEui, be_eui_field, key_field, ranged_field, u32_be_field}
@@ -30,7 +30,7 @@ use Rattle.record_codec.proofs.RecordFields.{activation_field, awaited_field, de
 abbrev IsPayload : List ℕ → Type 0
 IsPayload bytes = IsBytes bytes × (length bytes ≤ LONGEST_PAYLOAD)
 
-abbrev IsCounted : List ℕ → Type 0
+abbrev pub IsCounted : List ℕ → Type 0
 IsCounted bytes = IsBytes bytes × (length bytes < 256)
 
 payload_field : IsField IsPayload counted_bytes payload_at
@@ -41,10 +41,10 @@ payload_field =
     (λ bytes h. let le = h.1 in ((h.0, omega arith), le-leb (length bytes) LONGEST_PAYLOAD h.1))
 
 -- the bytes of a queue, whatever they are
-abbrev IsQueue : List ℕ → Type 0
+abbrev pub IsQueue : List ℕ → Type 0
 IsQueue bytes = IsBytes bytes × (length bytes ≤ LONGEST_MAC_QUEUE)
 
-mac_queue_field : IsField IsQueue counted_bytes mac_queue_at
+pub mac_queue_field : IsField IsQueue counted_bytes mac_queue_at
 mac_queue_field =
     same_field (λ bytes. IsCounted bytes × (nat_le (length bytes) LONGEST_MAC_QUEUE ≡ true)) IsQueue counted_bytes mac_queue_at
     (that_field IsCounted counted_bytes counted_at counted_field (λ bytes. nat_le (length bytes) LONGEST_MAC_QUEUE))
@@ -63,7 +63,7 @@ item_parts_field =
     (both_field (Between 1 223) (λ n. n ∷ []) (ranged_at 1 223) (λ (x : Bool × List ℕ). Unit {0} × IsPayload x.1) (λ x. flag x.0 ++ counted_bytes x.1) (both flag_at payload_at) (ranged_field 1 223 (omega arith))
     (both_field (λ (f : Bool). Unit {0}) flag flag_at IsPayload counted_bytes payload_at flag_field payload_field))
 
-item_field : IsField IsItem item item_at
+pub item_field : IsField IsItem item item_at
 unfolding item_at
 item_field =
     seen_field IsItemParts item_text (both (be_at w32) (both (ranged_at 1 223) (both flag_at payload_at))) item_parts_field

@@ -1,5 +1,5 @@
 -- The layout of a device record: numbers with the highest byte first, one field after another.
-use Rattle.std.specs.Prelude.{◌≡◌, ℕ, ◌^◌, ◌<◌, ◌≤◌, Bool, false, true, List, [], ◌∷◌, ◌++◌, length}
+use Rattle.std.specs.Prelude.{◌≡◌, ℕ, ◌^◌, ◌<◌, ◌≤◌, List, [], ◌∷◌, ◌++◌, length}
 use Rattle.std.specs.Prelude.{Option, Some, None, option_map, IfSome}
 use Rattle.std.specs.List.{flat_map, AllByRecursion}
 use Rattle.std.specs.Int.{Width, w16, w32, w64, to_be_bytes}
@@ -7,7 +7,6 @@ use Rattle.lw_types.specs.Hex.{IsBytes}
 use Rattle.lw_types.specs.Values.{IsKey}
 use Rattle.lw_types.specs.declared.payload.TheConstants.{LONGEST_PAYLOAD}
 use Rattle.byte_fields.specs.Spelling.{flag, three_be_bytes, counted_bytes, optional}
-use Rattle.lw_types.specs.declared.key.Key.{Key}
 use Rattle.devices.specs.declared.Tag.{Tag}
 use Rattle.devices.specs.declared.activation.Session.{Session}
 use Rattle.devices.specs.declared.activation.CurrentSession.{CurrentSession}

@@ -1,10 +1,14 @@
--- A record that was read but for what takes memory.
-use Rattle.std.specs.Prelude.{ℕ, List}
+-- Records and changes, of which what takes memory is elsewhere.
+use Rattle.std.specs.Prelude.{◌≤◌, List, Option, Some, None, IfSome, length, option_map}
+use Rattle.lw_types.specs.declared.payload.TheConstants.{LONGEST_PAYLOAD}
+use Rattle.devices.specs.declared.mac_queue.TheConstants.MacQueue.{MOST as LONGEST_MAC_QUEUE}
 use Rattle.devices.specs.declared.queue.Item.{Item}
 use Rattle.devices.specs.declared.device.Device.{Device}
-use Rattle.record_codec.specs.declared.queues.ItemPart.{ItemPart}
+use Rattle.record_codec.specs.declared.parts.ItemPart.{ItemPart}
 use Rattle.record_codec.specs.declared.queues.ItemParts.{ItemParts}
 use Rattle.record_codec.specs.declared.device_record.RecordParts.{RecordParts}
+use Rattle.record_codec.specs.declared.parts.GroupParts.{GroupParts}
+use Rattle.record_codec.specs.Change.{Groups, ItemChange, Leaves, Added}
 use Rattle.record_codec.specs.Reading.{items_in}
 
 -- the item, with a payload of its own
@@ -32,3 +36,29 @@ device_of_parts r =
       mac_queue = r.mac_queue.now;
       items = items_of_parts r.items;
     }
+
+-- ---- a change
+
+abbrev pub item_change_of_parts : Option ItemPart → ItemChange
+item_change_of_parts None = Leaves
+item_change_of_parts (Some i) = Added (item_of_part i)
+
+abbrev pub groups_of_parts : GroupParts → Groups
+groups_of_parts g =
+    record {
+      nonces = g.nonces;
+      current = g.current;
+      counters = g.counters;
+      pending = g.pending;
+      awaited = g.awaited;
+      mac_queue = option_map (λ bytes. bytes.now) g.mac_queue;
+      items = option_map item_change_of_parts g.items;
+    }
+
+abbrev pub IsShortChange : Option ItemPart → Type 0
+IsShortChange added = IfSome added (λ i. length i.payload.now ≤ LONGEST_PAYLOAD)
+
+-- what takes memory is as long as it may be
+pub record AreShort (g : GroupParts) : Type 0 where
+  pub mac_queue : IfSome g.mac_queue (λ bytes. length bytes.now ≤ LONGEST_MAC_QUEUE)
+  pub items : IfSome g.items IsShortChange

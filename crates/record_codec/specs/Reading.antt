@@ -9,7 +9,7 @@ use Rattle.lw_types.specs.declared.identifiers.Eui.{Eui}
 use Rattle.lw_types.specs.declared.key.Key.{Key}
 use Rattle.lw_types.specs.declared.payload.TheConstants.{LONGEST_PAYLOAD}
 use Rattle.byte_fields.specs.Reading.{Reader, ◌>>=◌, both, seen_as, that, whole, be_at, be_eui_at}
-use Rattle.byte_fields.specs.Reading.{byte_at, counted_at, flag_at, key_at, optional_at, ranged_at}
+use Rattle.byte_fields.specs.Reading.{counted_at, flag_at, key_at, optional_at, ranged_at}
 use Rattle.byte_fields.specs.Reading.{three_be_bytes_at}
 use Rattle.mac_commands.specs.Queueable.{AreQueueable}
 use Rattle.devices.specs.declared.Tag.{Tag}

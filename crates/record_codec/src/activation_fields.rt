@@ -3,6 +3,8 @@ ghost use Rattle.std.specs.Prelude.{◌≡◌, ◌++◌, IfSome, OnOk};
 ghost use Rattle.record_codec.specs.DeviceRecord.{activation, current_session, granted_bytes};
 ghost use Rattle.record_codec.specs.DeviceRecord.{session, AreGrants, IsCurrentSession};
 ghost use Rattle.record_codec.specs.DeviceRecord.{IsJoinNonce, IsSession};
+ghost use Rattle.record_codec.specs.Change.{counters_bytes, AreCounters};
+ghost use Rattle.byte_fields.specs.Spelling.{optional};
 ghost use Rattle.byte_fields.specs.Reading.{Gives, optional_at, seen_as, three_be_bytes_at};
 ghost use Rattle.record_codec.specs.Reading.{activation_at, current_at, granted_nonce, session_at};
 
@@ -40,15 +42,16 @@ fn read_current(fields: &mut FieldReader<'_>) -> Option<CurrentSession>
     })
 }
 
-// The last JoinNonce granted, 0 for none.
-fn read_granted(fields: &mut FieldReader<'_>) -> Option<Option<JoinNonce>>
+/// The last JoinNonce granted, 0 for none.
+pub(crate) fn read_granted(fields: &mut FieldReader<'_>) -> Option<Option<JoinNonce>>
     ensures { Gives result fields.new.rest.now
         (seen_as granted_nonce three_be_bytes_at fields.old.rest.now) }
 {
     Some(JoinNonce::new(fields.u24_be()?))
 }
 
-fn read_optional_current(fields: &mut FieldReader<'_>) -> Option<Option<CurrentSession>>
+/// 00, or 01 and the current session.
+pub(crate) fn read_optional_current(fields: &mut FieldReader<'_>) -> Option<Option<CurrentSession>>
     ensures { Gives result fields.new.rest.now (optional_at current_at fields.old.rest.now) }
 {
     if fields.flag()? {
@@ -58,7 +61,8 @@ fn read_optional_current(fields: &mut FieldReader<'_>) -> Option<Option<CurrentS
     }
 }
 
-fn read_optional_session(fields: &mut FieldReader<'_>) -> Option<Option<Session>>
+/// 00, or 01 and the session.
+pub(crate) fn read_optional_session(fields: &mut FieldReader<'_>) -> Option<Option<Session>>
     ensures { Gives result fields.new.rest.now (optional_at session_at fields.old.rest.now) }
 {
     if fields.flag()? {
@@ -90,17 +94,32 @@ fn put_session(out: &mut Vec<u8>, s: &Session) -> Result<(), AllocError>
     Ok(())
 }
 
+/// Appends the counter of a session's last uplink and that of its next downlink.
+pub(crate) fn put_counters(
+    out: &mut Vec<u8>,
+    last_up: u32,
+    next_down: NextDown,
+) -> Result<(), AllocError>
+    ensures written { OnOk result (out.new.items
+        ≡ out.old.items ++ counters_bytes (last_up, next_down)) }
+    ensures in_range { AreCounters (last_up, next_down) }
+{
+    out.extend_from_slice(&last_up.to_be_bytes())?;
+    out.extend_from_slice(&next_down.get().to_be_bytes())?;
+    Ok(())
+}
+
 fn put_current(out: &mut Vec<u8>, current: &CurrentSession) -> Result<(), AllocError>
     ensures written { OnOk result (out.new.items ≡ out.old.items ++ current_session current.now) }
     ensures in_range { OnOk result (IsCurrentSession current.now) }
 {
     put_session(out, &current.session)?;
-    out.extend_from_slice(&current.last_up.to_be_bytes())?;
-    out.extend_from_slice(&current.next_down.get().to_be_bytes())?;
+    put_counters(out, current.last_up, current.next_down)?;
     Ok(())
 }
 
-fn put_granted(out: &mut Vec<u8>, nonce: Option<JoinNonce>) -> Result<(), AllocError>
+/// Appends the last JoinNonce granted, 0 for none.
+pub(crate) fn put_granted(out: &mut Vec<u8>, nonce: Option<JoinNonce>) -> Result<(), AllocError>
     ensures written { OnOk result (out.new.items ≡ out.old.items ++ granted_bytes nonce) }
     ensures in_range { OnOk result (IfSome nonce IsJoinNonce) }
 {
@@ -112,25 +131,49 @@ fn put_granted(out: &mut Vec<u8>, nonce: Option<JoinNonce>) -> Result<(), AllocE
     out.extend_from_slice(&[high, middle, low])
 }
 
+/// Appends 00, or 01 and the current session.
+pub(crate) fn put_optional_current(
+    out: &mut Vec<u8>,
+    current: &Option<CurrentSession>,
+) -> Result<(), AllocError>
+    ensures written { OnOk result (out.new.items
+        ≡ out.old.items ++ optional current_session current.now) }
+    ensures in_range { OnOk result (IfSome current.now IsCurrentSession) }
+{
+    match current {
+        None => out.push(0)?,
+        Some(current) => {
+            out.push(1)?;
+            put_current(out, current)?;
+        }
+    }
+    Ok(())
+}
+
+/// Appends 00, or 01 and the session.
+pub(crate) fn put_optional_session(
+    out: &mut Vec<u8>,
+    pending: &Option<Session>,
+) -> Result<(), AllocError>
+    ensures written { OnOk result (out.new.items ≡ out.old.items ++ optional session pending.now) }
+    ensures in_range { OnOk result (IfSome pending.now IsSession) }
+{
+    match pending {
+        None => out.push(0)?,
+        Some(session) => {
+            out.push(1)?;
+            put_session(out, session)?;
+        }
+    }
+    Ok(())
+}
+
 /// Appends what was granted and the sessions.
 pub(crate) fn put_activation(out: &mut Vec<u8>, grants: &Activation) -> Result<(), AllocError>
     ensures written { OnOk result (out.new.items ≡ out.old.items ++ activation grants.now) }
     ensures in_range { OnOk result (AreGrants grants.now) }
 {
     put_granted(out, grants.granted())?;
-    match grants.current() {
-        None => out.push(0)?,
-        Some(current) => {
-            out.push(1)?;
-            put_current(out, &current)?;
-        }
-    }
-    match grants.pending() {
-        None => out.push(0)?,
-        Some(session) => {
-            out.push(1)?;
-            put_session(out, &session)?;
-        }
-    }
-    Ok(())
+    put_optional_current(out, &grants.current())?;
+    put_optional_session(out, &grants.pending())
 }

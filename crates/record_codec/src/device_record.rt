@@ -22,9 +22,9 @@ use lw_types::{Eui, Key, Refusal};
 use mac_commands::are_queueable;
 use std::alloc::{AllocError, Global};
 
-// A flag and a number, which is 0 where the flag is.
+/// A flag and the last DevNonce, which is 0 where the flag is.
 #[tactic(auto, unfolding(crate::specs::Reading::flagged_at))]
-fn read_dev_nonce(fields: &mut FieldReader<'_>) -> Option<Option<u16>>
+pub(crate) fn read_dev_nonce(fields: &mut FieldReader<'_>) -> Option<Option<u16>>
     ensures { Gives result fields.new.rest.now (flagged_at w16 fields.old.rest.now) }
 {
     let is_there = fields.flag()?;
@@ -35,8 +35,9 @@ fn read_dev_nonce(fields: &mut FieldReader<'_>) -> Option<Option<u16>>
     }
 }
 
+/// A flag and the tag that is awaited, which is 0 where the flag is.
 #[tactic(auto, unfolding(crate::specs::Reading::flagged_at))]
-fn read_awaited(fields: &mut FieldReader<'_>) -> Option<Option<Tag>>
+pub(crate) fn read_awaited(fields: &mut FieldReader<'_>) -> Option<Option<Tag>>
     ensures { Gives result fields.new.rest.now (awaited_at fields.old.rest.now) }
 {
     let is_there = fields.flag()?;
@@ -181,7 +182,8 @@ fn put_head(out: &mut Vec<u8>, device: &Device) -> Result<(), AllocError>
     put_terms(out, device)
 }
 
-fn put_dev_nonce(out: &mut Vec<u8>, nonce: Option<u16>) -> Result<(), AllocError>
+/// Appends a flag and the last DevNonce, 0 for none.
+pub(crate) fn put_dev_nonce(out: &mut Vec<u8>, nonce: Option<u16>) -> Result<(), AllocError>
     ensures written { OnOk result (out.new.items ≡ out.old.items ++ dev_nonce nonce) }
     ensures in_range { IfSome nonce (λ n. n < 2 ^ 16) }
 {
@@ -190,7 +192,8 @@ fn put_dev_nonce(out: &mut Vec<u8>, nonce: Option<u16>) -> Result<(), AllocError
     Ok(())
 }
 
-fn put_awaited(out: &mut Vec<u8>, tag: Option<Tag>) -> Result<(), AllocError>
+/// Appends a flag and the tag that is awaited, 0 for none.
+pub(crate) fn put_awaited(out: &mut Vec<u8>, tag: Option<Tag>) -> Result<(), AllocError>
     ensures written { OnOk result (out.new.items ≡ out.old.items ++ awaited_bytes tag) }
     ensures in_range { IfSome tag (λ t. t.0 < 2 ^ 32) }
 {

@@ -9,6 +9,7 @@ ghost use Rattle.record_codec.specs.Parts.{item_of_part, items_of_parts};
 ghost use Rattle.record_codec.specs.Reading.{item_at, item_queue_at, items_at, items_in};
 ghost use Rattle.record_codec.specs.Reading.{mac_queue_at, payload_at};
 
+use crate::parts::ItemPart;
 use crate::written_fields::{put_counted, put_flag};
 use byte_fields::FieldReader;
 use devices::{Item, ItemQueue, MacQueue, Payload, Port, Ranged, Tag};
@@ -29,30 +30,6 @@ pub(crate) fn read_mac_queue<'a>(fields: &mut FieldReader<'a>) -> Option<&'a [u8
     }
 }
 
-/// An item, its payload still in the record.
-#[derive(Clone, Copy)]
-struct ItemPart<'a> {
-    tag: Tag,
-    port: Port,
-    confirmed: bool,
-    payload: &'a [u8],
-}
-
-impl ItemPart<'_> {
-    /// The item, with a payload of its own.
-    fn item(self, alloc: Global) -> Result<Item, AllocError>
-        requires { length self.payload.now ≤ LONGEST_PAYLOAD }
-        ensures { IfOk result (λ item. item ≡ item_of_part self.entry) }
-    {
-        Ok(Item {
-            tag: self.tag,
-            port: self.port,
-            confirmed: self.confirmed,
-            payload: Payload::from_slice(alloc, self.payload)?,
-        })
-    }
-}
-
 fn read_payload<'a>(fields: &mut FieldReader<'a>) -> Option<&'a [u8]>
     ensures field { GivesSeen (λ bytes. bytes.now) result fields.new.rest.now
         (payload_at fields.old.rest.now) }
@@ -66,8 +43,9 @@ fn read_payload<'a>(fields: &mut FieldReader<'a>) -> Option<&'a [u8]>
     }
 }
 
+/// An item, its payload still in the bytes.
 #[tactic(auto, unfolding(crate::specs::Reading::item_at))]
-fn read_item<'a>(fields: &mut FieldReader<'a>) -> Option<ItemPart<'a>>
+pub(crate) fn read_item<'a>(fields: &mut FieldReader<'a>) -> Option<ItemPart<'a>>
     ensures field { GivesSeen item_of_part result fields.new.rest.now
         (item_at fields.old.rest.now) }
     ensures few { IfSome result (λ i. length i.payload.now ≤ LONGEST_PAYLOAD) }
@@ -139,14 +117,16 @@ impl ItemParts<'_> {
     }
 }
 
-fn put_item(out: &mut Vec<u8>, i: &Item) -> Result<(), AllocError>
-    ensures written { OnOk result (out.new.items ≡ out.old.items ++ item i.now) }
-    ensures in_range { OnOk result (IsItem i.now) }
+/// Appends an item.
+pub(crate) fn put_item(out: &mut Vec<u8>, i: &ItemPart<'_>) -> Result<(), AllocError>
+    requires { length i.now.payload.now ≤ LONGEST_PAYLOAD }
+    ensures written { OnOk result (out.new.items ≡ out.old.items ++ item (item_of_part i.now)) }
+    ensures in_range { OnOk result (IsItem (item_of_part i.now)) }
 {
     out.extend_from_slice(&i.tag.0.to_be_bytes())?;
     out.push(i.port.get() as u8)?;
     put_flag(out, i.confirmed)?;
-    put_counted(out, i.payload.as_slice())?;
+    put_counted(out, i.payload)?;
     Ok(())
 }
 
@@ -158,7 +138,7 @@ pub(crate) fn put_item_queue(out: &mut Vec<u8>, queue: &ItemQueue) -> Result<(),
     let items = queue.as_slice();
     out.push(items.len() as u8)?;
     for item in items {
-        put_item(out, item)?;
+        put_item(out, &ItemPart::of(item))?;
     }
     Ok(())
 }

@@ -15,7 +15,7 @@ use Rattle.store.specs.Formatting.{IsFormatImage, IsShut}
 use Rattle.store.specs.Image.{area_a, area_b}
 use Rattle.store.specs.declared.areas.TheConstants.{RECORD_VERSION}
 use Rattle.store.specs.State.{IsSettled}
-use Rattle.store_layout.specs.declared.version.RecordVersion.TheVariants.{V1}
+use Rattle.record_codec.specs.declared.version.RecordVersion.TheVariants.{V1}
 use Rattle.store.proofs.Holding.{front_is, laid_out}
 
 pub OnOk-map : {T E : Type 0} {P Q : Type 0} (r : Result T E) → (P → Q) → OnOk r P → OnOk r Q

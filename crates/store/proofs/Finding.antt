@@ -1,5 +1,5 @@
 -- What was read of a disk, against what the disk holds.
-use Rattle.std.proofs.Common.{◌≡◌, ◌↔◌, inl, inr, ◌<◌, ◌≤◌, ◌∙◌, ℕ, List, [], ◌∷◌, length, take, sym, ap, subst, refl, Some}
+use Rattle.std.proofs.Common.{◌≡◌, ◌↔◌, inl, inr, ◌<◌, ◌≤◌, ◌∙◌, ℕ, List, [], ◌∷◌, length, take, sym, ap, subst, refl}
 use Rattle.lw_types.specs.declared.refusal.Refusal.{Refusal}
 use Rattle.lw_types.specs.declared.refusal.Refusal.TheVariants.{Damaged, WrongVersion}
 use Rattle.gate_log.specs.declared.layout.Area.{Area}
@@ -11,10 +11,10 @@ use Rattle.gate_log.specs.Layout.{BatchValue, HasRoomFor}
 use Rattle.gate_log.specs.Live.{IsLiveAs}
 use Rattle.gate_log.specs.Recovered.{IsRecovered, contents_of}
 use Rattle.sessions.specs.Table.{TableState, empty_table}
-use Rattle.store_layout.specs.declared.entries.Entry.{Entry}
-use Rattle.store_layout.specs.declared.version.RecordVersion.{RecordVersion}
-use Rattle.store_layout.specs.declared.version.RecordVersion.TheVariants.{V1}
-use Rattle.store_layout.specs.Entries.{put_all, version_byte}
+use Rattle.record_codec.specs.declared.version.RecordVersion.{RecordVersion}
+use Rattle.record_codec.specs.declared.version.RecordVersion.TheVariants.{V1}
+use Rattle.record_codec.specs.Version.{version_byte}
+use Rattle.store_layout.specs.Entries.{EntryValue, Leads}
 use Rattle.store_layout.specs.Superblock.{disk_len, superblock}
 use Rattle.store.specs.declared.areas.TheConstants.{LAST_GENERATION}
 use Rattle.store.specs.declared.found.Found.{Found}
@@ -33,25 +33,25 @@ pub record AreaLaws : Type 0 where
 
 -- entries that are put keep the network and the number of slots
 pub record KeepLaws : Type 0 where
-  pub net_id : (t u : TableState) (es : List Entry) → put_all t es ≡ Some u → u.net_id ≡ t.net_id
-  pub slots : (t u : TableState) (es : List Entry) → put_all t es ≡ Some u → u.slots ≡ t.slots
+  pub net_id : (v : RecordVersion) (t u : TableState) (es : List EntryValue) → Leads v t es u → u.net_id ≡ t.net_id
+  pub slots : (v : RecordVersion) (t u : TableState) (es : List EntryValue) → Leads v t es u → u.slots ≡ t.slots
 
 lead_net : KeepLaws → (v : RecordVersion) (t : TableState) (seq : ℕ) (batches : List BatchValue) (u : TableState) (n : ℕ) → Lead v t seq batches u n → u.net_id ≡ t.net_id
 lead_net keep v t seq [] u n lead = ap (λ (x : TableState). x.net_id) lead.0
 lead_net keep v t seq (b ∷ batches) u n lead =
-    lead_net keep v lead.1 b.last_sequence batches u n lead.3 ∙ keep.net_id t lead.1 lead.0 lead.2.replay.leads
+    lead_net keep v lead.1 b.last_sequence batches u n lead.3 ∙ keep.net_id v t lead.1 lead.0 lead.2.replay.leads
 
 lead_slots : KeepLaws → (v : RecordVersion) (t : TableState) (seq : ℕ) (batches : List BatchValue) (u : TableState) (n : ℕ) → Lead v t seq batches u n → u.slots ≡ t.slots
 lead_slots keep v t seq [] u n lead = ap (λ (x : TableState). x.slots) lead.0
 lead_slots keep v t seq (b ∷ batches) u n lead =
-    lead_slots keep v lead.1 b.last_sequence batches u n lead.3 ∙ keep.slots t lead.1 lead.0 lead.2.replay.leads
+    lead_slots keep v lead.1 b.last_sequence batches u n lead.3 ∙ keep.slots v t lead.1 lead.0 lead.2.replay.leads
 
 -- what is restored has the slots that it was restored for
 pub restored_slots : KeepLaws → (v : RecordVersion) (net slots : ℕ) (header : Header) (records : List ℕ) (batches : List BatchValue) (t : TableState) (seq : ℕ)
     → Restores v net slots header records batches t seq → t.slots ≡ slots
 restored_slots keep v net slots header records batches t seq r =
     lead_slots keep v r.base header.sequence batches t seq r.batches
-    ∙ keep.slots (empty_table net slots) r.base r.checkpoint.entries r.checkpoint.replay.leads
+    ∙ keep.slots v (empty_table net slots) r.base r.checkpoint.entries r.checkpoint.replay.leads
 
 -- each version has a byte of its own
 one_version : (v w : RecordVersion) → version_byte v ≡ version_byte w → v ≡ w
@@ -133,7 +133,7 @@ module _ (content : List ℕ) (net slots : ℕ) (store : IsStoreOf content net s
           let first = journal.checkpoint in
           let net_is : found.table.net_id ≡ net =
           lead_net keep v base r.header.sequence r.batches.items found.table found.seq journal.batches
-          ∙ keep.net_id (empty_table net slots) base first.entries first.replay.leads in
+          ∙ keep.net_id v (empty_table net slots) base first.entries first.replay.leads in
           let slots_is : found.table.slots ≡ slots = restored_slots keep v net slots r.header r.records.items r.batches.items found.table found.seq journal in
           let says : Says v c found.table found.seq = record {
             net_id = subst (λ k. k < 64) (sym net_is) store.net_id_range;

@@ -7,7 +7,7 @@ use Rattle.gate_log.specs.Areas.{AreOf, LogContents, Holds, HoldsOneOf, contents
 use Rattle.gate_log.specs.Layout.{IsHeader}
 use Rattle.sessions.specs.Index.{HaveOwnSlots}
 use Rattle.sessions.specs.Table.{TableState, empty_table}
-use Rattle.store_layout.specs.declared.version.RecordVersion.{RecordVersion}
+use Rattle.record_codec.specs.declared.version.RecordVersion.{RecordVersion}
 use Rattle.store_layout.specs.Entries.{AreEntries, Replay, entries, entries_of_table}
 use Rattle.store.specs.declared.areas.TheConstants.{LAST_GENERATION}
 use Rattle.store.specs.Checkpointing.{Republishes, next_header}

@@ -11,8 +11,8 @@ use Rattle.gate_log.specs.Checkpointing.{IsCheckpointOpened as IsLogOpened, chec
 use Rattle.gate_log.specs.Checkpointing.{written_front, synced_front, opened_front}
 use Rattle.gate_log.specs.Log.{IsAtRest}
 use Rattle.sessions.specs.Table.{TableState}
-use Rattle.store_layout.specs.declared.version.RecordVersion.{RecordVersion}
-use Rattle.store_layout.specs.Entries.{version_byte}
+use Rattle.record_codec.specs.declared.version.RecordVersion.{RecordVersion}
+use Rattle.record_codec.specs.Version.{version_byte}
 use Rattle.store.specs.declared.checkpointing.Checkpoint.{Checkpoint}
 use Rattle.store.specs.declared.checkpointing.Retiring.{Retiring}
 use Rattle.store.specs.declared.checkpointing.CheckpointWritten.{CheckpointWritten}

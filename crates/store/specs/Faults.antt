@@ -13,8 +13,8 @@ use Rattle.gate_log.specs.Layout.{HasRoomFor}
 use Rattle.sessions.specs.Table.{TableState, IsSlots}
 use Rattle.store_layout.specs.Superblock.{superblock, disk_len}
 use Rattle.store_layout.specs.declared.superblock.TheConstants.Superblock.{LEN}
-use Rattle.store_layout.specs.declared.version.RecordVersion.{RecordVersion}
-use Rattle.store_layout.specs.Entries.{version_byte}
+use Rattle.record_codec.specs.declared.version.RecordVersion.{RecordVersion}
+use Rattle.record_codec.specs.Version.{version_byte}
 use Rattle.store.specs.declared.areas.TheConstants.{LAST_GENERATION}
 use Rattle.store.specs.Image.{HoldsTable, IsLive, NoneLive}
 

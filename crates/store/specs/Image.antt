@@ -9,9 +9,9 @@ use Rattle.sessions.specs.Table.{TableState, IsSlots, empty_table}
 use Rattle.sessions.specs.declared.batch.TheConstants.Batch.{MOST}
 use Rattle.store_layout.specs.Superblock.{area_len, disk_len, superblock}
 use Rattle.store_layout.specs.declared.superblock.TheConstants.Superblock.{LEN}
-use Rattle.store_layout.specs.declared.entries.Entry.{Entry}
-use Rattle.store_layout.specs.declared.version.RecordVersion.{RecordVersion}
-use Rattle.store_layout.specs.Entries.{Replay, version_byte}
+use Rattle.record_codec.specs.declared.version.RecordVersion.{RecordVersion}
+use Rattle.record_codec.specs.Version.{version_byte}
+use Rattle.store_layout.specs.Entries.{EntryValue, Replay}
 use Rattle.store.specs.declared.areas.TheConstants.{LAST_GENERATION}
 
 -- the first area, behind the superblock
@@ -43,13 +43,13 @@ NoneLive image slots = NoLiveArea (area_a slots) (area_b slots) image
 -- `count` records, each of a slot of its own, that put this table together
 pub record IsCheckpointOf (version : RecordVersion) (net_id slots : ℕ) (records : List ℕ)
     (count : ℕ) (t : TableState) : Type 0 where
-  pub entries : List Entry
+  pub entries : List EntryValue
   pub replay : Replay version (empty_table net_id slots) records count entries t
   pub own_slots : length t.devices ≡ count
 
 -- a batch of 1 to 64 entries that lead from one table to another, numbered on from a number
 pub record IsBatchOn (version : RecordVersion) (t : TableState) (seq : ℕ) (b : BatchValue)
-    (entries : List Entry) (u : TableState) : Type 0 where
+    (entries : List EntryValue) (u : TableState) : Type 0 where
   pub replay : Replay version t b.entries b.entry_count entries u
   pub some : 1 ≤ b.entry_count
   pub few : b.entry_count ≤ MOST
@@ -59,7 +59,7 @@ pub record IsBatchOn (version : RecordVersion) (t : TableState) (seq : ℕ) (b :
 abbrev pub Lead : RecordVersion → TableState → ℕ → List BatchValue → TableState → ℕ → Type 0
 Lead version t seq [] u n = (u ≡ t) × (n ≡ seq)
 Lead version t seq (b ∷ batches) u n =
-    (entries : List Entry) × (next : TableState) × IsBatchOn version t seq b entries next
+    (entries : List EntryValue) × (next : TableState) × IsBatchOn version t seq b entries next
     × Lead version next b.last_sequence batches u n
 
 -- the table and number that a checkpoint and the batches behind it lead to

@@ -8,8 +8,8 @@ use Rattle.gate_log.specs.Phases.{written_size as log_written_size}
 use Rattle.gate_log.specs.Phases.{body_synced_size as log_body_synced_size}
 use Rattle.gate_log.specs.Phases.{gate_written_size as log_gate_written_size}
 use Rattle.sessions.specs.declared.decision.Decision.{Decision}
-use Rattle.store_layout.specs.declared.version.RecordVersion.{RecordVersion}
-use Rattle.store_layout.specs.Entries.{entries, entries_of}
+use Rattle.record_codec.specs.declared.version.RecordVersion.{RecordVersion}
+use Rattle.store_layout.specs.Entries.{SpellsEntriesOf}
 use Rattle.store.specs.declared.phases.Begun.{Begun}
 use Rattle.store.specs.declared.phases.Written.{Written}
 use Rattle.store.specs.declared.phases.BodySynced.{BodySynced}
@@ -30,10 +30,11 @@ begun_size begun = length (bytes_of begun.phase)
 -- and how many they are
 abbrev pub HasEntries : RecordVersion → Begun → Type 0
 HasEntries version begun =
-    IsBegun begun.phase (record {
+    (entries : List ℕ) × SpellsEntriesOf version begun.commit.batch entries
+    × IsBegun begun.phase (record {
       last_sequence = begun.commit.last;
       entry_count = length begun.commit.batch;
-      entries = entries version (entries_of begun.commit.batch);
+      entries = entries;
     })
 
 abbrev pub written_change : Written → Change

@@ -7,7 +7,7 @@ use Rattle.disk.specs.State.{State}
 use Rattle.gate_log.specs.Areas.{LogContents}
 use Rattle.gate_log.specs.Log.{LogState, IsAtRest, log_state, disk_of as disk_of_log}
 use Rattle.sessions.specs.Table.{TableState}
-use Rattle.store_layout.specs.declared.version.RecordVersion.{RecordVersion}
+use Rattle.record_codec.specs.declared.version.RecordVersion.{RecordVersion}
 use Rattle.store.specs.declared.store.Store.{Store}
 use Rattle.store.specs.declared.store.TheConstants.{LARGEST_BATCH}
 use Rattle.store.specs.Image.{HoldsTable, Says}

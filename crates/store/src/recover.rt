@@ -10,7 +10,7 @@ ghost use Rattle.gate_log.specs.Live.{IsLiveAs};
 ghost use Rattle.gate_log.specs.Opening.{disk_in_opening};
 ghost use Rattle.gate_log.specs.Recover.{OnlyReads};
 ghost use Rattle.gate_log.specs.Recovered.{IsRecovered};
-ghost use Rattle.store_layout.specs.Entries.{version_byte};
+ghost use Rattle.record_codec.specs.Version.{version_byte};
 ghost use Rattle.store_layout.specs.Superblock.{disk_len};
 ghost use Rattle.store.specs.Faults.{HasGoodFront, HeaderFault, IsFault, IsKnown, IsStoreOf};
 ghost use Rattle.store.specs.Faults.{IsUsable};

@@ -2,7 +2,7 @@
 ghost use Rattle.std.specs.Prelude.{◌≡◌, ◌≢◌, ◌↔◌, ℕ, List, MatchResult};
 ghost use Rattle.lw_types.specs.declared.refusal.Refusal.TheVariants.{Damaged, OutOfMemory};
 ghost use Rattle.sessions.specs.Table.{TableState};
-ghost use Rattle.store_layout.specs.declared.entries.Entry.{Entry};
+ghost use Rattle.store_layout.specs.Entries.{EntryValue};
 ghost use Rattle.store.specs.Image.{IsBatchOn, IsCheckpointOf, Lead, Restores};
 
 use gate_log::{Batch, Recovered};
@@ -101,11 +101,12 @@ fn replay_batch(
     batch: &Batch,
 ) -> Result<(), Refusal>
     ensures { MatchResult result
-        (λ _. (es : List Entry) × IsBatchOn version table.old seq batch.now es table.new
-        × ((fs : List Entry) (u : TableState) → IsBatchOn version table.old seq batch.now fs u
+        (λ _. (es : List EntryValue) × IsBatchOn version table.old seq batch.now es table.new
+        × ((fs : List EntryValue) (u : TableState) → IsBatchOn version table.old seq batch.now fs u
         → u ≡ table.new))
         (λ e. e ≢ OutOfMemory → (e ≡ Damaged)
-        × ((es : List Entry) (u : TableState) → ¬ IsBatchOn version table.old seq batch.now es u)) }
+        × ((es : List EntryValue) (u : TableState)
+        → ¬ IsBatchOn version table.old seq batch.now es u)) }
 {
     laws::bytes_replay_in_one_way();
     let count = u64::from(batch.entry_count());

@@ -1,20 +1,18 @@
 -- Entries one behind another: where one ends the next begins.
-use Rattle.std.proofs.Common.{◌*◌, ◌/◌, ◌%◌, ◌-◌, get_or, ◌≡◌, ◌<◌, ◌≤◌, ◌+◌, ◌^◌, ◌∙◌, ℕ, List, [], ◌∷◌, ◌++◌, length, take, drop, suc, Bool, true, false, cond, ◌&&◌, ◌≢◌, Option, Some, None, sym, ap, subst, refl, arith}
+use Rattle.std.proofs.Common.{◌*◌, ◌/◌, ◌%◌, ◌-◌, get_or, ◌≡◌, ◌<◌, ◌≤◌, ◌+◌, ◌^◌, ◌∙◌, ℕ, List, [], ◌∷◌, ◌++◌, length, take, drop, suc, sym, ap, subst, refl, arith}
 use Rattle.std.specs.Int.{to_be_bytes, from_be_bytes, w16}
 use Rattle.std.proofs.lemmas.List.{append_assoc, append-nil, length_push, length-append, take_rest, take_at}
-use Rattle.std.proofs.lemmas.Bool.{eq-eqb, eqb-true, false≢true, le-leb, leb-true, lt-ltb, ltb-true}
-use Rattle.std.proofs.lemmas.Option.{none-some, same_Some}
-use Rattle.std.specs.Option.{MatchOption, option_and_then}
+use Rattle.std.proofs.lemmas.Option.{same_Some}
 use Rattle.std.proofs.lemmas.Nat.{from_be_bytes-to_be_bytes_2}
 use Rattle.devices.specs.declared.device.Device.{Device}
 use Rattle.record_codec.specs.DeviceRecord.{spelling, IsDevice}
-use Rattle.sessions.specs.Table.{TableState, CanPut, with_record, slot_of}
-use Rattle.store_layout.specs.declared.entries.Entry.{Entry}
-use Rattle.store_layout.specs.declared.entries.Entry.TheVariants.{Whole}
-use Rattle.store_layout.specs.declared.version.RecordVersion.{RecordVersion}
-use Rattle.store_layout.specs.declared.version.RecordVersion.TheVariants.{V1}
-use Rattle.store_layout.specs.Entries.{IsRecordIn, record_in, entry, entries, IsEntry, AreEntries, Replay, can_put, is_own, put_one, put_all, NoEntry}
-use Rattle.std.proofs.lemmas.Bool.{and_from, and_parts}
+use Rattle.sessions.specs.Table.{CanPut, TableState, with_record}
+use Rattle.record_codec.specs.declared.version.RecordVersion.{RecordVersion}
+use Rattle.record_codec.specs.declared.version.RecordVersion.TheVariants.{V1}
+use Rattle.record_codec.specs.Change.{IsChangeOf}
+use Rattle.record_codec.specs.Version.{IsRecordIn, record_in}
+use Rattle.store_layout.specs.Entries.{EntryValue, kind_of, body_in, entry, entries, IsEntry, AreEntries, Replay, LeavesRecord, Puts, Leads, NoEntry, slot_in}
+use Rattle.store_layout.specs.Entries.EntryValue.{Changed, Whole}
 
 -- the parts of two lists that begin alike
 parts : (a b x y : List ℕ) → length a ≡ length b → a ++ x ≡ b ++ y → (a ≡ b) × (x ≡ y)
@@ -32,133 +30,175 @@ parts (a ∷ as') (b ∷ bs) x y long e =
 number_same : (m n : ℕ) → m < 2 ^ 16 → n < 2 ^ 16 → to_be_bytes w16 m ≡ to_be_bytes w16 n → m ≡ n
 number_same m n hm hn e = sym (from_be_bytes-to_be_bytes_2 m hm) ∙ (ap (from_be_bytes w16) e ∙ from_be_bytes-to_be_bytes_2 n hn)
 
--- the record laws that this file stands on
+-- the laws of records and changes that this file stands on
 pub record RecordLaws (v : RecordVersion) : Type 0 where
   pub one : (a b : Device) → IsRecordIn v a → IsRecordIn v b → record_in v a ≡ record_in v b → a ≡ b
-  pub short : (a : Device) → IsRecordIn v a → length (record_in v a) ≤ 4180
+  pub short : (a : Device) → IsRecordIn v a → length (record_in v a) ≤ 4300
+  pub one_change : (before a b : Device) (bytes : List ℕ) → IsChangeOf v before a bytes → IsChangeOf v before b bytes → a ≡ b
 
-pub short_in : ((a : Device) → IsDevice a → length (spelling a) ≤ 4180) → (v : RecordVersion) (a : Device) → IsRecordIn v a → length (record_in v a) ≤ 4180
-short_in short V1 = short
+-- a record is no longer than the room that is reserved for it
+pub short_in : ((a : Device) → IsDevice a → length (spelling a) ≤ 4180) → (v : RecordVersion) (a : Device) → IsRecordIn v a → length (record_in v a) ≤ 4300
+short_in short V1 a is = let most : length (spelling a) ≤ 4180 = short a is in omega arith
 
 one_in : ((a b : Device) → IsDevice a → IsDevice b → spelling a ≡ spelling b → a ≡ b)
     → (v : RecordVersion) (a b : Device) → IsRecordIn v a → IsRecordIn v b → record_in v a ≡ record_in v b → a ≡ b
 one_in one V1 = one
 
-pub record_laws : ((a b : Device) → IsDevice a → IsDevice b → spelling a ≡ spelling b → a ≡ b) → ((a : Device) → IsDevice a → length (spelling a) ≤ 4180)
+-- what `each_change_is_of_one_record` says
+abbrev pub ChangeLaw : Type 0
+ChangeLaw = (version : RecordVersion) (before a b : Device) (bytes : List ℕ) → IsChangeOf version before a bytes → IsChangeOf version before b bytes → a ≡ b
+
+pub record_laws : ((a b : Device) → IsDevice a → IsDevice b → spelling a ≡ spelling b → a ≡ b) → ((a : Device) → IsDevice a → length (spelling a) ≤ 4180) → ChangeLaw
     → (v : RecordVersion) → RecordLaws v
-record_laws one short v = record { one = one_in one v; short = short_in short v }
+record_laws one short change v = record { one = one_in one v; short = short_in short v; one_change = change v }
+
+-- the body of an entry is no longer either
+pub short_body : (v : RecordVersion) → ((a : Device) → IsRecordIn v a → length (record_in v a) ≤ 4300) → (e : EntryValue) → IsEntry v e → length (body_in v e) ≤ 4300
+short_body v short (Whole slot device) is = short device is.1
+short_body v short (Changed slot change) is = is.1
+
+-- entries with the same kind, slot and body are the same
+one_entry : {v : RecordVersion} → RecordLaws v → (a b : EntryValue) → IsEntry v a → IsEntry v b → kind_of a ≡ kind_of b → slot_in a ≡ slot_in b → body_in v a ≡ body_in v b → a ≡ b
+one_entry laws (Whole s a) (Whole t b) ha hb kind slot body = λ i. Whole (slot i) (laws.one a b ha.1 hb.1 body i)
+one_entry laws (Whole s a) (Changed t b) ha hb kind slot body = absurd (omega arith)
+one_entry laws (Changed s a) (Whole t b) ha hb kind slot body = absurd (omega arith)
+one_entry laws (Changed s a) (Changed t b) ha hb kind slot body = λ i. Changed (slot i) (body i)
 
 -- no entry begins another
-pub entry-one : {v : RecordVersion} → RecordLaws v → (a b : Entry) (x y : List ℕ) → IsEntry v a → IsEntry v b → entry v a ++ x ≡ entry v b ++ y → (a ≡ b) × (x ≡ y)
-entry-one {v} laws (Whole s a) (Whole t b) x y ha hb e =
-    let la = length (record_in v a) in
-    let lb = length (record_in v b) in
-    let tail : to_be_bytes w16 s ++ (to_be_bytes w16 la ++ (record_in v a ++ x)) ≡ to_be_bytes w16 t ++ (to_be_bytes w16 lb ++ (record_in v b ++ y)) =
+pub entry-one : {v : RecordVersion} → RecordLaws v → (a b : EntryValue) (x y : List ℕ) → IsEntry v a → IsEntry v b → entry v a ++ x ≡ entry v b ++ y → (a ≡ b) × (x ≡ y)
+entry-one {v} laws a b x y ha hb e =
+    let la = length (body_in v a) in
+    let lb = length (body_in v b) in
+    let kind : kind_of a ≡ kind_of b = ap (λ (bs : List ℕ). get_or bs 0 0) e in
+    let tail : to_be_bytes w16 (slot_in a) ++ (to_be_bytes w16 la ++ (body_in v a ++ x)) ≡ to_be_bytes w16 (slot_in b) ++ (to_be_bytes w16 lb ++ (body_in v b ++ y)) =
     ap (drop 1) e in
-    let first = parts (to_be_bytes w16 s) (to_be_bytes w16 t) _ _ refl tail in
+    let first = parts (to_be_bytes w16 (slot_in a)) (to_be_bytes w16 (slot_in b)) _ _ refl tail in
     let second = parts (to_be_bytes w16 la) (to_be_bytes w16 lb) _ _ refl first.1 in
-    let slot = number_same s t ha.0 hb.0 first.0 in
-    let sa = laws.short a ha.1 in
-    let sb = laws.short b hb.1 in
+    let slot = number_same (slot_in a) (slot_in b) ha.0 hb.0 first.0 in
+    let sa = short_body v laws.short a ha in
+    let sb = short_body v laws.short b hb in
     let long = number_same la lb (omega arith) (omega arith) second.0 in
-    let third = parts (record_in v a) (record_in v b) x y long second.1 in
-    ((λ i. Whole (slot i) (laws.one a b ha.1 hb.1 third.0 i)), third.1)
+    let third = parts (body_in v a) (body_in v b) x y long second.1 in
+    (one_entry laws a b ha hb kind slot third.0, third.1)
 
--- what the length at the front of an entry cuts off is the record
-pub record_cut : (v : RecordVersion) (bytes rest : List ℕ) (slot : ℕ) (device : Device) (cut : List ℕ) (len : ℕ) → length (record_in v device) ≤ 4180
-    → bytes ≡ entry v (Whole slot device) ++ rest
-    → cut ≡ take len (take (length bytes - 5) (drop 5 bytes)) → len ≡ get_or bytes 3 0 * 256 + get_or bytes 4 0 → cut ≡ record_in v device
-record_cut v bytes rest slot device cut len short is cut_is len_is =
-    let high : get_or bytes 3 0 ≡ length (record_in v device) / 256 % 256 = ap (λ bs. get_or bs 3 0) is in
-    let low : get_or bytes 4 0 ≡ length (record_in v device) % 256 = ap (λ bs. get_or bs 4 0) is in
-    let long : length (record_in v device) ≡ len = omega arith in
-    cut_is ∙ (ap (take len) (take_rest bytes 5 ∙ ap (drop 5) is) ∙ take_at (record_in v device) rest len long)
+-- the first five bytes are a kind, a slot and a length
+pub framed : (bytes body behind : List ℕ) (slot len : ℕ) → 5 ≤ length bytes → ((i : ℕ) → get_or bytes i 0 < 256) → slot ≡ get_or bytes 1 0 * 256 + get_or bytes 2 0
+    → len ≡ get_or bytes 3 0 * 256 + get_or bytes 4 0 → length body ≡ len → drop 5 bytes ≡ body ++ behind
+    → bytes ≡ get_or bytes 0 0 ∷ (to_be_bytes w16 slot ++ (to_be_bytes w16 (length body) ++ (body ++ behind)))
+framed [] body behind slot len long small slot_is len_is body_is rest_is = absurd (omega arith)
+framed (a ∷ []) body behind slot len long small slot_is len_is body_is rest_is = absurd (omega arith)
+framed (a ∷ b ∷ []) body behind slot len long small slot_is len_is body_is rest_is = absurd (omega arith)
+framed (a ∷ b ∷ c ∷ []) body behind slot len long small slot_is len_is body_is rest_is = absurd (omega arith)
+framed (a ∷ b ∷ c ∷ d ∷ []) body behind slot len long small slot_is len_is body_is rest_is = absurd (omega arith)
+framed (a ∷ b ∷ c ∷ d ∷ e ∷ rest) body behind slot len long small slot_is len_is body_is rest_is =
+    let small_b : b < 256 = small 1 in
+    let small_c : c < 256 = small 2 in
+    let small_d : d < 256 = small 3 in
+    let small_e : e < 256 = small 4 in
+    let is_slot : slot ≡ b * 256 + c = slot_is in
+    let is_len : length body ≡ d * 256 + e = body_is ∙ len_is in
+    let slot_high : b ≡ slot / 256 % 256 = omega arith in
+    let slot_low : c ≡ slot % 256 = omega arith in
+    let len_high : d ≡ length body / 256 % 256 = omega arith in
+    let len_low : e ≡ length body % 256 = omega arith in
+    λ i. a ∷ slot_high i ∷ slot_low i ∷ len_high i ∷ len_low i ∷ rest_is i
 
--- no entry stands in front of bytes whose length cuts off no record
-pub no_record : (v : RecordVersion) (bytes cut : List ℕ) (len : ℕ) → ((a : Device) → IsRecordIn v a → length (record_in v a) ≤ 4180)
-    → ((device : Device) → IsRecordIn v device → cut ≡ record_in v device → ⊥)
+-- what the length at the front of an entry cuts off is its body
+pub body_cut : (v : RecordVersion) (bytes rest : List ℕ) (e : EntryValue) (cut : List ℕ) (len : ℕ) → length (body_in v e) ≤ 4300
+    → bytes ≡ entry v e ++ rest
+    → cut ≡ take len (take (length bytes - 5) (drop 5 bytes)) → len ≡ get_or bytes 3 0 * 256 + get_or bytes 4 0 → cut ≡ body_in v e
+body_cut v bytes rest e cut len short is cut_is len_is =
+    let high : get_or bytes 3 0 ≡ length (body_in v e) / 256 % 256 = ap (λ bs. get_or bs 3 0) is in
+    let low : get_or bytes 4 0 ≡ length (body_in v e) % 256 = ap (λ bs. get_or bs 4 0) is in
+    let long : length (body_in v e) ≡ len = omega arith in
+    cut_is ∙ (ap (take len) (take_rest bytes 5 ∙ ap (drop 5) is) ∙ take_at (body_in v e) rest len long)
+
+-- no entry stands in front of bytes whose length cuts off no body of their kind
+pub no_body : (v : RecordVersion) (bytes cut : List ℕ) (len : ℕ) → ((a : Device) → IsRecordIn v a → length (record_in v a) ≤ 4300)
+    → ((e : EntryValue) → IsEntry v e → get_or bytes 0 0 ≡ kind_of e → cut ≡ body_in v e → ⊥)
     → cut ≡ take len (take (length bytes - 5) (drop 5 bytes)) → len ≡ get_or bytes 3 0 * 256 + get_or bytes 4 0 → NoEntry v bytes
-no_record v bytes cut len short none cut_is len_is (Whole slot device) rest is_entry is =
-    none device is_entry.1 (record_cut v bytes rest slot device cut len (short device is_entry.1) is cut_is len_is)
+no_body v bytes cut len short none cut_is len_is e rest is_entry is =
+    none e is_entry (ap (λ (bs : List ℕ). get_or bs 0 0) is) (body_cut v bytes rest e cut len (short_body v short e is_entry) is cut_is len_is)
 
--- ---- an entry on a table
+-- ---- entries on a table
 
-own_true : (slot : ℕ) (found : Option ℕ) → MatchOption found (Unit {0}) (λ own. own ≡ slot) → is_own slot found ≡ true
-own_true slot None h = refl
-own_true slot (Some own) h = eq-eqb own slot h
+-- an entry leaves one record, and leads from a table to one other
+one_left : {v : RecordVersion} → RecordLaws v → (t : TableState) (e : EntryValue) (a b : Device) → LeavesRecord v t e a → LeavesRecord v t e b → a ≡ b
+one_left laws t (Whole slot device) a b p q = p ∙ sym q
+one_left {v} laws t (Changed slot change) a b p q =
+    let same : p.0 ≡ q.0 = same_Some p.0 q.0 (sym p.1 ∙ q.1) in
+    laws.one_change q.0 a b change (subst (λ (d : Device). IsChangeOf v d a change) same p.2) q.2
 
-true_own : (slot : ℕ) (found : Option ℕ) → is_own slot found ≡ true → MatchOption found (Unit {0}) (λ own. own ≡ slot)
-true_own slot None h = tt
-true_own slot (Some own) h = eqb-true own slot h
+one_put : {v : RecordVersion} → RecordLaws v → (t : TableState) (e : EntryValue) (u w : TableState) → Puts v t e u → Puts v t e w → u ≡ w
+one_put laws t e u w p q = p.is ∙ (ap (with_record t (slot_in e)) (one_left laws t e p.after q.after p.leaves q.leaves) ∙ sym q.is)
 
-can_true : (t : TableState) (slot : ℕ) (device : Device) → CanPut t slot device → can_put t slot device ≡ true
-can_true t slot device can =
-    and_from _ _ (le-leb slot (length t.devices) can.0)
-    (and_from _ _ (lt-ltb slot t.slots can.1) (own_true slot (slot_of device.dev_eui.0 t.devices) can.2))
+-- the record that an entry leaves was put at its slot, or may not be put there
+pub put_at : (v : RecordVersion) (t : TableState) (e : EntryValue) (u : TableState) (slot : ℕ) (device : Device) → slot ≡ slot_in e → LeavesRecord v t e device
+    → CanPut t slot device → u ≡ with_record t slot device → Puts v t e u
+put_at v t e u slot device at leaves can is = record {
+  after = device;
+  leaves = leaves;
+  can = subst (λ n. CanPut t n device) at can;
+  is = is ∙ ap (λ n. with_record t n device) at;
+}
 
-true_can : (t : TableState) (slot : ℕ) (device : Device) → can_put t slot device ≡ true → CanPut t slot device
-true_can t slot device h =
-    let first = and_parts _ _ h in
-    let second = and_parts _ _ first.1 in
-    (leb-true slot (length t.devices) first.0, ltb-true slot t.slots second.0, true_own slot (slot_of device.dev_eui.0 t.devices) second.1)
+pub not_put : {v : RecordVersion} → RecordLaws v → (t : TableState) (e : EntryValue) (slot : ℕ) (device : Device) → slot ≡ slot_in e → LeavesRecord v t e device
+    → (CanPut t slot device → ⊥) → (w : TableState) → Puts v t e w → ⊥
+not_put laws t e slot device at leaves cannot w p =
+    cannot (subst (λ n. CanPut t n device) (sym at) (subst (CanPut t (slot_in e)) (one_left laws t e p.after device p.leaves leaves) p.can))
 
--- an entry that may be put is put
-pub put_one-can : (t : TableState) (slot : ℕ) (device : Device) → CanPut t slot device → put_one t (Whole slot device) ≡ Some (with_record t slot device)
-put_one-can t slot device can = ap (λ b. cond b (Some (with_record t slot device)) None) (can_true t slot device can)
+pub one_lead : {v : RecordVersion} → RecordLaws v → (t : TableState) (es : List EntryValue) (u w : TableState) → Leads v t es u → Leads v t es w → u ≡ w
+one_lead laws t [] u w p q = p ∙ sym q
+one_lead {v} laws t (e ∷ es) u w p q =
+    one_lead laws q.0 es u w (subst (λ (x : TableState). Leads v x es u) (one_put laws t e p.0 q.0 p.1 q.1) p.2) q.2
 
-pub put_one-cannot : (t : TableState) (slot : ℕ) (device : Device) → ¬ (CanPut t slot device) → put_one t (Whole slot device) ≡ None
-put_one-cannot t slot device cannot = at (can_put t slot device) refl
-  where
-    at : (b : Bool) → can_put t slot device ≡ b → cond b (Some (with_record t slot device)) None ≡ None
-    at true can = absurd (cannot (true_can t slot device can))
-    at false other = refl
+-- one entry more
+leads_push : (v : RecordVersion) (t : TableState) (es : List EntryValue) (x : TableState) (e : EntryValue) (u : TableState) → Leads v t es x → Puts v x e u → Leads v t (es ++ e ∷ []) u
+leads_push v t [] x e u lead put = (u, subst (λ (y : TableState). Puts v y e u) lead put, refl)
+leads_push v t (f ∷ es) x e u lead put = (lead.0, lead.1, leads_push v lead.0 es x e u lead.2 put)
+
+-- what entries in front lead to, and the others from there
+leads_apart : (v : RecordVersion) (t : TableState) (front es : List EntryValue) (u : TableState) → Leads v t (front ++ es) u → (x : TableState) × Leads v t front x × Leads v x es u
+leads_apart v t [] es u lead = (t, refl, lead)
+leads_apart v t (f ∷ front) es u lead =
+    let rest = leads_apart v lead.0 front es u lead.2 in
+    (rest.0, (lead.0, lead.1, rest.1), rest.2)
 
 -- an entry leaves the network and the number of slots
-pub put_one-keeps : (t : TableState) (e : Entry) (u : TableState) → put_one t e ≡ Some u → (u.net_id ≡ t.net_id) × (u.slots ≡ t.slots)
-put_one-keeps t (Whole slot device) u h = at (can_put t slot device) h
-  where
-    at : (b : Bool) → cond b (Some (with_record t slot device)) None ≡ Some u → (u.net_id ≡ t.net_id) × (u.slots ≡ t.slots)
-    at true is = let same = same_Some (with_record t slot device) u is in (ap (λ (x : TableState). x.net_id) (sym same), ap (λ (x : TableState). x.slots) (sym same))
-    at false is = absurd (none-some u is)
+put_keeps : (v : RecordVersion) (t : TableState) (e : EntryValue) (u : TableState) → Puts v t e u → (u.net_id ≡ t.net_id) × (u.slots ≡ t.slots)
+put_keeps v t e u p = (ap (λ (x : TableState). x.net_id) p.is, ap (λ (x : TableState). x.slots) p.is)
 
-pub put_all-append : (t : TableState) (front es : List Entry) → put_all t (front ++ es) ≡ option_and_then (λ u. put_all u es) (put_all t front)
-put_all-append t [] es = refl
-put_all-append t (f ∷ front) es = at (λ u. put_all-append u front es) (put_one t f)
-  where
-    at : ((u : TableState) → put_all u (front ++ es) ≡ option_and_then (λ x. put_all x es) (put_all u front)) → (o : Option TableState)
-        → option_and_then (λ u. put_all u (front ++ es)) o ≡ option_and_then (λ u. put_all u es) (option_and_then (λ u. put_all u front) o)
-    at more None = refl
-    at more (Some u) = more u
+pub leads_keep : (v : RecordVersion) (t u : TableState) (es : List EntryValue) → Leads v t es u → (u.net_id ≡ t.net_id) × (u.slots ≡ t.slots)
+leads_keep v t u [] same = (ap (λ (x : TableState). x.net_id) same, ap (λ (x : TableState). x.slots) same)
+leads_keep v t u (e ∷ es) lead =
+    let one = put_keeps v t e lead.0 lead.1 in
+    let rest = leads_keep v lead.0 u es lead.2 in
+    (rest.0 ∙ one.0, rest.1 ∙ one.1)
 
 -- ---- entries read so far
 
 pub record ReadSo (v : RecordVersion) (t : TableState) (bytes : List ℕ) (n : ℕ) (now_table : TableState) (rest : List ℕ) : Type 0 where
-  pub front : List Entry
+  pub front : List EntryValue
   pub spelled : bytes ≡ entries v front ++ rest
   pub number : length front ≡ n
   pub each : AreEntries v front
-  pub leads : put_all t front ≡ Some now_table
+  pub leads : Leads v t front now_table
 
 pub read_none : (v : RecordVersion) (t : TableState) (bytes : List ℕ) → ReadSo v t bytes 0 t bytes
 read_none v t bytes = record { front = []; spelled = refl; number = refl; each = tt; leads = refl }
 
-AreEntries-push : (v : RecordVersion) (front : List Entry) (e : Entry) → AreEntries v front → IsEntry v e → AreEntries v (front ++ e ∷ [])
+AreEntries-push : (v : RecordVersion) (front : List EntryValue) (e : EntryValue) → AreEntries v front → IsEntry v e → AreEntries v (front ++ e ∷ [])
 AreEntries-push v [] e each is = (is, tt)
 AreEntries-push v (f ∷ front) e each is = (each.0, AreEntries-push v front e each.1 is)
 
-entries-push : (v : RecordVersion) (front : List Entry) (e : Entry) (rest : List ℕ) → entries v (front ++ e ∷ []) ++ rest ≡ entries v front ++ (entry v e ++ rest)
+entries-push : (v : RecordVersion) (front : List EntryValue) (e : EntryValue) (rest : List ℕ) → entries v (front ++ e ∷ []) ++ rest ≡ entries v front ++ (entry v e ++ rest)
 entries-push v [] e rest = append_assoc (entry v e) [] rest
 entries-push v (f ∷ front) e rest =
     append_assoc (entry v f) (entries v (front ++ e ∷ [])) rest
     ∙ (ap (λ b. entry v f ++ b) (entries-push v front e rest) ∙ sym (append_assoc (entry v f) (entries v front) (entry v e ++ rest)))
 
--- one entry more
-last_one : (o : Option TableState) → option_and_then (λ u. Some u) o ≡ o
-last_one None = refl
-last_one (Some u) = refl
-
-pub read_more : (v : RecordVersion) (t : TableState) (bytes : List ℕ) (n : ℕ) (now_table : TableState) (rest : List ℕ) (e : Entry) (behind : List ℕ) (next_table : TableState)
-    → ReadSo v t bytes n now_table rest → rest ≡ entry v e ++ behind → IsEntry v e → put_one now_table e ≡ Some next_table
+pub read_more : (v : RecordVersion) (t : TableState) (bytes : List ℕ) (n : ℕ) (now_table : TableState) (rest : List ℕ) (e : EntryValue) (behind : List ℕ) (next_table : TableState)
+    → ReadSo v t bytes n now_table rest → rest ≡ entry v e ++ behind → IsEntry v e → Puts v now_table e next_table
     → ReadSo v t bytes (n + 1) next_table behind
 read_more v t bytes n now_table rest e behind next_table so is is_entry put =
     record {
@@ -166,14 +206,12 @@ read_more v t bytes n now_table rest e behind next_table so is is_entry put =
       spelled = so.spelled ∙ (ap (λ b. entries v so.front ++ b) is ∙ sym (entries-push v so.front e behind));
       number = length_push so.front e ∙ ap (λ k. k + 1) so.number;
       each = AreEntries-push v so.front e so.each is_entry;
-      leads =
-          put_all-append t so.front (e ∷ [])
-          ∙ (ap (option_and_then (λ u. put_all u (e ∷ []))) so.leads ∙ (last_one (put_one now_table e) ∙ put));
+      leads = leads_push v t so.front now_table e next_table so.leads put;
     }
 
 -- what spells the bytes goes on behind what was read
-goes_on : {v : RecordVersion} → RecordLaws v → (front es : List Entry) (rest : List ℕ) → AreEntries v front → AreEntries v es → length front ≤ length es
-    → entries v front ++ rest ≡ entries v es → (more : List Entry) × (es ≡ front ++ more) × (rest ≡ entries v more)
+goes_on : {v : RecordVersion} → RecordLaws v → (front es : List EntryValue) (rest : List ℕ) → AreEntries v front → AreEntries v es → length front ≤ length es
+    → entries v front ++ rest ≡ entries v es → (more : List EntryValue) × (es ≡ front ++ more) × (rest ≡ entries v more)
 goes_on laws [] es rest hf he long is = (es, refl, is)
 goes_on laws (f ∷ front) [] rest hf he long is = absurd (omega arith)
 goes_on {v} laws (f ∷ front) (e ∷ es) rest hf he long is =
@@ -181,60 +219,54 @@ goes_on {v} laws (f ∷ front) (e ∷ es) rest hf he long is =
     let later = goes_on laws front es rest hf.1 he.1 (omega arith) one.1 in
     (later.0, (λ i. ((sym one.0) i ∷ later.1 i)), later.2)
 
-longer : (front more : List Entry) (n : ℕ) → length (front ++ more) ≡ n → length front < n → more ≡ [] → ⊥
+longer : (front more : List EntryValue) (n : ℕ) → length (front ++ more) ≡ n → length front < n → more ≡ [] → ⊥
 longer front more n sum less none =
     let e : length (front ++ []) ≡ length front = ap length (append-nil front) in
     let s : length (front ++ []) ≡ n = ap (λ m. length (front ++ m)) (sym none) ∙ sum in
     omega arith
 
 -- the next entry, where there is to be one
-next_entry : {v : RecordVersion} → RecordLaws v → (t : TableState) (bytes : List ℕ) (n count : ℕ) (now_table : TableState) (rest : List ℕ) (es : List Entry) (u : TableState)
+next_entry : {v : RecordVersion} → RecordLaws v → (t : TableState) (bytes : List ℕ) (n count : ℕ) (now_table : TableState) (rest : List ℕ) (es : List EntryValue) (u : TableState)
     → ReadSo v t bytes n now_table rest → n < count → Replay v t bytes count es u
-    → (e : Entry) × (behind : List ℕ) × IsEntry v e × (rest ≡ entry v e ++ behind) × (put_one now_table e ≢ None)
+    → (e : EntryValue) × (behind : List ℕ) × IsEntry v e × (rest ≡ entry v e ++ behind) × (w : TableState) × Puts v now_table e w
 next_entry {v} laws t bytes n count now_table rest es u so less r =
     let g = goes_on laws so.front es rest so.each r.each (let a = so.number in let b = r.number in omega arith) (sym so.spelled ∙ r.spelled) in
     at g.0 g.1 g.2
   where
-    at : (more : List Entry) → es ≡ so.front ++ more → rest ≡ entries v more → (e : Entry) × (behind : List ℕ) × IsEntry v e × (rest ≡ entry v e ++ behind) × (put_one now_table e ≢ None)
+    at : (more : List EntryValue) → es ≡ so.front ++ more → rest ≡ entries v more → (e : EntryValue) × (behind : List ℕ) × IsEntry v e × (rest ≡ entry v e ++ behind) × (w : TableState) × Puts v now_table e w
     at [] es_is rest_is = absurd (longer so.front [] count (ap length (sym es_is) ∙ r.number) (let a = so.number in omega arith) refl)
-    at (e ∷ more) es_is rest_is = (
-      e,
-      entries v more,
-      entry_at so.front e more (subst (AreEntries v) es_is r.each),
-      rest_is,
-      λ none.
-          let here : put_all t es ≡ put_all now_table (e ∷ more) =
-          ap (put_all t) es_is ∙ (put_all-append t so.front (e ∷ more) ∙ ap (option_and_then (λ x. put_all x (e ∷ more))) so.leads) in
-          none-some u (ap (option_and_then (λ x. put_all x more)) (sym none) ∙ (sym here ∙ r.leads)),
-    )
+    at (e ∷ more) es_is rest_is =
+        let parts = leads_apart v t so.front (e ∷ more) u (subst (λ (l : List EntryValue). Leads v t l u) es_is r.leads) in
+        let here = subst (λ (x : TableState). Leads v x (e ∷ more) u) (one_lead laws t so.front parts.0 now_table parts.1 so.leads) parts.2 in
+        (e, entries v more, entry_at so.front e more (subst (AreEntries v) es_is r.each), rest_is, here.0, here.1)
       where
-        entry_at : (front : List Entry) (e : Entry) (more : List Entry) → AreEntries v (front ++ e ∷ more) → IsEntry v e
+        entry_at : (front : List EntryValue) (e : EntryValue) (more : List EntryValue) → AreEntries v (front ++ e ∷ more) → IsEntry v e
         entry_at [] e more each = each.0
         entry_at (f ∷ front) e more each = entry_at front e more each.1
 
 -- where no entry stands, or the one that stands there may not be put, nothing replays
 pub no_entry : {v : RecordVersion} → RecordLaws v → (t : TableState) (bytes : List ℕ) (n count : ℕ) (now_table : TableState) (rest : List ℕ)
-    → ReadSo v t bytes n now_table rest → n < count → NoEntry v rest → (es : List Entry) (u : TableState) → Replay v t bytes count es u → ⊥
+    → ReadSo v t bytes n now_table rest → n < count → NoEntry v rest → (es : List EntryValue) (u : TableState) → Replay v t bytes count es u → ⊥
 no_entry laws t bytes n count now_table rest so less lacks es u r =
     let e = next_entry laws t bytes n count now_table rest es u so less r in
     lacks e.0 e.1 e.2 e.3
 
-pub no_place : {v : RecordVersion} → RecordLaws v → (t : TableState) (bytes : List ℕ) (n count : ℕ) (now_table : TableState) (rest : List ℕ) (e : Entry) (behind : List ℕ)
-    → ReadSo v t bytes n now_table rest → n < count → rest ≡ entry v e ++ behind → IsEntry v e → put_one now_table e ≡ None
-    → (es : List Entry) (u : TableState) → Replay v t bytes count es u → ⊥
-no_place laws t bytes n count now_table rest e behind so less is is_entry cannot es u r =
+pub no_place : {v : RecordVersion} → RecordLaws v → (t : TableState) (bytes : List ℕ) (n count : ℕ) (now_table : TableState) (rest : List ℕ) (e : EntryValue) (behind : List ℕ)
+    → ReadSo v t bytes n now_table rest → n < count → rest ≡ entry v e ++ behind → IsEntry v e → ((w : TableState) → Puts v now_table e w → ⊥)
+    → (es : List EntryValue) (u : TableState) → Replay v t bytes count es u → ⊥
+no_place {v} laws t bytes n count now_table rest e behind so less is is_entry cannot es u r =
     let x = next_entry laws t bytes n count now_table rest es u so less r in
     let same = (entry-one laws x.0 e x.1 behind x.2 is_entry (sym x.3 ∙ is)).0 in
-    x.4 (ap (put_one now_table) same ∙ cannot)
+    cannot x.4 (subst (λ (f : EntryValue). Puts v now_table f x.4) same x.5)
 
 -- bytes behind the last entry are too many
 pub no_rest : {v : RecordVersion} → RecordLaws v → (t : TableState) (bytes : List ℕ) (n count : ℕ) (now_table : TableState) (rest : List ℕ)
-    → ReadSo v t bytes n now_table rest → n ≡ count → (rest ≡ [] → ⊥) → (es : List Entry) (u : TableState) → Replay v t bytes count es u → ⊥
+    → ReadSo v t bytes n now_table rest → n ≡ count → (rest ≡ [] → ⊥) → (es : List EntryValue) (u : TableState) → Replay v t bytes count es u → ⊥
 no_rest {v} laws t bytes n count now_table rest so done some es u r =
     let g = goes_on laws so.front es rest so.each r.each (let a = so.number in let b = r.number in omega arith) (sym so.spelled ∙ r.spelled) in
     at g.0 g.1 g.2
   where
-    at : (more : List Entry) → es ≡ so.front ++ more → rest ≡ entries v more → ⊥
+    at : (more : List EntryValue) → es ≡ so.front ++ more → rest ≡ entries v more → ⊥
     at [] es_is rest_is = some rest_is
     at (e ∷ more) es_is rest_is =
         let sum : length so.front + suc (length more) ≡ length es = sym (length-append so.front (e ∷ more)) ∙ ap length (sym es_is) in
@@ -244,7 +276,7 @@ no_rest {v} laws t bytes n count now_table rest so done some es u r =
 
 -- all of it is read
 pub read_all : {v : RecordVersion} → (t : TableState) (bytes : List ℕ) (n count : ℕ) (now_table : TableState) (rest : List ℕ)
-    → ReadSo v t bytes n now_table rest → n ≡ count → rest ≡ [] → (es : List Entry) × Replay v t bytes count es now_table
+    → ReadSo v t bytes n now_table rest → n ≡ count → rest ≡ [] → (es : List EntryValue) × Replay v t bytes count es now_table
 read_all {v} t bytes n count now_table rest so done none = (
   so.front,
   record { spelled = so.spelled ∙ (ap (λ b. entries v so.front ++ b) none ∙ append-nil (entries v so.front)); number = so.number ∙ done; each = so.each; leads = so.leads },

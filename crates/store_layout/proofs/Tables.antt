@@ -3,15 +3,14 @@ use Rattle.std.proofs.Common.{◌≡◌, ◌≤◌, ◌<◌, ◌+◌, ◌∙◌,
 use Rattle.std.proofs.lemmas.List.{append-nil, append_assoc, length-append, drop_more, take_all, drop_all}
 use Rattle.std.proofs.lemmas.Option.{same_Some}
 use Rattle.std.specs.List.{position_from}
-use Rattle.std.specs.Option.{MatchOption, option_and_then}
+use Rattle.std.specs.Option.{MatchOption}
 use Rattle.std.specs.Prelude.{slice_get}
 use Rattle.devices.specs.declared.device.Device.{Device}
 use Rattle.sessions.specs.Index.{HaveOwnSlots}
 use Rattle.sessions.specs.Table.{CanPut, TableState, empty_table, slot_of, with_device}
-use Rattle.store_layout.specs.declared.version.RecordVersion.{RecordVersion}
-use Rattle.store_layout.specs.declared.entries.Entry.TheVariants.{Whole}
-use Rattle.store_layout.specs.Entries.{AreEntries, IsEntry, Replay, entries, entries_from, entries_of_table, entry, put_all}
-use Rattle.store_layout.proofs.EntryLaws.{put_one-can}
+use Rattle.record_codec.specs.declared.version.RecordVersion.{RecordVersion}
+use Rattle.store_layout.specs.Entries.{AreEntries, IsEntry, Leads, Replay, entries, entries_from, entries_of_table, entry}
+use Rattle.store_layout.specs.Entries.EntryValue.{Whole}
 
 pub length-entries_from : (slot : ℕ) (devices : List Device) → length (entries_from slot devices) ≡ length devices
 length-entries_from slot [] = refl
@@ -41,21 +40,20 @@ next_fits net_id slots done rest d own room = (omega arith, room, at (slot_of d.
 behind : (done : List Device) (d : Device) → with_device (length done) d done ≡ done ++ d ∷ []
 behind done d = λ i. take_all (length done) done (omega arith) i ++ d ∷ drop_all (suc (length done)) done (omega arith) i
 
-put_rest : (net_id slots : ℕ) (done rest : List Device) → HaveOwnSlots (done ++ rest) → length (done ++ rest) ≤ slots
-    → put_all (record { net_id = net_id; slots = slots; devices = done }) (entries_from (length done) rest) ≡ Some (record { net_id = net_id; slots = slots; devices = done ++ rest })
-put_rest net_id slots done [] own few = ap (λ (l : List Device). Some (record { net_id = net_id; slots = slots; devices = l })) (sym (append-nil done))
-put_rest net_id slots done (d ∷ rest) own few =
-    let t : TableState = record { net_id = net_id; slots = slots; devices = done } in
-    let on = λ (u : TableState). put_all u (entries_from (suc (length done)) rest) in
+put_rest : (version : RecordVersion) (net_id slots : ℕ) (done rest : List Device) → HaveOwnSlots (done ++ rest) → length (done ++ rest) ≤ slots
+    → Leads version (record { net_id = net_id; slots = slots; devices = done }) (entries_from (length done) rest) (record { net_id = net_id; slots = slots; devices = done ++ rest })
+put_rest version net_id slots done [] own few = ap (λ (l : List Device). record { net_id = net_id; slots = slots; devices = l }) (append-nil done)
+put_rest version net_id slots done (d ∷ rest) own few =
+    let with_devices : List Device → TableState = λ l. record { net_id = net_id; slots = slots; devices = l } in
     let whole : (done ++ d ∷ []) ++ rest ≡ done ++ d ∷ rest = append_assoc done (d ∷ []) rest in
     let room : length done < slots = omega (arith, few, length-append done (d ∷ rest)) in
     let next : length (done ++ d ∷ []) ≡ suc (length done) = omega (arith, length-append done (d ∷ [])) in
-    let others = put_rest net_id slots (done ++ d ∷ []) rest (subst HaveOwnSlots (sym whole) own) (omega (arith, few, ap length whole)) in
-    ap (option_and_then on) (put_one-can t (length done) d (next_fits net_id slots done rest d own room))
-    ∙ ap (λ (l : List Device). on (record { net_id = net_id; slots = slots; devices = l })) (behind done d)
-    ∙ ap (λ (n : ℕ). put_all (record { net_id = net_id; slots = slots; devices = done ++ d ∷ [] }) (entries_from n rest)) (sym next)
-    ∙ others
-    ∙ ap (λ (l : List Device). Some (record { net_id = net_id; slots = slots; devices = l })) whole
+    let others = put_rest version net_id slots (done ++ d ∷ []) rest (subst HaveOwnSlots (sym whole) own) (omega (arith, few, ap length whole)) in (
+      with_devices (done ++ d ∷ []),
+      record { after = d; leaves = refl; can = next_fits net_id slots done rest d own room; is = ap with_devices (sym (behind done d)) },
+      subst (λ (l : List Device). Leads version (with_devices (done ++ d ∷ [])) (entries_from (suc (length done)) rest) (with_devices l)) whole
+          (subst (λ (n : ℕ). Leads version (with_devices (done ++ d ∷ [])) (entries_from n rest) (with_devices ((done ++ d ∷ []) ++ rest))) next others),
+    )
 
 pub table_replays : (version : RecordVersion) (t : TableState) → HaveOwnSlots t.devices → length t.devices ≤ t.slots → AreEntries version (entries_of_table t)
     → Replay version (empty_table t.net_id t.slots) (entries version (entries_of_table t)) (length t.devices) (entries_of_table t) t
@@ -63,7 +61,7 @@ table_replays version t own few are = record {
   spelled = refl;
   number = length-entries_from 0 t.devices;
   each = are;
-  leads = put_rest t.net_id t.slots [] t.devices own few;
+  leads = put_rest version t.net_id t.slots [] t.devices own few;
 }
 
 -- one device's entry more was appended

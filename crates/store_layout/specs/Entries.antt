@@ -1,89 +1,121 @@
 -- Entries: what a store keeps of one device each, and what they make of a table one after another.
-use Rattle.std.specs.Prelude.{◌≡◌, ◌<◌, ◌^◌, ℕ, suc, Bool, true, cond, ◌&&◌, ltb, leb, eqb, List}
-use Rattle.std.specs.Prelude.{[], ◌∷◌, ◌++◌, length, map, Option, Some, None}
+use Rattle.std.specs.Prelude.{◌≡◌, ◌<◌, ◌≤◌, ◌^◌, ℕ, suc, List, [], ◌∷◌, ◌++◌, length, Some}
+use Rattle.std.specs.Prelude.{slice_get}
 use Rattle.std.specs.List.{flat_map, AllByRecursion}
-use Rattle.std.specs.Option.{option_and_then}
+use Rattle.std.specs.Option.{MatchOption}
 use Rattle.std.specs.Int.{to_be_bytes, w16}
 use Rattle.devices.specs.declared.device.Device.{Device}
-use Rattle.record_codec.specs.DeviceRecord.{spelling, IsDevice}
-use Rattle.sessions.specs.Table.{TableState, with_record, slot_of}
+use Rattle.record_codec.specs.declared.version.RecordVersion.{RecordVersion}
+use Rattle.record_codec.specs.Change.{IsChangeOf}
+use Rattle.record_codec.specs.Version.{record_in, IsRecordIn}
+use Rattle.sessions.specs.Table.{TableState, CanPut, with_record}
 use Rattle.sessions.specs.declared.decision.Decision.{Decision}
-use Rattle.store_layout.specs.declared.entries.Entry.{Entry}
-use Rattle.store_layout.specs.declared.entries.Entry.TheVariants.{Whole}
-use Rattle.store_layout.specs.declared.version.RecordVersion.{RecordVersion}
-use Rattle.store_layout.specs.declared.version.RecordVersion.TheVariants.{V1}
+use Rattle.store_layout.specs.declared.superblock.TheConstants.{RESERVED_RECORD}
 
--- the byte of a version
-abbrev pub version_byte : RecordVersion → ℕ
-version_byte V1 = 1
+-- what a store keeps of one device, by its kind
+pub data EntryValue : Type 0 where
+  -- the whole record of the device at a slot
+  Whole : ℕ → Device → EntryValue
+  -- the bytes of a change of the record at a slot
+  Changed : ℕ → List ℕ → EntryValue
 
--- a device's record in a version
-abbrev pub record_in : RecordVersion → Device → List ℕ
-record_in V1 device = spelling device
+abbrev pub kind_of : EntryValue → ℕ
+kind_of (Whole slot device) = 1
+kind_of (Changed slot change) = 2
 
-abbrev pub IsRecordIn : RecordVersion → Device → Type 0
-IsRecordIn V1 device = IsDevice device
+-- the slot of an entry
+abbrev pub slot_in : EntryValue → ℕ
+slot_in (Whole slot device) = slot
+slot_in (Changed slot change) = slot
 
--- the bytes of an entry: its kind, and of a whole record the slot, the length of the record, and
--- the record
-abbrev pub entry : RecordVersion → Entry → List ℕ
-entry version (Whole slot device) =
-    1 ∷ (to_be_bytes w16 slot ++ (to_be_bytes w16 (length (record_in version device))
-    ++ record_in version device))
+-- the record or the change of an entry
+abbrev pub body_in : RecordVersion → EntryValue → List ℕ
+body_in version (Whole slot device) = record_in version device
+body_in version (Changed slot change) = change
 
-abbrev pub IsEntry : RecordVersion → Entry → Type 0
-IsEntry version (Whole slot device) = (slot < 2 ^ 16) × IsRecordIn version device
+-- the bytes of an entry: its kind, its slot, the length of its body, and that
+abbrev pub entry : RecordVersion → EntryValue → List ℕ
+entry version e =
+    kind_of e
+    ∷ (to_be_bytes w16 (slot_in e)
+    ++ (to_be_bytes w16 (length (body_in version e)) ++ body_in version e))
+
+abbrev pub IsBody : RecordVersion → EntryValue → Type 0
+IsBody version (Whole slot device) = IsRecordIn version device
+IsBody version (Changed slot change) = length change ≤ RESERVED_RECORD
+
+abbrev pub IsEntry : RecordVersion → EntryValue → Type 0
+IsEntry version e = (slot_in e < 2 ^ 16) × IsBody version e
 
 -- no entry stands at the front of these bytes
 abbrev pub NoEntry : RecordVersion → List ℕ → Type 0
 NoEntry version bytes =
-    (e : Entry) (rest : List ℕ) → IsEntry version e → bytes ≡ entry version e ++ rest → ⊥
+    (e : EntryValue) (rest : List ℕ) → IsEntry version e → bytes ≡ entry version e ++ rest → ⊥
 
-abbrev pub AreEntries : RecordVersion → List Entry → Type 0
+abbrev pub AreEntries : RecordVersion → List EntryValue → Type 0
 AreEntries version es = AllByRecursion (IsEntry version) es
 
-abbrev pub entries : RecordVersion → List Entry → List ℕ
+abbrev pub entries : RecordVersion → List EntryValue → List ℕ
 entries version es = flat_map (entry version) es
 
--- a DevEUI that stands nowhere, or at this slot
-abbrev pub is_own : ℕ → Option ℕ → Bool
-is_own slot None = true
-is_own slot (Some own) = eqb own slot
+-- the record that an entry leaves at its slot, on this table: the whole one, or the one to which
+-- the change leads from the record that the slot has there
+abbrev pub LeavesRecord : RecordVersion → TableState → EntryValue → Device → Type 0
+LeavesRecord version t (Whole slot device) after = after ≡ device
+LeavesRecord version t (Changed slot change) after =
+    (before : Device) × (slice_get t.devices slot ≡ Some before)
+    × IsChangeOf version before after change
 
--- whether a record may be put at a slot: it is in use or the next one, and no other slot has the
--- record's DevEUI
-abbrev pub can_put : TableState → ℕ → Device → Bool
-can_put t slot device =
-    leb slot (length t.devices) && (ltb slot t.slots
-    && is_own slot (slot_of device.dev_eui.0 t.devices))
+-- an entry leads from one table to another: the record that it leaves may be put there, and is
+pub record Puts (version : RecordVersion) (t : TableState) (e : EntryValue)
+    (u : TableState) : Type 0 where
+  pub after : Device
+  pub leaves : LeavesRecord version t e after
+  pub can : CanPut t (slot_in e) after
+  pub is : u ≡ with_record t (slot_in e) after
 
--- the table with an entry, if it may be put there
-abbrev pub put_one : TableState → Entry → Option TableState
-put_one t (Whole slot device) = cond (can_put t slot device) (Some (with_record t slot device)) None
-
--- the table after these entries, the first of them first, if each may be put where those before it
--- lead
-abbrev pub put_all : TableState → List Entry → Option TableState
-put_all t [] = Some t
-put_all t (e ∷ es) = option_and_then (λ u. put_all u es) (put_one t e)
+-- entries lead from one table to another, each from where those before it lead
+abbrev pub Leads : RecordVersion → TableState → List EntryValue → TableState → Type 0
+Leads version t [] u = u ≡ t
+Leads version t (e ∷ es) u =
+    (next : TableState) × Puts version t e next × Leads version next es u
 
 -- `count` entries that spell these bytes and lead from one table to another
 pub record Replay (version : RecordVersion) (t : TableState) (bytes : List ℕ) (count : ℕ)
-    (es : List Entry) (u : TableState) : Type 0 where
+    (es : List EntryValue) (u : TableState) : Type 0 where
   pub spelled : bytes ≡ entries version es
   pub number : length es ≡ count
   pub each : AreEntries version es
-  pub leads : put_all t es ≡ Some u
+  pub leads : Leads version t es u
 
--- the entries of decisions: the record that each leaves, under its slot
-abbrev pub entries_of : List Decision → List Entry
-entries_of ds = map (λ d. Whole d.slot d.after) ds
+-- the entry of a decision: the record that it leaves, where it found none; else the change from the
+-- one that it found
+abbrev pub IsEntryOf : RecordVersion → Decision → EntryValue → Type 0
+IsEntryOf version d e =
+    MatchOption d.before (e ≡ Whole d.slot d.after)
+    (λ before. (change : List ℕ) × (e ≡ Changed d.slot change)
+    × IsChangeOf version before d.after change)
+
+-- one entry for each decision, in order
+abbrev pub AreEntriesOf : RecordVersion → List Decision → List EntryValue → Type 0
+AreEntriesOf version [] [] = Unit {0}
+AreEntriesOf version [] (e ∷ es) = ⊥
+AreEntriesOf version (d ∷ ds) [] = ⊥
+AreEntriesOf version (d ∷ ds) (e ∷ es) = IsEntryOf version d e × AreEntriesOf version ds es
+
+-- these bytes are the entries of decisions
+pub record SpellsEntriesOf (version : RecordVersion) (ds : List Decision)
+    (bytes : List ℕ) : Type 0 where
+  pub values : List EntryValue
+  pub of_each : AreEntriesOf version ds values
+  pub in_range : AreEntries version values
+  pub spelled : bytes ≡ entries version values
 
 -- the entries of devices from a slot on: the record of each, under its slot
-abbrev pub entries_from : ℕ → List Device → List Entry
+abbrev pub entries_from : ℕ → List Device → List EntryValue
 entries_from slot [] = []
 entries_from slot (device ∷ devices) = Whole slot device ∷ entries_from (suc slot) devices
 
 -- the entries of a table, in order of slots
-abbrev pub entries_of_table : TableState → List Entry
+abbrev pub entries_of_table : TableState → List EntryValue
 entries_of_table t = entries_from 0 t.devices

@@ -1,2 +1,3 @@
 pub mod Superblock
 pub mod Entries
+pub mod ReadEntry

@@ -1,13 +1,12 @@
 //! What follows from the layout alone. The functions do nothing: their contracts are the laws.
-ghost use Rattle.std.specs.Prelude.{◌≡◌, ◌≤◌, ◌*◌, ℕ, List, Some, length};
+ghost use Rattle.std.specs.Prelude.{◌≡◌, ◌≤◌, ◌*◌, ℕ, List, length};
 ghost use Rattle.sessions.specs.Index.{HaveOwnSlots};
 ghost use Rattle.sessions.specs.Table.{TableState, empty_table};
 ghost use Rattle.sessions.specs.Decision.{FitAll, with_decisions};
 ghost use Rattle.sessions.specs.declared.decision.Decision.{Decision};
-ghost use Rattle.store_layout.specs.declared.entries.Entry.{Entry};
-ghost use Rattle.store_layout.specs.declared.version.RecordVersion.{RecordVersion};
-ghost use Rattle.store_layout.specs.Entries.{AreEntries, Replay, entries, entries_of};
-ghost use Rattle.store_layout.specs.Entries.{entries_of_table, put_all};
+ghost use Rattle.record_codec.specs.declared.version.RecordVersion.{RecordVersion};
+ghost use Rattle.store_layout.specs.Entries.{AreEntries, AreEntriesOf, EntryValue, Leads, Replay};
+ghost use Rattle.store_layout.specs.Entries.{entries, entries_of_table};
 
 use crate::{JOURNAL_ROOM, LONGEST_ENTRY, RESERVED_ENTRY};
 use record_codec::laws;
@@ -15,11 +14,12 @@ use record_codec::laws;
 /// The entries of decisions that were made of a table replay on it, and lead to the table that the
 /// decisions leave.
 pub fn decisions_replay()
-    ensures replay { (version : RecordVersion) (t : TableState) (ds : List Decision) → FitAll t ds
-        → AreEntries version (entries_of ds)
-        → Replay version t (entries version (entries_of ds)) (length ds) (entries_of ds)
-        (with_decisions t ds) }
-    ensures number { (ds : List Decision) → length (entries_of ds) ≡ length ds }
+    ensures replay { (version : RecordVersion) (t : TableState) (ds : List Decision)
+        (es : List EntryValue)
+        → FitAll t ds → AreEntriesOf version ds es → AreEntries version es
+        → Replay version t (entries version es) (length ds) es (with_decisions t ds) }
+    ensures number { (version : RecordVersion) (ds : List Decision) (es : List EntryValue)
+        → AreEntriesOf version ds es → length es ≡ length ds }
 {
     sessions::laws::decided_records_may_be_put();
 }
@@ -39,19 +39,20 @@ pub fn a_table_replays()
 /// Bytes are so many entries in one way at most, and lead to one table.
 pub fn bytes_replay_in_one_way()
     ensures entries { (version : RecordVersion) (t t' u u' : TableState) (bytes : List ℕ)
-        (count : ℕ) (es fs : List Entry)
+        (count : ℕ) (es fs : List EntryValue)
         → Replay version t bytes count es u → Replay version t' bytes count fs u' → es ≡ fs }
     ensures table { (version : RecordVersion) (t u u' : TableState) (bytes : List ℕ) (count : ℕ)
-        (es fs : List Entry)
+        (es fs : List EntryValue)
         → Replay version t bytes count es u → Replay version t bytes count fs u' → u ≡ u' }
 {
     laws::each_record_is_of_one_device();
+    laws::each_change_is_of_one_record();
     laws::records_are_short();
 }
 
-/// An entry has at most 4,185 bytes.
+/// An entry has at most 4,305 bytes.
 pub fn entries_are_short()
-    ensures { (version : RecordVersion) (es : List Entry) → AreEntries version es
+    ensures { (version : RecordVersion) (es : List EntryValue) → AreEntries version es
         → length (entries version es) ≤ length es * LONGEST_ENTRY }
 {
     laws::records_are_short();
@@ -59,15 +60,15 @@ pub fn entries_are_short()
 
 /// Entries that are put on a table leave its network and its number of slots.
 pub fn entries_keep_the_network()
-    ensures net_id { (t u : TableState) (es : List Entry) → put_all t es ≡ Some u
-        → u.net_id ≡ t.net_id }
-    ensures slots { (t u : TableState) (es : List Entry) → put_all t es ≡ Some u
-        → u.slots ≡ t.slots }
+    ensures net_id { (version : RecordVersion) (t u : TableState) (es : List EntryValue)
+        → Leads version t es u → u.net_id ≡ t.net_id }
+    ensures slots { (version : RecordVersion) (t u : TableState) (es : List EntryValue)
+        → Leads version t es u → u.slots ≡ t.slots }
 {}
 
 /// The room of an area, and the most bytes of an entry.
 pub fn limits_are_these()
     ensures reserved { RESERVED_ENTRY ≡ 4305 }
     ensures journal { JOURNAL_ROOM ≡ 1048576 }
-    ensures entry { LONGEST_ENTRY ≡ 4185 }
+    ensures entry { LONGEST_ENTRY ≡ 4305 }
 {}

@@ -3,9 +3,10 @@
 
 mod entries;
 pub mod laws;
+mod replaying;
 mod superblock;
-mod version;
 
-pub use entries::{Entry, LONGEST_ENTRY, batch_entries, put_entry, put_table, replay};
+pub use entries::{LONGEST_ENTRY, batch_entries, put_entry, put_table};
+pub use record_codec::RecordVersion;
+pub use replaying::replay;
 pub use superblock::{JOURNAL_ROOM, RESERVED_ENTRY, Superblock};
-pub use version::RecordVersion;

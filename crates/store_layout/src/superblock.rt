@@ -10,8 +10,12 @@ use gate_log::{OPEN, RECORDS_AT};
 use lw_types::{NetId, Refusal};
 use sessions::Slots;
 
+/// The bytes that are reserved for a record, or for a change of one. The largest record has 4,180;
+/// the others are left to later versions of records.
+pub(crate) const RESERVED_RECORD: usize = 4_300;
+
 /// The bytes of an area that are reserved for the entry of each slot: 5 bytes, and 4,300 for a
-/// record. The largest has 4,180; the others are left to later versions of records.
+/// record.
 pub const RESERVED_ENTRY: u64 = 5 + 4_300;
 
 /// The bytes of an area that are left for batches: a mebibyte.

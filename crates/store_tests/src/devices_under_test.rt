@@ -25,8 +25,8 @@ pub fn new_table(alloc: Global, most: u64) -> Result<Table, Refusal> {
 /// The DevEUI of the device that joins.
 pub const JOINER: u64 = 0x1112_1314_1516_1718;
 
-// Its key, the example key of FIPS 197.
-const JOINER_KEY: Key = Key([
+/// Its key, the example key of FIPS 197.
+pub const JOINER_KEY: Key = Key([
     0x2B, 0x7E, 0x15, 0x16, 0x28, 0xAE, 0xD2, 0xA6, 0xAB, 0xF7, 0x15, 0x88, 0x09, 0xCF, 0x4F, 0x3C,
 ]);
 
@@ -51,8 +51,13 @@ const HEARING: Hearing = Hearing {
 
 /// The command of the frame of these hexadecimal digits, which one gateway heard.
 pub fn heard(alloc: Global, digits: &str) -> Result<Command, Refusal> {
+    heard_frame(alloc, read_hex(alloc, digits)?)
+}
+
+/// The command of a frame, which one gateway heard.
+pub fn heard_frame(alloc: Global, frame: Vec<u8>) -> Result<Command, Refusal> {
     let hearings = Hearings::new(vec![in alloc; HEARING; 1]?);
-    match (PhyPayload::new(read_hex(alloc, digits)?), hearings) {
+    match (PhyPayload::new(frame), hearings) {
         (Ok(phy_payload), Some(hearings)) => Ok(Command::Heard(Heard {
             phy_payload,
             hearings,
@@ -150,6 +155,19 @@ pub fn busy_device(alloc: Global, dev_eui: u64) -> Result<Device, Refusal> {
     let mut device = idle_device(alloc, dev_eui)?;
     device.items = items;
     Ok(device)
+}
+
+/// The device that joins, with a full queue, whose record has 4,034 bytes.
+pub fn busy_joiner(alloc: Global) -> Result<Device, Refusal> {
+    let items = full_queue(alloc)?;
+    match provisioning(JOINER, JOINER_KEY) {
+        Some(provisioning) => {
+            let mut device = Device::provisioned(alloc, &provisioning);
+            device.items = items;
+            Ok(device)
+        }
+        None => Err(Refusal::Damaged),
+    }
 }
 
 fn full_queue(alloc: Global) -> Result<ItemQueue, Refusal> {

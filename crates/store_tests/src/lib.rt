@@ -7,6 +7,8 @@ mod devices_under_test;
 #[cfg(test)]
 mod flusher_tests;
 #[cfg(test)]
+mod store_changes_tests;
+#[cfg(test)]
 mod store_checkpoints_tests;
 #[cfg(test)]
 mod store_faults_tests;

@@ -137,11 +137,16 @@ fn add_parts(bytes: &mut Vec<u8>, parts: &[&[u8]]) -> bool {
 
 // An image whose checkpoint at number 7 has these records, and says that they are so many.
 fn checkpoint(alloc: Global, count: u8, entries: &[Entry]) -> Result<Vec<u8>, Refusal> {
-    let records = entries_of(alloc, entries)?;
+    checkpoint_of(alloc, count, &entries_of(alloc, entries)?)
+}
+
+/// An image whose checkpoint at number 7 has the records of these bytes, and says that they are so
+/// many.
+pub fn checkpoint_of(alloc: Global, count: u8, records: &[u8]) -> Result<Vec<u8>, Refusal> {
     let mut bytes = FRONT[..42].to_vec(alloc)?;
     let len = (records.len() as u64).to_be_bytes();
     let numbers = &[0, 0, 0, 0, 0, 0, 0, 7, 0, 0, 0, count];
-    if add_parts(&mut bytes, &[numbers, &len, &records]) {
+    if add_parts(&mut bytes, &[numbers, &len, records]) {
         Ok(bytes)
     } else {
         Err(Refusal::OutOfMemory)
@@ -155,19 +160,27 @@ fn add_batch(
     (last, count): (u8, u8),
     entries: &[Entry],
 ) -> Result<(), Refusal> {
-    let entries = entries_of(alloc, entries)?;
+    add_batch_of(bytes, (last, count), &entries_of(alloc, entries)?)
+}
+
+/// Adds a batch of entries of these bytes behind its open gate.
+pub fn add_batch_of(
+    bytes: &mut Vec<u8>,
+    (last, count): (u8, u8),
+    entries: &[u8],
+) -> Result<(), Refusal> {
     let len = (entries.len() as u64).to_be_bytes();
     let numbers = &[0, 0, 0, 0, 0, 0, 0, last, 0, count];
-    if add_parts(bytes, &[&[0xA5], &len[4..], numbers, &entries]) {
+    if add_parts(bytes, &[&[0xA5], &len[4..], numbers, entries]) {
         Ok(())
     } else {
         Err(Refusal::OutOfMemory)
     }
 }
 
-// A disk with these bytes in front, then a closed gate, and open gates behind it up to the second
-// area, which is closed.
-fn disk_of(alloc: Global, mut bytes: Vec<u8>) -> Result<MemDisk, Refusal> {
+/// A disk with these bytes in front, then a closed gate, and open gates behind it up to the second
+/// area, which is closed.
+pub fn disk_of(alloc: Global, mut bytes: Vec<u8>) -> Result<MemDisk, Refusal> {
     bytes.push(0x00)?;
     bytes.resize(SECOND_AREA, 0xA5)?;
     bytes.resize(LEN, 0x00)?;

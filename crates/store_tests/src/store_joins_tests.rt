@@ -9,8 +9,8 @@ use sessions::{Batch, Table};
 use std::alloc::Global;
 use store::{Store, open};
 
-// Join-Requests of the device that joins, with the DevNonces 1 to 3.
-const JOIN_1: &str = "000807060504030201181716151413121101009E7419CE";
+/// Join-Requests of the device that joins, with the DevNonces 1 to 3.
+pub const JOIN_1: &str = "000807060504030201181716151413121101009E7419CE";
 
 const JOIN_2: &str = "00080706050403020118171615141312110200C13BE455";
 
@@ -121,34 +121,69 @@ const ALONE: &[Leads] = &[("b", (1, None)), ("1", (2, Some(1))), ("2", (3, Some(
 
 const TOGETHER: &[Leads] = &[("b1", (2, Some(1))), ("23", (4, Some(3)))];
 
+const THREE: &[Leads] = &[("b", (1, None)), ("123", (4, Some(3)))];
+
 #[test]
 fn a_record_of_a_slot_in_use_is_replaced(rt: HostRuntime) {
     assert!(rt; are_found(rt.alloc(), ALONE) == Ok(()), "each alone");
     assert!(rt; are_found(rt.alloc(), TOGETHER) == Ok(()), "two in a batch");
+    assert!(rt; are_found(rt.alloc(), THREE) == Ok(()), "three in a batch");
 }
 
-// What a crash behind the first calls of the commit of a join leaves.
-fn left(alloc: Global, calls: u64, image: &Image) -> Result<Option<Joined>, Refusal> {
+// What a crash behind the first calls of the commit of such a batch leaves, of a device that was
+// brought.
+fn left(
+    alloc: Global,
+    letters: &str,
+    calls: u64,
+    image: &Image,
+) -> Result<Option<Joined>, Refusal> {
     let mut store = new_store(alloc, 8)?;
     let brought = commit(alloc, &mut store, "b", ALL);
-    let begun = commit(alloc, &mut store, "1", calls);
+    let begun = commit(alloc, &mut store, letters, calls);
     let left = joined(&crashed(alloc, store, image)?);
     brought?;
     begun?;
     Ok(left)
 }
 
-const OLD: Result<Option<Joined>, Refusal> = Ok(Some((1, None)));
+const BROUGHT: Joined = (1, None);
 
-const NEW: Result<Option<Joined>, Refusal> = Ok(Some((2, Some(1))));
+// One join, and three of one slot in a batch.
+const BATCHES: &[Leads] = &[("1", (2, Some(1))), ("123", (4, Some(3)))];
 
-// The body may be torn, is written, and is synced; the gate is not open, and is open.
+// The calls that are made, and whether the batch is left of the old bytes, of the new ones and of
+// open gates: the body may be torn, and is synced; the gate may be torn, and is synced.
+const CALLS: &[(u64, bool, bool, bool)] = &[
+    (1, false, false, false),
+    (2, false, false, false),
+    (3, false, true, true),
+    (4, true, true, true),
+];
+
+fn leaves(alloc: Global, batch: &Leads, calls: u64, image: &Image, is_left: bool) -> bool {
+    let (letters, joined) = *batch;
+    let wanted = if is_left { joined } else { BROUGHT };
+    left(alloc, letters, calls, image) == Ok(Some(wanted))
+}
+
 #[test]
 fn a_crash_leaves_the_old_record_or_the_new(rt: HostRuntime) {
     let alloc = rt.alloc();
-    assert!(rt; left(alloc, 1, &Image::Old) == OLD);
-    assert!(rt; left(alloc, 1, &Image::New) == OLD);
-    assert!(rt; left(alloc, 2, &Image::New) == OLD);
-    assert!(rt; left(alloc, 3, &Image::Old) == OLD);
-    assert!(rt; left(alloc, 3, &Image::New) == NEW);
+    for batch in BATCHES {
+        for (calls, old, new, open) in CALLS {
+            assert!(rt;
+                leaves(alloc, batch, *calls, &Image::Old, *old),
+                "{calls}: old"
+            );
+            assert!(rt;
+                leaves(alloc, batch, *calls, &Image::New, *new),
+                "{calls}: new"
+            );
+            assert!(rt;
+                leaves(alloc, batch, *calls, &Image::Fill(0xA5), *open),
+                "{calls}: open"
+            );
+        }
+    }
 }

@@ -5,7 +5,7 @@ use Rattle.sessions.specs.Table.{TableState}
 use Rattle.store.specs.Formatting.{IsFormatImage}
 use Rattle.store.specs.Image.{area_a, area_b}
 use Rattle.store.specs.State.{IsSettled, StoreState}
-use Rattle.store_layout.specs.declared.version.RecordVersion.TheVariants.{V1}
+use Rattle.record_codec.specs.declared.version.RecordVersion.TheVariants.{V1}
 use Rattle.store.proofs.EmptyStore.{settled_empty}
 use Rattle.store.proofs.formatting.format_back.Goals as goal
 

@@ -1,4 +1,4 @@
-use Rattle.std.proofs.Common.{◌≡◌, ◌∙◌}
+use Rattle.std.proofs.Common.{◌∙◌}
 use Rattle.disk.specs.State.{IsSettledAt, IsTorn}
 use Rattle.store.proofs.EmptyStore.{OnOk-map}
 use Rattle.store.proofs.Syncing.{still_every}

@@ -6,21 +6,20 @@ use Rattle.lw_types.specs.declared.refusal.Refusal.{Refusal}
 use Rattle.lw_types.specs.declared.refusal.Refusal.TheVariants.{Damaged, OutOfMemory}
 use Rattle.gate_log.specs.Layout.{BatchValue}
 use Rattle.sessions.specs.Table.{TableState}
-use Rattle.store_layout.specs.declared.entries.Entry.{Entry}
-use Rattle.store_layout.specs.declared.version.RecordVersion.{RecordVersion}
-use Rattle.store_layout.specs.Entries.{Replay}
+use Rattle.record_codec.specs.declared.version.RecordVersion.{RecordVersion}
+use Rattle.store_layout.specs.Entries.{EntryValue, Replay}
 use Rattle.store.specs.Image.{IsBatchOn}
 use Rattle.store.proofs.restore.replay_batch.Goals as goal
 
 -- what replays is the batch, where its number and its count are in order
 replayed : {U : Type 0} (v : RecordVersion) (t now : TableState) (seq : ℕ) (b : BatchValue) (r : Result U Refusal)
-    → ((u u' : TableState) (es fs : List Entry) → Replay v t b.entries b.entry_count es u → Replay v t b.entries b.entry_count fs u' → u ≡ u')
-    → ((es : List Entry) (u : TableState) → Replay v t b.entries b.entry_count es u → IsBatchOn v t seq b es u)
-    → MatchResult r (λ _. (es : List Entry) × Replay v t b.entries b.entry_count es now)
-    (λ e. e ≢ OutOfMemory → (e ≡ Damaged) × ((es : List Entry) (u : TableState) → Replay v t b.entries b.entry_count es u → ⊥))
+    → ((u u' : TableState) (es fs : List EntryValue) → Replay v t b.entries b.entry_count es u → Replay v t b.entries b.entry_count fs u' → u ≡ u')
+    → ((es : List EntryValue) (u : TableState) → Replay v t b.entries b.entry_count es u → IsBatchOn v t seq b es u)
+    → MatchResult r (λ _. (es : List EntryValue) × Replay v t b.entries b.entry_count es now)
+    (λ e. e ≢ OutOfMemory → (e ≡ Damaged) × ((es : List EntryValue) (u : TableState) → Replay v t b.entries b.entry_count es u → ⊥))
     → MatchResult r
-    (λ _. (es : List Entry) × IsBatchOn v t seq b es now × ((fs : List Entry) (u : TableState) → IsBatchOn v t seq b fs u → u ≡ now))
-    (λ e. e ≢ OutOfMemory → (e ≡ Damaged) × ((es : List Entry) (u : TableState) → ¬ (IsBatchOn v t seq b es u)))
+    (λ _. (es : List EntryValue) × IsBatchOn v t seq b es now × ((fs : List EntryValue) (u : TableState) → IsBatchOn v t seq b fs u → u ≡ now))
+    (λ e. e ≢ OutOfMemory → (e ≡ Damaged) × ((es : List EntryValue) (u : TableState) → ¬ (IsBatchOn v t seq b es u)))
 replayed v t now seq b (Ok x) one is (es, put) = (es, is es now put, λ fs u other. one u now fs es other.replay put)
 replayed v t now seq b (Err e) one is refused = λ other. ((refused other).0, λ es u batch. (refused other).1 es u batch.replay)
 
@@ -32,8 +31,8 @@ returns c =
     let b = c.args.batch.now in
     let bytes : c.entries.result.now ≡ b.entries = c.entries.ensures in
     let count : c.from.result ≡ b.entry_count = c.from.ensures ∙ c.entry_count-2.ensures in
-    let put_in = λ (l : List ℕ) (n : ℕ). MatchResult c.replay.result (λ _. (es : List Entry) × Replay v t l n es now)
-    (λ e. e ≢ OutOfMemory → (e ≡ Damaged) × ((es : List Entry) (u : TableState) → Replay v t l n es u → ⊥)) in
+    let put_in = λ (l : List ℕ) (n : ℕ). MatchResult c.replay.result (λ _. (es : List EntryValue) × Replay v t l n es now)
+    (λ e. e ≢ OutOfMemory → (e ≡ Damaged) × ((es : List EntryValue) (u : TableState) → Replay v t l n es u → ⊥)) in
     replayed v t now c.args.seq b c.replay.result
     (λ u u' es fs one other. c.bytes_replay_in_one_way.ensures.table v t u u' b.entries b.entry_count es fs one other)
     (λ es u put. record {

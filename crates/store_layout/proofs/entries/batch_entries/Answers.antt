@@ -1,21 +1,24 @@
 use Rattle.std.proofs.Common.{◌≡◌, ◌+◌, ◌++◌, ◌∷◌, [], ℕ, List, length, take, ap, sym, ◌∙◌, append_assoc, arith, subst}
 use Rattle.std.proofs.lemmas.List.{append-nil, take_all, take_more}
 use Rattle.sessions.specs.declared.decision.Decision.{Decision}
-use Rattle.store_layout.specs.declared.entries.Entry.TheVariants.{Whole}
-use Rattle.store_layout.specs.declared.version.RecordVersion.{RecordVersion}
-use Rattle.store_layout.specs.Entries.{AreEntries, IsEntry, entries, entries_of, entry}
+use Rattle.record_codec.specs.declared.version.RecordVersion.{RecordVersion}
+use Rattle.store_layout.specs.Entries.{AreEntries, AreEntriesOf, EntryValue, IsEntry, IsEntryOf, entries, entry}
 use Rattle.store_layout.proofs.entries.batch_entries.Goals as goal
 
 -- one decision's entry more
-entries_behind : (v : RecordVersion) (ds : List Decision) (d : Decision) → entries v (entries_of ds) ++ entry v (Whole d.slot d.after) ≡ entries v (entries_of (ds ++ d ∷ []))
-entries_behind v [] d = sym (append-nil (entry v (Whole d.slot d.after)))
-entries_behind v (e ∷ ds) d =
-    let first = entry v (Whole e.slot e.after) in
-    append_assoc first (entries v (entries_of ds)) (entry v (Whole d.slot d.after)) ∙ ap (λ (t : List ℕ). first ++ t) (entries_behind v ds d)
+entries_behind : (v : RecordVersion) (es : List EntryValue) (e : EntryValue) → entries v es ++ entry v e ≡ entries v (es ++ e ∷ [])
+entries_behind v [] e = sym (append-nil (entry v e))
+entries_behind v (f ∷ es) e = append_assoc (entry v f) (entries v es) (entry v e) ∙ ap (λ (t : List ℕ). entry v f ++ t) (entries_behind v es e)
 
-each_behind : (v : RecordVersion) (ds : List Decision) (d : Decision) → AreEntries v (entries_of ds) → IsEntry v (Whole d.slot d.after) → AreEntries v (entries_of (ds ++ d ∷ []))
-each_behind v [] d all one = (one, tt)
-each_behind v (e ∷ ds) d all one = (all.0, each_behind v ds d all.1 one)
+each_behind : (v : RecordVersion) (es : List EntryValue) (e : EntryValue) → AreEntries v es → IsEntry v e → AreEntries v (es ++ e ∷ [])
+each_behind v [] e all one = (one, tt)
+each_behind v (f ∷ es) e all one = (all.0, each_behind v es e all.1 one)
+
+of_behind : (v : RecordVersion) (ds : List Decision) (es : List EntryValue) (d : Decision) (e : EntryValue) → AreEntriesOf v ds es → IsEntryOf v d e → AreEntriesOf v (ds ++ d ∷ []) (es ++ e ∷ [])
+of_behind v [] [] d e all one = (one, tt)
+of_behind v [] (f ∷ es) d e all one = absurd all
+of_behind v (c ∷ ds) [] d e all one = absurd all
+of_behind v (c ∷ ds) (f ∷ es) d e all one = (all.0, of_behind v ds es d e all.1 one)
 
 pub loop-decision-preserved : goal.loop-decision-preserved
 loop-decision-preserved c =
@@ -24,20 +27,26 @@ loop-decision-preserved c =
     let ds = c.as_slice-decision-items.result.now in
     let d = c.decision-item.result in
     let done = take l.decision-index ds in
-    let one = c.in_ok-put_entry.ensures in
+    let one = c.in_ok-put_decision.ensures in
+    let e = one.0 in
+    let so = l.invariant in
     let more : take (l.decision-index + 1) ds ≡ done ++ d ∷ [] =
-    take_more ds l.decision-index d c.loop-decision-test.true ∙ ap (λ (x : Decision). done ++ x ∷ []) (sym c.decision-item.is) in (
-      one.0 ∙ ap (λ (t : List ℕ). t ++ entry v (Whole d.slot d.after)) l.invariant.0 ∙ entries_behind v done d ∙ ap (λ (x : List Decision). entries v (entries_of x)) (sym more),
-      subst (λ (x : List Decision). AreEntries v (entries_of x)) (sym more) (each_behind v done d l.invariant.1 one.1),
-    )
+    take_more ds l.decision-index d c.loop-decision-test.true ∙ ap (λ (x : Decision). done ++ x ∷ []) (sym c.decision-item.is) in
+    record {
+      values = so.values ++ e ∷ [];
+      of_each = subst (λ (x : List Decision). AreEntriesOf v x (so.values ++ e ∷ [])) (sym more) (of_behind v done so.values d e so.of_each one.3);
+      in_range = each_behind v so.values e so.in_range one.2;
+      spelled = one.1 ∙ ap (λ (t : List ℕ). t ++ entry v e) so.spelled ∙ entries_behind v so.values e;
+    }
 
 pub returns-clause-short : goal.returns-clause-short
 returns-clause-short c =
     let items = c.as_slice-decision-items.result.now in
     let ds = take c.loop-decision.decision-index items in
-    let most = c.entries_are_short.ensures c.args.version (entries_of ds) c.loop-decision.invariant.1 in
-    let number = c.decisions_replay.ensures.number ds in
-    let size = ap length c.loop-decision.invariant.0 in
+    let so = c.loop-decision.invariant in
+    let most = c.entries_are_short.ensures c.args.version so.values so.in_range in
+    let number = c.decisions_replay.ensures.number c.args.version ds so.values so.of_each in
+    let size = ap length so.spelled in
     let whole : length ds ≡ length items = ap length (take_all c.loop-decision.decision-index items c.loop-decision-test.false) in
     let all = ap length c.as_slice-decision-items.ensures.decisions in
     omega arith

@@ -1,8 +1,7 @@
 -- the entries of the decisions so far
-use Rattle.std.proofs.Common.{◌≡◌, take}
-use Rattle.store_layout.specs.Entries.{AreEntries, entries, entries_of}
+use Rattle.std.proofs.Common.{take}
+use Rattle.store_layout.specs.Entries.{SpellsEntriesOf}
 use Rattle.store_layout.proofs.entries.batch_entries.Given as goal
 
 abbrev pub invariant-loop-decision : goal.invariant-loop-decision
-invariant-loop-decision l =
-    (l.bytes.items ≡ entries l.version (entries_of (take l.decision-index l.decision-items))) × AreEntries l.version (entries_of (take l.decision-index l.decision-items))
+invariant-loop-decision l = SpellsEntriesOf l.version (take l.decision-index l.decision-items) l.bytes.items

@@ -1,5 +1,6 @@
 use Rattle.std.proofs.Common.{◌≡◌, ◌∙◌, ◌+◌, length, sym, ap, subst, refl}
 use Rattle.sessions.specs.Decision.{FitAll}
+use Rattle.store_layout.specs.Entries.{SpellsEntriesOf}
 use Rattle.store.specs.State.{store_state}
 use Rattle.store.proofs.Beginning.{EntryLaws, begun_on}
 use Rattle.store.proofs.store.Store.begin.Goals as goal
@@ -14,10 +15,9 @@ returns-clause-begun g c settled =
     let batch : commit.batch ≡ c.args.batch = answer.1.0 in
     begun_on laws s (record { phase = c.in_ok-phase.phase; commit = commit }) commit.batch c.in_ok-phase.ensures.begun settled
     (subst (FitAll s.table) (sym batch) answer.0.continues.fit)
-    c.in_ok-entries.ensures.entries.1
+    (subst (SpellsEntriesOf s.version commit.batch) (sym c.deref.ensures.value) c.in_ok-entries.ensures.entries)
     (λ none. answer.0.some (sym batch ∙ none))
     c.len-count.ensures.few
-    (c.deref.ensures.value ∙ c.in_ok-entries.ensures.entries.0)
     c.len-count.ensures.len
     (answer.1.1 ∙ ap (λ ds. s.seq + length ds) (sym batch))
     refl

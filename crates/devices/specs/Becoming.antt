@@ -1,0 +1,25 @@
+-- Which records a device may have, one after the other.
+use Rattle.std.specs.Prelude.{◌≡◌, ◌⊎◌, List, [], ◌∷◌, ◌++◌}
+use Rattle.devices.specs.declared.queue.Item.{Item}
+use Rattle.devices.specs.declared.device.Device.{Device}
+
+-- two records have what a device is provisioned with in common
+pub record AreProvisionedAlike (before after : Device) : Type 0 where
+  pub dev_eui : after.dev_eui ≡ before.dev_eui
+  pub join_eui : after.join_eui ≡ before.join_eui
+  pub app_key : after.app_key ≡ before.app_key
+  pub application : after.application ≡ before.application
+  pub rx1_offset : after.rx1_offset ≡ before.rx1_offset
+  pub rx_delay : after.rx_delay ≡ before.rx_delay
+
+-- the items that wait afterwards: the same, or without the first, or with one more at the end
+abbrev pub AreItemsAfter : List Item → List Item → Type 0
+AreItemsAfter before after =
+    (after ≡ before)
+    ⊎ (((first : Item) × (before ≡ first ∷ after))
+    ⊎ ((item : Item) × (after ≡ before ++ item ∷ [])))
+
+-- what the device was provisioned with stays, and one item comes or leaves at most
+pub record MayBecome (before after : Device) : Type 0 where
+  pub provisioned : AreProvisionedAlike before after
+  pub items : AreItemsAfter before.items after.items

@@ -1,0 +1,160 @@
+-- A change: what one record has that the record before it had not, in groups of fields.
+use Rattle.std.specs.Prelude.{◌≡◌, ◌≢◌, ◌≤◌, ◌<◌, ◌^◌, ◌+◌, ◌*◌, ℕ, List, [], ◌∷◌, ◌++◌, length}
+use Rattle.std.specs.Prelude.{Option, Some, None, IfSome}
+use Rattle.std.specs.Int.{w32, w64, to_be_bytes}
+use Rattle.lw_types.specs.Hex.{IsBytes}
+use Rattle.byte_fields.specs.Spelling.{counted_bytes, optional}
+use Rattle.mac_commands.specs.Queueable.{AreQueueable}
+use Rattle.devices.specs.declared.Tag.{Tag}
+use Rattle.devices.specs.declared.activation.Session.{Session}
+use Rattle.devices.specs.declared.activation.CurrentSession.{CurrentSession}
+use Rattle.devices.specs.declared.queue.Item.{Item}
+use Rattle.devices.specs.declared.device.Device.{Device}
+use Rattle.devices.specs.declared.mac_queue.TheConstants.MacQueue.{MOST as LONGEST_MAC_QUEUE}
+use Rattle.devices.specs.declared.queue.TheConstants.ItemQueue.{MOST as MOST_ITEMS}
+use Rattle.devices.specs.Activation.{Grants, AreInOrder}
+use Rattle.devices.specs.Becoming.{AreProvisionedAlike}
+use Rattle.devices.specs.Parts.{nonces_of, session_of, counters_of}
+use Rattle.record_codec.specs.DeviceRecord.{awaited_bytes, current_session, dev_nonce}
+use Rattle.record_codec.specs.DeviceRecord.{granted_bytes, item, session, IsCurrentSession, IsItem}
+use Rattle.record_codec.specs.DeviceRecord.{IsJoinNonce, IsSession}
+use Rattle.record_codec.specs.declared.version.RecordVersion.{RecordVersion}
+use Rattle.record_codec.specs.declared.version.RecordVersion.TheVariants.{V1}
+
+-- ---- the groups
+
+pub data ItemChange : Type 0 where
+  -- the first item leaves
+  Leaves : ItemChange
+  -- this one is added at the end
+  Added : Item → ItemChange
+
+-- the groups of a change, each there or not
+pub record Groups : Type 0 where
+  -- the last DevNonce and the last JoinNonce granted
+  pub nonces : Option (Option ℕ × Option ℕ)
+  pub current : Option (Option CurrentSession)
+  -- those of the current session
+  pub counters : Option (ℕ × ℕ)
+  pub pending : Option (Option Session)
+  pub awaited : Option (Option Tag)
+  pub mac_queue : Option (List ℕ)
+  pub items : Option ItemChange
+
+-- ---- the bytes
+
+-- 1 for a group that is there
+abbrev pub there : {A : Type 0} → Option A → ℕ
+there None = 0
+there (Some x) = 1
+
+-- a bit for each group, the lowest for the first
+abbrev pub mask : Groups → ℕ
+mask c =
+    there c.nonces
+    + 2 * (there c.current
+    + 2 * (there c.counters
+    + 2 * (there c.pending
+    + 2 * (there c.awaited
+    + 2 * (there c.mac_queue
+    + 2 * there c.items)))))
+
+-- the bytes of a group that is there
+abbrev pub group_bytes : {A : Type 0} → (A → List ℕ) → Option A → List ℕ
+group_bytes spelled None = []
+group_bytes spelled (Some x) = spelled x
+
+abbrev pub nonces_bytes : Option ℕ × Option ℕ → List ℕ
+nonces_bytes n = dev_nonce n.0 ++ granted_bytes n.1
+
+abbrev pub counters_bytes : ℕ × ℕ → List ℕ
+counters_bytes n = to_be_bytes w32 n.0 ++ to_be_bytes w64 n.1
+
+abbrev pub item_change_bytes : ItemChange → List ℕ
+item_change_bytes Leaves = 0 ∷ []
+item_change_bytes (Added i) = 1 ∷ item i
+
+-- the one spelling of a change: the mask, and the groups that are there
+unfoldable pub change_bytes : RecordVersion → Groups → List ℕ
+change_bytes V1 c =
+    mask c
+    ∷ (group_bytes nonces_bytes c.nonces
+    ++ (group_bytes (optional current_session) c.current
+    ++ (group_bytes counters_bytes c.counters
+    ++ (group_bytes (optional session) c.pending
+    ++ (group_bytes awaited_bytes c.awaited
+    ++ (group_bytes counted_bytes c.mac_queue
+    ++ group_bytes item_change_bytes c.items))))))
+
+-- ---- which values there are
+
+abbrev pub AreNonces : Option ℕ × Option ℕ → Type 0
+AreNonces n = IfSome n.0 (λ k. k < 2 ^ 16) × IfSome n.1 IsJoinNonce
+
+abbrev pub AreCounters : ℕ × ℕ → Type 0
+AreCounters n = (n.0 < 2 ^ 32) × (n.1 ≤ 2 ^ 32)
+
+abbrev pub IsItemChange : ItemChange → Type 0
+IsItemChange Leaves = Unit {0}
+IsItemChange (Added i) = IsItem i
+
+-- the most bytes of a MAC queue in a version
+abbrev pub longest_mac_queue : RecordVersion → ℕ
+longest_mac_queue V1 = LONGEST_MAC_QUEUE
+
+-- the fields of each group are in their ranges
+pub record AreInRange (version : RecordVersion) (c : Groups) : Type 0 where
+  pub nonces : IfSome c.nonces AreNonces
+  pub current : IfSome c.current (λ o. IfSome o IsCurrentSession)
+  pub counters : IfSome c.counters AreCounters
+  pub pending : IfSome c.pending (λ o. IfSome o IsSession)
+  pub awaited : IfSome c.awaited (λ o. IfSome o (λ tag. tag.0 < 2 ^ 32))
+  pub mac_queue : IfSome c.mac_queue (λ q. IsBytes q × (length q ≤ longest_mac_queue version))
+  pub items : IfSome c.items IsItemChange
+
+-- ---- from one record to another
+
+-- a group is there exactly where the part differs, and is the part afterwards
+abbrev pub IsGroup : {A : Type 0} → Option A → A → A → Type 0
+IsGroup None before after = after ≡ before
+IsGroup (Some x) before after = (after ≢ before) × (x ≡ after)
+
+-- the current session with its counters where it is another one; else its counters where they
+-- differ; else neither
+abbrev pub IsCurrentGroup : Option (Option CurrentSession) → Option (ℕ × ℕ) → Grants → Grants
+    → Type 0
+IsCurrentGroup (Some x) counters before after =
+    (session_of after ≢ session_of before) × (x ≡ after.current) × (counters ≡ None)
+IsCurrentGroup None (Some n) before after =
+    (session_of after ≡ session_of before) × (counters_of after ≢ counters_of before)
+    × (counters_of after ≡ Some n)
+IsCurrentGroup None None before after = after.current ≡ before.current
+
+-- the item that leaves, or the one that is added, where the items differ
+abbrev pub IsItemGroup : Option ItemChange → List Item → List Item → Type 0
+IsItemGroup None before after = after ≡ before
+IsItemGroup (Some Leaves) before after = (first : Item) × (before ≡ first ∷ after)
+IsItemGroup (Some (Added i)) before after = after ≡ before ++ i ∷ []
+
+-- the groups are exactly what one record has that the other had not, and the record that they lead
+-- to is one that a device may have
+pub record IsChange (before after : Device) (c : Groups) : Type 0 where
+  pub provisioned : AreProvisionedAlike before after
+  pub nonces : IsGroup c.nonces (nonces_of before) (nonces_of after)
+  pub current : IsCurrentGroup c.current c.counters before.activation after.activation
+  pub pending : IsGroup c.pending before.activation.pending after.activation.pending
+  pub awaited : IsGroup c.awaited before.awaited after.awaited
+  pub mac_queue : IsGroup c.mac_queue before.mac_queue after.mac_queue
+  pub items : IsItemGroup c.items before.items after.items
+  pub in_order : AreInOrder after.activation
+  pub whole : AreQueueable after.mac_queue
+  pub few : length after.items ≤ MOST_ITEMS
+
+-- these bytes are the change from one record to another
+abbrev pub IsChangeOf : RecordVersion → Device → Device → List ℕ → Type 0
+IsChangeOf version before after bytes =
+    (c : Groups) × AreInRange version c × IsChange before after c × (bytes ≡ change_bytes version c)
+
+-- these bytes are a change of this record
+abbrev pub IsSomeChange : RecordVersion → Device → List ℕ → Type 0
+IsSomeChange version before bytes = (after : Device) × IsChangeOf version before after bytes

@@ -1,0 +1,158 @@
+-- Reading a change from left to right: the mask, and each group whose bit is set. What the change
+-- makes of a record, and where it is one of that record.
+use Rattle.std.specs.Prelude.{◌≡◌, ◌≢◌, ◌<◌, ◌%◌, ◌/◌, ◌^◌, ◌==◌, ℕ, Bool, true, false, List, []}
+use Rattle.std.specs.Prelude.{◌∷◌, ◌++◌, length, drop, if◌then◌else◌, Option, Some, None, IfSome}
+use Rattle.std.specs.Prelude.{nat_le, option_map, unwrap_or}
+use Rattle.std.specs.Int.{w16, w32, w64}
+use Rattle.byte_fields.specs.Reading.{Reader, ◌>>=◌, both, seen_as, that, be_at, byte_at}
+use Rattle.byte_fields.specs.Reading.{optional_at, three_be_bytes_at, whole}
+use Rattle.mac_commands.specs.Queueable.{AreQueueable}
+use Rattle.devices.specs.declared.Tag.{Tag}
+use Rattle.devices.specs.declared.activation.Session.{Session}
+use Rattle.devices.specs.declared.activation.CurrentSession.{CurrentSession}
+use Rattle.devices.specs.declared.queue.Item.{Item}
+use Rattle.devices.specs.declared.device.Device.{Device}
+use Rattle.devices.specs.declared.queue.TheConstants.ItemQueue.{MOST as MOST_ITEMS}
+use Rattle.devices.specs.Activation.{Grants, AreInOrder}
+use Rattle.devices.specs.Parts.{nonces_of, session_of, counters_of}
+use Rattle.record_codec.specs.Change.{Groups, ItemChange, Leaves, Added}
+use Rattle.record_codec.specs.Reading.{awaited_at, current_at, flagged_at, granted_nonce, item_at}
+use Rattle.record_codec.specs.Reading.{mac_queue_at, session_at}
+
+-- ---- the groups
+
+abbrev pub granted_at : Reader (Option ℕ)
+granted_at = seen_as granted_nonce three_be_bytes_at
+
+abbrev pub nonces_at : Reader (Option ℕ × Option ℕ)
+nonces_at = both (flagged_at w16) granted_at
+
+abbrev pub counters_at : Reader (ℕ × ℕ)
+counters_at = both (be_at w32) (that (λ n. nat_le n (2 ^ 32)) (be_at w64))
+
+abbrev pub item_change_of : Option Item → ItemChange
+item_change_of None = Leaves
+item_change_of (Some i) = Added i
+
+-- 00 where the first item leaves; 01 and the item that is added
+unfoldable pub item_change_at : Reader ItemChange
+item_change_at = seen_as item_change_of (optional_at item_at)
+
+-- ---- the mask
+
+abbrev pub is_odd : ℕ → Bool
+is_odd n = n % 2 == 1
+
+-- a group, where it is there
+abbrev pub group_at : {X : Type 0} → Reader X → Bool → Reader (Option X)
+group_at field true = seen_as Some field
+group_at field false = λ bytes. Some (None, bytes)
+
+-- the group of the lowest bit, and the others by the bits above it
+abbrev pub next_group_at : {X Y : Type 0} → Reader X → (ℕ → Reader Y) → ℕ → Reader (Option X × Y)
+next_group_at field others bits = both (group_at field (is_odd bits)) (others (bits / 2))
+
+-- no bit is left
+abbrev pub none_left : ℕ → Reader (Unit {0})
+none_left bits bytes = if bits == 0 then Some (tt, bytes) else None
+
+-- the groups in the order of their bits
+abbrev pub GroupFields : Type 0
+GroupFields =
+    Option (Option ℕ × Option ℕ) × (Option (Option CurrentSession) × (Option (ℕ × ℕ)
+    × (Option (Option Session) × (Option (Option Tag) × (Option (List ℕ)
+    × (Option ItemChange × Unit {0}))))))
+
+abbrev pub groups_of : GroupFields → Groups
+groups_of x =
+    record {
+      nonces = x.0;
+      current = x.1.0;
+      counters = x.1.1.0;
+      pending = x.1.1.1.0;
+      awaited = x.1.1.1.1.0;
+      mac_queue = x.1.1.1.1.1.0;
+      items = x.1.1.1.1.1.1.0;
+    }
+
+abbrev pub groups_at : ℕ → Reader GroupFields
+groups_at =
+    next_group_at nonces_at (next_group_at (optional_at current_at)
+    (next_group_at counters_at (next_group_at (optional_at session_at)
+    (next_group_at awaited_at (next_group_at mac_queue_at
+    (next_group_at item_change_at none_left))))))
+
+unfoldable pub change_at : Reader Groups
+change_at bytes = byte_at bytes >>= λ bits. seen_as groups_of (groups_at bits.0) bits.1
+
+-- a change that is all of the bytes
+unfoldable pub change_read : List ℕ → Option Groups
+change_read = whole change_at
+
+-- ---- what it makes of a record
+
+-- the session in use: the one of the change, or the one before with the counters of the change
+abbrev pub current_after : Option (Option CurrentSession) → Option (ℕ × ℕ) → Option CurrentSession
+    → Option CurrentSession
+current_after (Some current) counters before = current
+current_after None (Some n) before =
+    option_map (λ c. record { session = c.session; last_up = n.0; next_down = n.1 }) before
+current_after None None before = before
+
+abbrev pub items_after : Option ItemChange → List Item → List Item
+items_after None before = before
+items_after (Some Leaves) before = drop 1 before
+items_after (Some (Added i)) before = before ++ i ∷ []
+
+abbrev pub grants_after : Groups → Device → Grants
+grants_after c before =
+    record {
+      granted = (unwrap_or c.nonces (nonces_of before)).1;
+      current = current_after c.current c.counters before.activation.current;
+      pending = unwrap_or c.pending before.activation.pending;
+    }
+
+-- the record that a change makes of one
+abbrev pub device_after : Groups → Device → Device
+device_after c before =
+    record before {
+      last_dev_nonce = (unwrap_or c.nonces (nonces_of before)).0;
+      activation = grants_after c before;
+      awaited = unwrap_or c.awaited before.awaited;
+      mac_queue = unwrap_or c.mac_queue before.mac_queue;
+      items = items_after c.items before.items;
+    }
+
+-- ---- where it is one of a record
+
+abbrev pub IsNew : {A : Type 0} → Option A → A → Type 0
+IsNew o before = IfSome o (λ x. x ≢ before)
+
+-- another session than before; or other counters of the same one
+abbrev pub IsNewCurrent : Option (Option CurrentSession) → Option (ℕ × ℕ) → Grants → Type 0
+IsNewCurrent (Some current) (Some n) before = ⊥
+IsNewCurrent (Some current) None before = option_map (λ c. c.session) current ≢ session_of before
+IsNewCurrent None (Some n) before =
+    (before.current ≢ None) × (Some n ≢ counters_of before)
+IsNewCurrent None None before = Unit {0}
+
+abbrev pub IsNewItems : Option ItemChange → List Item → Type 0
+IsNewItems None before = Unit {0}
+IsNewItems (Some Leaves) before = before ≢ []
+IsNewItems (Some (Added i)) before = length before < MOST_ITEMS
+
+-- each group differs from what the record has, and the record that they lead to is one that a
+-- device may have
+pub record IsNewTo (before : Device) (c : Groups) : Type 0 where
+  pub nonces : IsNew c.nonces (nonces_of before)
+  pub current : IsNewCurrent c.current c.counters before.activation
+  pub pending : IsNew c.pending before.activation.pending
+  pub awaited : IsNew c.awaited before.awaited
+  pub mac_queue : IsNew c.mac_queue before.mac_queue
+  pub whole : IfSome c.mac_queue AreQueueable
+  pub items : IsNewItems c.items before.items
+  pub in_order : AreInOrder (grants_after c before)
+
+-- no change of the record is all of the bytes
+abbrev pub IsNoChange : Device → List ℕ → Type 0
+IsNoChange before bytes = (c : Groups) → change_read bytes ≡ Some c → ¬ IsNewTo before c

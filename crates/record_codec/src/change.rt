@@ -1,0 +1,387 @@
+// A change of a record: from one record to another, and back from the change to the record.
+ghost use Rattle.std.specs.Prelude.{◌≡◌, ◌≢◌, ◌≤◌, ◌<◌, ◌++◌, ◌⊎◌, ◌↔◌, List, ℕ, Err, IsTrue};
+ghost use Rattle.std.specs.Prelude.{IfErr, IfOk, IfSome, MatchOption, MatchResult, OnErr, OnOk};
+ghost use Rattle.std.specs.Prelude.{Some, SomeIff, length, option_map, unwrap_or};
+ghost use Rattle.lw_types.specs.declared.refusal.Refusal.TheVariants.{OutOfMemory, Damaged};
+ghost use Rattle.mac_commands.specs.Queueable.{AreQueueable};
+ghost use Rattle.devices.specs.Activation.{AreInOrder};
+ghost use Rattle.devices.specs.Becoming.{AreItemsAfter, MayBecome};
+ghost use Rattle.devices.specs.Parts.{counters_of, nonces_of};
+ghost use Rattle.devices.specs.declared.device.Device.{Device};
+ghost use Rattle.record_codec.specs.declared.version.RecordVersion.TheVariants.{V1};
+ghost use Rattle.record_codec.specs.Change.{IsChange, IsChangeOf, IsCurrentGroup, IsGroup};
+ghost use Rattle.record_codec.specs.Change.{IsItemGroup, IsSomeChange};
+ghost use Rattle.record_codec.specs.ChangeReading.{change_read, current_after, device_after};
+ghost use Rattle.record_codec.specs.ChangeReading.{grants_after, items_after, IsNew, IsNewCurrent};
+ghost use Rattle.record_codec.specs.ChangeReading.{IsNewItems, IsNewTo, IsNoChange};
+ghost use Rattle.record_codec.specs.Parts.{groups_of_parts, item_change_of_parts, AreShort};
+ghost use Rattle.record_codec.specs.Parts.{IsShortChange};
+
+use crate::groups::read_groups;
+use crate::parts::{Counters, GroupParts, ItemChangePart, ItemPart, Nonces};
+use byte_fields::FieldReader;
+use devices::{Activation, CurrentSession, Device, ItemQueue, MacQueue, Session, Tag};
+use lw_types::Refusal;
+use mac_commands::are_queueable;
+use std::alloc::{AllocError, Global};
+
+/// The most bytes of a change: that of a device which gets another current session and a pending
+/// one, a full MAC queue, and an item of 242 bytes.
+pub const LONGEST_CHANGE: usize = 411;
+
+// ---- from one record to another
+
+fn nonces_between(before: &Device, after: &Device) -> Option<Nonces>
+    ensures group { IsGroup result (nonces_of before.now) (nonces_of after.now) }
+    ensures in_order { AreInOrder after.now.activation }
+{
+    let nonces = (after.last_dev_nonce, after.activation.granted());
+    if before.same_nonces(after) {
+        None
+    } else {
+        Some(nonces)
+    }
+}
+
+// The counters of a session.
+fn counters_of(current: &Option<CurrentSession>) -> Option<Counters>
+    ensures { result ≡ option_map (λ c. (c.last_up, c.next_down)) current.now }
+{
+    match current {
+        None => None,
+        Some(current) => Some((current.last_up, current.next_down)),
+    }
+}
+
+// The current session where it is another one, else its counters where they are others.
+fn current_between(
+    before: &Device,
+    after: &Device,
+) -> (Option<Option<CurrentSession>>, Option<Counters>)
+    ensures { IsCurrentGroup result.0 result.1 before.now.activation after.now.activation }
+{
+    let current = after.activation.current();
+    if !before.same_session(after) {
+        (Some(current), None)
+    } else if !before.same_counters(after) {
+        (None, counters_of(&current))
+    } else {
+        (None, None)
+    }
+}
+
+fn pending_between(before: &Device, after: &Device) -> Option<Option<Session>>
+    ensures { IsGroup result before.now.activation.pending after.now.activation.pending }
+{
+    if before.same_pending(after) {
+        None
+    } else {
+        Some(after.activation.pending())
+    }
+}
+
+fn awaited_between(before: &Device, after: &Device) -> Option<Option<Tag>>
+    ensures { IsGroup result before.now.awaited after.now.awaited }
+{
+    if before.same_awaited(after) {
+        None
+    } else {
+        Some(after.awaited)
+    }
+}
+
+fn commands_between<'a>(before: &Device, after: &'a Device) -> Option<&'a [u8]>
+    ensures group { IsGroup (option_map (λ bytes. bytes.now) result) before.now.mac_queue
+        after.now.mac_queue }
+    ensures few { IfSome result (λ bytes. length bytes.now ≤ MacQueue.MOST) }
+    ensures whole { AreQueueable after.now.mac_queue }
+{
+    let commands = after.mac_queue.as_slice();
+    if before.same_mac_queue(after) {
+        None
+    } else {
+        Some(commands)
+    }
+}
+
+// Where one item comes or leaves, the number of items tells which.
+fn items_between<'a>(before: &Device, after: &'a Device) -> Option<ItemChangePart<'a>>
+    requires { AreItemsAfter before.now.items after.now.items }
+    ensures group { IsItemGroup (option_map item_change_of_parts result) before.now.items
+        after.now.items }
+    ensures short { IfSome result IsShortChange }
+    ensures few { length after.now.items ≤ ItemQueue.MOST }
+{
+    let items = after.items.as_slice();
+    let found = before.items.as_slice().len();
+    if items.len() < found {
+        return Some(None);
+    }
+    match items.get(found) {
+        None => None,
+        Some(added) => Some(Some(ItemPart::of(added))),
+    }
+}
+
+// The bytes of the change from one record to the next.
+fn change_between(alloc: Global, before: &Device, after: &Device) -> Result<Vec<u8>, AllocError>
+    requires { MayBecome before.now after.now }
+    ensures { IfOk result (λ bytes. IsChangeOf V1 before.now after.now bytes.items) }
+{
+    let (current, counters) = current_between(before, after);
+    let groups = GroupParts {
+        nonces: nonces_between(before, after),
+        current,
+        counters,
+        pending: pending_between(before, after),
+        awaited: awaited_between(before, after),
+        mac_queue: commands_between(before, after),
+        items: items_between(before, after),
+    };
+    groups.spelled(alloc)
+}
+
+/// Appends the change from one record to the next, its one spelling, of 1 byte to
+/// [`LONGEST_CHANGE`]. For want of memory it is refused as `OutOfMemory`, and then nothing is
+/// appended.
+pub fn write_change(
+    alloc: Global,
+    before: &Device,
+    after: &Device,
+    out: &mut Vec<u8>,
+) -> Result<(), Refusal>
+    requires { MayBecome before.now after.now }
+    ensures ok { OnOk result ((bytes : List ℕ) × (out.new.items ≡ out.old.items ++ bytes)
+        × IsChangeOf V1 before.now after.now bytes) }
+    ensures err { OnErr result (out.new.items ≡ out.old.items) }
+    ensures refused { IfErr result (λ e. e ≡ OutOfMemory) }
+{
+    let bytes = change_between(alloc, before, after)?;
+    out.extend_from_slice(bytes.as_slice())?;
+    Ok(())
+}
+
+// ---- from a change to the record
+
+impl GroupParts<'_> {
+    fn nonces_after(&self, before: &Device) -> Nonces
+        ensures { result ≡ unwrap_or self.now.nonces (nonces_of before.now) }
+    {
+        let found = (before.last_dev_nonce, before.activation.granted());
+        self.nonces.unwrap_or(found)
+    }
+
+    fn current_after(&self, before: &Device) -> Option<CurrentSession>
+        ensures { result ≡ current_after self.now.current self.now.counters
+            before.now.activation.current }
+    {
+        let found = before.activation.current();
+        match (self.current, self.counters, found) {
+            (Some(current), _, _) => current,
+            (None, Some((last_up, next_down)), Some(current)) => Some(CurrentSession {
+                session: current.session,
+                last_up,
+                next_down,
+            }),
+            (None, _, found) => found,
+        }
+    }
+
+    // The grants and the sessions afterwards, where they are in order.
+    fn activation(&self, before: &Device) -> Option<Activation>
+        ensures { let grants = grants_after (groups_of_parts self.now) before.now in
+            SomeIff result (AreInOrder grants) grants }
+    {
+        let (_, granted) = self.nonces_after(before);
+        let pending = self.pending.unwrap_or(before.activation.pending());
+        Activation::new(granted, self.current_after(before), pending)
+    }
+
+    // Whether the nonces and the tag are others than before, where they are there.
+    fn has_new_numbers(&self, before: &Device) -> bool
+        ensures { IsTrue result ↔ (IsNew self.now.nonces (nonces_of before.now)
+            × IsNew self.now.awaited before.now.awaited) }
+    {
+        let nonces = match self.nonces {
+            None => true,
+            Some((dev_nonce, granted)) => {
+                dev_nonce != before.last_dev_nonce || granted != before.activation.granted()
+            }
+        };
+        let awaited = match self.awaited {
+            None => true,
+            Some(awaited) => awaited != before.awaited,
+        };
+        nonces && awaited
+    }
+
+    // Whether the current session is another one, or its counters are others, where they are there.
+    fn has_new_current(&self, before: &Device, after: &Activation) -> bool
+        requires { after.now.current ≡ current_after self.now.current self.now.counters
+            before.now.activation.current }
+        ensures { IsTrue result
+            ↔ IsNewCurrent self.now.current self.now.counters before.now.activation }
+    {
+        let was = &before.activation;
+        match (self.current.is_some(), self.counters.is_some()) {
+            (false, false) => true,
+            (true, false) => !after.same_session(was),
+            (false, true) => was.current().is_some() && !after.same_counters(was),
+            (true, true) => false,
+        }
+    }
+
+    // Whether the pending session is another one, where it is there.
+    fn has_new_pending(&self, before: &Device, after: &Activation) -> bool
+        requires { after.now.pending ≡ unwrap_or self.now.pending before.now.activation.pending }
+        ensures { IsTrue result ↔ IsNew self.now.pending before.now.activation.pending }
+    {
+        self.pending.is_none() || !after.same_pending(&before.activation)
+    }
+
+    // Whether other commands wait, where they are there: whole ones that may be queued.
+    fn has_new_commands(&self, before: &Device) -> bool
+        ensures { let commands = option_map (λ bytes. bytes.now) self.now.mac_queue in
+            IsTrue result ↔ (IsNew commands before.now.mac_queue
+            × IfSome commands AreQueueable) }
+    {
+        match self.mac_queue {
+            None => true,
+            Some(bytes) => bytes != before.mac_queue.as_slice() && are_queueable(bytes),
+        }
+    }
+
+    // Whether an item is there to leave, or there is room for the one that is added.
+    fn has_new_items(&self, before: &Device) -> bool
+        ensures { IsTrue result ↔ IsNewItems (option_map item_change_of_parts self.now.items)
+            before.now.items }
+    {
+        match &self.items {
+            None => true,
+            Some(None) => !before.items.is_empty(),
+            Some(Some(_)) => before.items.as_slice().len() < ItemQueue::MOST,
+        }
+    }
+
+    // Whether the groups are a change of the record.
+    fn is_new(&self, before: &Device, after: &Activation) -> bool
+        requires grants { after.now ≡ grants_after (groups_of_parts self.now) before.now }
+        requires in_order { AreInOrder after.now }
+        ensures { IsTrue result ↔ IsNewTo before.now (groups_of_parts self.now) }
+    {
+        self.has_new_numbers(before)
+            && self.has_new_current(before, after)
+            && self.has_new_pending(before, after)
+            && self.has_new_commands(before)
+            && self.has_new_items(before)
+    }
+
+    fn commands_after(&self, alloc: Global, before: &MacQueue) -> Result<MacQueue, AllocError>
+        requires few { IfSome self.now.mac_queue (λ bytes. length bytes.now ≤ MacQueue.MOST) }
+        requires whole { IfSome self.now.mac_queue (λ bytes. AreQueueable bytes.now) }
+        ensures { IfOk result (λ queue. queue
+            ≡ unwrap_or (option_map (λ bytes. bytes.now) self.now.mac_queue) before.now) }
+    {
+        match self.mac_queue {
+            None => before.clone(),
+            Some(bytes) => MacQueue::from_slice(alloc, bytes),
+        }
+    }
+
+    fn items_after(&self, alloc: Global, before: &ItemQueue) -> Result<ItemQueue, AllocError>
+        requires new { IsNewItems (option_map item_change_of_parts self.now.items) before.now }
+        requires short { IfSome self.now.items IsShortChange }
+        ensures { IfOk result (λ queue. queue
+            ≡ items_after (option_map item_change_of_parts self.now.items) before.now) }
+    {
+        let mut items = before.clone()?;
+        match &self.items {
+            None => (),
+            Some(None) => {
+                let _first = items.pop_first();
+            }
+            Some(Some(added)) => items.push(added.item(alloc)?)?,
+        }
+        Ok(items)
+    }
+
+    // The record after the change.
+    fn device(
+        &self,
+        alloc: Global,
+        before: &Device,
+        activation: Activation,
+    ) -> Result<Device, Refusal>
+        requires grants { activation ≡ grants_after (groups_of_parts self.now) before.now }
+        requires new { IsNewTo before.now (groups_of_parts self.now) }
+        requires short { AreShort self.now }
+        ensures { MatchResult result
+            (λ device. device ≡ device_after (groups_of_parts self.now) before.now)
+            (λ e. e ≡ OutOfMemory) }
+    {
+        let (last_dev_nonce, _) = self.nonces_after(before);
+        Ok(Device {
+            dev_eui: before.dev_eui,
+            join_eui: before.join_eui,
+            app_key: before.app_key,
+            application: before.application,
+            rx1_offset: before.rx1_offset,
+            rx_delay: before.rx_delay,
+            last_dev_nonce,
+            activation,
+            awaited: self.awaited.unwrap_or(before.awaited),
+            mac_queue: self.commands_after(alloc, &before.mac_queue)?,
+            items: self.items_after(alloc, &before.items)?,
+        })
+    }
+}
+
+// The groups of a change of the record, which is all of the bytes, and the grants and sessions
+// afterwards. Takes no memory.
+#[tactic(auto, unfolding(crate::specs::ChangeReading::change_read))]
+fn change_in<'a>(before: &Device, bytes: &'a [u8]) -> Option<(GroupParts<'a>, Activation)>
+    ensures field { MatchOption result (IsNoChange before.now bytes.now)
+        (λ found. change_read bytes.now ≡ Some (groups_of_parts found.0)) }
+    ensures new { IfSome result (λ found. IsNewTo before.now (groups_of_parts found.0)) }
+    ensures grants { IfSome result
+        (λ found. found.1 ≡ grants_after (groups_of_parts found.0) before.now) }
+    ensures short { IfSome result (λ found. AreShort found.0) }
+{
+    let mut fields = FieldReader { rest: bytes };
+    let Some(groups) = read_groups(&mut fields) else {
+        return None;
+    };
+    if !fields.rest.is_empty() {
+        return None;
+    }
+    let Some(activation) = groups.activation(before) else {
+        return None;
+    };
+    if groups.is_new(before, &activation) {
+        Some((groups, activation))
+    } else {
+        None
+    }
+}
+
+/// Reads the record that a change, which is all of the bytes, makes of the one before it. Bytes
+/// that are no change of that record are refused as `Damaged`, whether or not there is memory. For
+/// want of memory a change is refused as `OutOfMemory`.
+pub fn read_change(alloc: Global, before: &Device, bytes: &[u8]) -> Result<Device, Refusal>
+    // The bytes are the change to what is read.
+    ensures found { IfOk result (λ after. IsChangeOf V1 before.now after bytes.now) }
+    // The record to which the bytes are the change is read, unless memory runs out.
+    ensures only { (after : Device) → IsChangeOf V1 before.now after bytes.now
+        → MatchResult result (λ found. found ≡ after) (λ e. e ≡ OutOfMemory) }
+    ensures refused { IfErr result (λ e. (e ≡ OutOfMemory) ⊎ (e ≡ Damaged)) }
+    // Memory runs out for changes of the record alone.
+    ensures memory { (result ≡ Err OutOfMemory) → IsSomeChange V1 before.now bytes.now }
+{
+    // What may wait in a record.
+    let _commands = before.mac_queue.as_slice();
+    let _items = before.items.as_slice();
+    match change_in(before, bytes) {
+        Some((groups, activation)) => groups.device(alloc, before, activation),
+        None => Err(Refusal::Damaged),
+    }
+}

@@ -1,0 +1,7 @@
+use Rattle.std.proofs.lemmas.Result.{err_from_is_err_and}
+use Rattle.store_layout.proofs.replaying.Entry.record_on.Goals as goal
+
+pub returns-in_err-device-in-Changed : goal.returns-in_err-device-in-Changed
+returns-in_err-device-in-Changed c =
+    let p = err_from_is_err_and c.from_residual.result c.from_residual.ensures.1 in
+    rw (p.1, p.2, c.in-Changed.is) (λ other. c.in_err-device-in-Changed.ensures other)
