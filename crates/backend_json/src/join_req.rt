@@ -16,7 +16,7 @@ ghost use Rattle.backend_json.specs.Messages.{network_members};
 
 use crate::json::{Object, read_value};
 use crate::members::Rest;
-use join_server::{JoinAsk, JoinRequest, RxDelay};
+use join_server::{JoinAsk, JoinRequestBytes, RxDelay};
 use lw_types::{DevAddr, Eui, HexArray, NetId, Refusal};
 use serde_json::Value;
 use std::alloc::{AllocError, Global};
@@ -69,7 +69,7 @@ fn ask_of(value: &Value) -> Option<JoinAsk>
 {
     let mut rest = Rest::of(value)?;
     let (dl_settings, dev_addr, dev_eui) = device_of(&mut rest)?;
-    let request: JoinRequest = rest.value("PHYPayload")?;
+    let request: JoinRequestBytes = rest.value("PHYPayload")?;
     rest.text("ProtocolVersion", "1.0")?;
     let join_eui: Eui = rest.value("ReceiverID")?;
     let (rx_delay, net_id, transaction) = network_of(&mut rest)?;
@@ -120,7 +120,7 @@ fn network_of(rest: &mut Rest<'_>) -> Option<(RxDelay, NetId, u32)>
 }
 
 // Whether the device asks this join server.
-fn is_between(request: &JoinRequest, dev_eui: Eui, join_eui: Eui) -> bool
+fn is_between(request: &JoinRequestBytes, dev_eui: Eui, join_eui: Eui) -> bool
     ensures { IsTrue result ↔ ((dev_eui.0 ≡ dev_eui_of request.now)
         × (join_eui.0 ≡ join_eui_of request.now)) }
 {

@@ -233,6 +233,37 @@ fn a_gateway_hands_in_its_copy(rt: HostRuntime) {
     assert!(rt; hands_in_a_copy(rt.alloc()) == Some(true));
 }
 
+// What a stream says that comes in two pieces.
+fn heard_in_two(alloc: Global, stream: &[u8], at: usize) -> Option<Fed> {
+    let (front, behind) = stream.split_at_checked(at)?;
+    let mut feeder = Feeder::new(alloc);
+    let mut said = Fed {
+        messages: Vec::new(alloc),
+        fault: None,
+    };
+    if feed(&mut feeder, front, &mut said) && feed(&mut feeder, behind, &mut said) {
+        Some(said)
+    } else {
+        None
+    }
+}
+
+fn hands_in_a_copy_in_two(alloc: Global, at: usize) -> Option<bool> {
+    let stream = bytes(alloc, GREETING_AND_COPY, 0, 0)?;
+    let fed = heard_in_two(alloc, &stream, at)?;
+    Some(are_of_gateway(&fed.messages, &copy(alloc)?) && fed.fault.is_none())
+}
+
+#[test]
+fn a_copy_is_cut_at_each_place(rt: HostRuntime) {
+    for at in 0..53 {
+        assert!(rt;
+            hands_in_a_copy_in_two(rt.alloc(), at) == Some(true),
+            "{at}"
+        );
+    }
+}
+
 // Whether they are the greeting of application 3 and its line.
 fn are_of_application(messages: &[Message], text: &str) -> bool {
     match messages {

@@ -9,7 +9,8 @@ use Rattle.counters.specs.declared.Rebuilt.TheVariants.{New, Repeat, Gap}
 abbrev pub least_from : ℕ → ℕ → ℕ
 least_from first low = first + (low + 2 ^ 16 - first % 2 ^ 16) % 2 ^ 16
 
--- it is new where it is a counter and near enough
+-- it is new where it is a counter and near enough; the standard sets no such limit, and 16,384 is
+-- this project's
 abbrev pub if_near : ℕ → ℕ → Rebuilt
 if_near first n = if nat_lt n (first + MAX_GAP) && nat_lt n (2 ^ 32) then New n else Gap
 

@@ -17,6 +17,9 @@ pub const REQUEST_2: &str = "00080706050403020118171615141312110200C13BE455";
 
 pub const REQUEST_3: &str = "00080706050403020118171615141312110300E85E42DA";
 
+/// Its first uplink after it joined at slot 0 with DevNonce 0: one byte on port 1, unconfirmed.
+pub const FIRST_UPLINK: &str = "400100005400000001D030E934B6";
+
 /// What brings a device of this DevEUI.
 pub fn provisioning(dev_eui: u64) -> Option<Provisioning> {
     Some(Provisioning {

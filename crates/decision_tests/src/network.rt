@@ -175,8 +175,8 @@ impl State {
         Ok(told(alloc, &mut table, comes).err() == Some(refusal))
     }
 
-    // A table of 8 slots with this record.
-    fn table(&self, alloc: Global) -> Result<Table, Refusal> {
+    /// A table of 8 slots with this record.
+    pub fn table(&self, alloc: Global) -> Result<Table, Refusal> {
         let device = self.device(alloc)?;
         let mut table = filled(alloc, 8, u64::from(self.slot))?;
         table.put(self.slot, device)?;

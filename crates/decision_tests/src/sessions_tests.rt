@@ -1,9 +1,11 @@
 // Tables of devices, and batches of decisions on them.
 ghost use Rattle.std.specs.Prelude.{◌<◌};
 
+use crate::fixture::REQUEST_1;
 use crate::network::{Comes, FRESH, State, told};
 use crate::tables::{alone, batch, filled, new_table};
-use lw_types::{Eui, Refusal};
+use join_server::{JoinAsk, JoinRequestBytes};
+use lw_types::{DevAddr, Eui, FromText, Refusal};
 use sessions::{Batch, Records, Table};
 use std::alloc::Global;
 
@@ -43,6 +45,48 @@ fn take_slots(alloc: Global) -> Result<bool, Refusal> {
 #[test]
 fn a_provisioning_takes_the_next_slot_while_there_is_one(rt: HostRuntime) {
     assert!(rt; take_slots(rt.alloc()) == Ok(true));
+}
+
+// Numbers of decisions, and those of the questions that would lead to them.
+const QUESTIONS: &[(u64, u32)] = &[
+    (1, 1),
+    (0xFFFF_FFFF, 0xFFFF_FFFF),
+    (0x1_0000_0000, 0),
+    (0x1_0000_0007, 7),
+];
+
+// Whether the join server is asked under this number for the device at slot 3 that was granted 8190
+// before and has RX1DROffset 2.
+fn is_asked(alloc: Global, seq: u64, transaction: u32) -> Result<bool, Refusal> {
+    let asking = State {
+        slot: 3,
+        rx1_offset: 2,
+        join_nonce: 8190,
+        ..FRESH
+    };
+    let table = asking.table(alloc)?;
+    let request = JoinRequestBytes::from_text(REQUEST_1).ok_or(Refusal::Damaged)?;
+    let Some(question) = table.question(seq, &request) else {
+        return Ok(false);
+    };
+    let JoinAsk {
+        dev_addr,
+        dl_settings,
+        transaction: asked,
+        ..
+    } = question.ask;
+    let is_right = dev_addr == DevAddr(0x5400_7FFF) && dl_settings == 0x20;
+    Ok(question.slot == 3 && is_right && asked == transaction)
+}
+
+#[test]
+fn a_question_has_the_low_32_bits_of_its_number(rt: HostRuntime) {
+    for (seq, transaction) in QUESTIONS {
+        assert!(rt;
+            is_asked(rt.alloc(), *seq, *transaction) == Ok(true),
+            "{seq}"
+        );
+    }
 }
 
 // Whether a table admits a decision under its own number alone, and no more once the slot is taken.

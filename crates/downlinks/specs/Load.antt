@@ -1,4 +1,4 @@
--- What goes into a downlink (TS001-1.0.4 §4.3.1.6, §5.2).
+-- What goes into a downlink (TS001-1.0.4 §4.3.1.6, §5.1).
 use Rattle.std.specs.Prelude.{◌+◌, ◌-◌, ◌==◌, ◌||◌, ℕ, Bool, not, nat_le, if◌then◌else◌, List, []}
 use Rattle.std.specs.Prelude.{◌∷◌, ◌++◌, length, take, drop, slice_get, slice_index, Option, Some}
 use Rattle.std.specs.Prelude.{None, is_some}
@@ -12,7 +12,7 @@ use Rattle.downlinks.specs.declared.load.Demand.{Demand}
 -- ---- FOpts
 
 -- LinkCheckAns: its identifier, the margin of the copy that was heard best, and how many gateways
--- heard the uplink (§5.2)
+-- heard the uplink (§5.1)
 abbrev pub link_check_ans : Demand → List ℕ
 link_check_ans asked =
     2 ∷ margin_of asked.best.reception.snr asked.best.reception.data_rate ∷ asked.copies ∷ []

@@ -7,4 +7,4 @@ mod load;
 mod reply;
 
 pub use load::Demand;
-pub use reply::{acknowledge, answer};
+pub use reply::{SessionAt, acknowledge, answer};

@@ -1,4 +1,4 @@
-// What goes into a downlink (TS001-1.0.4 §4.3.1.6, §5.2).
+// What goes into a downlink (TS001-1.0.4 §4.3.1.6, §5.1).
 ghost use Rattle.std.specs.Prelude.{◌≡◌, ◌≤◌, ◌+◌, ◌-◌, length, is_some, slice_get, None, IfOk};
 ghost use Rattle.std.specs.Prelude.{MatchBool, MatchResult};
 ghost use Rattle.lw_types.specs.declared.refusal.Refusal.TheVariants.{OutOfMemory};
@@ -12,7 +12,7 @@ use phy_payload::FOpts;
 use region_eu868::{ReceiveWindow, margin, max_mac, rx1};
 use std::alloc::{AllocError, Global};
 
-// LinkCheckAns (TS001-1.0.4 §5.2).
+// LinkCheckAns (TS001-1.0.4 §5.1).
 const LINK_CHECK_ANS: u8 = 0x02;
 
 /// What a new uplink asks of the network, and how it was heard.

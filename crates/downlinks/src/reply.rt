@@ -19,6 +19,21 @@ use phy_payload::FOpts;
 use region_eu868::{max_mac, rx2};
 use std::alloc::Global;
 
+/// The current session of the device at a slot of a network.
+#[derive(Clone, Copy)]
+pub struct SessionAt {
+    pub net_id: NetId,
+    pub slot: u16,
+    pub current: CurrentSession,
+}
+
+// What is sent, to a device that was heard so.
+#[derive(Drop)]
+struct Reply {
+    best: Hearing,
+    fields: DownlinkFields,
+}
+
 /// A new uplink in this session is answered, where a downlink is due (TS001-1.0.4 §3.3, §4.3.1).
 /// What fits goes out of the device's queues, the counter of the session's downlinks is used up,
 /// and the frame is one more effect. Where the session has no counter left, that is reported, and
@@ -28,26 +43,25 @@ use std::alloc::Global;
 /// go.
 pub fn answer(
     alloc: Global,
-    net_id: NetId,
-    slot: u16,
     device: &mut Device,
     effects: &mut Effects,
-    current: CurrentSession,
+    session: &SessionAt,
     asked: &Demand,
 ) -> Result<(), Refusal>
-    requires current { device.old.activation.current ≡ Some current }
+    requires current { device.old.activation.current ≡ Some session.now.current }
     requires heard { IsReceivable asked.now.best.reception }
     requires room { length effects.old < Effects.MOST }
     ensures { MatchResult result
-        (λ _. let reply = answer_step net_id slot device.old current asked.now in
+        (λ _. let s = session.now in
+        let reply = answer_step s.net_id s.slot device.old s.current asked.now in
         (device.new ≡ reply.device) × (effects.new ≡ effects.old ++ reply.effects))
         (λ e. e ≡ OutOfMemory) }
 {
     if !is_due(device, asked) {
         return Ok(());
     }
-    if is_spent(&current) {
-        return tell_spent(device, effects, &current);
+    if is_spent(&session.current) {
+        return tell_spent(device, effects, &session.current);
     }
     let Load { f_opts, item } = Load::take(alloc, device, asked)?;
     let f_pending = more_waits(device);
@@ -57,8 +71,8 @@ pub fn answer(
         ack: asked.confirmed,
         f_pending,
     };
-    let addr = address(net_id, slot, &current);
-    send(alloc, addr, device, effects, current, &asked.best, fields)
+    let best = asked.best;
+    send(alloc, device, effects, session, Reply { best, fields })
 }
 
 /// A confirmed uplink that comes again is acknowledged, and nothing else is sent (TS001-1.0.4
@@ -69,23 +83,22 @@ pub fn answer(
 /// For want of memory it is refused as `OutOfMemory`.
 pub fn acknowledge(
     alloc: Global,
-    net_id: NetId,
-    slot: u16,
     device: &mut Device,
     effects: &mut Effects,
-    current: CurrentSession,
+    session: &SessionAt,
     best: &Hearing,
 ) -> Result<(), Refusal>
-    requires current { device.old.activation.current ≡ Some current }
+    requires current { device.old.activation.current ≡ Some session.now.current }
     requires heard { IsReceivable best.now.reception }
     requires room { length effects.old < Effects.MOST }
     ensures { MatchResult result
-        (λ _. let reply = acknowledgement_step net_id slot device.old current best.now in
+        (λ _. let s = session.now in
+        let reply = acknowledgement_step s.net_id s.slot device.old s.current best.now in
         (device.new ≡ reply.device) × (effects.new ≡ effects.old ++ reply.effects))
         (λ e. e ≡ OutOfMemory) }
 {
-    if is_spent(&current) {
-        return tell_spent(device, effects, &current);
+    if is_spent(&session.current) {
+        return tell_spent(device, effects, &session.current);
     }
     let fields = DownlinkFields {
         f_opts: FOpts::empty(alloc),
@@ -93,8 +106,8 @@ pub fn acknowledge(
         ack: true,
         f_pending: more_waits(device),
     };
-    let addr = address(net_id, slot, &current);
-    send(alloc, addr, device, effects, current, best, fields)
+    let best = *best;
+    send(alloc, device, effects, session, Reply { best, fields })
 }
 
 // Whether the session has no counter left for a downlink.
@@ -130,25 +143,26 @@ fn tell_spent(
 // The downlink is sent, and uses up the session's next counter.
 fn send(
     alloc: Global,
-    addr: DevAddr,
     device: &mut Device,
     effects: &mut Effects,
-    current: CurrentSession,
-    best: &Hearing,
-    fields: DownlinkFields,
+    session: &SessionAt,
+    reply: Reply,
 ) -> Result<(), Refusal>
-    requires current { device.old.activation.current ≡ Some current }
-    requires left { current.next_down < 2 ^ 32 }
-    requires heard { IsReceivable best.now.reception }
+    requires current { device.old.activation.current ≡ Some session.now.current }
+    requires left { session.now.current.next_down < 2 ^ 32 }
+    requires heard { IsReceivable reply.best.reception }
     requires room { length effects.old < Effects.MOST }
-    requires short { length fields.f_opts + item_len fields.item ≤ LONGEST_PAYLOAD }
+    requires short { length reply.fields.f_opts + item_len reply.fields.item ≤ LONGEST_PAYLOAD }
     ensures { MatchResult result
-        (λ _. let reply = sending_step addr device.old current best.now fields in
-        (device.new ≡ reply.device) × (effects.new ≡ effects.old ++ reply.effects))
+        (λ _. let c = session.now.current in
+        let addr = address session.now.net_id session.now.slot c in
+        let sent = sending_step addr device.old c reply.best reply.fields in
+        (device.new ≡ sent.device) × (effects.new ≡ effects.old ++ sent.effects))
         (λ e. e ≡ OutOfMemory) }
 {
-    let awaited = awaited_by(&fields.item, device.awaited);
-    let downlink = downlink(alloc, addr, device, &current, best, fields)?;
+    let current = session.current;
+    let awaited = awaited_by(&reply.fields.item, device.awaited);
+    let downlink = downlink(alloc, device, session, reply)?;
     effects.push(Effect::Down {
         session: name_of(device, &current),
         counter: next_counter(&current),
@@ -162,21 +176,22 @@ fn send(
 // By the gateway that heard the uplink best, in RX1 or a second later in RX2.
 fn downlink(
     alloc: Global,
-    addr: DevAddr,
     device: &Device,
-    current: &CurrentSession,
-    best: &Hearing,
-    fields: DownlinkFields,
+    session: &SessionAt,
+    reply: Reply,
 ) -> Result<Downlink, Refusal>
-    requires left { current.now.next_down < 2 ^ 32 }
-    requires heard { IsReceivable best.now.reception }
-    requires short { length fields.f_opts + item_len fields.item ≤ LONGEST_PAYLOAD }
+    requires left { session.now.current.next_down < 2 ^ 32 }
+    requires heard { IsReceivable reply.best.reception }
+    requires short { length reply.fields.f_opts + item_len reply.fields.item ≤ LONGEST_PAYLOAD }
     ensures { MatchResult result
-        (λ found. found ≡ downlink addr device.now current.now best.now fields)
+        (λ found. let addr = address session.now.net_id session.now.slot session.now.current in
+        found ≡ downlink addr device.now session.now.current reply.best reply.fields)
         (λ e. e ≡ OutOfMemory) }
 {
-    let frame = fields.into_phy_payload(alloc, addr, current)?;
-    let window = rx1_of(device, best);
+    let Reply { best, fields } = reply;
+    let addr = address(session);
+    let frame = fields.into_phy_payload(alloc, addr, &session.current)?;
+    let window = rx1_of(device, &best);
     Ok(Downlink {
         gateway: best.reception.gateway,
         stamp: best.stamp,
@@ -226,8 +241,13 @@ fn name_of(device: &Device, current: &CurrentSession) -> SessionName
     }
 }
 
-fn address(net_id: NetId, slot: u16, current: &CurrentSession) -> DevAddr
-    ensures { result ≡ address net_id slot current.now }
+// The session's address.
+fn address(session: &SessionAt) -> DevAddr
+    ensures { result ≡ address session.now.net_id session.now.slot session.now.current }
 {
-    dev_addr(net_id, slot, current.session.join_nonce.get())
+    dev_addr(
+        session.net_id,
+        session.slot,
+        session.current.session.join_nonce.get(),
+    )
 }

@@ -1,7 +1,7 @@
 // The texts of joins, byte for byte, and which texts are none. Frames, keys and MICs were made by
 // Python's `cryptography`.
 use backend_json::{answer_text, join_req_text, read_join_ans, read_join_req};
-use join_server::{JoinAsk, JoinRequest, JoinState, RxDelay};
+use join_server::{JoinAsk, JoinRequestBytes, JoinState, RxDelay};
 use lw_types::{DevAddr, Eui, JoinNonce, Key, NetId};
 use std::alloc::{AllocError, Global};
 
@@ -44,7 +44,7 @@ fn ask() -> Option<JoinAsk> {
         dev_addr: DevAddr(0x5400_0001),
         dl_settings: 0,
         rx_delay: RxDelay::new(1)?,
-        request: JoinRequest::new(REQUEST)?,
+        request: JoinRequestBytes::new(REQUEST)?,
         transaction: 2,
     })
 }

@@ -1,6 +1,6 @@
 // Joins by hand, the request's MIC by `join_mic`: which nonces are granted.
 use frame_crypt::join_mic;
-use join_server::{JoinAsk, JoinRequest, JoinState, RxDelay, answer};
+use join_server::{JoinAsk, JoinRequestBytes, JoinState, RxDelay, answer};
 use lw_types::{DevAddr, Eui, JoinNonce, Key, NetId};
 
 const APP_KEY: Key = Key([
@@ -21,13 +21,13 @@ fn state(dev_nonce: Option<u16>, join_nonce: u32) -> JoinState {
 }
 
 // A Join-Request of this DevNonce.
-fn request(dev_nonce: u16) -> Option<JoinRequest> {
+fn request(dev_nonce: u16) -> Option<JoinRequestBytes> {
     let mut request = [0; 23];
     request[..17].copy_from_slice(&NAMES);
     request[17..19].copy_from_slice(&dev_nonce.to_le_bytes());
     let mic = join_mic(&APP_KEY, &request[..19]);
     request[19..].copy_from_slice(&mic);
-    JoinRequest::new(request)
+    JoinRequestBytes::new(request)
 }
 
 fn ask(dev_nonce: u16) -> Option<JoinAsk> {

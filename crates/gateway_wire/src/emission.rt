@@ -1,11 +1,11 @@
 // What leaves the network by an effect.
-ghost use Rattle.std.specs.Prelude.{◌≡◌, MatchResult};
+ghost use Rattle.std.specs.Prelude.{◌≡◌, IsSome, MatchBool, MatchResult, None};
 ghost use Rattle.lw_types.specs.declared.refusal.Refusal.TheVariants.{OutOfMemory};
 ghost use Rattle.gateway_wire.specs.Emission.{app_line, gateway_bytes};
 
 use crate::WireFrame;
 use crate::downlink::downlink_frame;
-use crate::report::{report_line, up_line};
+use crate::report::{UpFields, report_line, up_line};
 use devices::{Application, Effect};
 use link_messages::Line;
 use lw_types::{Eui, Refusal};
@@ -43,10 +43,20 @@ impl Emission {
                 payload,
                 copies,
                 best,
-            } => Ok(Emission::Application {
-                application: *application,
-                line: up_line(alloc, session, *counter, *port, payload, *copies, best)?,
-            }),
+            } => {
+                let up = UpFields {
+                    session,
+                    counter: *counter,
+                    port: *port,
+                    payload,
+                    copies: *copies,
+                    best,
+                };
+                Ok(Emission::Application {
+                    application: *application,
+                    line: up_line(alloc, &up)?,
+                })
+            }
             Effect::Report {
                 application,
                 dev_eui,
@@ -65,24 +75,46 @@ impl Emission {
     }
 }
 
-/// The line that tells an application of this effect; `None` where it is for a gateway.
+/// The line that tells an application of this effect; `None`, whether or not there is memory, where
+/// it is for a gateway.
 pub fn app_line(alloc: Global, effect: &Effect) -> Result<Option<Line>, Refusal>
-    ensures { MatchResult result (λ line. line ≡ app_line effect.now) (λ e. e ≡ OutOfMemory) }
+    ensures { MatchResult result (λ line. line ≡ app_line effect.now)
+        (λ e. (e ≡ OutOfMemory) × IsSome (app_line effect.now)) }
 {
+    if is_for_gateway(effect) {
+        return Ok(None);
+    }
     match Emission::of(alloc, effect)? {
         Emission::Application { line, .. } => Ok(Some(line)),
         Emission::Gateway { .. } => Ok(None),
     }
 }
 
-/// The frame, with its length, that tells a gateway of this effect; `None` where it is for an
-/// application.
+/// The frame, with its length, that tells a gateway of this effect; `None`, whether or not there is
+/// memory, where it is for an application.
 pub fn gateway_bytes(alloc: Global, effect: &Effect) -> Result<Option<WireFrame>, Refusal>
     ensures { MatchResult result (λ frame. frame ≡ gateway_bytes effect.now)
-        (λ e. e ≡ OutOfMemory) }
+        (λ e. (e ≡ OutOfMemory) × IsSome (gateway_bytes effect.now)) }
 {
+    if !is_for_gateway(effect) {
+        return Ok(None);
+    }
     match Emission::of(alloc, effect)? {
         Emission::Gateway { frame, .. } => Ok(Some(frame)),
         Emission::Application { .. } => Ok(None),
+    }
+}
+
+// Whether what leaves by an effect is for a gateway.
+fn is_for_gateway(effect: &Effect) -> bool
+    ensures { MatchBool result
+        ((app_line effect.now ≡ None) × IsSome (gateway_bytes effect.now))
+        ((gateway_bytes effect.now ≡ None) × IsSome (app_line effect.now)) }
+{
+    match effect {
+        Effect::Forward { .. } => false,
+        Effect::Report { .. } => false,
+        Effect::Accept { .. } => true,
+        Effect::Down { .. } => true,
     }
 }

@@ -71,14 +71,26 @@ fn sent_line(
     Ok(Line::new(text))
 }
 
-/// How many gateways heard an uplink, and how the best of them did.
+/// A payload under its session and counter, how many gateways heard it, and how the best of them
+/// did.
 #[derive(Clone, Copy)]
-struct UplinkWords<'a> {
+pub(crate) struct UpFields<'a> {
+    pub session: &'a SessionName,
+    pub counter: u32,
+    pub port: Port,
+    pub payload: &'a Payload,
+    pub copies: Copies,
+    pub best: &'a Reception,
+}
+
+// How many gateways heard an uplink, and how the best of them did.
+#[derive(Clone, Copy)]
+struct HeardFields<'a> {
     copies: Copies,
     best: &'a Reception,
 }
 
-impl fmt::Display for UplinkWords<'_> {
+impl fmt::Display for HeardFields<'_> {
     ghost use Rattle.std.specs.Prelude.{Some};
     ghost use Rattle.lw_types.specs.Words.{line_of};
     ghost use Rattle.gateway_wire.specs.AppLine.{heard_words};
@@ -94,24 +106,24 @@ impl fmt::Display for UplinkWords<'_> {
     }
 }
 
+// The bytes that the line of a payload mostly fits into.
+const USUAL_LINE: usize = 160;
+
 /// The line of a payload, under its session and counter, and of who heard it.
 #[tactic(auto, unfolding(lw_types::specs::Words::line_of))]
-pub(crate) fn up_line(
-    alloc: Global,
-    session: &SessionName,
-    counter: u32,
-    port: Port,
-    payload: &Payload,
-    copies: Copies,
-    best: &Reception,
-) -> Result<Line, AllocError>
+pub(crate) fn up_line(alloc: Global, up: &UpFields<'_>) -> Result<Line, AllocError>
     ensures { IfOk result (λ line. line
-        ≡ up_line session.now counter port payload.now copies best.now) }
+        ≡ up_line up.now.session.now up.now.counter up.now.port up.now.payload.now
+        up.now.copies up.now.best.now) }
 {
-    let (dev_eui, nonce) = (session.dev_eui, session.join_nonce.get());
-    let port = port.get();
-    let hex = ByteField(payload.as_slice());
-    let heard = UplinkWords { copies, best };
-    let text = format!(in alloc; "up {dev_eui} {nonce} {counter} {port} {hex} {heard}")?;
+    let (dev_eui, nonce) = (up.session.dev_eui, up.session.join_nonce.get());
+    let (counter, port) = (up.counter, up.port.get());
+    let hex = ByteField(up.payload.as_slice());
+    let heard = HeardFields {
+        copies: up.copies,
+        best: up.best,
+    };
+    let mut text = String::with_capacity(alloc, USUAL_LINE)?;
+    write!(text, "up {dev_eui} {nonce} {counter} {port} {hex} {heard}")?;
     Ok(Line::new(text))
 }

@@ -40,7 +40,7 @@ accept_fields join_nonce ask =
     ++ (three_le_bytes ask.net_id
     ++ (to_le_bytes w32 ask.dev_addr.0 ++ (ask.dl_settings ∷ ask.rx_delay ∷ replicate 4 0))))
 
--- what a device is granted: the keys of the next JoinNonce and this DevNonce (§6.2.3), and the
+-- what a device is granted: the keys of the next JoinNonce and this DevNonce (§6.2.6), and the
 -- sealed accept
 abbrev pub grant_of : JoinState → JoinAsk → JoinGrant
 grant_of s ask =

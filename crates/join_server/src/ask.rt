@@ -1,5 +1,5 @@
 // What a network asks of a join server.
-use crate::JoinRequest;
+use crate::JoinRequestBytes;
 use lw_types::{DevAddr, NetId, RxDelay};
 
 /// A device's Join-Request, and what its session is to have if it is granted.
@@ -10,7 +10,7 @@ pub struct JoinAsk {
     /// RX1DROffset in bits 6 to 4 and the data rate of RX2 in bits 3 to 0 (TS001-1.0.4 §6.2.6).
     pub dl_settings: u8,
     pub rx_delay: RxDelay,
-    pub request: JoinRequest,
+    pub request: JoinRequestBytes,
     /// The number by which the answer names the question.
     pub transaction: u32,
 }

@@ -12,6 +12,6 @@ mod state;
 pub use ask::JoinAsk;
 pub use grant::{JoinGrant, SealedAccept};
 pub use lw_types::RxDelay;
-pub use request::JoinRequest;
+pub use request::JoinRequestBytes;
 pub use server::answer;
 pub use state::JoinState;

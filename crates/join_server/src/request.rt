@@ -12,11 +12,11 @@ use std::marker::Model;
 /// The 23 bytes of a Join-Request: MHDR, which is 0, JoinEUI, DevEUI, DevNonce and MIC (TS001-1.0.4
 /// §6.2.5).
 #[derive(Clone, Copy, PartialEq, Eq)]
-pub struct JoinRequest {
+pub struct JoinRequestBytes {
     bytes: [u8; 23],
 }
 
-impl Model for JoinRequest {
+impl Model for JoinRequestBytes {
     ghost use Rattle.std.specs.Prelude.{List, ℕ};
     ghost use Rattle.join_server.specs.Request.{IsRequest};
 
@@ -29,14 +29,14 @@ impl Model for JoinRequest {
     ghost inverse = { λ bytes. record { bytes = bytes } };
 }
 
-impl JoinRequest {
+impl JoinRequestBytes {
     /// The Join-Request of these bytes; `None` where the MHDR isn't 0, so that they are no
     /// Join-Request.
     pub fn new(bytes: [u8; 23]) -> Option<Self>
         ensures { SomeIff result (IsRequest bytes) bytes }
     {
         if bytes[0] == 0 {
-            Some(JoinRequest { bytes })
+            Some(JoinRequestBytes { bytes })
         } else {
             None
         }
@@ -88,7 +88,7 @@ impl JoinRequest {
 }
 
 /// The text has two digits for each byte, and MHDR comes first.
-impl FromText for JoinRequest {
+impl FromText for JoinRequestBytes {
     ghost use Rattle.lw_types.specs.Hex.{IsBytes, hex_text};
     ghost use Rattle.join_server.specs.Request.{IsRequest};
 
@@ -98,6 +98,6 @@ impl FromText for JoinRequest {
 
     fn from_text(text: &str) -> Option<Self> {
         let HexArray(bytes) = HexArray::from_text(text)?;
-        JoinRequest::new(bytes)
+        JoinRequestBytes::new(bytes)
     }
 }

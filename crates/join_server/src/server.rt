@@ -4,7 +4,7 @@ ghost use Rattle.frame_crypt.specs.Joins.{sealed_accept};
 ghost use Rattle.join_server.specs.Join.{admission, answer_to, accept_fields, is_later};
 ghost use Rattle.join_server.specs.Join.{next_join_nonce};
 
-use crate::{JoinAsk, JoinGrant, JoinRequest, JoinState, SealedAccept};
+use crate::{JoinAsk, JoinGrant, JoinRequestBytes, JoinState, SealedAccept};
 use frame_crypt::{derive_keys, seal_accept};
 use lw_types::{JoinNonce, Key, Refusal};
 
@@ -32,7 +32,7 @@ pub fn answer(state: &JoinState, ask: &JoinAsk) -> Result<(JoinState, JoinGrant)
 }
 
 // The JoinNonce that a Join-Request is granted, if it is.
-fn admit(state: &JoinState, request: &JoinRequest) -> Result<JoinNonce, Refusal>
+fn admit(state: &JoinState, request: &JoinRequestBytes) -> Result<JoinNonce, Refusal>
     ensures { MatchResult result
         (λ granted. (admission state.now request.now ≡ Ok tt)
         × (granted ≡ next_join_nonce state.now.join_nonce))

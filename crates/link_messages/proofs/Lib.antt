@@ -6,3 +6,4 @@ pub mod OneSaying
 pub mod Pieces
 pub mod StreamLaws
 pub mod Telling
+pub mod Wanting

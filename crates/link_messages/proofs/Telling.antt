@@ -24,7 +24,7 @@ tells_of : (peer : Option Peer) (content : List ℕ) (read : Option Message) (re
 tells_of peer content None (Ok m) fits e h = absurd cc
 tells_of peer content None (Err refusal) fits e h = inr (err_same refusal BadMessage h, unsaid peer content e)
 tells_of peer content (Some m) (Ok n) fits e h = message_takes peer content n fits (e ∙ ap (λ (q : Message). Some q) (sym h))
-tells_of peer content (Some m) (Err refusal) fits e h = inl h
+tells_of peer content (Some m) (Err refusal) fits e h = inl (h, (m, message_takes peer content m fits e))
 
 pub tells : (peer : Option Peer) (content : List ℕ) (result : Result Message Refusal) → IsBytes content → Reads result (message_at peer content) → Tells peer content result
 tells peer content result fits h = tells_of peer content (message_at peer content) result fits refl h

@@ -4,7 +4,7 @@ use Rattle.lw_types.specs.declared.refusal.Refusal.{Refusal}
 use Rattle.lw_types.specs.declared.refusal.Refusal.TheVariants.{CutShort}
 use Rattle.link_messages.specs.declared.message.Peer.{Peer}
 use Rattle.link_messages.specs.declared.message.Message.{Message}
-use Rattle.link_messages.specs.Stream.{End, Rest, Fault, IsSaid, peer_after}
+use Rattle.link_messages.specs.Stream.{End, Rest, Fault, IsSaid, WantsMemory, peer_after}
 
 -- who is at the other end, none before the greeting, and how the stream ends so far
 pub record FeedState : Type 0 where
@@ -25,8 +25,16 @@ Adds peer (Rest rest) piece messages new =
 Adds peer (Fault refusal) piece messages new =
     (messages ≡ []) × (new ≡ record { peer = peer; end = Fault refusal })
 
+abbrev pub WantsMemoryBehind : Option Peer → End → List ℕ → Type 0
+WantsMemoryBehind peer (Rest rest) piece = WantsMemory peer (rest ++ piece)
+WantsMemoryBehind peer (Fault refusal) piece = ⊥
+
 abbrev pub Feeds : FeedState → List ℕ → List Message → FeedState → Type 0
 Feeds old piece messages new = Adds old.peer old.end piece messages new
+
+-- memory is taken for what stands in front then; behind a fault none is
+abbrev pub FeedWantsMemory : FeedState → List ℕ → Type 0
+FeedWantsMemory s piece = WantsMemoryBehind s.peer s.end piece
 
 -- pieces, one after another, and all of their messages
 abbrev pub FeedsAll : FeedState → List (List ℕ) → List Message → FeedState → Type 0

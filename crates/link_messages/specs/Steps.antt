@@ -7,8 +7,8 @@ use Rattle.lw_types.specs.declared.refusal.Refusal.TheVariants.{OutOfMemory}
 use Rattle.link_messages.specs.declared.message.Peer.{Peer}
 use Rattle.link_messages.specs.declared.message.Message.{Message}
 use Rattle.link_messages.specs.declared.feeder.Next.{Next}
-use Rattle.link_messages.specs.Stream.{End, Fault, IsEnd, IsFrame, IsPart, IsSaid, IsTooLong}
-use Rattle.link_messages.specs.Stream.{peer_after}
+use Rattle.link_messages.specs.Stream.{BeginsWithMessage, End, Fault, IsEnd, IsFrame, IsPart}
+use Rattle.link_messages.specs.Stream.{IsSaid, IsTooLong, peer_after}
 use Rattle.link_messages.specs.Message.{IsSaying}
 
 -- the first frame and what follows it, a part of one, or a length that is too long
@@ -23,20 +23,21 @@ Finishes kept behind =
     (IsPart kept × (behind ≡ []))
     ⊎ (IsTooLong kept ⊎ ((content : List ℕ) × IsFrame kept content []))
 
--- the first message and what follows it, a part of a frame, or a fault; or memory is out
+-- the first message and what follows it, a part of a frame, or a fault; or memory is out for a
+-- message
 abbrev pub IsNext : Option Peer → List ℕ → Result Next Refusal → Type 0
 IsNext peer stream (Ok (Next.Message message behind)) =
     (content : List ℕ) × IsFrame stream content behind.now × IsSaying peer content message
 IsNext peer stream (Ok Next.Nothing) = IsPart stream
 IsNext peer stream (Ok (Next.Fault refusal)) = IsEnd peer stream (Fault refusal)
-IsNext peer stream (Err refusal) = refusal ≡ OutOfMemory
+IsNext peer stream (Err refusal) = (refusal ≡ OutOfMemory) × BeginsWithMessage peer stream
 
--- a message that may be said, or none where that is no want of memory
+-- a message that may be said, or want of memory for it; or that there is none
 abbrev pub Tells : Option Peer → List ℕ → Result Message Refusal → Type 0
 Tells peer content (Ok message) = IsSaying peer content message
 Tells peer content (Err refusal) =
-    (refusal ≡ OutOfMemory) ⊎ ((refusal ≡ BadMessage)
-    × ¬ ((message : Message) × IsSaying peer content message))
+    ((refusal ≡ OutOfMemory) × ((message : Message) × IsSaying peer content message))
+    ⊎ ((refusal ≡ BadMessage) × ¬ ((message : Message) × IsSaying peer content message))
 
 -- a stream of which this is left to read said these messages so far
 pub record IsSaidSoFar (peer : Option Peer) (stream : List ℕ) (messages : List Message)

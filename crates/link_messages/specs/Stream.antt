@@ -55,6 +55,16 @@ IsWrong peer stream =
     (content : List ℕ) × (behind : List ℕ) × IsFrame stream content behind
     × ¬ ((message : Message) × IsSaying peer content message)
 
+-- a message that may be said stands in front
+abbrev pub BeginsWithMessage : Option Peer → List ℕ → Type 0
+BeginsWithMessage peer stream =
+    (content : List ℕ) × (behind : List ℕ) × (message : Message)
+    × IsFrame stream content behind × IsSaying peer content message
+
+-- a message stands in front, or all of it is a part of a frame: what is no message takes no memory
+abbrev pub WantsMemory : Option Peer → List ℕ → Type 0
+WantsMemory peer stream = IsPart stream ⊎ BeginsWithMessage peer stream
+
 -- ---- what a stream says
 
 -- a stream that begins with no message

@@ -1,9 +1,11 @@
 // What a link says, of the pieces in which its bytes come.
-ghost use Rattle.std.specs.Prelude.{◌≡◌, ◌≤◌, ◌++◌, ◌<◌, ◌-◌, min, length, take, drop, IfErr, IfOk};
-ghost use Rattle.std.specs.Prelude.{OnErr, OnOk};
+ghost use Rattle.std.specs.Prelude.{◌≡◌, ◌≤◌, ◌++◌, ◌<◌, ◌+◌, ◌-◌, min, length, take, drop, IfErr};
+ghost use Rattle.std.specs.Prelude.{IfOk, OnErr, OnOk};
 ghost use Rattle.lw_types.specs.declared.refusal.Refusal.TheVariants.{OutOfMemory};
-ghost use Rattle.link_messages.specs.Stream.{peer_after_one, stated_length, IsPart};
+ghost use Rattle.link_messages.specs.Stream.{peer_after_one, stated_length, BeginsWithMessage};
+ghost use Rattle.link_messages.specs.Stream.{IsPart, WantsMemory};
 ghost use Rattle.link_messages.specs.Feeding.{end_of, end_answer, fault_in, new_feed, Feeds};
+ghost use Rattle.link_messages.specs.Feeding.{FeedWantsMemory};
 ghost use Rattle.link_messages.specs.Steps.{IsFirstFrame, IsNext, Finishes, HasGathered, Tells};
 
 use crate::message::{LONGEST_CONTENT, Message, Peer};
@@ -13,7 +15,10 @@ use std::alloc::{AllocError, Global};
 use std::marker::Model;
 
 // The length in front of the content of a frame, in bytes.
-const HEAD: usize = 2;
+pub(crate) const HEAD: usize = 2;
+
+// The most bytes of a frame.
+const LONGEST: usize = HEAD + LONGEST_CONTENT;
 
 /// What a piece of a link's bytes says.
 #[derive(PartialEq, Eq, Drop)]
@@ -91,6 +96,7 @@ fn finishing(kept: &[u8], piece: &[u8]) -> usize
     requires part { IsPart kept.now }
     ensures some { result ≤ length piece.now }
     ensures finished { Finishes (kept.now ++ take result piece.now) (drop result piece.now) }
+    ensures short { length kept.now + result ≤ LONGEST }
 {
     match stated_across(kept, piece) {
         None => 0,
@@ -152,7 +158,8 @@ fn hear<'a>(
 ) -> Result<(&'a [u8], Option<Refusal>), Refusal>
     ensures heard { IfOk result (λ r. HasGathered peer.old stream.now messages.old.items
         messages.new.items peer.new (end_of r.1 r.0.now)) }
-    ensures refused { IfErr result (λ e. e ≡ OutOfMemory) }
+    ensures refused { IfErr result
+        (λ e. (e ≡ OutOfMemory) × BeginsWithMessage peer.old stream.now) }
 {
     let mut left = stream;
     loop {
@@ -175,7 +182,7 @@ fn keep(kept: &mut Vec<u8>, part: &[u8]) -> Result<(), AllocError>
     ensures err { OnErr result (kept.new.items ≡ kept.old.items) }
 {
     if !part.is_empty() {
-        kept.reserve((HEAD + LONGEST_CONTENT).saturating_sub(kept.len()))?;
+        kept.reserve(LONGEST.saturating_sub(kept.len()))?;
     }
     kept.clear();
     kept.extend_from_slice(part)
@@ -193,6 +200,7 @@ fn hear_and_keep(
         × HasGathered peer.old stream.now messages.old.items messages.new.items peer.new
         (end_of fault kept.new.items)) }
     ensures refused { IfErr result (λ e. (e ≡ OutOfMemory) × (kept.new.items ≡ kept.old.items)) }
+    ensures wanted { IfErr result (λ _. WantsMemory peer.old stream.now) }
 {
     let (left, fault) = hear(alloc, peer, stream, messages)?;
     match fault {
@@ -207,8 +215,20 @@ fn hear_and_keep(
     }
 }
 
+// These bytes, one behind the other.
+fn joined<'a>(buffer: &'a mut [u8; LONGEST], kept: &[u8], front: &[u8]) -> &'a [u8]
+    requires { length kept.now + length front.now ≤ LONGEST }
+    ensures { result.now ≡ kept.now ++ front.now }
+{
+    let len = kept.len() + front.len();
+    buffer[..kept.len()].copy_from_slice(kept);
+    buffer[kept.len()..len].copy_from_slice(front);
+    &buffer[..len]
+}
+
 // Hears a piece behind the bytes that were kept, and keeps the rest. Answers the fault that stands
-// there.
+// there. The frame that the piece finishes is put together on the stack, so that what is no message
+// takes no memory.
 fn hear_piece(
     alloc: Global,
     peer: &mut Option<Peer>,
@@ -220,16 +240,20 @@ fn hear_piece(
     ensures heard { IfOk result (λ fault. IsPart kept.new.items
         × HasGathered peer.old (kept.old.items ++ piece.now) messages.old.items messages.new.items
         peer.new (end_of fault kept.new.items)) }
-    ensures refused { IfErr result
-        (λ e. (e ≡ OutOfMemory) × (take (length kept.old.items) kept.new.items ≡ kept.old.items)) }
+    ensures refused { IfErr result (λ e. (e ≡ OutOfMemory) × (kept.new.items ≡ kept.old.items)) }
+    ensures wanted { IfErr result (λ _. WantsMemory peer.old (kept.old.items ++ piece.now)) }
 {
     if kept.is_empty() {
         return hear_and_keep(alloc, peer, kept, piece, messages);
     }
     let (front, behind) = piece.split_at(finishing(kept.as_slice(), piece));
-    kept.extend_from_slice(front)?;
-    match next_message(alloc, peer, kept.as_slice())? {
-        Next::Nothing => Ok(None),
+    let mut buffer = [0; LONGEST];
+    let frame = joined(&mut buffer, kept.as_slice(), front);
+    match next_message(alloc, peer, frame)? {
+        Next::Nothing => {
+            kept.extend_from_slice(front)?;
+            Ok(None)
+        }
         Next::Fault(fault) => {
             kept.clear();
             Ok(Some(fault))
@@ -271,11 +295,13 @@ impl Feeder {
     /// The messages that become whole by this piece, and the fault behind them: `FrameTooLong` as
     /// soon as a length above 700 is there, `BadMessage` for content that is no message or may not
     /// be said. Behind a fault nothing is read any more, and each piece is answered that fault. The
-    /// only refusal is `OutOfMemory`, and then the feeder is as before the piece.
+    /// only refusal is `OutOfMemory`, and then the feeder is as before the piece: it comes only
+    /// where a message stands in front, or a part of a frame that is to be kept.
     pub fn feed(&mut self, piece: &[u8]) -> Result<Fed, Refusal>
         ensures fed { IfOk result (λ fed. Feeds self.old piece.now fed.messages.items self.new
             × (fed.fault ≡ fault_in self.new.end)) }
         ensures refused { IfErr result (λ e. (e ≡ OutOfMemory) × (self.new ≡ self.old)) }
+        ensures wanted { IfErr result (λ _. FeedWantsMemory self.old piece.now) }
     {
         let mut messages = Vec::new(self.alloc);
         if self.fault.is_some() {
@@ -283,17 +309,13 @@ impl Feeder {
             return Ok(Fed { messages, fault });
         }
         let mut peer = self.peer;
-        let len = self.rest.len();
         match hear_piece(self.alloc, &mut peer, &mut self.rest, piece, &mut messages) {
             Ok(fault) => {
                 self.peer = peer;
                 self.fault = fault;
                 Ok(Fed { messages, fault })
             }
-            Err(_) => {
-                self.rest.truncate(len);
-                Err(Refusal::OutOfMemory)
-            }
+            Err(_) => Err(Refusal::OutOfMemory),
         }
     }
 

@@ -7,6 +7,11 @@ ghost use Rattle.link_messages.specs.declared.message.Peer.{Peer};
 ghost use Rattle.link_messages.specs.Stream.{peer_after, End, Fault, IsSaid, Rest};
 ghost use Rattle.link_messages.specs.Feeding.{joined_pieces, new_feed, FeedState, FeedsAll};
 
+use crate::feeder::HEAD;
+use crate::message::{
+    APPLICATION_GREETING, GATEWAY_GREETING, LONGEST_CONTENT, REQUEST, UPLINK_COPY,
+};
+
 /// Each stream of bytes says something, and nothing else.
 pub fn each_stream_says_one_thing()
     ensures some { (peer : Option Peer) (stream : List ℕ) → IsBytes stream
@@ -32,4 +37,15 @@ pub fn cuts_make_no_difference()
         → FeedsAll new_feed pieces messages heard
         → (heard.peer ≡ peer_after None messages)
         × IsSaid None (joined_pieces pieces) messages heard.end }
+{}
+
+/// What each content begins with, the most bytes of content of a frame, and how many bytes of
+/// length stand before it.
+pub fn limits_are_these()
+    ensures gateway { GATEWAY_GREETING ≡ 0 }
+    ensures copy { UPLINK_COPY ≡ 1 }
+    ensures application { APPLICATION_GREETING ≡ 2 }
+    ensures request { REQUEST ≡ 3 }
+    ensures content { LONGEST_CONTENT ≡ 700 }
+    ensures head { HEAD ≡ 2 }
 {}

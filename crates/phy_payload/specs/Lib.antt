@@ -1,3 +1,5 @@
 pub mod Contents
 pub mod Frame
 pub mod Reading
+pub mod SeenFrame
+pub mod Seen

@@ -9,7 +9,9 @@ ghost use Rattle.phy_payload.specs.Frame.{data_mic_input, request_mic_input, spe
 ghost use Rattle.phy_payload.specs.Frame.{IsPhy};
 ghost use Rattle.phy_payload.specs.Reading.{phy_at};
 
-use crate::DataFrame;
+use crate::contents::LONGEST_F_OPTS;
+use crate::{DataFrame, DataFrameRef};
+use lw_types::LONGEST_PAYLOAD;
 
 /// No frame has two spellings.
 pub fn each_frame_has_one_spelling()
@@ -33,6 +35,14 @@ pub fn mic_inputs_are_short(frame: &DataFrame)
     ensures { length (data_mic_input frame.now) ≤ 251 }
 {
     let _ = frame.contents.message();
+}
+
+/// So has that of a data frame over the bytes of which it was read.
+#[tactic(auto, using(crate::proofs::Lengths::message_len))]
+pub fn read_mic_inputs_are_short(frame: &DataFrameRef<'_>)
+    ensures { length (data_mic_input frame.now) ≤ 251 }
+{
+    let _ = frame.message();
 }
 
 /// The last four bytes of a data frame or of a Join-Request are its MIC, and those before them the
@@ -65,4 +75,10 @@ pub fn a_join_request_has_23_bytes()
         × (r.mic.0 ≡ drop 19 bytes) }
     ensures each { (bytes : List ℕ) → IsBytes bytes → length bytes ≡ 23 → take 1 bytes ≡ 0 ∷ []
         → (r : JoinRequest) × IsPhy bytes (Phy.JoinRequest r) }
+{}
+
+/// The most bytes of FOpts, and of a payload.
+pub fn limits_are_these()
+    ensures f_opts { LONGEST_F_OPTS ≡ 15 }
+    ensures payload { LONGEST_PAYLOAD ≡ 242 }
 {}

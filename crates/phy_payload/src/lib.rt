@@ -5,6 +5,7 @@
 mod contents;
 mod control;
 mod data_frame;
+mod frame_ref;
 mod join;
 pub mod laws;
 mod mhdr;
@@ -15,7 +16,8 @@ mod write;
 pub use contents::{Contents, FOpts, FrmPayload, PortPayload};
 pub use control::Control;
 pub use data_frame::DataFrame;
+pub use frame_ref::{DataFrameRef, PhyRef, PortPayloadRef};
 pub use join::{JoinAccept, JoinRequest};
 pub use phy::{Mic, Phy};
-pub use read::decode;
+pub use read::{decode, read_phy};
 pub use write::{encode, encode_mic_input};

@@ -2,15 +2,14 @@
 ghost use Rattle.std.specs.Prelude.{◌≡◌, ◌+◌, ◌≤◌, ◌⊎◌, IfErr, IfOk, MatchResult, OnSome, length};
 ghost use Rattle.lw_types.specs.declared.refusal.Refusal.TheVariants.{OutOfMemory};
 ghost use Rattle.phy_payload.specs.declared.phy.Phy.{Phy};
-ghost use Rattle.phy_payload.specs.Contents.{carried_contents};
 ghost use Rattle.byte_fields.specs.Reading.{whole, Gives, GivesSeen};
 ghost use Rattle.phy_payload.specs.Frame.{refusal_of, IsPhy, IsSomePhyInMemory, TakesMemory};
-ghost use Rattle.phy_payload.specs.Reading.{accept_at, data_at, head_at, message_of, or_malformed};
-ghost use Rattle.phy_payload.specs.Reading.{phy_at, request_at, ReadsFrame};
+ghost use Rattle.phy_payload.specs.Reading.{accept_at, data_at, head_at, or_malformed, phy_at};
+ghost use Rattle.phy_payload.specs.Reading.{request_at, ReadsFrame};
+ghost use Rattle.phy_payload.specs.Seen.{phy_read};
 
-use crate::contents::{Contents, FOpts, FrmPayload, PortPayload};
 use crate::control::Control;
-use crate::data_frame::DataFrame;
+use crate::frame_ref::{DataFrameRef, PhyRef};
 use crate::join::{JoinAccept, JoinRequest};
 use crate::mhdr;
 use crate::phy::{Mic, Phy};
@@ -58,23 +57,6 @@ fn read_join_accept(body: &[u8]) -> Option<JoinAccept>
     }
 }
 
-// FOpts, and what follows it: nothing, or FPort and FRMPayload.
-fn contents_of(alloc: Global, f_opts: &[u8], rest: &[u8]) -> Result<Contents, Refusal>
-    requires few { length f_opts.now ≤ 15 }
-    requires fits { length f_opts.now + length rest.now ≤ 243 }
-    ensures { MatchResult result (λ c. c ≡ carried_contents f_opts.now (message_of rest.now))
-        (λ e. e ≡ OutOfMemory) }
-{
-    let message = match rest.split_first() {
-        None => None,
-        Some((f_port, payload)) => Some(PortPayload {
-            f_port: *f_port,
-            frm_payload: FrmPayload::from_slice(alloc, payload)?,
-        }),
-    };
-    Ok(Contents::new(FOpts::from_slice(alloc, f_opts)?, message))
-}
-
 // What stands before FOpts.
 #[derive(Clone, Copy)]
 struct FrameHead {
@@ -96,37 +78,43 @@ fn read_head(fields: &mut FieldReader<'_>) -> Option<FrameHead>
 }
 
 #[tactic(auto, unfolding(crate::specs::Reading::data_at))]
-fn read_data_frame(
-    alloc: Global,
-    direction: Direction,
-    confirmed: bool,
-    body: &[u8],
-) -> Result<Phy, Refusal>
+fn read_data_frame(direction: Direction, confirmed: bool, body: &[u8]) -> Option<DataFrameRef<'_>>
     requires { length body.now ≤ 254 }
-    ensures { ReadsFrame result (or_malformed Phy.DataFrame
-        (data_at direction confirmed body.now)) }
+    ensures { result ≡ data_at direction confirmed body.now }
 {
-    let (front, mic) = body.split_last_chunk::<4>().ok_or(Refusal::Malformed)?;
+    let (front, mic) = body.split_last_chunk::<4>()?;
     let mut fields = FieldReader { rest: front };
-    let head = read_head(&mut fields).ok_or(Refusal::Malformed)?;
-    let control = Control::of(direction, head.f_ctrl).ok_or(Refusal::Malformed)?;
-    let (f_opts, rest) = fields
-        .rest
-        .split_at_checked(usize::from(head.f_ctrl % 16))
-        .ok_or(Refusal::Malformed)?;
-    Ok(Phy::DataFrame(DataFrame {
+    let head = read_head(&mut fields)?;
+    let control = Control::of(direction, head.f_ctrl)?;
+    let (f_opts, behind) = fields.rest.split_at_checked(usize::from(head.f_ctrl % 16))?;
+    Some(DataFrameRef {
         confirmed,
         dev_addr: head.dev_addr,
         control,
         f_cnt: head.f_cnt,
-        contents: contents_of(alloc, f_opts, rest)?,
+        f_opts,
+        behind,
         mic: Mic(*mic),
-    }))
+    })
 }
 
+fn read_data(direction: Direction, confirmed: bool, body: &[u8]) -> Result<PhyRef<'_>, Refusal>
+    requires { length body.now ≤ 254 }
+    ensures { phy_read result ≡ or_malformed Phy.DataFrame (data_at direction confirmed body.now) }
+{
+    match read_data_frame(direction, confirmed, body) {
+        Some(frame) => Ok(PhyRef::DataFrame(frame)),
+        None => Err(Refusal::Malformed),
+    }
+}
+
+/// Reads a frame from its bytes, which are all of the PHYPayload (TS001-1.0.4 §4). Takes no memory.
+///
+/// What is no frame is refused as `NotServed` where it has 1 to 255 bytes and an MHDR of FType 6 or
+/// 7 whose RFU bits and Major are 0, else as `Malformed`.
 #[tactic(auto, unfolding(crate::specs::Reading::phy_at))]
-fn read_phy(alloc: Global, bytes: &[u8]) -> Result<Phy, Refusal>
-    ensures { ReadsFrame result (phy_at bytes.now) }
+pub fn read_phy(bytes: &[u8]) -> Result<PhyRef<'_>, Refusal>
+    ensures { phy_read result ≡ phy_at bytes.now }
 {
     let (first, body) = bytes.split_first().ok_or(Refusal::Malformed)?;
     if bytes.len() > LONGEST_FRAME {
@@ -135,26 +123,34 @@ fn read_phy(alloc: Global, bytes: &[u8]) -> Result<Phy, Refusal>
     match *first {
         mhdr::JOIN_REQUEST => {
             let request = read_join_request(body).ok_or(Refusal::Malformed)?;
-            Ok(Phy::JoinRequest(request))
+            Ok(PhyRef::JoinRequest(request))
         }
         mhdr::JOIN_ACCEPT => {
             let accept = read_join_accept(body).ok_or(Refusal::Malformed)?;
-            Ok(Phy::JoinAccept(accept))
+            Ok(PhyRef::JoinAccept(accept))
         }
-        mhdr::UNCONFIRMED_DATA_UP => read_data_frame(alloc, Direction::Up, UNCONFIRMED, body),
-        mhdr::UNCONFIRMED_DATA_DOWN => read_data_frame(alloc, Direction::Down, UNCONFIRMED, body),
-        mhdr::CONFIRMED_DATA_UP => read_data_frame(alloc, Direction::Up, CONFIRMED, body),
-        mhdr::CONFIRMED_DATA_DOWN => read_data_frame(alloc, Direction::Down, CONFIRMED, body),
+        mhdr::UNCONFIRMED_DATA_UP => read_data(Direction::Up, UNCONFIRMED, body),
+        mhdr::UNCONFIRMED_DATA_DOWN => read_data(Direction::Down, UNCONFIRMED, body),
+        mhdr::CONFIRMED_DATA_UP => read_data(Direction::Up, CONFIRMED, body),
+        mhdr::CONFIRMED_DATA_DOWN => read_data(Direction::Down, CONFIRMED, body),
         mhdr::RFU | mhdr::PROPRIETARY => Err(Refusal::NotServed),
         _ => Err(Refusal::Malformed),
     }
 }
 
-/// Reads a frame from its bytes, which are all of the PHYPayload (TS001-1.0.4 §4).
-///
-/// What is no frame is refused, whether or not there is memory: as `NotServed` where it has 1 to
-/// 255 bytes and an MHDR of FType 6 or 7 whose RFU bits and Major are 0, else as `Malformed`. For
-/// want of memory a data frame is refused as `OutOfMemory`; joins take none.
+// A frame in memory of its own.
+fn read_owned(alloc: Global, bytes: &[u8]) -> Result<Phy, Refusal>
+    ensures { ReadsFrame result (phy_at bytes.now) }
+{
+    match read_phy(bytes) {
+        Ok(frame) => frame.to_phy(alloc),
+        Err(refusal) => Err(refusal),
+    }
+}
+
+/// Reads a frame into memory of its own, which only a data frame takes. What is no frame is refused
+/// as [`read_phy`] refuses it, whether or not there is memory; for want of memory a data frame is
+/// refused as `OutOfMemory`.
 pub fn decode(alloc: Global, bytes: &[u8]) -> Result<Phy, Refusal>
     // These bytes are the frame that is read.
     ensures found { IfOk result (λ frame. IsPhy bytes.now frame) }
@@ -167,5 +163,5 @@ pub fn decode(alloc: Global, bytes: &[u8]) -> Result<Phy, Refusal>
     // What reading from left to right gives is answered, but where memory runs out for it.
     ensures reads { ReadsFrame result (phy_at bytes.now) }
 {
-    read_phy(alloc, bytes)
+    read_owned(alloc, bytes)
 }

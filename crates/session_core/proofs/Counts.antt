@@ -47,7 +47,7 @@ kept-grows : (command : Command) (result : Result (Unit {0}) Refusal) (old new :
 kept-grows command (Ok done) old new h = made-grows (is_frugal command) command (step_if_room old command) old new done h.made
 kept-grows command (Err refusal) old new h = same-grows old new h.same
 
-outcome-decisions : (s : CoreState) (d : DecisionsState) (r : Result (Unit {0}) Refusal) → (with_outcome s d r).decisions ≡ d
+pub outcome-decisions : (s : CoreState) (d : DecisionsState) (r : Result (Unit {0}) Refusal) → (with_outcome s d r).decisions ≡ d
 outcome-decisions s d (Ok done) = refl
 outcome-decisions s d (Err OutOfMemory) = refl
 outcome-decisions s d (Err refusal) = refl

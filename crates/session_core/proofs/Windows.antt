@@ -1,5 +1,5 @@
 -- Windows that are closed, and what comes of their commands.
-use Rattle.std.proofs.Common.{◌≡◌, ◌≢◌, ◌≤◌, ◌<◌, ◌+◌, ◌∙◌, inl, ℕ, zero, suc, Bool, true, false, ◌||◌, List, [], ◌∷◌, ◌++◌, length, cond, nat_le, Option, Some, None, Result, Ok, Err, refl, sym, ap, subst, arith}
+use Rattle.std.proofs.Common.{◌≡◌, ◌≢◌, ◌≤◌, ◌<◌, ◌+◌, ◌∙◌, ℕ, zero, suc, Bool, true, false, ◌||◌, List, [], ◌∷◌, ◌++◌, length, cond, nat_le, Option, Some, None, Result, Ok, Err, refl, sym, ap, subst, arith}
 use Rattle.std.specs.List.{All, list_any}
 use Rattle.std.specs.Bool.{MatchBool}
 use Rattle.std.specs.Result.{OnErr, OnOk, result_err}
@@ -159,18 +159,6 @@ pub handles-full : (old : CoreState) (command : Command) (new : CoreState) → h
     → new ≡ with_outcome old old.decisions (Err Backlog) → Handles old command (Err Backlog) new
 handles-full old command new none lawful is = handles-lack old command Backlog new (λ _. refl) (lacks-full old.decisions command none) lawful is
 
--- or no memory for a frame
-pub handles-starved : (old : CoreState) (heard : Heard) → has_room old.decisions ≡ true → IsLawful old.decisions → Handles old (commands.Heard heard) (Err OutOfMemory) old
-handles-starved old heard room lawful =
-    record {
-      decisions = old.decisions;
-      kept = record { full = λ none. absurd (not_both (sym room ∙ none)); made = inl refl; same = refl; lawful = lawful };
-      new_is = refl;
-    }
-  where
-    not_both : true ≡ false → ⊥
-    not_both h = cc
-
 -- ---- windows that are closed
 
 pub hands-windows : (old : CoreState) (r : Result (Unit {0}) Refusal) (new : CoreState) → HandsInOldest old r new → new.windows ≡ old.windows
@@ -264,10 +252,16 @@ closed-oldest old mid answer after found hands memory closed =
         (sym due ∙ (ap (λ (l : List Window). list_any (is_due old.clock) l) (sym windows) ∙ (ap (λ now. list_any (is_due now) mid.windows) (sym clock) ∙ none))))
     rest (Some heard) h = same_rest h.window hands.oldest.window after hands.rest (sym h.oldest ∙ (windows ∙ hands.oldest.oldest))
 
-pub hands-starved : (old : CoreState) (now : ℕ) (heard : Heard) (rest : List Window) → now ≡ old.clock → IsOldestDue now old.windows heard rest → has_room old.decisions ≡ true
-    → IsLawful old.decisions → HandsInOldest old (Err OutOfMemory) old
-hands-starved old now heard rest at oldest room lawful =
-    record { heard = heard; rest = rest; oldest = subst (λ now. IsOldestDue now old.windows heard rest) at oldest; handled = handles-starved old heard room lawful }
+pub hands-lacking : (old : CoreState) (now : ℕ) (heard : Heard) (rest : List Window) (e : Refusal) (result : Result (Unit {0}) Refusal) (new : CoreState) → now ≡ old.clock → IsOldestDue now old.windows heard rest
+    → (has_room old.decisions ≡ false → e ≡ Backlog) → IsWithoutMemory old.decisions (commands.Heard heard) e → IsLawful old.decisions → result ≡ Err e → new ≡ with_outcome old old.decisions (Err e)
+    → HandsInOldest old result new
+hands-lacking old now heard rest e result new at oldest full lack lawful is noted =
+    record {
+      heard = heard;
+      rest = rest;
+      oldest = subst (λ now. IsOldestDue now old.windows heard rest) at oldest;
+      handled = subst (λ r. Handles old (commands.Heard heard) r new) (sym is) (handles-lack old (commands.Heard heard) e new full lack lawful noted);
+    }
 
 pub hands-full : (old : CoreState) (now : ℕ) (heard : Heard) (rest : List Window) (result : Result (Unit {0}) Refusal) (new : CoreState) → now ≡ old.clock → IsOldestDue now old.windows heard rest
     → has_room old.decisions ≡ false → IsLawful old.decisions → result ≡ Err Backlog → new ≡ with_outcome old old.decisions (Err Backlog) → HandsInOldest old result new

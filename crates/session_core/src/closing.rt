@@ -62,8 +62,8 @@ impl Core {
         Ok(true)
     }
 
-    // Hands the frame of the oldest window in, if that is due. On a full log it is refused whether
-    // or not there is memory.
+    // Hands the frame of the oldest window in, if that is due. Where there is no memory for a copy
+    // of it, it is answered its refusal, if one is due.
     fn hand_in_oldest(&mut self) -> Option<Result<(), Refusal>>
         ensures { MatchOption result
             ((self.new ≡ self.old) × (has_due self.old ≡ false))
@@ -75,7 +75,10 @@ impl Core {
         }
         match frame_of(phy_payload, hearings) {
             Ok(heard) => Some(self.hand_in(Command::Heard(heard))),
-            Err(_) => Some(Err(Refusal::OutOfMemory)),
+            Err(_) => {
+                let refusal = self.decisions.lack_heard(phy_payload, hearings);
+                Some(self.noted(Err(refusal)))
+            }
         }
     }
 

@@ -6,9 +6,10 @@ ghost use Rattle.session_core.specs.State.{IsLawful, now_of, new_decisions, last
 ghost use Rattle.session_core.specs.Deciding.{Makes, IsWithoutMemory, has_room, step_if_room};
 ghost use Rattle.session_core.specs.Deciding.{after_taking};
 ghost use Rattle.sessions.specs.Decision.{AnswersTo};
+ghost use Rattle.sessions.specs.Served.{heard_command};
 
-use devices::Command;
-use lw_types::Refusal;
+use devices::{Command, Hearings};
+use lw_types::{PhyPayload, Refusal};
 use sessions::{Batch, Decision, Most, Table};
 use std::alloc::Global;
 use std::collections::VecDeque;
@@ -134,6 +135,25 @@ impl Decisions {
             return Refusal::Backlog;
         }
         match self.table.check(self.alloc, self.seq() + 1, command) {
+            Ok(()) => Refusal::OutOfMemory,
+            Err(refusal) => refusal,
+        }
+    }
+
+    /// What a frame is refused that was heard so, where there is no memory to hand it in.
+    pub(crate) fn lack_heard(&self, phy_payload: &PhyPayload, hearings: &Hearings) -> Refusal
+        ensures full { has_room self.now ≡ false → result ≡ Backlog }
+        ensures lack { IsWithoutMemory self.now
+            (heard_command phy_payload.now hearings.now) result }
+        ensures lawful { IsLawful self.now }
+    {
+        if !self.has_room() {
+            return Refusal::Backlog;
+        }
+        match self
+            .table
+            .check_heard(self.alloc, self.seq() + 1, phy_payload, hearings)
+        {
             Ok(()) => Refusal::OutOfMemory,
             Err(refusal) => refusal,
         }

@@ -132,8 +132,10 @@ impl Core {
     /// What came of the last commands that were handed in to be decided, at most 64, the oldest
     /// first. A command that was refused for want of memory has no outcome.
     pub fn outcomes(&self) -> &HeapCircularBuffer<Outcome>
-        ensures { result.now.items ≡ self.now.outcomes }
+        ensures outcomes { result.now.items ≡ self.now.outcomes }
+        ensures few { length self.now.outcomes ≤ MOST_OUTCOMES }
     {
+        let _len = self.outcomes.len();
         &self.outcomes
     }
 

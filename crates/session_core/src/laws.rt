@@ -1,5 +1,5 @@
 //! Laws of this crate's types. Nothing here is of use but its contracts.
-ghost use Rattle.std.specs.Prelude.{◌≡◌, ◌≤◌, ◌<◌, ◌^◌, ◌+◌, ℕ, List, [], SomeIff};
+ghost use Rattle.std.specs.Prelude.{◌≡◌, ◌≤◌, ◌<◌, ◌^◌, ◌+◌, ℕ, List, [], ◌∷◌, SomeIff, length};
 ghost use Rattle.lw_types.specs.declared.frame_copy.FrameCopy.{FrameCopy};
 ghost use Rattle.devices.specs.declared.command.Command.{Command};
 ghost use Rattle.sessions.specs.Table.{TableState};
@@ -7,6 +7,7 @@ ghost use Rattle.dedup.specs.Groups.{Arrival};
 ghost use Rattle.dedup.specs.Windows.{StandFor};
 ghost use Rattle.session_core.specs.Core.{CoreState, IsLawfulCore, new_core};
 ghost use Rattle.session_core.specs.Events.{Asks, Hears, IsTurn, Starves, Ticks};
+ghost use Rattle.session_core.specs.Handling.{IsWholeTurn};
 ghost use Rattle.session_core.specs.Standing.{with_copy};
 ghost use Rattle.session_core.specs.declared.turn.Turn.{Turn};
 
@@ -65,3 +66,24 @@ pub fn limits_are_these()
     ensures number { LAST_NUMBER + 1 ≡ 2 ^ 63 }
     ensures outcomes { MOST_OUTCOMES ≡ 64 }
 {}
+
+/// A turn in whole lists: the log grew by just the decisions of the commands that were handed in,
+/// which are the frames of the windows that the event closed and then its own command, and the
+/// outcomes are the last of the old ones and theirs. The core is lawful before, and has as many
+/// outcomes as are kept at most.
+pub fn turns_hand_in_commands()
+    ensures asked { (command : Command) (old new : CoreState) (moment : ℕ) (turn : Turn) →
+        IsTurn old moment (Asks command) turn new → IsLawfulCore old
+        → length old.outcomes ≤ MOST_OUTCOMES → IsWholeTurn old (command ∷ []) turn new }
+    ensures ticked { (old new : CoreState) (moment : ℕ) (turn : Turn) →
+        IsTurn old moment Ticks turn new → IsLawfulCore old
+        → length old.outcomes ≤ MOST_OUTCOMES → IsWholeTurn old [] turn new }
+    ensures heard { (copy : FrameCopy) (old new : CoreState) (moment : ℕ) (turn : Turn) →
+        IsTurn old moment (Hears copy) turn new → IsLawfulCore old
+        → length old.outcomes ≤ MOST_OUTCOMES → IsWholeTurn old [] turn new }
+    ensures starved { (old new : CoreState) (moment : ℕ) (turn : Turn) →
+        IsTurn old moment Starves turn new → IsLawfulCore old
+        → length old.outcomes ≤ MOST_OUTCOMES → IsWholeTurn old [] turn new }
+{
+    sessions::laws::joining();
+}

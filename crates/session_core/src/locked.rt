@@ -1,5 +1,6 @@
 // A core that several threads share, behind a lock.
-ghost use Rattle.std.specs.Prelude.{◌≡◌, ◌+◌, ◌≤◌, length, MatchResult};
+ghost use Rattle.std.specs.Prelude.{◌≡◌, ◌+◌, length, MatchResult};
+ghost use Rattle.session_core.specs.Seats.{HasMade};
 
 use crate::{Books, Moment, Most, Outcome, Seat, Shared, Taker, Turn};
 use devices::{MacQueueing, Provisioning, Queueing};
@@ -14,13 +15,11 @@ use std::sync::{Mutex, Wait};
 pub trait Sessions<B: Books> {
     /// A gateway heard a frame.
     fn hear<R: Wait>(&self, rt: &R, seat: &mut Seat<B>, moment: Moment, copy: FrameCopy) -> Turn
-        ensures share { seat.new + result.from ≡ seat.old + result.to }
-        ensures within { seat.new ≤ result.to };
+        ensures share { HasMade seat.old seat.new result };
 
     /// Time passes.
     fn tick<R: Wait>(&self, rt: &R, seat: &mut Seat<B>, moment: Moment) -> Turn
-        ensures share { seat.new + result.from ≡ seat.old + result.to }
-        ensures within { seat.new ≤ result.to };
+        ensures share { HasMade seat.old seat.new result };
 
     /// An application provisions a device.
     fn provision<R: Wait>(
@@ -30,13 +29,11 @@ pub trait Sessions<B: Books> {
         moment: Moment,
         value: Provisioning,
     ) -> Turn
-        ensures share { seat.new + result.from ≡ seat.old + result.to }
-        ensures within { seat.new ≤ result.to };
+        ensures share { HasMade seat.old seat.new result };
 
     /// An application queues an item for its device.
     fn queue<R: Wait>(&self, rt: &R, seat: &mut Seat<B>, moment: Moment, value: Queueing) -> Turn
-        ensures share { seat.new + result.from ≡ seat.old + result.to }
-        ensures within { seat.new ≤ result.to };
+        ensures share { HasMade seat.old seat.new result };
 
     /// An application queues MAC commands for its device.
     fn queue_mac<R: Wait>(
@@ -46,8 +43,7 @@ pub trait Sessions<B: Books> {
         moment: Moment,
         value: MacQueueing,
     ) -> Turn
-        ensures share { seat.new + result.from ≡ seat.old + result.to }
-        ensures within { seat.new ≤ result.to };
+        ensures share { HasMade seat.old seat.new result };
 
     /// Takes the oldest untaken decisions, at most `max` of them.
     fn take<R: Wait>(&self, rt: &R, taker: &mut Taker<B>, max: Most) -> Result<Batch, Refusal>

@@ -5,6 +5,7 @@ ghost use Rattle.lw_types.specs.declared.refusal.Refusal.TheVariants.{OutOfMemor
 ghost use Rattle.devices.specs.declared.command.Command.TheVariants as commands;
 ghost use Rattle.session_core.specs.Deciding.{after_taking};
 ghost use Rattle.session_core.specs.Events.{Asks, Hears, IsTurn, Ticks, next_due};
+ghost use Rattle.session_core.specs.Seats.{HasMade};
 
 use crate::{Books, Core, Made, Moment, Most, Outcome, Seat, Taken, Taker, Turn};
 use devices::{Command, MacQueueing, Provisioning, Queueing};
@@ -76,8 +77,7 @@ impl<B: Books> Shared<B> {
     /// A gateway heard a frame ([`Core::hear`]).
     pub fn hear(&mut self, seat: &mut Seat<B>, moment: Moment, copy: FrameCopy) -> Turn
         ensures turn { IsTurn self.old.core moment (Hears copy) result self.new.core }
-        ensures share { seat.new + result.from ≡ seat.old + result.to }
-        ensures within { seat.new ≤ result.to }
+        ensures share { HasMade seat.old seat.new result }
         ensures left { self.new.left ≡ self.old.left }
     {
         let turn = self.core.hear(moment, copy);
@@ -88,8 +88,7 @@ impl<B: Books> Shared<B> {
     /// Time passes ([`Core::tick`]).
     pub fn tick(&mut self, seat: &mut Seat<B>, moment: Moment) -> Turn
         ensures turn { IsTurn self.old.core moment Ticks result self.new.core }
-        ensures share { seat.new + result.from ≡ seat.old + result.to }
-        ensures within { seat.new ≤ result.to }
+        ensures share { HasMade seat.old seat.new result }
         ensures left { self.new.left ≡ self.old.left }
     {
         let turn = self.core.tick(moment);
@@ -101,8 +100,7 @@ impl<B: Books> Shared<B> {
     pub fn provision(&mut self, seat: &mut Seat<B>, moment: Moment, value: Provisioning) -> Turn
         ensures turn { IsTurn self.old.core moment
             (Asks (commands.Provision value)) result self.new.core }
-        ensures share { seat.new + result.from ≡ seat.old + result.to }
-        ensures within { seat.new ≤ result.to }
+        ensures share { HasMade seat.old seat.new result }
         ensures left { self.new.left ≡ self.old.left }
     {
         self.decide(seat, moment, Command::Provision(value))
@@ -112,8 +110,7 @@ impl<B: Books> Shared<B> {
     pub fn queue(&mut self, seat: &mut Seat<B>, moment: Moment, value: Queueing) -> Turn
         ensures turn { IsTurn self.old.core moment
             (Asks (commands.Queue value)) result self.new.core }
-        ensures share { seat.new + result.from ≡ seat.old + result.to }
-        ensures within { seat.new ≤ result.to }
+        ensures share { HasMade seat.old seat.new result }
         ensures left { self.new.left ≡ self.old.left }
     {
         self.decide(seat, moment, Command::Queue(value))
@@ -123,8 +120,7 @@ impl<B: Books> Shared<B> {
     pub fn queue_mac(&mut self, seat: &mut Seat<B>, moment: Moment, value: MacQueueing) -> Turn
         ensures turn { IsTurn self.old.core moment
             (Asks (commands.QueueMac value)) result self.new.core }
-        ensures share { seat.new + result.from ≡ seat.old + result.to }
-        ensures within { seat.new ≤ result.to }
+        ensures share { HasMade seat.old seat.new result }
         ensures left { self.new.left ≡ self.old.left }
     {
         self.decide(seat, moment, Command::QueueMac(value))
@@ -133,8 +129,7 @@ impl<B: Books> Shared<B> {
     // A command comes.
     fn decide(&mut self, seat: &mut Seat<B>, moment: Moment, command: Command) -> Turn
         ensures turn { IsTurn self.old.core moment (Asks command) result self.new.core }
-        ensures share { seat.new + result.from ≡ seat.old + result.to }
-        ensures within { seat.new ≤ result.to }
+        ensures share { HasMade seat.old seat.new result }
         ensures left { self.new.left ≡ self.old.left }
     {
         let turn = self.core.decide(moment, command);
@@ -229,8 +224,7 @@ fn count<B: Books>(made: &mut Book<Made<B>>, seat: &mut Seat<B>, turn: &Turn)
     requires order { turn.now.from ≤ turn.now.to }
     requires total { made.old.total ≡ turn.now.from }
     ensures total { made.new.total ≡ turn.now.to }
-    ensures share { seat.new + turn.now.from ≡ seat.old + turn.now.to }
-    ensures within { seat.new ≤ turn.now.to }
+    ensures share { HasMade seat.old seat.new turn.now }
 {
     made.audit(&mut seat.share);
     made.add(&mut seat.share, turn.to - turn.from);

@@ -12,3 +12,5 @@ pub mod Grants
 pub mod Covering
 pub mod Once
 pub mod Subsequences
+pub mod Becoming
+pub mod Exact

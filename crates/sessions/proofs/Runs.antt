@@ -23,7 +23,7 @@ use Rattle.devices.specs.DeviceStep.{DeviceStep, device_step}
 use Rattle.devices.specs.Address.{slot_at}
 use Rattle.join_server.specs.Request.{dev_eui_of}
 use Rattle.sessions.specs.Step.{step1, provisioned_effects}
-use Rattle.sessions.specs.Served.{frame_in}
+use Rattle.sessions.specs.Served.{frame_in, unknown_sender}
 use Rattle.sessions.specs.declared.served.Served.{Served}
 use Rattle.sessions.specs.declared.served.Served.TheVariants.{Request, Uplink}
 use Rattle.sessions.specs.Index.{HaveOwnSlots}
@@ -33,7 +33,7 @@ use Rattle.sessions.proofs.Queues.{queue-ok, queue_mac-ok}
 use Rattle.sessions.proofs.Slots.{place-found, split}
 use Rattle.sessions.specs.Table.{TableState, TableStep, TakesNext, CanPlace, CanPut, place_for, known_slot, new_slot, sender_slot, slot_of, used_slot, with_device, step, step_at, with_step, step_effects, fold_of, effects_of}
 use Rattle.sessions.specs.Decision.{Continues, AnswersTo, HasPlace, is_frugal, IsDecision, IsStepped, FitsTable, FitAll, AreNumbered, ContinueAll, with_decision, with_decisions, with_before, without_decision, without_decisions, commands_of, effects_in}
-use Rattle.sessions.specs.declared.decide.Stepped.{Stepped}
+use Rattle.sessions.specs.declared.table.decide.Stepped.{Stepped}
 use Rattle.sessions.specs.declared.decision.Decision.{Decision}
 use Rattle.lw_types.specs.RefusalLemmas.{same_Err}
 
@@ -88,6 +88,11 @@ keeps_name net_id slot d (Heard h) o is = heard-name net_id slot d h o is
 keeps_name net_id slot d (Queue q) o is = (queue-ok d q o is).named
 keeps_name net_id slot d (QueueMac q) o is = (queue_mac-ok d q o is).named
 
+-- no frame is carried out where no device is
+unheard_ok : (frame : Result Served Refusal) (o : DeviceStep) (P : Type 0) → (frame >>= λ served. Err (unknown_sender served)) ≡ Ok o → P
+unheard_ok (Ok served) o P h = no_ok (unknown_sender served) o P h
+unheard_ok (Err e) o P h = no_ok e o P h
+
 -- the slot of a command that was carried out on what is at a slot
 place-carried : (t : TableState) (slot : ℕ) (c : Command) (before : Option Device) (o : DeviceStep) → step1 t.net_id slot before c ≡ Ok o
     → before ≡ slice_get t.devices slot → HasPlace t slot o.device before → place_for t c ≡ Ok slot
@@ -97,7 +102,7 @@ place-carried t slot (Provision p) None o is at place =
     let within : nat_lt (length t.devices) t.slots ≡ true = lt-ltb (length t.devices) t.slots (omega (arith, place.0, place.1)) in
     ap (new_slot t) (ap (λ e. slot_of e t.devices) (sym name) ∙ place.2)
     ∙ (ap (λ b. cond b (Ok (length t.devices)) (Err TableFull)) within ∙ ap Ok (sym place.0))
-place-carried t slot (Heard h) None o is at place = no_ok UnknownDevEui o _ is
+place-carried t slot (Heard h) None o is at place = unheard_ok (frame_in h.phy_payload) o _ is
 place-carried t slot (Heard h) (Some d) o is at place = heard-sender t slot d h o is place (sym at)
 place-carried t slot (Queue q) None o is at place = no_ok UnknownDevEui o _ is
 place-carried t slot (Queue q) (Some d) o is at place = ap known_slot (ap (λ e. slot_of e t.devices) (queue-ok d q o is).asked ∙ place)

@@ -198,7 +198,7 @@ fitted-carries net_id slot d u copies best (Again c) o of order is =
 -- ---- an uplink
 
 -- an uplink that was carried out fits into a session
-uplink-fits : (net_id slot : ℕ) (d : Device) (hearings : List Hearing) (u : Uplink) (o : DeviceStep) → uplink_at net_id slot d hearings u ≡ Ok o
+pub uplink-fits : (net_id slot : ℕ) (d : Device) (hearings : List Hearing) (u : Uplink) (o : DeviceStep) → uplink_at net_id slot d hearings u ≡ Ok o
     → (best : Hearing) × (fit : Fit) × (fit_of net_id slot d.activation u.frame ≡ Ok fit) × (step_in_session net_id slot d u (length hearings) best fit ≡ Ok o)
 uplink-fits net_id slot d hearings u o is = by_best (best_of hearings) is
   where

@@ -1,5 +1,5 @@
 -- Decisions that continue a table.
-use Rattle.std.specs.Prelude.{◌≡◌, ◌≢◌, ◌+◌, ◌<◌, ℕ, Bool, true, false, MatchBool, List, [], ◌∷◌}
+use Rattle.std.specs.Prelude.{◌≡◌, ◌≢◌, ◌+◌, ◌<◌, ℕ, Bool, true, not, MatchBool, List, [], ◌∷◌}
 use Rattle.std.specs.Prelude.{Option, Some, None, Result, map, slice_get, take}
 use Rattle.std.specs.List.{flat_map}
 use Rattle.std.specs.Option.{MatchOption}
@@ -9,8 +9,9 @@ use Rattle.devices.specs.declared.device.Device.{Device}
 use Rattle.devices.specs.declared.command.Command.{Command}
 use Rattle.devices.specs.declared.command.Command.TheVariants.{Provision, Heard, Queue, QueueMac}
 use Rattle.devices.specs.declared.effect.Effect.{Effect}
+use Rattle.sessions.specs.Served.{frame_in, is_request}
 use Rattle.sessions.specs.Table.{TableState, TableStep, TakesNext, slot_of, step, with_record}
-use Rattle.sessions.specs.declared.decide.Stepped.{Stepped}
+use Rattle.sessions.specs.declared.table.decide.Stepped.{Stepped}
 use Rattle.sessions.specs.declared.decision.Decision.{Decision}
 
 -- the place of a record: a device that is provisioned takes the next slot, and one that is there is
@@ -95,10 +96,11 @@ pub record IsDecision (t : TableState) (seq : ℕ) (asked : Command) (s : TableS
   pub after : d.after ≡ s.after
   pub effects : d.effects ≡ s.effects
 
--- whether each refusal of a command is known before any memory is taken for it
+-- whether each refusal of a command is known before any memory is taken for it: of all but a
+-- Join-Request, of which the join server is asked by texts
 abbrev pub is_frugal : Command → Bool
 is_frugal (Provision p) = true
-is_frugal (Heard h) = false
+is_frugal (Heard h) = not (is_request (frame_in h.phy_payload))
 is_frugal (Queue q) = true
 is_frugal (QueueMac q) = true
 

@@ -82,7 +82,8 @@ with_session d granted =
     }
 
 -- the Join-Accept is sent by the gateway that heard the request best, 5 s after it at its frequency
--- and data rate, or a second later in RX2 (TS001-1.0.4 §6.2.6)
+-- and data rate, or a second later in RX2 (TS001-1.0.4 §6.2.6). RX1 has the request's data rate
+-- whatever the device's RX1DROffset is, which holds from the accept on: the standard leaves it open
 abbrev pub accept_downlink : Hearing → List ℕ → Downlink
 accept_downlink best frame =
     record {

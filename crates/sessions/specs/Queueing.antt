@@ -12,6 +12,7 @@ use Rattle.devices.specs.declared.command.MacQueueing.{MacQueueing}
 use Rattle.devices.specs.declared.device.Device.{Device}
 use Rattle.devices.specs.declared.queue.Item.{Item}
 use Rattle.devices.specs.declared.effect.Report.TheVariants.{Queued, MacQueued}
+use Rattle.uplinks.specs.Accepted.{is_application}
 
 -- whether this is the device that an application asks for, and its own
 abbrev pub is_theirs : ℕ → Eui → Device → Bool
@@ -33,9 +34,9 @@ item_queued d q = device_step (with_item d q) (report_effects d (Queued q.tag))
 abbrev pub if_room : Device → Queueing → Result DeviceStep Refusal
 if_room d q = if nat_lt (length d.items) 16 then Ok (item_queued d q) else Err QueueFull
 
--- the port is from 1 to 223
+-- the port is an application's
 abbrev pub if_port : Device → Queueing → Result DeviceStep Refusal
-if_port d q = if nat_lt 0 q.port && nat_lt q.port 224 then if_room d q else Err BadPort
+if_port d q = if is_application q.port then if_room d q else Err BadPort
 
 -- the payload has at most 242 bytes
 abbrev pub if_short : Device → Queueing → Result DeviceStep Refusal

@@ -1,12 +1,15 @@
 -- Frames that are served: Join-Requests and uplinks.
-use Rattle.std.specs.Prelude.{ℕ, ◌==◌, if◌then◌else◌, List, Result, Ok, Err}
+use Rattle.std.specs.Prelude.{ℕ, ◌==◌, Bool, true, false, if◌then◌else◌, List, Result, Ok, Err}
 use Rattle.lw_types.specs.declared.refusal.Refusal.{Refusal}
 use Rattle.lw_types.specs.declared.refusal.Refusal.TheVariants.{NotServed, UnknownDevAddr}
+use Rattle.lw_types.specs.declared.refusal.Refusal.TheVariants.{UnknownDevEui}
 use Rattle.phy_payload.specs.declared.phy.Phy.{Phy}
 use Rattle.phy_payload.specs.declared.phy.Phy.TheVariants.{JoinRequest, JoinAccept, DataFrame}
 use Rattle.phy_payload.specs.Reading.{phy_at}
 use Rattle.devices.specs.Address.{slot_at}
 use Rattle.devices.specs.DeviceStep.{DeviceStep}
+use Rattle.devices.specs.declared.command.Command.{Command}
+use Rattle.devices.specs.declared.command.Command.TheVariants as command
 use Rattle.devices.specs.declared.device.Device.{Device}
 use Rattle.devices.specs.declared.heard.Heard.{Heard}
 use Rattle.devices.specs.declared.heard.Hearing.{Hearing}
@@ -23,9 +26,25 @@ served_in bytes (JoinRequest request) = Ok (Request bytes)
 served_in bytes (JoinAccept accept) = Err NotServed
 served_in bytes (DataFrame frame) = uplink_of frame >>= λ u. Ok (Uplink u)
 
+-- whether a frame is a Join-Request
+abbrev pub is_request : Result Served Refusal → Bool
+is_request (Ok (Request bytes)) = true
+is_request (Ok (Uplink u)) = false
+is_request (Err refusal) = false
+
 -- the frame that these bytes are
 abbrev pub frame_in : List ℕ → Result Served Refusal
 frame_in bytes = phy_at bytes >>= served_in bytes
+
+-- a frame that no device sent
+abbrev pub unknown_sender : Served → Refusal
+unknown_sender (Request bytes) = UnknownDevEui
+unknown_sender (Uplink u) = UnknownDevAddr
+
+-- the command that a frame is which was heard so
+abbrev pub heard_command : List ℕ → List Hearing → Command
+heard_command phy_payload hearings =
+    command.Heard (record { phy_payload = phy_payload; hearings = hearings })
 
 -- what the device at a slot does of a frame: an uplink is its own only where the address leads to
 -- the slot
@@ -38,3 +57,8 @@ served_at net_id slot d hearings (Uplink u) =
 -- what the device at a slot does of a frame that was heard
 abbrev pub heard_at : ℕ → ℕ → Device → Heard → Result DeviceStep Refusal
 heard_at net_id slot d h = frame_in h.phy_payload >>= served_at net_id slot d h.hearings
+
+-- what is done of a frame where no device is: it is refused as any frame is, and then since no
+-- device sent it
+abbrev pub unheard : Heard → Result DeviceStep Refusal
+unheard h = frame_in h.phy_payload >>= λ served. Err (unknown_sender served)

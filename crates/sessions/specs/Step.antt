@@ -11,23 +11,26 @@ use Rattle.devices.specs.declared.command.Command.TheVariants.{Provision, Heard,
 use Rattle.devices.specs.declared.effect.Effect.{Effect}
 use Rattle.devices.specs.declared.effect.Effect.TheVariants.{Report}
 use Rattle.devices.specs.declared.effect.Report.TheVariants.{Provisioned}
-use Rattle.sessions.specs.Served.{heard_at}
+use Rattle.sessions.specs.Served.{heard_at, unheard}
 use Rattle.sessions.specs.Queueing.{queue_at, queue_mac_at}
 
 -- the slot of a new device is reported
 abbrev pub provisioned_effects : ℕ → Provisioning → List Effect
 provisioned_effects slot p = Report p.application p.dev_eui (Provisioned slot) ∷ []
 
--- what a command does to the record of a slot, or to an empty slot, in a network
+-- What a command does to the record of a slot, or to an empty slot, in a network. Four cases are
+-- for the definition to be whole, and no command comes to them in a table: a new device gets the
+-- next slot, where no record is, and other commands work at the slot of a device that is there, so
+-- that one that is for no device, or from none, is refused before.
 abbrev pub step1 : ℕ → ℕ → Option Device → Command → Result DeviceStep Refusal
 -- a device is provisioned at an empty slot
 step1 net_id slot None (Provision p) = Ok (device_step (new_device p) (provisioned_effects slot p))
-step1 net_id slot (Some device) (Provision p) = Err DevEuiTaken
+step1 net_id slot (Some device) (Provision p) = Err DevEuiTaken  -- not reached
 -- a frame is of a device that is there
-step1 net_id slot None (Heard h) = Err UnknownDevEui
+step1 net_id slot None (Heard h) = unheard h  -- not reached
 step1 net_id slot (Some device) (Heard h) = heard_at net_id slot device h
 -- items and MAC commands are queued for a device that is there
-step1 net_id slot None (Queue q) = Err UnknownDevEui
+step1 net_id slot None (Queue q) = Err UnknownDevEui  -- not reached
 step1 net_id slot (Some device) (Queue q) = queue_at device q
-step1 net_id slot None (QueueMac q) = Err UnknownDevEui
+step1 net_id slot None (QueueMac q) = Err UnknownDevEui  -- not reached
 step1 net_id slot (Some device) (QueueMac q) = queue_mac_at device q

@@ -14,8 +14,10 @@ use Rattle.devices.specs.Address.{slot_at}
 use Rattle.devices.specs.DeviceStep.{DeviceStep}
 use Rattle.join_server.specs.Request.{dev_eui_of}
 use Rattle.uplinks.specs.Chain.{◌>>=◌}
+use Rattle.sessions.specs.Join.{join_ask, transaction_of}
 use Rattle.sessions.specs.Served.{frame_in}
 use Rattle.sessions.specs.Step.{step1}
+use Rattle.sessions.specs.declared.table.hear.Question.{Question}
 use Rattle.sessions.specs.declared.served.Served.{Served}
 use Rattle.sessions.specs.declared.served.Served.TheVariants.{Request, Uplink}
 
@@ -62,6 +64,12 @@ abbrev pub sender_slot : TableState → Served → Result ℕ Refusal
 sender_slot t (Request bytes) = known_slot (slot_of (dev_eui_of bytes) t.devices)
 sender_slot t (Uplink u) =
     used_slot (slot_at u.frame.dev_addr.0) (slice_get t.devices (slot_at u.frame.dev_addr.0))
+
+-- this is asked of the join server for the device that sent a Join-Request
+pub record IsQuestion (t : TableState) (seq : ℕ) (request : List ℕ) (q : Question) : Type 0 where
+  pub sender : slot_of (dev_eui_of request) t.devices ≡ Some q.slot
+  pub at : slice_get t.devices q.slot ≡ Some q.device.now
+  pub is : q.ask ≡ join_ask t.net_id q.slot q.device.now request (transaction_of seq)
 
 -- the slot at which a command works: the next one for a new device, else that of the device for
 -- which or from which it is

@@ -16,7 +16,7 @@ use devices::{
     Device, Downlink, Effect, Effects, Hearing, Hearings, ReceiveWindows, RxDelay, Session,
     SessionName, dev_addr,
 };
-use join_server::{JoinAsk, JoinGrant, JoinRequest, JoinState, SealedAccept};
+use join_server::{JoinAsk, JoinGrant, JoinRequestBytes, JoinState, SealedAccept};
 use lw_types::{Eui, JoinNonce, NetId, PhyPayload, Refusal};
 use std::alloc::Global;
 
@@ -28,7 +28,7 @@ pub(crate) fn join_ask(
     net_id: NetId,
     slot: u16,
     device: &Device,
-    request: JoinRequest,
+    request: JoinRequestBytes,
     seq: u64,
 ) -> JoinAsk
     ensures { result ≡ join_ask net_id slot device.now request (transaction_of seq) }

@@ -1,6 +1,8 @@
 //! Laws on the definitions that the contracts of this crate cite. Nothing here is of use but its
 //! contracts.
-ghost use Rattle.std.specs.Prelude.{◌≡◌, ◌++◌, ◌↔◌, ◌≤◌, ◌+◌, ℕ, List, [], SomeIff, length};
+ghost use Rattle.std.specs.Prelude.{◌≡◌, ◌++◌, ◌↔◌, ◌≤◌, ◌+◌, ℕ, List, [], IfSome, SomeIff};
+ghost use Rattle.std.specs.Prelude.{length};
+ghost use Rattle.devices.specs.Becoming.{MayBecome};
 ghost use Rattle.devices.specs.declared.command.Command.{Command};
 ghost use Rattle.devices.specs.declared.effect.Effect.{Effect};
 ghost use Rattle.devices.specs.declared.mark.Mark.{Mark};
@@ -11,7 +13,7 @@ ghost use Rattle.sessions.specs.Decision.{FitsTable, FitAll, ContinueAll, with_d
 ghost use Rattle.sessions.specs.Decision.{without_decisions, commands_of, effects_in};
 ghost use Rattle.sessions.specs.declared.decision.Decision.{Decision};
 
-use crate::Slots;
+use crate::{Batch, MOST_SLOTS, Slots};
 
 /// Decisions that continue a table leave the fold of their commands, and their effects are those of
 /// the commands.
@@ -55,6 +57,12 @@ pub fn decided_records_may_be_put()
     ensures { (t : TableState) (d : Decision) → FitsTable t d → CanPut t d.slot d.after }
 {}
 
+/// The record that a decision leaves is one that its device may have after the record that it
+/// found.
+pub fn a_decision_is_a_step()
+    ensures { (d : Decision) → IfSome d.before (λ before. MayBecome before d.after) }
+{}
+
 /// The decisions that continue a table can be taken back from what they leave: the records that
 /// they found are those of the table.
 pub fn taking_back()
@@ -90,3 +98,9 @@ pub fn slots_of(number: u64) -> Option<Slots>
 {
     Slots::new(number)
 }
+
+/// The most slots of a table, and the most decisions that are committed together.
+pub fn limits_are_these()
+    ensures slots { MOST_SLOTS ≡ 4096 }
+    ensures batch { Batch.MOST ≡ 64 }
+{}

@@ -5,14 +5,9 @@
 #![tactic(auto)]
 
 mod batch;
-mod continuation;
-mod decide;
 mod decision;
-mod hear;
 mod join;
 pub mod laws;
-mod overlay;
-mod queueing;
 mod records;
 mod served;
 mod table;
@@ -20,4 +15,4 @@ mod table;
 pub use batch::{Batch, Most};
 pub use decision::Decision;
 pub use records::Records;
-pub use table::{MOST_SLOTS, Slots, Table};
+pub use table::{MOST_SLOTS, Question, Slots, Table};

@@ -2,7 +2,14 @@
 ghost use Rattle.std.specs.Prelude.{◌≡◌, ◌≢◌, ◌≤◌, ◌<◌, MatchResult, None, length};
 ghost use Rattle.lw_types.specs.declared.refusal.Refusal.TheVariants.{Damaged, OutOfMemory};
 
+mod continuation;
+mod decide;
+mod hear;
+mod overlay;
+mod queueing;
+
 use devices::Device;
+pub use hear::Question;
 use lw_types::{Eui, NetId, Ranged, Refusal};
 use std::alloc::Global;
 use std::collections::HashMap;

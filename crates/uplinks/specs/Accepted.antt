@@ -71,7 +71,9 @@ mac_report d c (byte ∷ bytes) = report_effects d (Mac c.session.join_nonce (by
 
 -- ---- the payload
 
--- whether a port is one of applications (§4.3.2)
+-- whether a port is one of applications, 1 to 223; 224 is that of the standard's test protocol, and
+-- those above are reserved (§4.3.2): what comes on them is no application's, by this project's
+-- choice
 abbrev pub is_application : ℕ → Bool
 is_application port = nat_lt 0 port && nat_lt port 224
 

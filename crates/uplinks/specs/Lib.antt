@@ -4,3 +4,4 @@ pub mod Fit
 pub mod Accepted
 pub mod Step
 pub mod Arrival
+pub mod Candidates

@@ -10,54 +10,46 @@ ghost use Rattle.uplinks.specs.Accepted.{is_acknowledgement, forward_effects, ma
 ghost use Rattle.uplinks.specs.Accepted.{mac_report, awaited_report, session_after, uplink_step};
 ghost use Rattle.uplinks.specs.Accepted.{with_uplink};
 
-use crate::arrival::{NetworkSlot, Reach};
+use crate::arrival::{HeardUplink, NetworkSlot};
 use crate::{Fit, Uplink};
 use devices::{
     CurrentSession, Device, Effect, Effects, NextDown, Payload, Port, Report, SessionName,
 };
 use downlinks::{Demand, answer};
 use frame_crypt::crypt_payload;
-use lw_types::{Direction, Key, Refusal};
+use lw_types::{DevAddr, Direction, Key, LONGEST_PAYLOAD, Refusal};
 use mac_commands::{asks_link_check, read_reported};
-use phy_payload::{DataFrame, PortPayload};
+use phy_payload::DataFrameRef;
 use std::alloc::{AllocError, Global};
 
 impl NetworkSlot {
     // A new uplink is taken: its session and counter are kept, and the device is answered.
-    pub fn take(
+    pub(crate) fn take(
         &self,
         alloc: Global,
         device: &mut Device,
         effects: &mut Effects,
         fit: Fit,
-        uplink: &Uplink,
-        reach: &Reach,
+        heard: &HeardUplink<'_>,
     ) -> Result<(), Refusal>
         requires of_device { IsOf device.old.activation fit }
-        requires heard { IsReceivable reach.now.best.reception }
+        requires heard { IsReceivable heard.now.best.reception }
         requires none { effects.old ≡ [] }
         ensures { MatchResult result
-            (λ _. let o = uplink_step self.now.net_id self.now.slot device.old fit uplink.now
-            reach.now.copies reach.now.best in
+            (λ _. let o = uplink_step self.now.net_id self.now.slot device.old fit
+            heard.now.uplink.now heard.now.copies heard.now.best in
             (device.new ≡ o.device) × (effects.new ≡ o.effects))
             (λ e. e ≡ OutOfMemory) }
     {
         let session = fit.session_after();
-        let commands = commands(alloc, &session, &uplink.frame)?;
-        let asked = asked(uplink, commands.as_slice(), reach);
-        tell_awaited(device, effects, fit.acknowledges(uplink))?;
+        let commands = commands(alloc, &session, &heard.uplink.frame)?;
+        let asked = asked(heard, commands.as_slice());
+        tell_awaited(device, effects, fit.acknowledges(heard.uplink))?;
         report_commands(alloc, device, effects, &session, commands.as_slice())?;
-        forward(alloc, device, effects, &session, &uplink.frame, reach)?;
+        forward(alloc, device, effects, &session, heard)?;
         fit.enter(device);
-        answer(
-            alloc,
-            self.net_id,
-            self.slot,
-            device,
-            effects,
-            session,
-            &asked,
-        )
+        let place = self.session(session);
+        answer(alloc, device, effects, &place, &asked)
     }
 }
 
@@ -81,7 +73,7 @@ impl Fit {
     }
 
     // Whether the uplink acknowledges the last confirmed downlink, which was of the same session.
-    fn acknowledges(&self, uplink: &Uplink) -> bool
+    fn acknowledges(&self, uplink: &Uplink<'_>) -> bool
         ensures { result ≡ is_acknowledgement self.now uplink.now }
     {
         match *self {
@@ -125,38 +117,40 @@ fn tell_awaited(device: &Device, effects: &mut Effects, acked: bool) -> Result<(
 fn commands(
     alloc: Global,
     session: &CurrentSession,
-    frame: &DataFrame,
+    frame: &DataFrameRef<'_>,
 ) -> Result<Payload, AllocError>
     ensures { IfOk result (λ bytes. bytes
         ≡ mac_bytes frame.now.dev_addr session.now frame.now.contents.f_opts
         frame.now.contents.message) }
 {
-    match frame.contents.message() {
+    match frame.message() {
         Some(message) if message.f_port == 0 => {
-            decrypted(alloc, &session.session.nwk_skey, session, frame, message)
+            let key = &session.session.nwk_skey;
+            decrypted(alloc, key, session, frame.dev_addr(), message.frm_payload)
         }
-        Some(_) => Payload::from_slice(alloc, frame.contents.f_opts()),
-        None => Payload::from_slice(alloc, frame.contents.f_opts()),
+        Some(_) => Payload::from_slice(alloc, frame.f_opts()),
+        None => Payload::from_slice(alloc, frame.f_opts()),
     }
 }
 
-// The payload of a message, decrypted under this key and the counter of the session's last uplink.
+// The payload of a frame with this address, decrypted under this key and the counter of the
+// session's last uplink.
 fn decrypted(
     alloc: Global,
     key: &Key,
     session: &CurrentSession,
-    frame: &DataFrame,
-    message: &PortPayload,
+    dev_addr: DevAddr,
+    frm_payload: &[u8],
 ) -> Result<Payload, AllocError>
+    requires { length frm_payload.now ≤ LONGEST_PAYLOAD }
     ensures { IfOk result (λ bytes. bytes
-        ≡ crypted_payload key.now.0 Up frame.now.dev_addr.0 session.now.last_up
-        message.now.frm_payload) }
+        ≡ crypted_payload key.now.0 Up dev_addr.0 session.now.last_up frm_payload.now) }
 {
-    let mut bytes = message.frm_payload.clone()?.into_vec();
+    let mut bytes = Vec::from_slice(alloc, frm_payload)?;
     crypt_payload(
         key,
         Direction::Up,
-        frame.dev_addr,
+        dev_addr,
         session.last_up,
         bytes.as_mut_slice(),
     );
@@ -191,21 +185,21 @@ fn report_commands(
 }
 
 // What the uplink with these MAC commands asks of the network.
-fn asked(uplink: &Uplink, commands: &[u8], reach: &Reach) -> Demand
+fn asked(heard: &HeardUplink<'_>, commands: &[u8]) -> Demand
     ensures { result ≡ record {
-      confirmed = uplink.now.frame.confirmed;
-      adr_ack_req = uplink.now.adr_ack_req;
+      confirmed = heard.now.uplink.now.frame.confirmed;
+      adr_ack_req = heard.now.uplink.now.adr_ack_req;
       link_check = asks_link_check commands.now;
-      best = reach.now.best;
-      copies = reach.now.copies;
+      best = heard.now.best;
+      copies = heard.now.copies;
     } }
 {
     Demand {
-        confirmed: uplink.frame.confirmed,
-        adr_ack_req: uplink.adr_ack_req,
+        confirmed: heard.uplink.frame.confirmed(),
+        adr_ack_req: heard.uplink.adr_ack_req,
         link_check: asks_link_check(commands),
-        best: reach.best,
-        copies: reach.copies,
+        best: heard.best,
+        copies: heard.copies,
     }
 }
 
@@ -217,22 +211,23 @@ fn forward(
     device: &Device,
     effects: &mut Effects,
     session: &CurrentSession,
-    frame: &DataFrame,
-    reach: &Reach,
+    heard: &HeardUplink<'_>,
 ) -> Result<(), AllocError>
     requires { length effects.old < Effects.MOST }
     ensures told { OnOk result (effects.new ≡ effects.old
-        ++ forward_effects frame.now.dev_addr device.now session.now reach.now.copies reach.now.best
-        frame.now.contents.message) }
+        ++ forward_effects heard.now.uplink.now.frame.dev_addr device.now session.now
+        heard.now.copies heard.now.best heard.now.uplink.now.frame.contents.message) }
     ensures one { OnOk result (length effects.new ≤ length effects.old + 1) }
 {
-    let Some(message) = frame.contents.message() else {
+    let frame = &heard.uplink.frame;
+    let Some(message) = frame.message() else {
         return Ok(());
     };
     let Some(port) = Port::new(u64::from(message.f_port)) else {
         return Ok(());
     };
-    let payload = decrypted(alloc, &session.session.app_skey, session, frame, message)?;
+    let key = &session.session.app_skey;
+    let payload = decrypted(alloc, key, session, frame.dev_addr(), message.frm_payload)?;
     effects.push(Effect::Forward {
         application: device.application,
         session: SessionName {
@@ -242,7 +237,7 @@ fn forward(
         counter: session.last_up,
         port,
         payload,
-        copies: reach.copies,
-        best: reach.best.reception,
+        copies: heard.copies,
+        best: heard.best.reception,
     })
 }

@@ -1,17 +1,27 @@
 // Where an uplink arrives, and how.
-use devices::{Copies, Hearing};
+use crate::Uplink;
+use devices::{Copies, Hearing, Hearings};
 use lw_types::NetId;
 
 /// A slot of a network.
 #[derive(Clone, Copy)]
-pub(crate) struct NetworkSlot {
+pub struct NetworkSlot {
     pub net_id: NetId,
     pub slot: u16,
 }
 
-/// How an uplink was heard.
+/// An uplink as it was received: `message` is all of its frame but the MIC.
 #[derive(Clone, Copy)]
-pub(crate) struct Reach {
+pub struct ReceivedUplink<'a> {
+    pub uplink: &'a Uplink<'a>,
+    pub message: &'a [u8],
+    pub hearings: &'a Hearings,
+}
+
+/// An uplink, and how it was heard.
+#[derive(Clone, Copy)]
+pub(crate) struct HeardUplink<'a> {
+    pub uplink: &'a Uplink<'a>,
     /// How many gateways heard it.
     pub copies: Copies,
     /// The copy that was heard best.

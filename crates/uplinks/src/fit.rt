@@ -11,7 +11,7 @@ use counters::{Rebuilt, rebuild};
 use devices::{Activation, CurrentSession, Session, dev_addr};
 use frame_crypt::data_mic;
 use lw_types::{Direction, Refusal};
-use phy_payload::DataFrame;
+use phy_payload::DataFrameRef;
 
 /// The session of which an uplink is.
 #[derive(Clone, Copy)]
@@ -73,10 +73,10 @@ impl Trial {
 
 impl NetworkSlot {
     // The session of the device of which the uplink is: the pending or the current one.
-    pub fn fit(
+    pub(crate) fn fit(
         &self,
         activation: &Activation,
-        frame: &DataFrame,
+        frame: &DataFrameRef<'_>,
         message: &[u8],
     ) -> Result<Fit, Refusal>
         requires { IsMessageOf frame.now message.now }
@@ -91,7 +91,12 @@ impl NetworkSlot {
     }
 
     // How far the uplink comes into the pending session, which has had no counter yet.
-    fn try_pending(&self, waiting: Option<Session>, frame: &DataFrame, message: &[u8]) -> Trial
+    fn try_pending(
+        &self,
+        waiting: Option<Session>,
+        frame: &DataFrameRef<'_>,
+        message: &[u8],
+    ) -> Trial
         requires { IsMessageOf frame.now message.now }
         ensures { result ≡ try_pending self.now.net_id self.now.slot waiting frame.now }
     {
@@ -106,7 +111,7 @@ impl NetworkSlot {
     fn try_current(
         &self,
         current: Option<CurrentSession>,
-        frame: &DataFrame,
+        frame: &DataFrameRef<'_>,
         message: &[u8],
     ) -> Trial
         requires { IsMessageOf frame.now message.now }
@@ -122,19 +127,20 @@ impl NetworkSlot {
     }
 
     // Whether the frame has exactly the address of a session.
-    fn is_of(&self, session: &Session, frame: &DataFrame) -> bool
+    fn is_of(&self, session: &Session, frame: &DataFrameRef<'_>) -> bool
         ensures { result ≡ is_for self.now.net_id self.now.slot session.now frame.now }
     {
-        frame.dev_addr.0 == dev_addr(self.net_id, self.slot, session.join_nonce.get()).0
+        let address = frame.dev_addr();
+        address.0 == dev_addr(self.net_id, self.slot, session.join_nonce.get()).0
     }
 }
 
 // How far an uplink comes into a pending session that has its address.
-fn try_first(session: Session, frame: &DataFrame, message: &[u8]) -> Trial
+fn try_first(session: Session, frame: &DataFrameRef<'_>, message: &[u8]) -> Trial
     requires { IsMessageOf frame.now message.now }
     ensures { result ≡ pending_at session frame.now (rebuilt_counter None frame.now.f_cnt) }
 {
-    match rebuild(None, frame.f_cnt) {
+    match rebuild(None, frame.f_cnt()) {
         Rebuilt::New(counter) => {
             let fit = Fit::First { session, counter };
             if_signed(&session, counter, frame, message, fit)
@@ -146,12 +152,12 @@ fn try_first(session: Session, frame: &DataFrame, message: &[u8]) -> Trial
 
 // How far an uplink comes into a current session that has its address. One that comes again has the
 // last counter.
-fn try_next(current: CurrentSession, frame: &DataFrame, message: &[u8]) -> Trial
+fn try_next(current: CurrentSession, frame: &DataFrameRef<'_>, message: &[u8]) -> Trial
     requires { IsMessageOf frame.now message.now }
     ensures { result ≡ current_at current frame.now
         (rebuilt_counter (Some current.last_up) frame.now.f_cnt) }
 {
-    match rebuild(Some(current.last_up), frame.f_cnt) {
+    match rebuild(Some(current.last_up), frame.f_cnt()) {
         Rebuilt::New(counter) => {
             let fit = Fit::Next {
                 session: current,
@@ -168,13 +174,19 @@ fn try_next(current: CurrentSession, frame: &DataFrame, message: &[u8]) -> Trial
 }
 
 // The fit, where the frame's MIC is that of the session under this counter.
-fn if_signed(session: &Session, counter: u32, frame: &DataFrame, message: &[u8], fit: Fit) -> Trial
+fn if_signed(
+    session: &Session,
+    counter: u32,
+    frame: &DataFrameRef<'_>,
+    message: &[u8],
+    fit: Fit,
+) -> Trial
     requires { IsMessageOf frame.now message.now }
     ensures { result ≡ if_signed session.now counter frame.now fit }
 {
     let key = &session.nwk_skey;
-    let mic = data_mic(key, Direction::Up, frame.dev_addr, counter, message);
-    if frame.mic.0 == mic {
+    let mic = data_mic(key, Direction::Up, frame.dev_addr(), counter, message);
+    if frame.mic().0 == mic {
         Trial::Fits(fit)
     } else {
         Trial::BadMic

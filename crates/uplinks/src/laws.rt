@@ -4,6 +4,7 @@ ghost use Rattle.std.specs.Prelude.{◌≡◌, ℕ, Ok};
 ghost use Rattle.phy_payload.specs.declared.data_frame.DataFrame.{DataFrame};
 ghost use Rattle.devices.specs.Activation.{Grants};
 ghost use Rattle.uplinks.specs.declared.fit.Fit.{Fit};
+ghost use Rattle.uplinks.specs.Candidates.{candidates, verdict_among};
 ghost use Rattle.uplinks.specs.Fit.{fit_of, IsOf};
 
 /// The session into which an uplink fits is the device's: the pending or the current one, and there
@@ -14,3 +15,12 @@ pub fn a_fit_is_of_its_device()
 {
     counters::laws::new_counters_grow();
 }
+
+/// Of a device's sessions that have exactly the frame's address, the pending one before the current
+/// one, a frame is of the first of which it has the MIC, under the counter that it has there. Where
+/// it is of none, it is refused: as `UnknownDevAddr` where there is no such session, as
+/// `CounterGap` where in each of them the counter is too far above the last one, else as `BadMic`.
+pub fn a_frame_is_of_the_first_session_that_fits()
+    ensures { (net_id slot : ℕ) (g : Grants) (frame : DataFrame) →
+        fit_of net_id slot g frame ≡ verdict_among frame (candidates net_id slot g frame) }
+{}

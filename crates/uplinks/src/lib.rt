@@ -9,6 +9,7 @@ pub mod laws;
 mod step;
 mod uplink;
 
+pub use arrival::{NetworkSlot, ReceivedUplink};
 pub use fit::Fit;
 pub use step::hear;
 pub use uplink::Uplink;

@@ -10,40 +10,39 @@ ghost use Rattle.devices.specs.Heard.{IsReceivable};
 ghost use Rattle.uplinks.specs.Fit.{IsOf};
 ghost use Rattle.uplinks.specs.Step.{step_in_session, uplink_at};
 
-use crate::arrival::{NetworkSlot, Reach};
-use crate::{Fit, Uplink};
-use devices::{CurrentSession, Device, Effects, Hearing, Hearings};
-use lw_types::{NetId, Refusal};
-use phy_payload::laws::mic_inputs_are_short;
+use crate::Fit;
+use crate::arrival::{HeardUplink, NetworkSlot, ReceivedUplink};
+use devices::{CurrentSession, Device, Effects, Hearing};
+use downlinks::SessionAt;
+use lw_types::Refusal;
+use phy_payload::laws::read_mic_inputs_are_short;
 use std::alloc::Global;
 
 /// What an uplink does to the record of the device at a slot of a network: the record after it, and
 /// its effects. It is refused where no session of the device has its address (`UnknownDevAddr`),
 /// where in each that has its counter is too far above the last one (`CounterGap`), where its MIC
-/// isn't the session's (`BadMic`), and where it comes again unconfirmed (`Repeat`); for want of
-/// memory as `OutOfMemory`. `message` is all of the frame but its MIC. The cost is bounded by the
+/// isn't the session's (`BadMic`), and where it comes again unconfirmed (`Repeat`), each of them
+/// whether or not there is memory; for want of memory as `OutOfMemory`. The cost is bounded by the
 /// frame and the device's queues.
 pub fn hear(
     alloc: Global,
-    net_id: NetId,
-    slot: u16,
+    place: &NetworkSlot,
     device: &Device,
-    uplink: &Uplink,
-    message: &[u8],
-    hearings: &Hearings,
+    received: &ReceivedUplink<'_>,
 ) -> Result<(Device, Effects), Refusal>
-    requires { message.now ≡ data_mic_input uplink.now.frame }
-    ensures { Answers (uplink_at net_id slot device.now hearings.now uplink.now) IsDeviceStep
-        result }
+    requires { received.now.message.now ≡ data_mic_input received.now.uplink.now.frame }
+    ensures { Answers (uplink_at place.now.net_id place.now.slot device.now
+        received.now.hearings.now received.now.uplink.now) IsDeviceStep result }
 {
-    mic_inputs_are_short(&uplink.frame);
-    let place = NetworkSlot { net_id, slot };
-    let reach = Reach {
-        copies: hearings.copies(),
-        best: hearings.best(),
+    let uplink = received.uplink;
+    read_mic_inputs_are_short(&uplink.frame);
+    let heard = HeardUplink {
+        uplink,
+        copies: received.hearings.copies(),
+        best: received.hearings.best(),
     };
-    match place.fit(&device.activation, &uplink.frame, message) {
-        Ok(fit) => place.enter(alloc, device, fit, uplink, &reach),
+    match place.fit(&device.activation, &uplink.frame, received.message) {
+        Ok(fit) => place.enter(alloc, device, fit, &heard),
         Err(refusal) => Err(refusal),
     }
 }
@@ -55,19 +54,18 @@ impl NetworkSlot {
         alloc: Global,
         device: &Device,
         fit: Fit,
-        uplink: &Uplink,
-        reach: &Reach,
+        heard: &HeardUplink<'_>,
     ) -> Result<(Device, Effects), Refusal>
         requires of_device { IsOf device.now.activation fit }
-        requires heard { IsReceivable reach.now.best.reception }
-        ensures { Answers (step_in_session self.now.net_id self.now.slot device.now uplink.now
-            reach.now.copies reach.now.best fit) IsDeviceStep result }
+        requires heard { IsReceivable heard.now.best.reception }
+        ensures { Answers (step_in_session self.now.net_id self.now.slot device.now
+            heard.now.uplink.now heard.now.copies heard.now.best fit) IsDeviceStep result }
     {
         match fit {
-            Fit::Again { .. } if !uplink.frame.confirmed => Err(Refusal::Repeat),
-            Fit::Again { session } => self.acknowledge(alloc, device, session, &reach.best),
-            Fit::First { .. } => self.take_new(alloc, device, fit, uplink, reach),
-            Fit::Next { .. } => self.take_new(alloc, device, fit, uplink, reach),
+            Fit::Again { .. } if !heard.uplink.frame.confirmed() => Err(Refusal::Repeat),
+            Fit::Again { session } => self.acknowledge(alloc, device, session, &heard.best),
+            Fit::First { .. } => self.take_new(alloc, device, fit, heard),
+            Fit::Next { .. } => self.take_new(alloc, device, fit, heard),
         }
     }
 
@@ -77,19 +75,18 @@ impl NetworkSlot {
         alloc: Global,
         device: &Device,
         fit: Fit,
-        uplink: &Uplink,
-        reach: &Reach,
+        heard: &HeardUplink<'_>,
     ) -> Result<(Device, Effects), Refusal>
         requires of_device { IsOf device.now.activation fit }
-        requires heard { IsReceivable reach.now.best.reception }
+        requires heard { IsReceivable heard.now.best.reception }
         ensures { MatchResult result
-            (IsDeviceStep (uplink_step self.now.net_id self.now.slot device.now fit uplink.now
-            reach.now.copies reach.now.best))
+            (IsDeviceStep (uplink_step self.now.net_id self.now.slot device.now fit
+            heard.now.uplink.now heard.now.copies heard.now.best))
             (λ e. e ≡ OutOfMemory) }
     {
         let mut after = device.copy()?;
         let mut effects = Effects::empty(alloc);
-        self.take(alloc, &mut after, &mut effects, fit, uplink, reach)?;
+        self.take(alloc, &mut after, &mut effects, fit, heard)?;
         Ok((after, effects))
     }
 
@@ -110,8 +107,23 @@ impl NetworkSlot {
     {
         let mut after = device.copy()?;
         let mut effects = Effects::empty(alloc);
-        let (net_id, slot) = (self.net_id, self.slot);
-        downlinks::acknowledge(alloc, net_id, slot, &mut after, &mut effects, session, best)?;
+        let place = self.session(session);
+        downlinks::acknowledge(alloc, &mut after, &mut effects, &place, best)?;
         Ok((after, effects))
+    }
+
+    // The current session of the device here.
+    pub(crate) fn session(&self, current: CurrentSession) -> SessionAt
+        ensures { result ≡ record {
+          net_id = self.now.net_id;
+          slot = self.now.slot;
+          current = current;
+        } }
+    {
+        SessionAt {
+            net_id: self.net_id,
+            slot: self.slot,
+            current,
+        }
     }
 }

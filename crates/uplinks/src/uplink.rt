@@ -1,28 +1,31 @@
 // Data frames from devices (TS001-1.0.4 §4.3).
 ghost use Rattle.std.specs.Prelude.{◌≡◌};
-ghost use Rattle.std.specs.Option.{option_copied};
+ghost use Rattle.phy_payload.specs.Seen.{seen_message};
 ghost use Rattle.uplinks.specs.Uplink.{has_both, is_on_port_0, uplink_of};
 
 use lw_types::Refusal;
-use phy_payload::{Control, DataFrame, PortPayload};
+use phy_payload::{Control, DataFrameRef, PortPayloadRef};
 
-/// A data frame from a device. Its MAC commands stand in FOpts or on port 0, and not in both.
+/// A data frame from a device, over the bytes of which it was read. Its MAC commands stand in FOpts
+/// or on port 0, and not in both.
 #[derive(Drop)]
-pub struct Uplink {
-    pub frame: DataFrame,
+pub struct Uplink<'a> {
+    pub frame: DataFrameRef<'a>,
     /// The device wants to know whether it is still heard (TS001-1.0.4 §4.3.1.1).
     pub adr_ack_req: bool,
     /// The last confirmed downlink was received (TS001-1.0.4 §4.3.1.2).
     pub ack: bool,
 }
 
-impl Uplink {
+impl<'a> Uplink<'a> {
     /// The uplink that a data frame is. A downlink is refused as `NotServed`, and then FOpts
     /// together with port 0 as `MacBoth` (TS001-1.0.4 §4.3.1.6).
-    pub fn new(frame: DataFrame) -> Result<Self, Refusal>
-        ensures { result ≡ uplink_of frame }
+    ///
+    /// Takes no memory.
+    pub fn new(frame: DataFrameRef<'a>) -> Result<Self, Refusal>
+        ensures { result ≡ uplink_of frame.entry }
     {
-        match frame.control {
+        match frame.control() {
             Control::Downlink { .. } => Err(Refusal::NotServed),
             Control::Uplink { .. } if has_both(&frame) => Err(Refusal::MacBoth),
             Control::Uplink {
@@ -39,15 +42,15 @@ impl Uplink {
 }
 
 // Whether MAC commands stand in FOpts and on port 0 at once.
-fn has_both(frame: &DataFrame) -> bool
+fn has_both(frame: &DataFrameRef<'_>) -> bool
     ensures { result ≡ has_both frame.now.contents.f_opts frame.now.contents.message }
 {
-    !frame.contents.f_opts().is_empty() && is_on_port_0(frame.contents.message())
+    !frame.f_opts().is_empty() && is_on_port_0(frame.message())
 }
 
 // Whether a message is on port 0.
-fn is_on_port_0(message: Option<&PortPayload>) -> bool
-    ensures { result ≡ is_on_port_0 (option_copied message.entry) }
+fn is_on_port_0(message: Option<PortPayloadRef<'_>>) -> bool
+    ensures { result ≡ is_on_port_0 (seen_message message.entry) }
 {
     match message {
         None => false,

@@ -59,14 +59,26 @@ const AFTER_5: State = State {
     ..FRESH
 };
 
-// Joins at slots: the accepts hold DevAddr 54000001, 54002001, 54007FFF, 54006000, 54006001,
-// 54001FFE and 54001FFF.
+// Joins at slots, the second of a device with RX1DROffset 2: the accepts hold DevAddr 54000001 (two
+// of them), 54002001, 54007FFF, 54006000, 54006001, 54001FFE and 54001FFF.
 pub(super) const JOINS: &[Row] = &[
     Row {
         before: FRESH,
         comes: Comes::Frame(REQUEST_1),
         wanted: "00251100000000000000B10000C35033BE27A00505062040A8AE29D75BA396C02EF9C963CAD8BE",
         after: JOINED,
+    },
+    Row {
+        before: State {
+            rx1_offset: 2,
+            ..FRESH
+        },
+        comes: Comes::Frame(REQUEST_1),
+        wanted: "00251100000000000000B10000C35033BE27A005050620B0AFC94ADFD90C644583C2A6FCFCE2DD",
+        after: State {
+            rx1_offset: 2,
+            ..JOINED
+        },
     },
     Row {
         before: State { slot: 1, ..FRESH },

@@ -1,6 +1,6 @@
 // Commands that come to a core, also at a moment at which a window is due, and the decisions that
 // are taken. The last decision before has the number 6.
-use crate::fixture::{JOINER, REQUEST_1, REQUEST_2};
+use crate::fixture::{JOINER, REQUEST_0, REQUEST_1, REQUEST_2};
 use crate::network::{Asked, Comes};
 use crate::session_core_tests::core_script::{Event, Step};
 use lw_types::Refusal;
@@ -204,4 +204,17 @@ pub(super) const TAKEN: &[Step] = &[
     Step::Outcome(2, Outcome::Decided(9)),
     Step::Outcomes(3),
     Step::TakeJoin,
+    // the copies of an uplink that come within 200 ms make one decision, and a later one makes a
+    // repeat
+    Step::Core(8, 6),
+    Step::At(0, Event::Ask(Comes::Device(JOINER)), (0, 1, None), 0),
+    Step::At(0, Event::Ask(Comes::Frame(REQUEST_0)), (1, 2, None), 0),
+    Step::At(0, Event::Uplink(0xB1), (2, 2, None), 0),
+    Step::At(199, Event::Uplink(0xB2), (2, 2, None), 0),
+    Step::At(200, Event::Uplink(0xB3), (2, 3, None), 1),
+    Step::At(400, Event::Time, (3, 3, None), 1),
+    Step::Outcome(2, Outcome::Decided(9)),
+    Step::Outcome(3, Outcome::Refused(Refusal::Repeat)),
+    Step::Outcomes(4),
+    Step::TakeUplink,
 ];

@@ -1,5 +1,5 @@
 //! A core, what comes to it, and what has to be seen of it.
-use crate::fixture::{REQUEST_0, frame, hearing};
+use crate::fixture::{FIRST_UPLINK, REQUEST_0, frame, hearing};
 use crate::network::Comes;
 use crate::tables::new_table;
 use devices::{Command, Effect};
@@ -27,6 +27,8 @@ pub(super) enum Event {
     Copy(u64, u32, u8),
     /// A gateway's copy of the joining device's first Join-Request.
     Request(u64),
+    /// A gateway's copy of that device's first uplink.
+    Uplink(u64),
     /// Nothing but the moment.
     Time,
 }
@@ -53,6 +55,8 @@ pub(super) enum Step {
     Empty(u64),
     /// Three decisions are taken, of which the second is a join that the gateways B1 and B2 heard.
     TakeJoin,
+    /// Three decisions are taken, of which the last is an uplink that the gateways B1 and B2 heard.
+    TakeUplink,
     /// How many decisions were made, the number of the last one, how many wait, and how many
     /// devices there are.
     Counts(u64, u64, usize, usize),
@@ -95,6 +99,7 @@ fn goes_on(alloc: Global, core: &mut Core, step: &Step) -> Result<bool, Refusal>
         Step::Take(most, from, to) => takes(core, *most, *from, *to),
         Step::Empty(batches) => empties(core, *batches),
         Step::TakeJoin => takes_join(core),
+        Step::TakeUplink => takes_uplink(core),
         Step::Counts(made, seq, untaken, devices) => {
             Ok(counts(core) == (*made, *seq, *untaken, *devices))
         }
@@ -137,6 +142,9 @@ fn answer(alloc: Global, core: &mut Core, moment: Moment, event: &Event) -> Resu
             )
         }
         Event::Request(gateway) => { hear(alloc, core, moment, (*gateway, CHANNEL, 5), REQUEST_0) }
+        Event::Uplink(gateway) => {
+            hear(alloc, core, moment, (*gateway, CHANNEL, 5), FIRST_UPLINK)
+        }
         Event::Time => Ok(core.tick(moment)),
     }
 }
@@ -250,13 +258,34 @@ fn takes_join(core: &mut Core) -> Result<bool, Refusal> {
     }
 }
 
+fn takes_uplink(core: &mut Core) -> Result<bool, Refusal> {
+    let batch = core.take(Most::new(64).ok_or(Refusal::Damaged)?)?;
+    match batch.as_slice() {
+        [_, _, third] => Ok(is_uplink(third)),
+        _ => Ok(false),
+    }
+}
+
+// Whether the decision is of a frame that the gateways B1 and B2 heard, and its one effect forwards
+// a payload with that number of copies.
+fn is_uplink(decision: &Decision) -> bool {
+    let [Effect::Forward { copies, .. }] = decision.effects.as_slice() else {
+        return false;
+    };
+    copies.get() == 2 && is_of_two(decision)
+}
+
 // Whether the decision is of a frame that the gateways B1 and B2 heard, and its one effect is an
 // accept.
 fn is_join(decision: &Decision) -> bool {
+    matches!(decision.effects.as_slice(), [Effect::Accept { .. }]) && is_of_two(decision)
+}
+
+// Whether the decision is of a frame that the gateways B1 and B2 heard.
+fn is_of_two(decision: &Decision) -> bool {
     let copies = [hearing(0xB1), hearing(0xB2)];
-    let accepted = matches!(decision.effects.as_slice(), [Effect::Accept { .. }]);
     match &decision.command {
-        Command::Heard(heard) => accepted && heard.hearings.as_slice() == copies.as_slice(),
+        Command::Heard(heard) => heard.hearings.as_slice() == copies.as_slice(),
         _ => false,
     }
 }

@@ -1,4 +1,4 @@
-use Rattle.std.proofs.Common.{◌≡◌, ◌∙◌, ◌^◌, ◌==◌, ℕ, Bool, true, false, if◌then◌else◌, List, [], ◌++◌, Option, Result, MatchResult, ap, subst, sym}
+use Rattle.std.proofs.Common.{◌≡◌, ◌∙◌, ◌^◌, ◌==◌, ℕ, Bool, true, false, if◌then◌else◌, List, [], ◌++◌, Option, Result, MatchResult, ap, refl, subst, sym}
 use Rattle.lw_types.specs.declared.identifiers.DevAddr.{DevAddr}
 use Rattle.lw_types.specs.declared.refusal.Refusal.{Refusal}
 use Rattle.lw_types.specs.declared.refusal.Refusal.TheVariants.{OutOfMemory}
@@ -37,8 +37,9 @@ is_sent net_id slot d left c asked addr opts going pending due unspent opts-is g
 
 pub returns : goal.returns
 returns c =
+    let s = c.args.session.now in
     let loaded = c.in_ok-f_opts.ensures.load in
     subst (Leaves c.send.result c.send.new.device c.args.effects.now c.send.new.effects)
-    (is_sent c.args.net_id c.args.slot c.args.device.now c.take.new.device c.args.current c.args.asked.now c.address-addr.result _ _ c.more_waits-f_pending.result
-    (sym c.is_due.ensures ∙ c.if-not-is_due.false) (sym c.is_spent.ensures.value ∙ c.if-is_spent.false) loaded.0 loaded.1 loaded.2 c.more_waits-f_pending.ensures c.address-addr.ensures)
+    (is_sent s.net_id s.slot c.args.device.now c.take.new.device s.current c.args.asked.now (address s.net_id s.slot s.current) _ _ c.more_waits-f_pending.result
+    (sym c.is_due.ensures ∙ c.if-not-is_due.false) (sym c.is_spent.ensures.value ∙ c.if-is_spent.false) loaded.0 loaded.1 loaded.2 c.more_waits-f_pending.ensures refl)
     c.send.ensures

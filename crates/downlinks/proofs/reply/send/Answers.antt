@@ -21,7 +21,7 @@ pub returns : goal.returns
 returns c =
     let d = c.args.device.now in
     let before = c.args.effects.now in
-    let current = c.args.current in
+    let current = c.args.session.now.current in
     let name = name_of d current in (
       ap (left d c.awaited_by-awaited.result) c.use_down.ensures ∙ ap (λ (tag : Option Tag). left d tag (with_down_used d.activation current)) c.awaited_by-awaited.ensures,
       c.in_ok-push.ensures.ok

@@ -1,14 +1,15 @@
-use Rattle.std.proofs.Common.{refl, sym, [], ◌∷◌, ◌++◌, ◌∙◌, ap, append_assoc, List, Ok, subst}
+use Rattle.std.proofs.Common.{refl, sym, inl, inr, [], ◌∷◌, ◌++◌, ◌∙◌, ap, append_assoc, List, Ok, subst}
 use Rattle.std.proofs.lemmas.List.{append-nil}
 use Rattle.link_messages.specs.declared.message.Message.{Message}
 use Rattle.link_messages.specs.declared.feeder.Next.{Next}
 use Rattle.link_messages.specs.Stream.{Fault, Rest}
 use Rattle.link_messages.specs.Steps.{IsNext}
 use Rattle.link_messages.proofs.Hearing.{frame_shorter, so_far_end, so_far_start, so_far_step}
+use Rattle.link_messages.proofs.Wanting.{begins-frame, begins-left}
 use Rattle.link_messages.proofs.feeder.hear.Goals as goal
 
 pub loop-fault-init : goal.loop-fault-init
-loop-fault-init c = ([], sym (append-nil c.args.messages.now.items), so_far_start c.args.peer.now c.args.stream.now)
+loop-fault-init c = ([], sym (append-nil c.args.messages.now.items), so_far_start c.args.peer.now c.args.stream.now, inl (refl, refl))
 
 pub returns-in-Nothing-clause-heard : goal.returns-in-Nothing-clause-heard
 returns-in-Nothing-clause-heard c =
@@ -36,4 +37,5 @@ loop-fault-preserved c =
       h.0 ++ m ∷ [],
       c.in_ok-push-in-Message.ensures.items ∙ (ap (λ (qs : List Message). qs ++ m ∷ []) h.1 ∙ append_assoc c.args.messages.now.items h.0 (m ∷ [])),
       rw c.greet.ensures step,
+      inr (begins-left c.args.peer.now c.loop-fault.peer c.args.stream.now c.loop-fault.left.now h.3 (begins-frame c.loop-fault.peer c.loop-fault.left.now next.0 c.in-Message.behind.now m next.1 next.2)),
     )

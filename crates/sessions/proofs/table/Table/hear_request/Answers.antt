@@ -1,43 +1,50 @@
 use Rattle.std.proofs.Common.{◌∙◌, Some, Ok, refl, sym, ap}
-use Rattle.devices.specs.declared.command.Command.TheVariants.{Heard}
-use Rattle.sessions.specs.declared.decide.Stepped.{Stepped}
-use Rattle.uplinks.specs.Chain.{◌>>=◌}
-use Rattle.sessions.specs.Decision.{IsStepped}
-use Rattle.sessions.specs.Join.{join_ask, join_step, transaction_of}
+use Rattle.devices.specs.declared.heard.Heard.{Heard}
 use Rattle.devices.specs.DeviceStep.{IsDeviceStep}
-use Rattle.sessions.specs.Table.{slot_of, step, step_at}
+use Rattle.uplinks.specs.Chain.{◌>>=◌}
+use Rattle.sessions.specs.declared.table.decide.Stepped.{Stepped}
+use Rattle.sessions.specs.Decision.{IsStepped}
+use Rattle.sessions.specs.Join.{join_step, transaction_of}
+use Rattle.sessions.specs.Served.{heard_command}
+use Rattle.sessions.specs.Table.{step, step_at}
+use Rattle.join_server.specs.Request.{dev_eui_of}
 use Rattle.sessions.proofs.JoinTexts.{memory-err, memory-found, memory-ok}
 use Rattle.sessions.proofs.Frames.{step-request}
+use Rattle.sessions.proofs.Placing.{found_name}
 use Rattle.sessions.proofs.table.Table.hear_request.Goals as goal
+
+pub join-requires : goal.join-requires
+join-requires c =
+    let q = c.in-Some.question in
+    let is = c.in-Some.ensures in
+    ap (λ ask. dev_eui_of ask.request) is.is ∙ sym (found_name (dev_eui_of c.args.request) q.slot q.device.now c.args.self.now.devices is.sender is.at)
 
 pub returns-in-Ok : goal.returns-in-Ok
 returns-in-Ok c =
     let t = c.args.self.now in
-    let h = c.args.heard.now in
+    let h : Heard = record { phy_payload = c.args.phy_payload.now; hearings = c.args.hearings.now } in
     let request = c.args.request in
-    let d = c.in-Some.device.now in
-    let ask = c.join_ask-ask.result in
-    let found = ap (λ e. slot_of e t.devices) (sym c.dev_eui.ensures) ∙ c.in-Some.ensures.0 in
-    let name = c.in-Some.ensures.2 ∙ c.dev_eui.ensures in
-    let is = c.join_ask-ask.ensures ∙ ap (λ n. join_ask n c.in-Some.slot d request (transaction_of c.args.seq)) c.net_id.ensures in
-    let step_is = step-request t h request c.in-Some.slot d ask c.requires found c.in-Some.ensures.1 name (transaction_of c.args.seq) is in
-    let outcome = memory-found (join_step d h.hearings ask) IsDeviceStep (c.in-Ok.after, c.in-Ok.effects) c.in-Ok.ensures in
-    let stepped : Stepped = record { slot = c.in-Some.slot; after = c.in-Ok.after; effects = c.in-Ok.effects } in
-    memory-ok (step t (Heard h)) IsStepped (step_at c.in-Some.slot (Some d) outcome.0) (Ok stepped)
-    (step_is ∙ ap (λ r. r >>= λ o. Ok (step_at c.in-Some.slot (Some d) o)) outcome.1)
+    let q = c.in-Some.question in
+    let d = q.device.now in
+    let is = c.in-Some.ensures in
+    let name = found_name (dev_eui_of request) q.slot d t.devices is.sender is.at in
+    let step_is = step-request t h request q.slot d q.ask c.requires is.sender is.at name (transaction_of c.args.seq) is.is in
+    let outcome = memory-found (join_step d h.hearings q.ask) IsDeviceStep (c.in-Ok.after, c.in-Ok.effects) c.in-Ok.ensures in
+    let stepped : Stepped = record { slot = q.slot; after = c.in-Ok.after; effects = c.in-Ok.effects } in
+    memory-ok (step t (heard_command h.phy_payload h.hearings)) IsStepped (step_at q.slot (Some d) outcome.0) (Ok stepped)
+    (step_is ∙ ap (λ r. r >>= λ o. Ok (step_at q.slot (Some d) o)) outcome.1)
     (record { slot = refl; after = outcome.2.0; effects = outcome.2.1 })
 
 pub returns-in-Err : goal.returns-in-Err
 returns-in-Err c =
     let t = c.args.self.now in
-    let h = c.args.heard.now in
+    let h : Heard = record { phy_payload = c.args.phy_payload.now; hearings = c.args.hearings.now } in
     let request = c.args.request in
-    let d = c.in-Some.device.now in
-    let ask = c.join_ask-ask.result in
-    let found = ap (λ e. slot_of e t.devices) (sym c.dev_eui.ensures) ∙ c.in-Some.ensures.0 in
-    let name = c.in-Some.ensures.2 ∙ c.dev_eui.ensures in
-    let is = c.join_ask-ask.ensures ∙ ap (λ n. join_ask n c.in-Some.slot d request (transaction_of c.args.seq)) c.net_id.ensures in
-    let step_is = step-request t h request c.in-Some.slot d ask c.requires found c.in-Some.ensures.1 name (transaction_of c.args.seq) is in
-    memory-err (step t (Heard h)) (join_step d h.hearings ask) c.in-Err.refusal
-    (λ refused. step_is ∙ ap (λ r. r >>= λ o. Ok (step_at c.in-Some.slot (Some d) o)) refused)
+    let q = c.in-Some.question in
+    let d = q.device.now in
+    let is = c.in-Some.ensures in
+    let name = found_name (dev_eui_of request) q.slot d t.devices is.sender is.at in
+    let step_is = step-request t h request q.slot d q.ask c.requires is.sender is.at name (transaction_of c.args.seq) is.is in
+    memory-err (step t (heard_command h.phy_payload h.hearings)) (join_step d h.hearings q.ask) c.in-Err.refusal
+    (λ refused. step_is ∙ ap (λ r. r >>= λ o. Ok (step_at q.slot (Some d) o)) refused)
     c.in-Err.ensures

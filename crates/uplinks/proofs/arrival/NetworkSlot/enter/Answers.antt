@@ -33,7 +33,7 @@ in-next net_id slot d u copies best r fit s counter is h =
     subst (Enters net_id slot d u copies best r) (sym is) (subst (Takes net_id slot d u copies best r) is h)
 
 pub returns-in-First : goal.returns-in-First
-returns-in-First c = in-first c.args.self.now.net_id c.args.self.now.slot c.args.device.now c.args.uplink.now c.args.reach.now.copies c.args.reach.now.best c.take_new.result c.args.fit c.in-First.session c.in-First.counter c.in-First.is c.take_new.ensures
+returns-in-First c = in-first c.args.self.now.net_id c.args.self.now.slot c.args.device.now c.args.heard.now.uplink.now c.args.heard.now.copies c.args.heard.now.best c.take_new.result c.args.fit c.in-First.session c.in-First.counter c.in-First.is c.take_new.ensures
 
 pub returns-in-Next : goal.returns-in-Next
-returns-in-Next c = in-next c.args.self.now.net_id c.args.self.now.slot c.args.device.now c.args.uplink.now c.args.reach.now.copies c.args.reach.now.best c.take_new-in-Next.result c.args.fit c.in-Next.session c.in-Next.counter c.in-Next.is c.take_new-in-Next.ensures
+returns-in-Next c = in-next c.args.self.now.net_id c.args.self.now.slot c.args.device.now c.args.heard.now.uplink.now c.args.heard.now.copies c.args.heard.now.best c.take_new-in-Next.result c.args.fit c.in-Next.session c.in-Next.counter c.in-Next.is c.take_new-in-Next.ensures

@@ -7,6 +7,7 @@ use Rattle.devices.specs.declared.effect.Effect.{Effect}
 use Rattle.devices.specs.declared.heard.Hearing.{Hearing}
 use Rattle.devices.specs.DeviceStep.{DeviceStep, device_step}
 use Rattle.downlinks.specs.declared.load.Demand.{Demand}
+use Rattle.downlinks.specs.declared.reply.SessionAt.{SessionAt}
 use Rattle.downlinks.specs.Reply.{answer_step}
 use Rattle.mac_commands.specs.Reading.{asks_link_check, reported_bytes}
 use Rattle.uplinks.specs.declared.uplink.Uplink.{Uplink}
@@ -39,10 +40,10 @@ pub returns : goal.returns
 returns c =
     let place = c.args.self.now in
     let d = c.args.device.now in
-    let u = c.args.uplink.now in
+    let u = c.args.heard.now.uplink.now in
     let fit = c.args.fit in
     let s = c.session_after-session.result in
-    let reach = c.args.reach.now in
+    let reach = c.args.heard.now in
     let commands : c.as_slice.result.now ≡ commands_of s u = c.as_slice.ensures.bytes ∙ c.in_ok-commands.ensures in
     let again : c.as_slice-2.result.now ≡ commands_of s u = c.as_slice-2.ensures.bytes ∙ c.in_ok-commands.ensures in
     let asked : c.asked-asked.result ≡ demand_of s u reach.copies reach.best = c.asked-asked.ensures ∙ ap (asking u reach.copies reach.best) commands in
@@ -54,7 +55,11 @@ returns c =
     c.args.effects.now c.tell_awaited.new.effects c.report_commands.new.effects c.forward.new.effects c.requires.none awaited reported c.in_ok-forward.ensures.told in
     let same : answer_step place.net_id place.slot c.enter.new.device s c.asked-asked.result ≡ answer_step place.net_id place.slot (with_uplink d fit) s (demand_of s u reach.copies reach.best) =
     ap (λ (x : Device). answer_step place.net_id place.slot x s c.asked-asked.result) c.enter.ensures ∙ ap (answer_step place.net_id place.slot (with_uplink d fit) s) asked in
+    let answered =
+    subst (λ (p : SessionAt). Leaves c.answer.result c.answer.new.device c.answer.new.effects
+    (let o = answer_step p.net_id p.slot c.enter.new.device p.current c.asked-asked.result in device_step o.device (c.forward.new.effects ++ o.effects)))
+    c.session-place.ensures c.answer.ensures in
     subst (λ (s : CurrentSession). Leaves c.answer.result c.answer.new.device c.answer.new.effects
     (with_effects (awaited_report d (is_acknowledgement fit u) d.awaited ++ (mac_report d s (reported_bytes (commands_of s u)) ++ forward_effects u.frame.dev_addr d s reach.copies reach.best u.frame.contents.message))
     (answer_step place.net_id place.slot (with_uplink d fit) s (demand_of s u reach.copies reach.best)))) c.session_after-session.ensures
-    (after c.answer.result c.answer.new.device c.answer.new.effects c.forward.new.effects _ (answer_step place.net_id place.slot c.enter.new.device s c.asked-asked.result) _ told same c.answer.ensures)
+    (after c.answer.result c.answer.new.device c.answer.new.effects c.forward.new.effects _ (answer_step place.net_id place.slot c.enter.new.device s c.asked-asked.result) _ told same answered)

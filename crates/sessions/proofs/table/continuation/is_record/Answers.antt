@@ -1,7 +1,7 @@
 use Rattle.std.proofs.Common.{◌≡◌, ◌↔◌, Option, Some, Bool, IsTrue, ap}
 use Rattle.std.specs.Option.{option_copied}
 use Rattle.devices.specs.declared.device.Device.{Device}
-use Rattle.sessions.proofs.continuation.is_record.Goals as goal
+use Rattle.sessions.proofs.table.continuation.is_record.Goals as goal
 
 same-device : (a b : Device) → ◌≡◌ {A = Option Device} (Some a) (Some b) → a ≡ b
 same-device a b h = cc

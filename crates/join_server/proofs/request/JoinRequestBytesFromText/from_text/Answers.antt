@@ -1,9 +1,6 @@
-use Rattle.std.proofs.Common.{rules, ◌≡◌, refl, sym, ap, subst, ◌∙◌, Option, Some, None}
-use Rattle.std.specs.Option.{SomeIff, MatchOption}
-use Rattle.std.specs.Prelude.{List, ℕ}
-use Rattle.lw_types.specs.declared.hex_text.HexArray.{HexArray}
-use Rattle.join_server.specs.Request.{IsRequest}
-use Rattle.join_server.proofs.request.JoinRequestFromText.from_text.Goals as goal
+use Rattle.std.proofs.Common.{rules, subst, Option}
+use Rattle.std.specs.Option.{MatchOption}
+use Rattle.join_server.proofs.request.JoinRequestBytesFromText.from_text.Goals as goal
 
 abbrev IsNone : {A : Type 0} → Option A → Type 0
 IsNone result = MatchOption result (Unit {0}) (λ _. ⊥)

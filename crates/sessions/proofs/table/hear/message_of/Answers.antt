@@ -1,7 +1,7 @@
 use Rattle.std.proofs.Common.{arith}
 use Rattle.phy_payload.specs.declared.phy.Phy.TheVariants.{DataFrame}
 use Rattle.sessions.proofs.Frames.{uplink-read}
-use Rattle.sessions.proofs.hear.message_of.Goals as goal
+use Rattle.sessions.proofs.table.hear.message_of.Goals as goal
 
 pub slice_bounds-result-count : goal.slice_bounds-result-count
 slice_bounds-result-count c =

@@ -6,7 +6,7 @@ ghost use Rattle.sessions.specs.Table.{TakesNext, slot_of};
 ghost use Rattle.sessions.specs.Decision.{FitsTable, FitAll, HasPlace, Continues, ContinueAll};
 ghost use Rattle.sessions.specs.Decision.{with_decisions};
 
-use crate::continuation::is_record;
+use crate::table::continuation::is_record;
 use crate::{Decision, Table};
 use devices::Device;
 use lw_types::Eui;

@@ -22,8 +22,8 @@ pub(crate) struct Stepped {
 
 impl Table {
     /// Decides a command on this table, as the decision of this sequence number. A refusal of the
-    /// command is answered where its step is refused; for want of memory `OutOfMemory` is, for a
-    /// frame that was heard also where another refusal is due.
+    /// command is answered where its step is refused, whether or not there is memory; for want of
+    /// memory `OutOfMemory` is, for a Join-Request also where another refusal is due.
     pub fn decide(&self, alloc: Global, seq: u64, command: Command) -> Result<Decision, Refusal>
         ensures decides { Decides self.now seq command result }
         ensures fits { IfOk result (λ decision. FitsTable self.now decision) }
@@ -74,7 +74,7 @@ impl Table {
     {
         match command {
             Command::Provision(provisioning) => self.provision(alloc, provisioning),
-            Command::Heard(heard) => self.hear(alloc, seq, heard),
+            Command::Heard(heard) => self.hear(alloc, seq, &heard.phy_payload, &heard.hearings),
             Command::Queue(queueing) => self.queue(alloc, queueing),
             Command::QueueMac(queueing) => self.queue_mac(alloc, queueing),
         }

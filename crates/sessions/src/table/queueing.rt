@@ -10,7 +10,7 @@ ghost use Rattle.sessions.specs.Table.{step};
 ghost use Rattle.sessions.specs.Decision.{IsStepped};
 
 use crate::Table;
-use crate::decide::Stepped;
+use crate::table::decide::Stepped;
 use devices::{
     Application, Device, Effect, Effects, Item, ItemQueue, MacQueue, MacQueueing, Payload, Port,
     Queueing, Report,

@@ -1,0 +1,550 @@
+// Changes of records.
+ghost use Rattle.std.specs.Prelude.{◌≡◌, IfSome, OnSome};
+ghost use Rattle.devices.specs.Becoming.{AreItemsAfter, AreProvisionedAlike, MayBecome};
+
+use crate::fixtures::{self, DEVICE, brought, items, session};
+use Items::{Added, AddedLong, Leaves, Same};
+use devices::{
+    Activation, CurrentSession, Device, Item, ItemQueue, MacQueue, NextDown, Payload, Port, Tag,
+};
+use lw_types::{JoinNonce, Refusal, read_hex};
+use record_codec::{LONGEST_CHANGE, RecordVersion, read_change, write_change};
+use std::alloc::Global;
+
+// What a record has besides its items and what its device was provisioned with.
+#[derive(Clone, Copy)]
+struct Numbers {
+    dev_nonce: Option<u16>,
+    granted: u32,
+    /// A JoinNonce, the last uplink counter and the next downlink counter.
+    current: Option<(u32, u32, u64)>,
+    pending: Option<u32>,
+    awaited: Option<u32>,
+    mac_queue: &'static [u8],
+}
+
+const NEW: Numbers = Numbers {
+    dev_nonce: None,
+    granted: 0,
+    current: None,
+    pending: None,
+    awaited: None,
+    mac_queue: &[],
+};
+
+const IN_USE: Numbers = Numbers {
+    dev_nonce: Some(7),
+    granted: 2,
+    current: Some((2, 5, 3)),
+    ..NEW
+};
+
+const UPLINK: Numbers = Numbers {
+    current: Some((2, 6, 3)),
+    ..IN_USE
+};
+
+const EARLIER_UPLINK: Numbers = Numbers {
+    current: Some((2, 4, 3)),
+    ..IN_USE
+};
+
+const LAST_DOWNLINK: Numbers = Numbers {
+    current: Some((2, 5, 1 << 32)),
+    ..IN_USE
+};
+
+const JOINED: Numbers = Numbers {
+    dev_nonce: Some(5),
+    granted: 1,
+    pending: Some(1),
+    ..NEW
+};
+
+const FIRST_UPLINK: Numbers = Numbers {
+    dev_nonce: Some(5),
+    granted: 1,
+    current: Some((1, 0, 0)),
+    ..NEW
+};
+
+const OTHER_NONCE: Numbers = Numbers {
+    dev_nonce: Some(8),
+    ..IN_USE
+};
+
+const NO_NONCE: Numbers = Numbers {
+    dev_nonce: None,
+    ..IN_USE
+};
+
+const GRANTED: Numbers = Numbers {
+    granted: 3,
+    ..IN_USE
+};
+
+const NO_SESSION: Numbers = Numbers {
+    current: None,
+    ..IN_USE
+};
+
+const PENDING: Numbers = Numbers {
+    granted: 3,
+    pending: Some(3),
+    ..IN_USE
+};
+
+const AWAITED: Numbers = Numbers {
+    awaited: Some(0),
+    ..IN_USE
+};
+
+const COMMANDED: Numbers = Numbers {
+    mac_queue: &[6],
+    ..IN_USE
+};
+
+const OTHER_SESSION: Numbers = Numbers {
+    granted: 3,
+    current: Some((3, 5, 3)),
+    ..IN_USE
+};
+
+const PENDING_GONE: Numbers = Numbers {
+    granted: 3,
+    current: Some((2, 6, 3)),
+    ..IN_USE
+};
+
+const PENDING_LOST: Numbers = Numbers {
+    granted: 3,
+    awaited: Some(1),
+    ..IN_USE
+};
+
+const AWAITED_COMMANDED: Numbers = Numbers {
+    awaited: Some(1),
+    mac_queue: &[6],
+    ..IN_USE
+};
+
+const DOWNLINK: Numbers = Numbers {
+    current: Some((2, 6, 4)),
+    awaited: Some(0),
+    ..IN_USE
+};
+
+const ALL: Numbers = Numbers {
+    dev_nonce: Some(8),
+    granted: 4,
+    current: Some((3, 6, 4)),
+    pending: Some(4),
+    awaited: Some(1),
+    mac_queue: &[6],
+    ..IN_USE
+};
+
+const AWAITED_1: Numbers = Numbers {
+    awaited: Some(1),
+    ..IN_USE
+};
+
+// What becomes of the items.
+enum Items {
+    Same,
+    Leaves,
+    /// The item with tag 9, on port 7, unconfirmed, of the byte AA.
+    Added,
+    /// An item of 242 bytes.
+    AddedLong,
+}
+
+fn item(alloc: Global) -> Option<Item> {
+    let port = Port::new(7)?;
+    let bytes = [0xAA].to_vec(alloc).ok()?;
+    match Payload::new(bytes) {
+        Ok(payload) => Some(Item {
+            tag: Tag(9),
+            port,
+            confirmed: false,
+            payload,
+        }),
+        Err(_) => None,
+    }
+}
+
+fn current(session_number: u32, last_up: u32, next_down: u64) -> Option<CurrentSession> {
+    Some(CurrentSession {
+        session: session(session_number)?,
+        last_up,
+        next_down: NextDown::new(next_down)?,
+    })
+}
+
+fn activation(numbers: &Numbers) -> Option<Activation> {
+    let in_use = match numbers.current {
+        None => None,
+        Some((number, up, down)) => Some(current(number, up, down)?),
+    };
+    let pending = match numbers.pending {
+        None => None,
+        Some(number) => Some(session(number)?),
+    };
+    Activation::new(JoinNonce::new(numbers.granted), in_use, pending)
+}
+
+fn commands(alloc: Global, bytes: &[u8]) -> Option<MacQueue> {
+    MacQueue::new(bytes.to_vec(alloc).ok()?).ok()
+}
+
+// The record with other numbers.
+fn with_numbers(alloc: Global, device: Device, numbers: &Numbers) -> Option<Device>
+    ensures { IfSome result
+        (λ after. AreProvisionedAlike device after × (after.items ≡ device.items)) }
+{
+    let mut after = device;
+    after.last_dev_nonce = numbers.dev_nonce;
+    after.activation = activation(numbers)?;
+    after.awaited = match numbers.awaited {
+        None => None,
+        Some(number) => Some(Tag(number)),
+    };
+    after.mac_queue = commands(alloc, numbers.mac_queue)?;
+    Some(after)
+}
+
+// A record in which so many items wait.
+fn found(alloc: Global, numbers: &Numbers, waiting: u32) -> Option<Device> {
+    let mut device = with_numbers(alloc, brought(alloc, DEVICE)?, numbers)?;
+    device.items = ItemQueue::new(items(alloc, waiting, 1)?).ok()?;
+    Some(device)
+}
+
+fn add(queue: &mut ItemQueue, item: Item) -> Option<()>
+    ensures { OnSome result (AreItemsAfter queue.old queue.new) }
+{
+    if queue.as_slice().len() < ItemQueue::MOST {
+        queue.push(item).ok()
+    } else {
+        None
+    }
+}
+
+fn change_items(alloc: Global, queue: &mut ItemQueue, items: &Items) -> Option<()>
+    ensures { OnSome result (AreItemsAfter queue.old queue.new) }
+{
+    match items {
+        Same => Some(()),
+        Leaves => {
+            let _first = queue.pop_first();
+            Some(())
+        }
+        Added => add(queue, item(alloc)?),
+        AddedLong => add(queue, fixtures::item(alloc, 9, 242)?),
+    }
+}
+
+// The record with other numbers and items.
+fn with_change(alloc: Global, before: &Device, after: &Numbers, items: &Items) -> Option<Device>
+    ensures { IfSome result (λ after. MayBecome before.now after) }
+{
+    let Ok(copy) = before.copy() else {
+        return None;
+    };
+    let mut device = with_numbers(alloc, copy, after)?;
+    change_items(alloc, &mut device.items, items)?;
+    Some(device)
+}
+
+// The bytes of these words, each once or, as in AA*16, so many times.
+fn spelled(alloc: Global, words: &str) -> Option<Vec<u8>> {
+    let mut bytes = Vec::new(alloc);
+    for word in words.split(' ') {
+        let (hex, count) = word.split_once('*').unwrap_or((word, "1"));
+        let field = read_hex(alloc, hex).ok()?;
+        let count: u32 = count.parse().ok()?;
+        for _ in 0..count {
+            bytes.extend_from_slice(field.as_slice()).ok()?;
+        }
+    }
+    Some(bytes)
+}
+
+// A record with so many items, the numbers and the items after it, and the bytes of the change.
+type Step = (Numbers, u32, Numbers, Items, &'static str);
+
+const STEPS: &[Step] = &[
+    (IN_USE, 0, IN_USE, Same, "00"),
+    (IN_USE, 0, UPLINK, Same, "04 00000006 0000000000000003"),
+    (
+        IN_USE,
+        0,
+        EARLIER_UPLINK,
+        Same,
+        "04 00000004 0000000000000003",
+    ),
+    (
+        IN_USE,
+        0,
+        LAST_DOWNLINK,
+        Same,
+        "04 00000005 0000000100000000",
+    ),
+    (NEW, 0, NEW, Added, "40 01 00000009 07 00 01 AA"),
+    (NEW, 15, NEW, Added, "40 01 00000009 07 00 01 AA"),
+    (
+        NEW,
+        0,
+        JOINED,
+        Same,
+        "09 01 0005 000001 01 000001 AA*16 BB*16",
+    ),
+    (
+        JOINED,
+        0,
+        FIRST_UPLINK,
+        Same,
+        "0A 01 000001 AA*16 BB*16 00000000 0000000000000000 00",
+    ),
+    (IN_USE, 0, OTHER_NONCE, Same, "01 01 0008 000002"),
+    (IN_USE, 0, NO_NONCE, Same, "01 00 0000 000002"),
+    (IN_USE, 0, GRANTED, Same, "01 01 0007 000003"),
+    (IN_USE, 0, NO_SESSION, Same, "02 00"),
+    (GRANTED, 0, PENDING, Same, "08 01 000003 AA*16 BB*16"),
+    (IN_USE, 0, AWAITED, Same, "10 01 00000000"),
+    (AWAITED, 0, IN_USE, Same, "10 00 00000000"),
+    (IN_USE, 0, COMMANDED, Same, "20 01 06"),
+    (COMMANDED, 0, IN_USE, Same, "20 00"),
+    (IN_USE, 2, IN_USE, Leaves, "40 00"),
+    (IN_USE, 16, IN_USE, Leaves, "40 00"),
+    (
+        IN_USE,
+        0,
+        OTHER_SESSION,
+        Same,
+        "03 01 0007 000003 01 000003 AA*16 BB*16 00000005 0000000000000003",
+    ),
+    (
+        PENDING,
+        0,
+        PENDING_GONE,
+        Same,
+        "0C 00000006 0000000000000003 00",
+    ),
+    (PENDING, 0, PENDING_LOST, Same, "18 00 01 00000001"),
+    (IN_USE, 0, AWAITED_COMMANDED, Same, "30 01 00000001 01 06"),
+    (COMMANDED, 1, IN_USE, Leaves, "60 00 00"),
+    (
+        IN_USE,
+        1,
+        DOWNLINK,
+        Leaves,
+        "54 00000006 0000000000000004 01 00000000 00",
+    ),
+    (
+        IN_USE,
+        0,
+        ALL,
+        Added,
+        "7B 01 0008 000004 01 000003 AA*16 BB*16 00000006 0000000000000004 \
+         01 000004 AA*16 BB*16 01 00000001 01 06 01 00000009 07 00 01 AA",
+    ),
+];
+
+// Whether the change is written so behind 9, and read back.
+fn is_change(alloc: Global, step: &Step) -> Option<bool> {
+    let (numbers, waiting, others, items, words) = step;
+    let before = found(alloc, numbers, *waiting)?;
+    let after = with_change(alloc, &before, others, items)?;
+    let wanted = spelled(alloc, words)?;
+    let mut out = [9].to_vec(alloc).ok()?;
+    write_change(alloc, &before, &after, &mut out).ok()?;
+    let read = read_change(alloc, &before, wanted.as_slice()).ok()?;
+    Some(out.as_slice().strip_prefix(&[9]) == Some(wanted.as_slice()) && read == after)
+}
+
+#[test]
+fn a_change_is_what_differs(rt: HostRuntime) {
+    for step in STEPS {
+        assert!(rt; is_change(rt.alloc(), step) == Some(true), "{}", step.4);
+    }
+}
+
+const LONGEST: Numbers = Numbers {
+    mac_queue: &[6; 64],
+    ..ALL
+};
+
+// How long the longest change is, in the one version that there is.
+fn longest(alloc: Global) -> Option<usize> {
+    let before = found(alloc, &IN_USE, 0)?;
+    let after = with_change(alloc, &before, &LONGEST, &AddedLong)?;
+    let mut out = Vec::new(alloc);
+    let version = RecordVersion::V1;
+    version.write_change(alloc, &before, &after, &mut out).ok()?;
+    let read = version.read_change(alloc, &before, out.as_slice()).ok()?;
+    if read == after { Some(out.len()) } else { None }
+}
+
+#[test]
+fn a_change_has_at_most_411_bytes(rt: HostRuntime) {
+    assert!(rt; LONGEST_CHANGE == 411);
+    assert!(rt; longest(rt.alloc()) == Some(411));
+}
+
+// A record with so many items, and bytes that are no change of it.
+type Fault = (Numbers, u32, &'static str, &'static str);
+
+const FAULTS: &[Fault] = &[
+    (IN_USE, 0, "", "no byte"),
+    (IN_USE, 0, "80", "bit 7"),
+    (
+        IN_USE,
+        0,
+        "84 00000006 0000000000000003",
+        "bit 7 and counters",
+    ),
+    (IN_USE, 0, "00 00", "a byte left over"),
+    (IN_USE, 0, "04 00000005 0000000000000003", "equal counters"),
+    (IN_USE, 0, "04 00000006 00000000000000", "a byte less"),
+    (IN_USE, 0, "04 00000006 0000000000000003 00", "a byte more"),
+    (
+        NEW,
+        0,
+        "04 00000006 0000000000000003",
+        "counters without a session",
+    ),
+    (
+        IN_USE,
+        0,
+        "04 00000006 0000000100000001",
+        "a next counter out of range",
+    ),
+    (
+        IN_USE,
+        0,
+        "06 00 00000006 0000000000000003",
+        "no session, and counters",
+    ),
+    (
+        GRANTED,
+        0,
+        "06 01 000003 AA*16 BB*16 00000006 0000000000000003 00000006 0000000000000004",
+        "a session, and counters",
+    ),
+    (
+        IN_USE,
+        0,
+        "02 01 000002 AA*16 BB*16 00000006 0000000000000003",
+        "counters as a session",
+    ),
+    (
+        IN_USE,
+        0,
+        "02 01 000002 AA*16 BB*16 00000005 0000000000000003",
+        "an equal session",
+    ),
+    (NEW, 0, "02 00", "no session, as before"),
+    (IN_USE, 0, "02 02", "flag of the session"),
+    (
+        IN_USE,
+        0,
+        "02 01 000000 AA*16 BB*16 00000006 0000000000000003",
+        "a session of no JoinNonce",
+    ),
+    (
+        IN_USE,
+        0,
+        "02 01 000003 AA*16 BB*16 00000006 0000000000000003",
+        "a session above the grant",
+    ),
+    (IN_USE, 0, "02", "no byte of the session"),
+    (IN_USE, 0, "01 01 0007 000002", "equal nonces"),
+    (IN_USE, 0, "01 02 0008 000002", "flag of the DevNonce"),
+    (
+        IN_USE,
+        0,
+        "01 00 0008 000002",
+        "a DevNonce that is not there",
+    ),
+    (IN_USE, 0, "01 01 0008 000001", "a grant below the session"),
+    (IN_USE, 0, "08 00", "no pending session, as before"),
+    (
+        IN_USE,
+        0,
+        "08 01 000003 AA*16 BB*16",
+        "a pending session above the grant",
+    ),
+    (
+        GRANTED,
+        0,
+        "08 01 000002 AA*16 BB*16",
+        "a pending session not above the current one",
+    ),
+    (
+        GRANTED,
+        0,
+        "08 01 000000 AA*16 BB*16",
+        "a pending session of no JoinNonce",
+    ),
+    (IN_USE, 0, "08 02", "flag of the pending session"),
+    (IN_USE, 0, "10 00 00000000", "no tag, as before"),
+    (AWAITED_1, 0, "10 01 00000001", "an equal tag"),
+    (IN_USE, 0, "10 00 00000001", "a tag that is not there"),
+    (IN_USE, 0, "10 02 00000001", "flag of the tag"),
+    (IN_USE, 0, "20 00", "an equal MAC queue"),
+    (IN_USE, 0, "20 01 03", "a MAC command that is cut short"),
+    (
+        IN_USE,
+        0,
+        "20 01 02",
+        "a MAC command that may not be queued",
+    ),
+    (IN_USE, 0, "20 02 06", "a MAC queue that is cut short"),
+    (IN_USE, 0, "20 41 06*65", "65 bytes of MAC commands"),
+    (IN_USE, 0, "40 00", "an item that leaves an empty queue"),
+    (
+        IN_USE,
+        16,
+        "40 01 00000009 07 00 01 AA",
+        "an item for a full queue",
+    ),
+    (
+        IN_USE,
+        1,
+        "40 02",
+        "an item that neither leaves nor is added",
+    ),
+    (IN_USE, 1, "40 01 00000009 00 00 01 AA", "port 0"),
+    (IN_USE, 1, "40 01 00000009 E0 00 01 AA", "port 224"),
+    (IN_USE, 1, "40 01 00000009 07 02 01 AA", "flag of the item"),
+    (
+        IN_USE,
+        1,
+        "40 01 00000009 07 00 F3 AA*243",
+        "a payload of 243 bytes",
+    ),
+    (
+        IN_USE,
+        1,
+        "40 01 00000009 07 00 02 AA",
+        "a payload that is cut short",
+    ),
+    (IN_USE, 1, "50 01 00000009", "no byte of the items"),
+];
+
+// What such bytes are refused.
+fn refused(alloc: Global, fault: &Fault) -> Option<Refusal> {
+    let (numbers, waiting, words, _) = fault;
+    let before = found(alloc, numbers, *waiting)?;
+    let bytes = spelled(alloc, words)?;
+    read_change(alloc, &before, bytes.as_slice()).err()
+}
+
+#[test]
+fn what_is_no_change_of_the_record_is_damaged(rt: HostRuntime) {
+    for fault in FAULTS {
+        let refused = refused(rt.alloc(), fault);
+        assert!(rt; refused == Some(Refusal::Damaged), "{}", fault.3);
+    }
+}

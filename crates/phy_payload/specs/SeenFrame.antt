@@ -1,0 +1,22 @@
+-- A data frame over the bytes of which it was read.
+use Rattle.std.specs.Prelude.{◌+◌, ◌≤◌, length}
+use Rattle.phy_payload.specs.declared.data_frame.DataFrame.{DataFrame}
+use Rattle.phy_payload.specs.declared.frame_ref.DataFrameRef.TheInside.{Inside}
+use Rattle.phy_payload.specs.Contents.{carried_contents}
+use Rattle.phy_payload.specs.Reading.{message_of}
+
+abbrev pub frame_of : Inside → DataFrame
+frame_of f =
+    record {
+      confirmed = f.confirmed;
+      dev_addr = f.dev_addr;
+      control = f.control;
+      f_cnt = f.f_cnt;
+      contents = carried_contents f.f_opts.now (message_of f.behind.now);
+      mic = f.mic;
+    }
+
+-- FOpts has at most 15 bytes, and a frame at most 255
+abbrev pub IsSeen : Inside → Type 0
+IsSeen f =
+    (length f.f_opts.now ≤ 15) × (length f.f_opts.now + length f.behind.now ≤ 243)

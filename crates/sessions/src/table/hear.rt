@@ -1,0 +1,190 @@
+// A frame that gateways heard becomes a step of the device that sent it.
+ghost use Rattle.std.specs.Prelude.{◌≡◌, None, Ok, Some, MatchOption, slice_get};
+ghost use Rattle.lw_types.specs.Answer.{Answers, AnswersWithMemory};
+ghost use Rattle.phy_payload.specs.Frame.{data_mic_input};
+ghost use Rattle.join_server.specs.Request.{dev_eui_of, IsRequest};
+ghost use Rattle.sessions.specs.Served.{frame_in, heard_command};
+ghost use Rattle.sessions.specs.Table.{slot_of, step, IsQuestion};
+ghost use Rattle.sessions.specs.Decision.{AnswersTo, IsStepped};
+
+use crate::Table;
+use crate::join::{join, join_ask};
+use crate::served::Served;
+use crate::table::decide::Stepped;
+use devices::{Device, Hearings, slot_at};
+use join_server::{JoinAsk, JoinRequestBytes};
+use lw_types::{Eui, PhyPayload, Refusal};
+use phy_payload::{PhyRef, read_phy};
+use std::alloc::Global;
+use uplinks::{NetworkSlot, ReceivedUplink, Uplink};
+
+/// What the join server is asked, and the device for which it is.
+#[derive(Clone, Copy)]
+pub struct Question<'a> {
+    pub slot: u16,
+    pub device: &'a Device,
+    pub ask: JoinAsk,
+}
+
+impl Table {
+    /// Whether a frame that was heard so would be decided under this sequence number; nothing is
+    /// decided, and neither the frame nor its copies are owned. A refusal is answered as
+    /// [`Table::decide`] answers it.
+    pub fn check_heard(
+        &self,
+        alloc: Global,
+        seq: u64,
+        phy_payload: &PhyPayload,
+        hearings: &Hearings,
+    ) -> Result<(), Refusal>
+        ensures { let command = heard_command phy_payload.now hearings.now in
+            AnswersTo command (step self.now command) (λ _ _. Unit {0}) result }
+    {
+        let _stepped = self.hear(alloc, seq, phy_payload, hearings)?;
+        Ok(())
+    }
+
+    // What is done of a frame that gateways heard.
+    pub(crate) fn hear(
+        &self,
+        alloc: Global,
+        seq: u64,
+        phy_payload: &PhyPayload,
+        hearings: &Hearings,
+    ) -> Result<Stepped, Refusal>
+        ensures { let command = heard_command phy_payload.now hearings.now in
+            AnswersTo command (step self.now command) IsStepped result }
+    {
+        match read_frame(phy_payload.as_slice())? {
+            Served::Request(request) => {
+                self.hear_request(alloc, seq, phy_payload, hearings, request)
+            }
+            Served::Uplink(uplink) => self.hear_uplink(alloc, phy_payload, hearings, &uplink),
+        }
+    }
+
+    /// The question to the join server of a Join-Request, under the number of the decision that it
+    /// would lead to. `None` where no device has its DevEUI.
+    pub fn question(&self, seq: u64, request: &JoinRequestBytes) -> Option<Question<'_>>
+        ensures { MatchOption result
+            (slot_of (dev_eui_of request.now) self.now.devices ≡ None)
+            (λ question. IsQuestion self.now seq request.now question) }
+    {
+        let (slot, device) = self.device_of(request.dev_eui())?;
+        let ask = join_ask(self.net_id(), slot, device, *request, seq);
+        Some(Question { slot, device, ask })
+    }
+
+    // What is done of a Join-Request, under the number of the decision that it would lead to.
+    fn hear_request(
+        &self,
+        alloc: Global,
+        seq: u64,
+        phy_payload: &PhyPayload,
+        hearings: &Hearings,
+        request: JoinRequestBytes,
+    ) -> Result<Stepped, Refusal>
+        requires { frame_in phy_payload.now ≡ Ok (Served.Request request) }
+        ensures { AnswersWithMemory (step self.now (heard_command phy_payload.now hearings.now))
+            IsStepped result }
+    {
+        match self.question(seq, &request) {
+            Some(question) => match join(alloc, question.device, &question.ask, hearings) {
+                Ok((after, effects)) => Ok(Stepped {
+                    slot: question.slot,
+                    after,
+                    effects,
+                }),
+                Err(refusal) => Err(refusal),
+            },
+            None => Err(Refusal::UnknownDevEui),
+        }
+    }
+
+    // What is done of an uplink.
+    fn hear_uplink(
+        &self,
+        alloc: Global,
+        phy_payload: &PhyPayload,
+        hearings: &Hearings,
+        uplink: &Uplink<'_>,
+    ) -> Result<Stepped, Refusal>
+        requires { frame_in phy_payload.now ≡ Ok (Served.Uplink uplink.now) }
+        ensures { Answers (step self.now (heard_command phy_payload.now hearings.now))
+            IsStepped result }
+    {
+        let slot = slot_at(uplink.frame.dev_addr());
+        let received = ReceivedUplink {
+            uplink,
+            message: message_of(phy_payload.as_slice(), uplink),
+            hearings,
+        };
+        match self.devices().get(slot as usize) {
+            Some(device) => {
+                let net_id = self.net_id();
+                let place = NetworkSlot { net_id, slot };
+                match uplinks::hear(alloc, &place, device, &received) {
+                    Ok((after, effects)) => Ok(Stepped {
+                        slot,
+                        after,
+                        effects,
+                    }),
+                    Err(refusal) => Err(refusal),
+                }
+            }
+            None => Err(Refusal::UnknownDevAddr),
+        }
+    }
+
+    // The device with this DevEUI, behind its slot.
+    #[tactic(auto, using(crate::proofs::Placing::found_within, crate::proofs::Placing::found_name))]
+    pub(crate) fn device_of(&self, dev_eui: Eui) -> Option<(u16, &Device)>
+        ensures { MatchOption result
+            (slot_of dev_eui.0 self.now.devices ≡ None)
+            (λ found. (slot_of dev_eui.0 self.now.devices ≡ Some found.0)
+            × (slice_get self.now.devices found.0 ≡ Some found.1.now)
+            × (found.1.now.dev_eui.0 ≡ dev_eui.0)) }
+    {
+        let slot = self.slot_of(dev_eui)?;
+        Some((slot, &self.devices()[slot as usize]))
+    }
+}
+
+// The frame that these bytes are, where it is served. Takes no memory.
+fn read_frame(bytes: &[u8]) -> Result<Served<'_>, Refusal>
+    ensures { result ≡ frame_in bytes.now }
+{
+    match read_phy(bytes) {
+        Ok(PhyRef::JoinRequest(_)) => {
+            phy_payload::laws::reading_is_the_grammar();
+            phy_payload::laws::a_join_request_has_23_bytes();
+            Ok(Served::Request(request_of(bytes)))
+        }
+        Ok(PhyRef::JoinAccept(_)) => Err(Refusal::NotServed),
+        Ok(PhyRef::DataFrame(frame)) => match Uplink::new(frame) {
+            Ok(uplink) => Ok(Served::Uplink(uplink)),
+            Err(refusal) => Err(refusal),
+        },
+        Err(refusal) => Err(refusal),
+    }
+}
+
+// The Join-Request that these bytes are.
+fn request_of(bytes: &[u8]) -> JoinRequestBytes
+    requires { IsRequest bytes.now }
+    ensures { result ≡ bytes.now }
+{
+    let bytes: Result<[u8; 23], _> = bytes.try_into();
+    JoinRequestBytes::new(bytes.unwrap()).unwrap()
+}
+
+// All of an uplink's frame but its MIC.
+fn message_of<'a>(bytes: &'a [u8], uplink: &Uplink<'_>) -> &'a [u8]
+    requires { frame_in bytes.now ≡ Ok (Served.Uplink uplink.now) }
+    ensures { result.now ≡ data_mic_input uplink.now.frame }
+{
+    phy_payload::laws::reading_is_the_grammar();
+    phy_payload::laws::frames_are_short();
+    phy_payload::laws::a_mic_stands_behind_its_input();
+    &bytes[..bytes.len() - 4]
+}
