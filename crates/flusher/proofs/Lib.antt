@@ -1,4 +1,6 @@
 pub mod Calling
 pub mod Holding
 pub mod Lasting
+pub mod Leading
 pub mod Leaving
+pub mod Living

@@ -1,14 +1,16 @@
 // The cycles of a flusher.
-ghost use Rattle.std.specs.Prelude.{◌≡◌, ◌≢◌, ◌⊎◌, ◌==◌, true, List, [], length, Ok, Err, IfOk};
-ghost use Rattle.std.specs.Prelude.{IfErr, OnErr, OnOk, MatchBool, MatchResult};
+ghost use Rattle.std.specs.Prelude.{◌≡◌, ◌≢◌, ◌⊎◌, ◌++◌, ◌==◌, ℕ, true, List, [], length, Ok};
+ghost use Rattle.std.specs.Prelude.{Err, IfOk, IfErr, OnErr, OnOk, MatchBool, MatchResult};
 ghost use Rattle.disk.specs.State.{EveryImage};
 ghost use Rattle.flusher.specs.Calls.{IsUntouched, LastFailed, NoneFailed};
 ghost use Rattle.flusher.specs.Cycle.{ChecksWhereFull, Commits, HoldsWithOrWithout, IsReady};
 ghost use Rattle.flusher.specs.Cycle.{IsUncommitted, IsUnready};
+ghost use Rattle.flusher.specs.Lived.{GoOn, HaveLed};
+ghost use Rattle.flusher.specs.Lives.{Lives};
 ghost use Rattle.flusher.specs.Released.{effects_of_all};
 ghost use Rattle.lw_types.specs.declared.refusal.Refusal.TheVariants.{DeviceFailed};
 ghost use Rattle.sessions.specs.Decision.{commands_of, effects_in};
-ghost use Rattle.sessions.specs.Table.{effects_of};
+ghost use Rattle.sessions.specs.Table.{TableState, effects_of};
 ghost use Rattle.sessions.specs.declared.batch.TheConstants.Batch.{MOST};
 ghost use Rattle.sessions.specs.declared.decision.Decision.{Decision};
 ghost use Rattle.store.specs.Image.{HoldsTable};
@@ -102,8 +104,18 @@ pub fn cycle<D: Disk, F: Feed, C: FnMut(Vec<Released>)>(
         ⊎ ((batch : List Decision) × (F.gives feed.old MOST (Ok batch) feed.new
         × ((e ≡ DeviceFailed) × EveryImage (D.state (disk_of store.new))
         (HoldsWithOrWithout (store_state D.state store.old) batch))))) }
+
+    // Whatever lives led the store here go on, and what left besides was given to `out` at once.
+    ensures lives { D.honest → (t : TableState) (number : ℕ) (lives : Lives)
+        → HaveLed lives t number (store_state D.state store.old)
+        → (next : Lives) × (GoOn t lives next
+        × (HaveLed next t number (store_state D.state store.new)
+        × (((out.new ≡ out.old) × (next.left ≡ lives.left))
+        ⊎ ((released : _) × ((next.left ≡ lives.left ++ effects_of_all released.items)
+        × C.step out.old released tt out.new))))) }
 {
     sessions::laws::folding();
+    sessions::laws::composing();
     store::laws::a_settled_store_is_on_its_disk();
     let room = Room::new(alloc)?;
     make_room(alloc, store)?;

@@ -1,16 +1,31 @@
-//! What follows from the definitions of several lives alone. The function does nothing: its
-//! contract is the law.
-ghost use Rattle.std.specs.Prelude.{ℕ, List};
-ghost use Rattle.flusher.specs.Lives.{LifeEvent, lives_of};
+//! What follows from the definitions of several lives alone. The functions do nothing: their
+//! contracts are the laws.
+ghost use Rattle.std.specs.Prelude.{ℕ, Bool, List};
+ghost use Rattle.disk.specs.State.{IsPermitted};
+ghost use Rattle.flusher.specs.Lived.{HaveLed};
+ghost use Rattle.flusher.specs.Lives.{LifeEvent, Lives, beginning, lives_after, lives_of};
 ghost use Rattle.sessions.specs.Marks.{AreOnce, IsSound, IsSubsequence};
 ghost use Rattle.sessions.specs.Table.{TableState, effects_of, empty_table};
+ghost use Rattle.store.specs.State.{StoreState, IsOpened, IsSettled};
+
+/// Lives begin with a store on which nothing is under way, as one that was formatted or opened, and
+/// go on where an image is opened that a crash may have left of its disk ([`store::open`]).
+pub fn lives_go_on()
+    ensures begun { (s : StoreState) → IsSettled s → HaveLed beginning s.table s.seq s }
+    ensures opened { (lives : Lives) (t : TableState) (number : ℕ) (s opened : StoreState)
+        (left : List ℕ) → HaveLed lives t number s → IsPermitted s.log.disk left
+        → IsOpened left opened
+        → (found : Bool) × HaveLed (lives_after t lives (LifeEvent.Opened found)) t number opened }
+{
+    sessions::laws::composing();
+    store::laws::a_settled_store_is_on_its_disk();
+}
 
 /// No mark leaves twice, over any cycles, crashes and openings: what has left is part of the
 /// effects of the commands that the store has, from its beginning on.
 ///
-/// A cycle is a call of [`crate::cycle`], by whose contract a batch leaves only with its commands
-/// on the table and on the disk, and a refused one is on the disk or isn't. An opening gives what
-/// the disk holds ([`store::open`]).
+/// These lives are those that [`crate::cycle`] moves on (`lives`), each call by one event or none,
+/// and [`lives_go_on`] an opening.
 pub fn no_mark_leaves_twice()
     ensures part { (t : TableState) (events : List LifeEvent)
         → IsSubsequence (lives_of t events).left (effects_of t (lives_of t events).durable) }

@@ -1,4 +1,10 @@
 // A flusher's cycles, one after another.
+ghost use Rattle.std.specs.Global.{Global};
+ghost use Rattle.std.specs.Prelude.{Vec};
+ghost use Rattle.flusher.specs.Lived.{LeadOn};
+ghost use Rattle.flusher.specs.Released.{effects_of_all};
+ghost use Rattle.store.specs.State.{store_state};
+
 use crate::{Feed, Released, cycle};
 use disk::Disk;
 use lw_types::Refusal;
@@ -19,6 +25,11 @@ pub fn serve<R: Wait, D: Disk, F: Feed, C: FnMut(Vec<Released>), S: FnMut() -> b
 ) -> Result<(), Refusal>
     requires out { C.IsAlwaysCallable out.old }
     requires done { S.IsAlwaysCallable done.old }
+
+    // Whatever lives led the store here go on, and what left besides was given to `out`, in order.
+    ensures lives { D.honest → LeadOn (λ (released : Vec Released Global).
+        effects_of_all released.items) (λ before released after. C.step before released tt after)
+        (store_state D.state store.old) (store_state D.state store.new) out.old out.new }
 {
     for _ in rt.forever() {
         if cycle(store, feed, alloc, out)? == 0 && done() {

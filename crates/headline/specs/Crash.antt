@@ -1,20 +1,33 @@
 -- What a store was opened from.
 use Rattle.std.specs.Prelude.{List, ℕ}
 use Rattle.disk.specs.Crash.{IsCrashed}
-use Rattle.disk.specs.State.{State, IsPermitted}
+use Rattle.disk.specs.State.{IsPermitted}
+use Rattle.disk.specs.declared.disk.Disk.{Ghosts}
 use Rattle.disk.specs.declared.sim.Image.{Image}
 use Rattle.store.specs.State.{StoreState, IsOpened}
-use Rattle.world.specs.Course.{Origin, Course}
-use Rattle.world.specs.Follows.{Survives}
+use Rattle.world.specs.Course.{Origin, beginning, course_of}
+use Rattle.world.specs.Follows.{Follows, Survives}
+use Rattle.world.specs.Sound.{HasDisk}
+use Rattle.world.specs.Stepping.{MakesSteps}
+use Rattle.world.specs.declared.answer.Answer.{Answer}
+use Rattle.world.specs.declared.step.Step.{Step}
+use Rattle.world.specs.declared.world.World.{World}
 
--- A store was opened of what a crash to an image left of some disk. Of that disk every crash leaves
--- what a beginning of the decided commands leads to, one that holds every command whose batch was
--- released; what was left is among these, and the store has what it holds.
-pub record IsOpenedAfterCrash (origin : Origin) (c : Course) (image : Image)
-    (store : StoreState) : Type 0 where
-  pub before : State
-  pub survives : Survives origin c before
+-- A world with a new store made these steps, answered so. Its disk then crashed to this image, and
+-- the store was opened of what was left. Whatever a crash could have left of that disk holds what a
+-- beginning of the decided commands leads to, one that holds every command whose batch was
+-- released.
+pub record IsOpenedAfterCrash {D : Type 0} (laws : Ghosts D) (origin : Origin) (steps : List Step)
+    (answers : List Answer) (image : Image) (store : StoreState) : Type 0 where
+  pub first : World D laws
+  pub formatted : Follows laws.state origin (beginning origin) first
+  pub last : World D laws
+  pub made : MakesSteps laws first steps answers last
+  pub disk : D
+  pub at : HasDisk last.place disk
+  pub survives : Survives origin (course_of origin (beginning origin) steps answers)
+      (laws.state disk)
   pub left : List ℕ
-  pub crashed : IsCrashed image before left
-  pub permitted : IsPermitted before left
+  pub crashed : IsCrashed image (laws.state disk) left
+  pub permitted : IsPermitted (laws.state disk) left
   pub opened : IsOpened left store

@@ -28,11 +28,11 @@ use world::{Answer, Step, World, run};
 /// failure.
 ///
 /// Where it isn't refused, each answer is the right one, a failed call of the disk comes where it
-/// is due, the store was opened of this image of a disk of which every image would have done (that
-/// it is the disk that these steps left is seen in the body, and no clause says so), and it has the
-/// table and the number that a beginning of the decided commands leaves. That beginning holds every
-/// command of which an effect has left. And over all lives no mark was used up twice by what has
-/// left: no JoinNonce of a device stands in two accepts.
+/// is due, the store was opened of this image of the disk that these steps left, of which every
+/// image would have done, and it has the table and the number that a beginning of the decided
+/// commands leaves. That beginning holds every command of which an effect has left. And over all
+/// lives no mark was used up twice by what has left: no JoinNonce of a device stands in two
+/// accepts.
 pub fn crash_after<D: Sim + Drop>(
     alloc: Global,
     disk: D,
@@ -46,10 +46,8 @@ pub fn crash_after<D: Sim + Drop>(
     ensures calls { IfOk result (λ found. AreForetold
         (record { failed = D.failures disk; coming = outlook_after_opening (D.outlook disk) })
         steps.now found.0.items) }
-    ensures crash { IfOk result (λ found. IsOpenedAfterCrash (new_store net_id slots)
-        (course_of (new_store net_id slots) (beginning (new_store net_id slots)) steps.now
-        found.0.items)
-        image.now (store_state D.state found.1)) }
+    ensures crash { IfOk result (λ found. IsOpenedAfterCrash D.Disk (new_store net_id slots)
+        steps.now found.0.items image.now (store_state D.state found.1)) }
     ensures recovers { IfOk result (λ found. Recovers (new_store net_id slots)
         (course_of (new_store net_id slots) (beginning (new_store net_id slots)) steps.now
         found.0.items)

@@ -335,13 +335,14 @@ in_step_on laws origin c (s ∷ steps) (a ∷ told) right still up none is =
     (stays_open laws origin c s a first.0 is))
 
 -- what a world at its beginning gave, when no step was a crash
-pub one_life : (laws : RunLaws) (origin : Origin) (steps : List Step) (told : List Answer) → AreRight origin (beginning origin) steps told → HasNoCrash steps
-    → IsOneLife origin (course_of origin (beginning origin) steps told) steps told
-one_life laws origin steps told right still =
+pub one_life : (laws : RunLaws) (origin : Origin) (effects : List Effect) (steps : List Step) (told : List Answer) → AreRight origin (beginning origin) steps told → HasNoCrash steps
+    → (course_of origin (beginning origin) steps told).left ≡ origin.left ++ effects
+    → IsOneLife origin (course_of origin (beginning origin) steps told) effects steps told
+one_life laws origin effects steps told right still left =
     let count = length origin.left in
     let none : [] ≡ map emission (drop count (take count origin.left)) =
     sym (ap (map emission) (ap (drop count) (take_all count origin.left (omega arith)) ∙ drop_all count origin.left (omega arith))) in
     let lives =
     lives_on laws origin (beginning origin) [] steps told right still
     (record { released = sym (append-nil origin.left); emitted = none; past = omega arith; within = omega arith; is_open = refl }) in
-    record { released = lives.released; emitted = lives.emitted; in_step = λ up. in_step_on laws origin (beginning origin) steps told right still up refl refl }
+    record { left = left; released = lives.released; emitted = lives.emitted; in_step = λ up. in_step_on laws origin (beginning origin) steps told right still up refl refl }

@@ -1,6 +1,7 @@
 -- One step more in a run.
 use Rattle.std.proofs.Common.{◌≡◌, ℕ, List, [], ◌∷◌, ◌++◌, sym, subst, refl}
 use Rattle.disk.specs.Outlook.{Outlook}
+use Rattle.disk.specs.declared.disk.Disk.{Ghosts}
 use Rattle.disk.specs.State.{State}
 use Rattle.world.specs.declared.answer.Answer.{Answer}
 use Rattle.world.specs.declared.step.Step.{Step}
@@ -10,6 +11,7 @@ use Rattle.world.specs.Calls.{CallRecord, calls_after, calls_of, IsForetold, Are
 use Rattle.world.specs.Course.{Origin, Course, course_after, course_of}
 use Rattle.world.specs.Answers.{AreRight, IsRight}
 use Rattle.world.specs.Follows.{Follows, Moves, Runs}
+use Rattle.world.specs.Stepping.{MakesStep, MakesSteps}
 
 one_more : (origin : Origin) (c : Course) (steps : List Step) (answers : List Answer) (step : Step) (answer : Answer) → AreRight origin c steps answers
     → IsRight origin (course_of origin c steps answers) step answer
@@ -48,3 +50,13 @@ foretells_on failures outlook old mid new steps answers step answer run move cal
     let moved = move (calls_of calls steps answers) before.1 in
     let more = one_told calls steps answers step answer before.0 moved.0 in
     (more.0, subst (λ k. AreCallsAt failures outlook k new) (sym more.1) moved.1)
+
+-- and of the worlds between
+pub makes_more : {D : Type 0} (disk : Ghosts D) (old mid new : World D disk) (steps : List Step) (answers : List Answer) (step : Step) (answer : Answer)
+    → MakesSteps disk old steps answers mid → MakesStep disk mid step answer new
+    → MakesSteps disk old (steps ++ step ∷ []) (answers ++ answer ∷ []) new
+makes_more disk old mid new [] [] step answer is made = (new, (subst (λ w. MakesStep disk w step answer new) is made, refl))
+makes_more disk old mid new [] (a ∷ answers) step answer before made = absurd before
+makes_more disk old mid new (s ∷ steps) [] step answer before made = absurd before
+makes_more disk old mid new (s ∷ steps) (a ∷ answers) step answer before made =
+    (before.0, (before.1.0, makes_more disk before.0 mid new steps answers step answer before.1.1 made))

@@ -7,5 +7,6 @@ pub mod Course
 pub mod Answers
 pub mod Commits
 pub mod Follows
+pub mod Stepping
 pub mod OneLife
 pub mod Folding

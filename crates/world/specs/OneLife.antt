@@ -1,5 +1,6 @@
 -- One life: from a new world on, no crash among the steps.
-use Rattle.std.specs.Prelude.{◌≡◌, List, [], ◌∷◌, length, take, drop, map}
+use Rattle.std.specs.Prelude.{◌≡◌, List, [], ◌∷◌, ◌++◌, length, take, drop, map}
+use Rattle.devices.specs.declared.effect.Effect.{Effect}
 use Rattle.lw_types.specs.declared.refusal.Refusal.TheVariants.{OutOfStep}
 use Rattle.gateway_wire.specs.declared.emission.Emission.{Emission}
 use Rattle.gateway_wire.specs.Emission.{emission}
@@ -33,11 +34,12 @@ emissions [] = []
 emissions (answers.Emitted e ∷ rest) = e ∷ emissions rest
 emissions (answer ∷ rest) = emissions rest
 
--- What one life gave: the effects of the commands whose batches were released, in order and
--- complete; of these a beginning was emitted; and no batch was out of step, unless one before it
--- was lost.
-pub record IsOneLife (origin : Origin) (c : Course) (steps : List Step)
+-- What one life gave: these effects left, which are those of the commands whose batches were
+-- released, in order and complete; of these a beginning was emitted; and no batch was out of step,
+-- unless one before it was lost.
+pub record IsOneLife (origin : Origin) (c : Course) (effects : List Effect) (steps : List Step)
     (told : List Answer) : Type 0 where
+  pub left : c.left ≡ origin.left ++ effects
   pub released : c.left ≡ effects_from origin c.settled
   pub emitted : emissions told ≡ map emission (drop (length origin.left) (take c.emitted c.left))
   pub in_step : NoneGivenUp told → NoneOutOfStep steps told

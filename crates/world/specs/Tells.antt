@@ -1,6 +1,6 @@
--- What one step's answer tells of the disk: a full journal only where it is, how long a checkpoint
+-- What a step's answer tells of the disk: a full journal only where it is, how long a checkpoint
 -- takes, and a crash leaves the image that it names.
-use Rattle.std.specs.Prelude.{◌≡◌, ◌<◌, ◌≤◌, List, [], ◌∷◌, if◌then◌else◌}
+use Rattle.std.specs.Prelude.{◌≡◌, ◌<◌, ◌≤◌, if◌then◌else◌}
 use Rattle.lw_types.specs.declared.refusal.Refusal.{Refusal}
 use Rattle.lw_types.specs.declared.refusal.Refusal.TheVariants as refusals
 use Rattle.disk.specs.declared.sim.Image.{Image}
@@ -59,17 +59,3 @@ CrashesTo {D} state image old new =
 abbrev pub LeavesImage : {D : Type 0} {g : _} → (D → State) → Place D g → Step → Place D g → Type 0
 LeavesImage state old (steps.Crash image) new = CrashesTo state image old new
 LeavesImage state old step new = Unit {0}
-
--- what the answer to one step tells of the disk
-abbrev pub TellsFirst : {D : Type 0} {g : _} → (D → State) → Place D g → Step → List Answer
-    → Place D g → Type 0
-TellsFirst state old step (answer ∷ []) new =
-    PlaceTellsRoom state old step answer × LeavesImage state old step new
-TellsFirst state old step told new = Unit {0}
-
--- the same of a run of one step
-abbrev pub TellsAlone : {D : Type 0} {g : _} → (D → State) → Place D g → List Step → List Answer
-    → Place D g → Type 0
-TellsAlone state old [] told new = new ≡ old
-TellsAlone state old (step ∷ []) told new = TellsFirst state old step told new
-TellsAlone state old (step ∷ next ∷ rest) told new = Unit {0}

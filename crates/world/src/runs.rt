@@ -1,12 +1,13 @@
 // Runs of steps.
 ghost use Rattle.std.specs.Prelude.{◌≡◌, IfOk, IfErr, length};
 ghost use Rattle.lw_types.specs.declared.refusal.Refusal.TheVariants.{OutOfMemory};
+ghost use Rattle.flusher.specs.Released.{effects_of_all};
 ghost use Rattle.world.specs.Course.{Origin, beginning, course_of};
 ghost use Rattle.world.specs.Follows.{Follows, Runs};
 ghost use Rattle.world.specs.OneLife.{HasNoCrash, IsOneLife};
 ghost use Rattle.world.specs.Sound.{IsSoundWorld};
 ghost use Rattle.world.specs.Calls.{ForetellsAll};
-ghost use Rattle.world.specs.Tells.{TellsAlone};
+ghost use Rattle.world.specs.Stepping.{MakesSteps};
 
 use crate::{Answer, Step, World, laws};
 use disk::Sim;
@@ -21,11 +22,11 @@ use std::alloc::Global;
 /// order and complete (`one_life`), and after a crash the store has the fold of a beginning of
 /// them, which holds every command of which an effect has left. What the coming calls of the disk
 /// will answer is known step by step (`calls`): one that is armed is refused as `DeviceFailed`, and
-/// one that isn't never is. A run of one step tells more (`alone`): a take is answered `Full`
-/// exactly where it would begin a batch and the journal has no room for the largest one, and a
-/// crash leaves the image that it names. A step costs by what it touches: only a list, a crash, and
-/// the take after one that was refused cost by the number of devices, and a crash by the journal's
-/// bytes.
+/// one that isn't never is. Each step leads from the world that the one before left (`steps`): a
+/// take is answered `Full` only where the journal has no room for the largest batch, a checkpoint
+/// has as many calls as the other area's gate wants, and a crash leaves the image that it names. A
+/// step costs by what it touches: only a list, a crash, and the take after one that was refused
+/// cost by the number of devices, and a crash by the journal's bytes.
 pub fn run<D: Sim + Drop>(
     world: &mut World<D>,
     alloc: Global,
@@ -34,8 +35,8 @@ pub fn run<D: Sim + Drop>(
     requires { IsSoundWorld D.state world.old }
     ensures sound { IsSoundWorld D.state world.new }
     ensures answers { IfOk result (λ answers. length answers.items ≡ length steps.now) }
-    ensures alone { IfOk result (λ answers. TellsAlone D.state world.old.place steps.now
-        answers.items world.new.place) }
+    ensures steps { IfOk result
+        (λ answers. MakesSteps D.Disk world.old steps.now answers.items world.new) }
     ensures course { IfOk result
         (λ answers. Runs D.state world.old steps.now answers.items world.new) }
     ensures calls { IfOk result (λ answers. ForetellsAll D.failures D.outlook world.old.place
@@ -43,7 +44,8 @@ pub fn run<D: Sim + Drop>(
     ensures one_life { IfOk result
         (λ answers. (origin : Origin) → Follows D.state origin (beginning origin) world.old
         → HasNoCrash steps.now → IsOneLife origin
-        (course_of origin (beginning origin) steps.now answers.items) steps.now answers.items) }
+        (course_of origin (beginning origin) steps.now answers.items)
+        (effects_of_all world.new.released.items) steps.now answers.items) }
     ensures refused { IfErr result (λ e. (e ≡ OutOfMemory) × (world.new ≡ world.old)) }
 {
     laws::of_runs();

@@ -24,7 +24,12 @@ returns-in_ok-store-in-Ok-clause-crash g c =
     let course = course_of origin (beginning origin) c.args.steps.now c.in-Ok.answers.items in
     let followed = (c.in-Ok.ensures.course origin (beginning origin) c.in_ok-world.ensures.course).1 in
     record {
-      before = g.D.Disk.state c.close-disk.result;
+      first = c.in_ok-world.world;
+      formatted = c.in_ok-world.ensures.course;
+      last = c.run.new.world;
+      made = c.in-Ok.ensures.steps;
+      disk = c.close-disk.result;
+      at = c.close-disk.ensures.disk;
       survives = (c.close-disk.ensures.course origin course followed).0;
       left = (g.D.Disk.state c.crash.new.self).content;
       crashed = c.crash.ensures.image;

@@ -1,9 +1,15 @@
-use Rattle.std.proofs.Common.{◌≡◌, ◌∙◌, [], List, length, inl, inr, refl, ap, sym, Ok, Err, arith}
+use Rattle.std.proofs.Common.{◌≡◌, ◌∙◌, ◌++◌, [], length, inl, inr, refl, ap, subst, sym, arith}
 use Rattle.sessions.specs.Decision.{effects_in}
 use Rattle.sessions.specs.declared.decision.Decision.{Decision}
 use Rattle.store.specs.State.{store_state}
 use Rattle.flusher.proofs.Calling.{none_then, none_yet, refused_images, settled_still, then_refused, uncommitted_along, untouched_then}
 use Rattle.flusher.proofs.Holding.{commits_along, held_along, on_refused, on_some}
+use Rattle.flusher.proofs.Living.{by_failed, commits, fails, rests, tears}
+use Rattle.flusher.specs.Lived.{HaveLed}
+use Rattle.flusher.specs.Lives.{lives_after}
+use Rattle.flusher.specs.Lives.LifeEvent.{Released, Torn}
+use Rattle.sessions.specs.Decision.{commands_of}
+use Rattle.sessions.specs.Table.{effects_of}
 use Rattle.flusher.proofs.cycles.cycle.Goals as goal
 
 pub returns-in_err-room-clause-images : goal.returns-in_err-room-clause-images
@@ -154,3 +160,99 @@ returns-in_err-room-clause-calls g c =
 
 pub returns-in_err-durable-clause-held_back : goal.returns-in_err-durable-clause-held_back
 returns-in_err-durable-clause-held_back g c = on_refused c.from_residual-in_err-durable.result c.in_err-durable.field-0.0 _ _ c.from_residual-in_err-durable.ensures.1 refl
+
+pub returns-in_err-room-clause-lives : goal.returns-in_err-room-clause-lives
+returns-in_err-room-clause-lives g c honest t number lives led = (lives, (inl refl, (led, inl (refl, refl))))
+
+pub returns-in_err-make_room-clause-lives : goal.returns-in_err-make_room-clause-lives
+returns-in_err-make_room-clause-lives g c honest t number lives led =
+    let s = store_state g.D.Disk.state c.args.store.now in
+    let new = store_state g.D.Disk.state c.make_room.new.store in
+    let done = c.in_err-make_room.ensures in
+    let still : HaveLed lives t number new =
+    by_failed lives t number s led (λ is. subst (HaveLed lives t number) (sym (done.closed is).0) led)
+    (λ nothing settled. elim done.refused [
+      | inl same ↦ subst (HaveLed lives t number) (sym same.0) led
+      | inr (is, last) ↦ fails lives t number s led new done.table done.seq last.failed (done.images honest settled)
+    ]) in
+    (lives, (inl refl, (still, inl (refl, refl))))
+
+pub returns-in_err-batch-clause-lives : goal.returns-in_err-batch-clause-lives
+returns-in_err-batch-clause-lives g c honest t number lives led =
+    let s = store_state g.D.Disk.state c.args.store.now in
+    let mid = store_state g.D.Disk.state c.make_room.new.store in
+    let ready = c.in_ok-make_room.ensures in
+    let still : HaveLed lives t number mid =
+    by_failed lives t number s led (λ is. subst (HaveLed lives t number) (sym (ready.closed is).0) led)
+    (λ nothing settled.
+    rests lives t number s led c.a_settled_store_is_on_its_disk.ensures mid ready.table ready.seq nothing (ready.images honest settled)) in
+    (lives, (inl refl, (still, inl (refl, refl))))
+
+pub returns-then-count-eq0-clause-lives : goal.returns-then-count-eq0-clause-lives
+returns-then-count-eq0-clause-lives g c honest t number lives led =
+    let s = store_state g.D.Disk.state c.args.store.now in
+    let mid = store_state g.D.Disk.state c.make_room.new.store in
+    let ready = c.in_ok-make_room.ensures in
+    let still : HaveLed lives t number mid =
+    by_failed lives t number s led (λ is. subst (HaveLed lives t number) (sym (ready.closed is).0) led)
+    (λ nothing settled.
+    rests lives t number s led c.a_settled_store_is_on_its_disk.ensures mid ready.table ready.seq nothing (ready.images honest settled)) in
+    (lives, (inl refl, (still, inl (refl, refl))))
+
+pub returns-in_err-durable-clause-lives : goal.returns-in_err-durable-clause-lives
+returns-in_err-durable-clause-lives g c honest t number lives led =
+    let s = store_state g.D.Disk.state c.args.store.now in
+    let mid = store_state g.D.Disk.state c.make_room.new.store in
+    let new = store_state g.D.Disk.state c.commit.new.store in
+    let ready = c.in_ok-make_room.ensures in
+    let done = c.in_err-durable.ensures in
+    let batch = c.in_ok-batch.batch in
+    let still : HaveLed lives t number mid =
+    by_failed lives t number s led (λ is. subst (HaveLed lives t number) (sym (ready.closed is).0) led)
+    (λ nothing settled.
+    rests lives t number s led c.a_settled_store_is_on_its_disk.ensures mid ready.table ready.seq nothing (ready.images honest settled)) in
+    by_failed lives t number mid still (λ is. (lives, (inl refl, (subst (HaveLed lives t number) (sym (done.closed is).0) still, inl (refl, refl)))))
+    (λ nothing settled. elim done.refused [
+      | inl same ↦ (lives, (inl refl, (subst (HaveLed lives t number) (sym same.0) still, inl (refl, refl))))
+      | inr (is, last) ↦ (
+        lives_after t lives (Torn (commands_of batch)),
+        (
+          inr (Torn (commands_of batch), refl),
+          (
+            tears lives t number mid still new batch done.commits.0 done.commits.1 last.failed (done.images honest settled),
+            inl (refl, refl),
+          ),
+        ),
+      )
+    ])
+
+pub returns-clause-lives : goal.returns-clause-lives
+returns-clause-lives g c honest t number lives led =
+    let s = store_state g.D.Disk.state c.args.store.now in
+    let mid = store_state g.D.Disk.state c.make_room.new.store in
+    let new = store_state g.D.Disk.state c.commit.new.store in
+    let ready = c.in_ok-make_room.ensures in
+    let done = c.in_ok-durable.ensures in
+    let batch = c.in_ok-batch.batch in
+    let commands = commands_of batch in
+    let still : HaveLed lives t number mid =
+    by_failed lives t number s led (λ is. subst (HaveLed lives t number) (sym (ready.closed is).0) led)
+    (λ nothing settled.
+    rests lives t number s led c.a_settled_store_is_on_its_disk.ensures mid ready.table ready.seq nothing (ready.images honest settled)) in
+    let released = c.release.ensures in
+    let effects =
+    released.1.0
+    ∙ (ap effects_in done.batch
+    ∙ (sym (c.folding.ensures.effects mid.table batch done.commits.continues.fit) ∙ ap (λ u. effects_of u commands) still.table)) in
+    by_failed lives t number mid still
+    (λ is. absurd (omega (arith, ap (λ u. u.seq) (done.closed is).0, done.commits.seq, c.if-count-eq0.false, c.len-count.ensures.len)))
+    (λ nothing settled. (
+      lives_after t lives (Released commands),
+      (
+        inr (Released commands, refl),
+        (
+          commits lives t number mid still c.a_settled_store_is_on_its_disk.ensures c.composing.ensures.table new batch nothing done.commits (done.images honest settled),
+          inr (released.0, (ap (λ es. lives.left ++ es) (sym effects), released.1.1)),
+        ),
+      ),
+    ))

@@ -1,4 +1,4 @@
-use Rattle.std.proofs.Common.{◌≡◌, ◌≤◌, ◌+◌, ◌∙◌, ◌∷◌, ◌++◌, [], cond, is_ok, length, sym, ap, arith, length-append}
+use Rattle.std.proofs.Common.{◌≡◌, ◌∙◌, ◌∷◌, ◌++◌, [], cond, is_ok, length, sym, ap, arith, length-append}
 use Rattle.flusher.specs.Released.{effects_of_all}
 use Rattle.flusher.proofs.Leaving.{one_more}
 use Rattle.flusher.proofs.durable.release_one.Goals as goal

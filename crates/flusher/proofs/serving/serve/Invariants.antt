@@ -1,6 +1,17 @@
+-- Both closures can be called again, and lives have led the store here.
 use denote.Param.Always.{always_mut}
+use denote.Param.Members.{Called}
+use Rattle.std.proofs.Common.{Vec, Global}
+use Rattle.store.specs.State.{store_state}
+use Rattle.flusher.specs.Lived.{LeadOn}
+use Rattle.flusher.specs.Released.{effects_of_all}
+use Rattle.flusher.specs.declared.released.Released.{Released}
 use Rattle.flusher.proofs.serving.serve.Given as goal
 
--- both closures can be called again
 abbrev pub invariant-loop : goal.invariant-loop
-invariant-loop g l = always_mut g.C.FnMut l.out × always_mut g.S.FnMut l.done
+invariant-loop g l =
+    always_mut g.C.FnMut l.out
+    × (always_mut g.S.FnMut l.done
+    × (g.D.Disk.honest
+    → LeadOn (λ (released : Vec Released Global). effects_of_all released.items) (λ before released after. Called g.C.FnMut before (released, tt) tt after)
+    (store_state g.D.Disk.state l.fn.store) (store_state g.D.Disk.state l.store) l.fn.out l.out))

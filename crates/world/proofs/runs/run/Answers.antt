@@ -1,12 +1,12 @@
 use Rattle.std.proofs.Common.{◌≡◌, ◌∙◌, ◌+◌, ◌<◌, ◌≤◌, [], ◌∷◌, ◌++◌, cond, is_ok, length, take, sym, ap, subst, arith}
 use Rattle.std.proofs.lemmas.List.{take_more, take_all, length_push}
+use Rattle.flusher.specs.Released.{effects_of_all}
 use Rattle.world.specs.Course.{beginning}
 use Rattle.world.specs.Calls.{ForetellsAll}
 use Rattle.world.specs.Follows.{Runs}
-use Rattle.world.specs.Tells.{TellsAlone}
+use Rattle.world.specs.Stepping.{MakesSteps}
 use Rattle.world.proofs.OneLife.{one_life}
-use Rattle.world.proofs.Stepping.{runs_on, foretells_on}
-use Rattle.world.proofs.Telling.{alone_on}
+use Rattle.world.proofs.Stepping.{runs_on, foretells_on, makes_more}
 use Rattle.world.proofs.runs.run.Goals as goal
 
 pub loop-step-preserved : goal.loop-step-preserved
@@ -28,8 +28,9 @@ loop-step-preserved g c =
     let runs = runs_on state old c.loop-step.world new (take at steps) told step c.step.result before.1.0 c.step.ensures.course in
     let foretold =
     foretells_on failures outlook old.place c.loop-step.world.place new.place (take at steps) told step c.step.result before.1.1.0 c.step.ensures.calls in
-    let alone =
-    alone_on state old.place c.loop-step.world.place new.place (take at steps) told step c.step.result before.1.1.1.0 c.step.ensures.room_told c.step.ensures.crashed in
+    let made =
+    makes_more g.D.Disk old c.loop-step.world new (take at steps) told step c.step.result before.1.1.1.0
+    (record { moves = c.step.ensures.course; calls = c.step.ensures.calls; room = c.step.ensures.room_told; image = c.step.ensures.crashed }) in
     let longer = ap length added ∙ length_push told c.step.result in
     let grown = c.push-pushed.ensures.capacity in (
       c.step.ensures.sound,
@@ -40,8 +41,8 @@ loop-step-preserved g c =
           subst (λ ss. ForetellsAll failures outlook old.place ss c.push-pushed.new.self.items new.place) (sym next)
               (subst (λ told. ForetellsAll failures outlook old.place (take at steps ++ step ∷ []) told new.place) (sym added) foretold),
           (
-            subst (λ ss. TellsAlone state old.place ss c.push-pushed.new.self.items new.place) (sym next)
-                (subst (λ told. TellsAlone state old.place (take at steps ++ step ∷ []) told new.place) (sym added) alone),
+            subst (λ ss. MakesSteps g.D.Disk old ss c.push-pushed.new.self.items new) (sym next)
+                (subst (λ told. MakesSteps g.D.Disk old (take at steps ++ step ∷ []) told new) (sym added) made),
             (omega (arith, longer, before.1.1.1.1.0), omega (arith, before.1.1.1.1.1)),
           ),
         ),
@@ -55,7 +56,8 @@ returns-clause-one_life g c origin f still =
     let at = c.loop-step.step-index in
     let past : length steps ≤ at = omega (arith, c.loop-step-test.false) in
     let runs = subst (λ ss. Runs g.D.Disk.state c.args.world.now ss told c.loop-step.world) (take_all at steps past) c.loop-step.invariant.1.0 in
-    one_life c.of_runs.ensures origin steps told (runs origin (beginning origin) f).0 still
+    let run = runs origin (beginning origin) f in
+    one_life c.of_runs.ensures origin (effects_of_all c.loop-step.world.released.items) steps told run.0 still run.1.left
 
 pub returns-clause-calls : goal.returns-clause-calls
 returns-clause-calls g c =

@@ -1,0 +1,41 @@
+-- Where lives have led a store.
+use Rattle.std.specs.Prelude.{◌≡◌, ◌⊎◌, ◌+◌, ◌++◌, ℕ, List, [], length, flat_map, MatchBool}
+use Rattle.std.specs.List.{FoldsTo}
+use Rattle.devices.specs.declared.command.Command.{Command}
+use Rattle.devices.specs.declared.effect.Effect.{Effect}
+use Rattle.disk.specs.State.{EveryImage}
+use Rattle.sessions.specs.Table.{TableState, fold_of}
+use Rattle.store.specs.Image.{HoldsTable}
+use Rattle.store.specs.State.{StoreState, IsSettled}
+use Rattle.flusher.specs.Lives.{LifeEvent, Lives, lives_after, lives_after_all}
+
+-- an image holds what a store has, or that with these commands
+abbrev pub HoldsWithTorn : StoreState → List Command → List ℕ → Type 0
+HoldsWithTorn s torn image =
+    HoldsTable s.table s.seq image
+    ⊎ HoldsTable (fold_of s.table torn) (s.seq + length torn) image
+
+-- Lives that began with this table and number have led a store here: it has the fold of what is
+-- durable, and whatever a crash leaves of its disk holds that, without what is torn or with it.
+-- While no call of the disk has failed nothing is torn, and nothing is under way.
+pub record HaveLed (lives : Lives) (t : TableState) (number : ℕ) (s : StoreState) : Type 0 where
+  pub table : s.table ≡ fold_of t lives.durable
+  pub seq : s.seq ≡ number + length lives.durable
+  pub images : EveryImage s.log.disk (HoldsWithTorn s lives.torn)
+  pub settled : MatchBool s.failed (Unit {0}) ((lives.torn ≡ []) × IsSettled s)
+
+-- one event, or none, makes these lives of those
+abbrev pub GoOn : TableState → Lives → Lives → Type 0
+GoOn t lives next = (next ≡ lives) ⊎ ((event : LifeEvent) × (next ≡ lives_after t lives event))
+
+-- Whatever lives led a store here have led it there, by one event after another; and what left
+-- besides was given away in calls, in order, by which the one who takes it came from `old` to
+-- `new`.
+abbrev pub LeadOn : {C V : Type 0} → (V → List Effect) → (C → V → C → Type 0) → StoreState
+    → StoreState → C → C → Type 0
+LeadOn {C} {V} effects call here there old new =
+    (t : TableState) (number : ℕ) (lives : Lives) → HaveLed lives t number here
+    → (events : List LifeEvent) × (HaveLed (lives_after_all t lives events) t number there
+    × ((calls : List V)
+    × (((lives_after_all t lives events).left ≡ lives.left ++ flat_map effects calls)
+    × FoldsTo call old calls new)))
