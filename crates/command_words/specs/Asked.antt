@@ -1,5 +1,5 @@
 -- What words ask for.
-use Rattle.std.specs.Prelude.{◌≡◌, ◌≢◌, ◌<◌, ◌≤◌, ◌⊎◌, ℕ, List, Option, Some, codes}
+use Rattle.std.specs.Prelude.{◌≡◌, ◌≢◌, ◌<◌, ◌≤◌, ◌⊎◌, ℕ, List, [], Option, Some, codes}
 use Rattle.std.specs.Str.Parse.{IsNumeral, digits_value, without_leading_plus}
 use Rattle.clap.specs.Words.{IsAmong, Row, Text, fault_of, first_of, one_of, subcommand_of}
 use Rattle.clap.specs.declared.error.kind.ErrorKind.{ErrorKind}
@@ -51,12 +51,22 @@ IsToldOf kind (usage.Words text) = (kind ≢ OutOfMemory) × ¬ IsShown kind
 IsToldOf kind (usage.Help text) = (kind ≢ OutOfMemory) × IsShown kind
 IsToldOf kind usage.Memory = Unit
 
--- why these words ask for no mode: clap finds a fault of them or has a text to show, or it finds
--- none, and the NetID or a number is none
-abbrev pub IsUsageOf : List Text → Usage → Type 0
-IsUsageOf words (usage.Words text) =
+-- these words ask for this, and clap finds no fault of them
+abbrev pub AskFor : List Text → Mode → Type 0
+AskFor words m = IsModeOf (subcommand_of lnsd_line words) m × (fault_of lnsd_line words ≡ [])
+
+-- they are wrong: clap finds a fault of them, or it finds none, and the NetID or a number is none
+abbrev pub AreWrong : List Text → Type 0
+AreWrong words =
     ((kind : ErrorKind) × IsAmong kind (fault_of lnsd_line words) × ¬ IsShown kind)
     ⊎ HasNoMode (subcommand_of lnsd_line words)
-IsUsageOf words (usage.Help text) =
-    (kind : ErrorKind) × IsAmong kind (fault_of lnsd_line words) × IsShown kind
+
+-- they ask for a text that clap has
+abbrev pub AskForHelp : List Text → Type 0
+AskForHelp words = (kind : ErrorKind) × IsAmong kind (fault_of lnsd_line words) × IsShown kind
+
+-- why these words ask for no mode
+abbrev pub IsUsageOf : List Text → Usage → Type 0
+IsUsageOf words (usage.Words text) = AreWrong words
+IsUsageOf words (usage.Help text) = AskForHelp words
 IsUsageOf words usage.Memory = Unit

@@ -44,7 +44,8 @@ pub(crate) fn lnsd<'a>(alloc: Global) -> Result<Command<'a>, AllocError>
         .subcommand(serve(alloc)?)
 }
 
-fn format<'a>(alloc: Global) -> Result<Command<'a>, AllocError>
+/// The words of `lnsd format`.
+pub(crate) fn format<'a>(alloc: Global) -> Result<Command<'a>, AllocError>
     ensures app { IfOk result (λ command. app_of command ≡ format_line) }
     ensures local { IfOk result (λ command. (fields_of command).has_globals ≡ false) }
 {

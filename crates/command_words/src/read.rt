@@ -1,22 +1,20 @@
 // Words that are read.
 ghost use Rattle.std.specs.Prelude.{◌≡◌, [], IfErr, IfOk, IfSome, None, map};
 ghost use Rattle.clap.specs.Words.{fault_of, kind_of, subcommand_of, subcommand_rows_of};
-ghost use Rattle.command_words.specs.Asked.{IsModeOf, HasNoMode, IsToldOf, IsUsageOf};
+ghost use Rattle.command_words.specs.Asked.{AskFor, IsModeOf, HasNoMode, IsToldOf, IsUsageOf};
 ghost use Rattle.command_words.specs.CommandLine.{lnsd_line};
 
-use crate::line::lnsd;
+use crate::line::{format, lnsd};
 use crate::mode::{Mode, Usage};
 use clap::error::ErrorKind;
-use clap::{ArgMatches, Command, Error};
+use clap::{ArgMatches, Error};
 use lw_types::{FromText, NetId, Ranged};
 use std::alloc::{AllocError, Global};
 
 /// What these words, which come without the program's name, ask for. `Words` has clap's text where
 /// they are wrong, `Help` where they ask for help or for the version.
 pub fn words<'a>(alloc: Global, words: &'a [&'a str]) -> Result<Mode<'a>, Usage>
-    ensures mode { IfOk result
-        (IsModeOf (subcommand_of lnsd_line (map (λ w. w.now) words.entry.now))) }
-    ensures taken { IfOk result (λ _. fault_of lnsd_line (map (λ w. w.now) words.entry.now) ≡ []) }
+    ensures mode { IfOk result (AskFor (map (λ w. w.now) words.entry.now)) }
     ensures usage { IfErr result (IsUsageOf (map (λ w. w.now) words.entry.now)) }
 {
     let Ok(mut command) = lnsd(alloc) else {
@@ -28,7 +26,7 @@ pub fn words<'a>(alloc: Global, words: &'a [&'a str]) -> Result<Mode<'a>, Usage>
     };
     match mode_of(&matches) {
         Some(mode) => Ok(mode),
-        None => Err(wrong_net_id(alloc, &mut command)),
+        None => Err(wrong_net_id(alloc)),
     }
 }
 
@@ -47,15 +45,22 @@ fn usage_of(alloc: Global, error: &Error) -> Usage
 }
 
 // What is told of a NetID that is none, the one value that clap doesn't read itself.
-fn wrong_net_id(alloc: Global, command: &mut Command<'_>) -> Usage
+fn wrong_net_id(alloc: Global) -> Usage
     ensures { IsToldOf ErrorKind.ValueValidation result }
+{
+    match net_id_error(alloc) {
+        Ok(error) => usage_of(alloc, &error),
+        Err(AllocError) => Usage::Memory,
+    }
+}
+
+fn net_id_error(alloc: Global) -> Result<Error, AllocError>
+    ensures { IfOk result (λ error. kind_of error ≡ ErrorKind.ValueValidation) }
 {
     let message = "invalid value for '--netid <HEX>': it has 6 upper-case hexadecimal digits, \
         from 000000 to 00003F";
-    match command.error(ErrorKind::ValueValidation, message) {
-        Err(AllocError) => Usage::Memory,
-        Ok(error) => usage_of(alloc, &error),
-    }
+    let mut command = format(alloc)?.bin_name("lnsd format")?;
+    command.error(ErrorKind::ValueValidation, message)
 }
 
 fn mode_of<'a>(matches: &ArgMatches<'a>) -> Option<Mode<'a>>

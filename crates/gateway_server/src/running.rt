@@ -1,5 +1,7 @@
 // Commands, from their words to their status.
-ghost use Rattle.std.specs.Prelude.{◌≡◌, ◌≤◌, IfErr, IfOk};
+ghost use Rattle.std.specs.Prelude.{◌≡◌, ◌≤◌, ◌⊎◌, IfErr, IfOk, map};
+ghost use Rattle.command_words.specs.Asked.{AreWrong, AskFor, AskForHelp};
+ghost use Rattle.command_words.specs.declared.mode.Mode.{Mode};
 
 use crate::Fault;
 use crate::serving::serve;
@@ -19,7 +21,7 @@ use std::thread::Threads;
 /// Does what these words ask for, which come without the program's name. `out` is standard output,
 /// `err` is standard error. Gives the status of the process: 0 where it was done, also where help
 /// was asked for; 1 where it failed, or what it tells couldn't be written; 2 for words that ask for
-/// nothing. (The contract says that it is one of these, and that with 2 nothing went to `out`.)
+/// nothing, and then nothing goes to `out`. That a failure is told on `err`, no contract says.
 pub fn command<R, O: Write, E: Write>(
     rt: &R,
     alloc: Global,
@@ -31,6 +33,9 @@ where
     R: Files<File = File> + Net<Listener = TcpListener, Stream = TcpStream>,
     R: Clock + Threads + Wait + Sync,
     ensures status { result ≤ 2 }
+    ensures done { result ≡ 0 → ((mode : Mode) × AskFor (map (λ w. w.now) texts.now) mode)
+        ⊎ AskForHelp (map (λ w. w.now) texts.now) }
+    ensures wrong { result ≡ 2 → AreWrong (map (λ w. w.now) texts.now) }
     ensures quiet { result ≡ 2 → out.new ≡ out.old }
 {
     match words(alloc, texts) {
