@@ -1,12 +1,15 @@
 //! `lns-speed`: how long it takes on one processor here to decide a command and to put its record
 //! into the table, in tables of 8 to 4,096 devices; and how long whole uplinks take, from the
 //! copies of their frames to the release of their effects, committed to a disk in memory; and how
-//! long a checkpoint of the largest store takes, and opening it. What was measured goes to standard
+//! long a checkpoint of the largest store takes, and opening it; how many bytes of the journal a
+//! decision takes, and how long it takes to open a full one. What was measured goes to standard
 //! error, since it is never the same twice; standard output stays empty.
 #![tactic(auto)]
 
 mod checkpoints;
 mod decided;
+mod entries;
+mod journals;
 mod network;
 mod server;
 mod timing;
@@ -93,5 +96,7 @@ fn main(rt: HostRuntime) -> io::Result<()> {
     for (name, what) in MEASURED {
         compare(&rt, rt.alloc(), name, what)?;
     }
-    checkpoints::tell_checkpoint(&rt, rt.alloc())
+    checkpoints::tell_checkpoint(&rt, rt.alloc())?;
+    entries::tell_entries(&rt, rt.alloc())?;
+    journals::tell_journal(&rt, rt.alloc())
 }

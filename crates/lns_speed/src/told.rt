@@ -9,6 +9,8 @@ pub enum Told {
     Event(u32),
     /// So many nanoseconds are spent on so many bytes.
     Bytes(u32, u64),
+    /// So many nanoseconds are spent on so many batches.
+    Batches(u32, u32),
     /// Nothing was measured.
     Nothing(Unmeasured),
 }
@@ -35,6 +37,10 @@ impl fmt::Display for Told {
                 let millis = nanos / 1_000_000;
                 let rate = bytes.saturating_mul(1000) / (u64::from(nanos) + 1);
                 write!(f, "{millis} milliseconds, {rate} megabytes a second")
+            }
+            Told::Batches(nanos, batches) => {
+                let millis = nanos / 1_000_000;
+                write!(f, "{millis} milliseconds, {batches} batches")
             }
             Told::Nothing(Unmeasured::Refused(refusal)) => {
                 write!(f, "not measured, as it was refused: {refusal}")

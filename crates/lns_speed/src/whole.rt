@@ -18,7 +18,7 @@ const MOST_LIVES: u32 = 10_000;
 
 /// The devices of a server, which take turns in sending.
 #[derive(Drop)]
-struct Senders {
+pub struct Senders {
     slots: u16,
     key: Key,
     // Who sends next, and with which counter.
@@ -27,10 +27,25 @@ struct Senders {
 }
 
 impl Senders {
-    /// The copies of the uplinks of a batch: each frame is heard by so many gateways.
-    fn copies(&mut self, alloc: Global, gateways: u64) -> Result<Vec<FrameCopy>, Refusal> {
+    /// So many devices, each of which joined once and has sent nothing since.
+    pub fn new(slots: u16) -> Self {
+        Senders {
+            slots,
+            key: joined_key(),
+            next: 0,
+            counter: 0,
+        }
+    }
+
+    /// The copies of so many uplinks: each frame is heard by so many gateways.
+    pub fn copies(
+        &mut self,
+        alloc: Global,
+        uplinks: u16,
+        gateways: u64,
+    ) -> Result<Vec<FrameCopy>, Refusal> {
         let mut copies = Vec::new(alloc);
-        for _ in 0..BATCH {
+        for _ in 0..uplinks {
             let frame = uplink(0x40, self.next, self.counter, &self.key);
             for gateway in 0..gateways {
                 copies.push(copy_of(alloc, &frame, gateway)?)?;
@@ -89,18 +104,13 @@ fn measure_life(
     slots: u16,
 ) -> Result<(u128, u32), Unmeasured> {
     server.join_all(slots)?;
-    let mut senders = Senders {
-        slots,
-        key: joined_key(),
-        next: 0,
-        counter: 0,
-    };
+    let mut senders = Senders::new(slots);
     let mut spent: u128 = 0;
     for batches in 0..MOST_BATCHES {
         if !server.is_roomy() || spent >= MEASURED_NANOS {
             return Ok((spent, batches));
         }
-        let copies = senders.copies(server.alloc, gateways)?;
+        let copies = senders.copies(server.alloc, BATCH, gateways)?;
         let start = clock_nanos(rt);
         server.handle(copies)?;
         spent = spent.saturating_add(nanos_since(rt, start)?);
