@@ -1,4 +1,6 @@
 // A journal that runs full.
+ghost use Rattle.std.specs.Prelude.{◌<◌, ◌+◌, ◌^◌};
+
 use scripts::script;
 use std::alloc::Global;
 use std::io::{self, Write};
@@ -6,7 +8,7 @@ use std::io::{self, Write};
 // Lines, and their answers.
 type Leg = (&'static str, &'static str);
 
-const FORMATTED_32: Leg = ("format 00002A 32\n", "formatted 2372764\n");
+const FORMATTED: Leg = ("format 00002A 330\n", "formatted 4938544\n");
 
 // A payload of 242 bytes.
 const PAYLOAD: &str = "\
@@ -17,11 +19,19 @@ A5A5A5A5A5A5A5A5A5A5A5A5A5A5A5A5A5A5A5A5A5A5A5A5A5A5A5A5A5A5A5A5A5A5A5A5A5A5A5A5
 A5A5A5A5A5A5A5A5A5A5A5A5A5A5A5A5A5A5A5A5A5A5A5A5A5A5A5A5A5A5A5A5A5A5A5A5A5A5A5A5A5A5A5A5A5A5A5A5\
 A5A5";
 
-// A device's batch commits and is released.
-const RELEASED: Leg = (
+// A device's two batches commit and are released.
+const FIRST: Leg = (
     "take 64\ncall\ncall\ncall\ncall\nrelease\n",
     "taken 17\ncalled\ncalled\ncalled\ncalled\nreleased 17\n",
 );
+
+const SECOND: Leg = (
+    "take 64\ncall\ncall\ncall\ncall\nrelease\n",
+    "taken 64\ncalled\ncalled\ncalled\ncalled\nreleased 64\n",
+);
+
+// The devices whose batches fill the journal.
+const FILLING: u16 = 327;
 
 // The journal has no room for the last batch, but behind a checkpoint it has.
 const LAST: &[Leg] = &[
@@ -31,8 +41,8 @@ const LAST: &[Leg] = &[
         "call\ncall\ncall\ncall\n",
         "called\ncalled\ncalled\ncalled\n",
     ),
-    RELEASED,
-    ("crash old\n", "opened 28 476\n"),
+    FIRST,
+    ("crash old\n", "opened 328 26504\n"),
 ];
 
 fn add(input: &mut Vec<u8>, wanted: &mut Vec<u8>, leg: &Leg) -> io::Result<()> {
@@ -40,8 +50,9 @@ fn add(input: &mut Vec<u8>, wanted: &mut Vec<u8>, leg: &Leg) -> io::Result<()> {
     wanted.write_all(leg.1.as_bytes())
 }
 
-// The lines of a device with 16 items of 242 bytes.
-fn add_lines(input: &mut Vec<u8>, number: u8) -> io::Result<()> {
+// A device is brought, and 16 items of 242 bytes are queued for it: 17 decisions, whose entries
+// take 55 bytes and 16 times 256.
+fn add_items(input: &mut Vec<u8>, wanted: &mut Vec<u8>, number: u16) -> io::Result<()> {
     write!(
         input,
         "provision 0 3 {number:016X} 0102030405060708 2B7E151628AED2A6ABF7158809CF4F3C 0 1\n"
@@ -49,31 +60,36 @@ fn add_lines(input: &mut Vec<u8>, number: u8) -> io::Result<()> {
     for tag in 0..16 {
         write!(input, "queue 0 3 {number:016X} {tag} 7 u {PAYLOAD}\n")?;
     }
-    Ok(())
+    add_turns(wanted, u64::from(number) * 81, 17)
 }
 
-// What they are answered: 17 decisions, whose entries take 34,799 bytes.
-fn add_turns(wanted: &mut Vec<u8>, number: u8) -> io::Result<()> {
-    let before = u64::from(number) * 17;
-    for from in before..before + 17 {
+// 64 MAC commands of one byte are queued for it: 64 decisions, whose entries take 8 to 71 bytes.
+fn add_commands(input: &mut Vec<u8>, wanted: &mut Vec<u8>, number: u16) -> io::Result<()> {
+    for _command in 0..64 {
+        write!(input, "mac 0 3 {number:016X} 06\n")?;
+    }
+    add_turns(wanted, u64::from(number) * 81 + 17, 64)
+}
+
+fn add_turns(wanted: &mut Vec<u8>, before: u64, count: u64) -> io::Result<()>
+    requires { before + count < 2 ^ 64 }
+{
+    for from in before..before + count {
         let to = from + 1;
         write!(wanted, "turn {from} {to}\n")?;
     }
     Ok(())
 }
 
-fn add_device(input: &mut Vec<u8>, wanted: &mut Vec<u8>, number: u8) -> io::Result<()> {
-    add_lines(input, number)?;
-    add_turns(wanted, number)
-}
-
 fn add_all(input: &mut Vec<u8>, wanted: &mut Vec<u8>) -> io::Result<()> {
-    add(input, wanted, &FORMATTED_32)?;
-    for number in 0..27 {
-        add_device(input, wanted, number)?;
-        add(input, wanted, &RELEASED)?;
+    add(input, wanted, &FORMATTED)?;
+    for number in 0..FILLING {
+        add_items(input, wanted, number)?;
+        add(input, wanted, &FIRST)?;
+        add_commands(input, wanted, number)?;
+        add(input, wanted, &SECOND)?;
     }
-    add_device(input, wanted, 27)?;
+    add_items(input, wanted, FILLING)?;
     for leg in LAST {
         add(input, wanted, leg)?;
     }
@@ -93,8 +109,8 @@ fn goes_on(alloc: Global) -> bool {
     add_all(&mut input, &mut wanted).is_ok() && is_answered(alloc, &input, &wanted)
 }
 
-// In a store with 32 slots 27 such batches of 34,814 bytes go into an area of 1,186,366 bytes; then
-// less than 275,536 are left.
+// In a store with 330 slots the batches of 327 devices go into an area of 2,469,256 bytes, of 4,166
+// and 2,543 bytes each; then less than 275,536 are left.
 #[test]
 fn a_full_journal_goes_on_behind_a_checkpoint(rt: HostRuntime) {
     assert!(rt; goes_on(rt.alloc()));
