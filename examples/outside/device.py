@@ -3,7 +3,9 @@
 from .aes import cmac
 from .frames import (
     DOWN,
+    FIRST_CHANNELS,
     UP,
+    channels_in,
     crypted,
     data_mic,
     eui_bytes,
@@ -27,6 +29,7 @@ class Device:
         self.dev_nonce = 0
         self.dev_addr = None
         self.keys = None
+        self.channels = FIRST_CHANNELS
         self.next_up = 0
         self.last_down = -1
 
@@ -48,10 +51,11 @@ class Device:
             int.from_bytes(fields[start:end], "little") for start, end in ((0, 3), (3, 6), (6, 10))
         )
         self.keys = session_keys(self.app_key, join_nonce, net_id, self.dev_nonce)
+        self.channels = FIRST_CHANNELS + channels_in(fields[12:])
         self.next_up, self.last_down = 0, -1
         return (
             f"JoinNonce {join_nonce}, NetID {net_id:06X}, DevAddr {self.dev_addr:08X}, "
-            f"DLSettings {fields[10]:02X}, RXDelay {fields[11]}"
+            f"DLSettings {fields[10]:02X}, RXDelay {fields[11]}, {len(self.channels)} channels"
         )
 
     def uplink(self, port, payload, confirmed=False, ack=False, asks=False, f_opts=b""):

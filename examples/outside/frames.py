@@ -3,6 +3,10 @@
 from .aes import cmac, decrypt, encrypt, xored
 
 UP, DOWN = 0, 1
+# the channels of EU868 in Hz (RP002-1.0.4): those of each device, and those that an accept adds
+FIRST_CHANNELS = (868_100_000, 868_300_000, 868_500_000)
+LATER_CHANNELS = (867_100_000, 867_300_000, 867_500_000, 867_700_000, 867_900_000)
+CHANNELS = FIRST_CHANNELS + LATER_CHANNELS
 
 
 def little(number, length):
@@ -40,6 +44,19 @@ def session_keys(app_key, join_nonce, net_id, dev_nonce):
     """NwkSKey and AppSKey (§6.2)."""
     fields = little(join_nonce, 3) + little(net_id, 3) + little(dev_nonce, 2) + bytes(7)
     return encrypt(app_key, b"\x01" + fields), encrypt(app_key, b"\x02" + fields)
+
+
+def cf_list(channels):
+    """The CFList of five channels: in units of 100 Hz, and the type 0 behind them (§6.2.6)."""
+    return b"".join(little(it // 100, 3) for it in channels) + b"\x00"
+
+
+def channels_in(listed):
+    """The channels in a CFList of type 0; none where there is no such list."""
+    if len(listed) != 16 or listed[15]:
+        return ()
+    numbers = (int.from_bytes(listed[place : place + 3], "little") for place in range(0, 15, 3))
+    return tuple(100 * it for it in numbers if it)
 
 
 def sealed_accept(app_key, fields):

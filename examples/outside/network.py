@@ -5,6 +5,8 @@ It has no table and no store: a story says what is due, and these functions make
 
 from .frames import (
     DOWN,
+    LATER_CHANNELS,
+    cf_list,
     crypted,
     data_mic,
     little,
@@ -36,7 +38,7 @@ class Session:
         self.keys = session_keys(self.app_key, join_nonce, NET_ID, dev_nonce)
         self.offset, self.delay = offset, delay
         self.fields = little(join_nonce, 3) + little(NET_ID, 3) + little(self.address, 4)
-        self.fields += bytes([offset << 4, delay])
+        self.fields += bytes([offset << 4, delay]) + cf_list(LATER_CHANNELS)
 
     def accept(self, copy):
         """The line of the Join-Accept, to the gateway of the best copy."""

@@ -68,8 +68,8 @@ def first_uplinks(it, device):
     """The first uplink and a repeat of it."""
     reading = bytes.fromhex("04D2")
     it.part("Its first uplink, and a repeat")
-    near = Copy(B1, 868_300_000, 5, 8, -90, 10_000_000)
-    far = Copy(B2, 868_300_000, 5, -3, -99, 14_030_000)
+    near = Copy(B1, 867_100_000, 5, 8, -90, 10_000_000)
+    far = Copy(B2, 867_100_000, 5, -3, -99, 14_030_000)
     frame = device.uplink(7, reading)
     it.hear(10_000, near, frame, "turn 2 2")
     it.hear(10_050, far, frame, "turn 2 2")
@@ -77,8 +77,8 @@ def first_uplinks(it, device):
     it.commit(1, [up(0, 7, reading, 2, near)])
     it.line("list", *listed(1, 0, 0, 0, 3))
     it.say(
-        "Two gateways hear the first uplink, counter 0, with a reading on port 7. Now the "
-        "session is in use. The application gets the payload in clear, with the number of copies "
+        "Two gateways hear the first uplink, counter 0, with a reading on port 7. It is on 867.1 "
+        "MHz, which is one of the channels that the accept has added. Now the session is in use. The application gets the payload in clear, with the number of copies "
         "and how B1, the best of them, heard it. Nothing is due to the device, so no downlink is "
         "sent."
     )
@@ -103,7 +103,7 @@ def items(it, device, network):
         "device. Port 0 is refused (15, BadPort), and so is another application (7, "
         "UnknownDevEui)."
     )
-    copy = Copy(B1, 868_500_000, 4, 0, -90, 30_000_000)
+    copy = Copy(B1, 867_900_000, 4, 0, -90, 30_000_000)
     frame = device.uplink(7, bytes.fromhex("04D3"))
     it.hear(30_000, copy, frame, "turn 4 4")
     it.line("tick 30200", "turn 4 5")
@@ -111,8 +111,8 @@ def items(it, device, network):
     it.commit(1, [up(1, 7, bytes.fromhex("04D3"), 1, copy), line])
     it.downlink(line, device.take_downlink)
     it.say(
-        "The item leaves with the next uplink. The gateway sends the downlink in RX1, 1 s after "
-        "the stamp of the uplink."
+        "The item leaves with the next uplink. The gateway sends the downlink in RX1, on the "
+        "channel of the uplink and 1 s after its stamp."
     )
     copy = replace(copy, stamp=40_000_000)
     frame = device.uplink(7, bytes.fromhex("04D4"), ack=True)

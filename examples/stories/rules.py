@@ -66,7 +66,7 @@ def words(it):
         it.line(line, "bad line")
     it.say("A word out of its range makes a line that is no step, and nothing changes.")
     it.event(f"{gateway} 868100000 6 0 0 0 00", refused=24)
-    it.event(f"{gateway} 867100000 5 0 0 0 00", refused=24)
+    it.event(f"{gateway} 866900000 5 0 0 0 00", refused=24)
     it.event(f"{gateway} 868100000 5 -32768 -32768 4294967295 00")
     for line in ("take 64", "call", "release", "emit"):
         it.line(line, "idle")
@@ -106,12 +106,13 @@ def joins(it, device):
     for frame in ("", "E0", "E1", "20" + "00" * 16, "600000005400000001020304", "4000"):
         it.heard(bytes.fromhex(frame), 0)
     it.heard(bytes(wrong), 0)
+    it.heard(device.join_request(), 0, replace(NEAR, frequency=867_100_000))
     it.say(
         "No bytes, a proprietary frame, one of another major version, a Join-Accept, a downlink, "
-        "an uplink that is cut, and a Join-Request with a wrong MIC: none is decided, and nobody "
-        "is told."
+        "an uplink that is cut, a Join-Request with a wrong MIC, and a right one on a channel on "
+        "which no device joins: none is decided, and nobody is told."
     )
-    # its DevNonce wasn't used up by that
+    # its DevNonces weren't used up by that
     device.dev_nonce = 0
     request = device.join_request()
     it.moment += 1000

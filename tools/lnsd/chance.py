@@ -1,12 +1,12 @@
 """What a crowd of devices and applications does by chance, for comparisons with a plain model."""
 from . import cipher  # its AES is the quick one, so it comes before those that use it
 from outside.device import Device, Rejected
+from outside.frames import CHANNELS, FIRST_CHANNELS
 from outside.gateway import Copy
 from server.wire import byte_text
 
 EUIS = [f"{0xB1 + it:016X}" for it in range(6)]
 OWNERS = (0, 3, 15)
-CHANNELS = (868_100_000, 868_300_000, 868_500_000)
 JOIN_EUI = "0102030405060708"
 # more than the store has slots for
 DEVICES = 14
@@ -116,17 +116,18 @@ class Crowd:
         self.tag = 0
         self.bell = self.senders[0]
 
-    def copies(self):
+    def copies(self, channels=CHANNELS):
         """How some gateways hear a frame; some copies are to be refused."""
         chance, made = self.chance, []
-        hz, rate = chance.choice(CHANNELS), chance.choice((0, 1, 2, 3, 4, 5, 5, 5))
+        hz, rate = chance.choice(channels), chance.choice((0, 1, 2, 3, 4, 5, 5, 5))
         stamp = chance.randrange(2**32)
         for eui in chance.sample(EUIS, chance.choice((1, 1, 2, 3, 6))):
             levels = (chance.choice((-80, -20, -19, 0, 30)), chance.choice((-120, -95, -60)))
             if chance.random() < 0.04:
                 wrong = chance.choice(((868_100_001, rate), (hz, 6), (hz, 255), (0, rate)))
                 made.append(Copy(eui, *wrong, *levels, stamp))
-            made.append(Copy(eui, hz, rate, *levels, stamp))
+            heard = hz if chance.random() < 0.9 else chance.choice(CHANNELS)
+            made.append(Copy(eui, heard, rate, *levels, stamp))
             if chance.random() < 0.04:
                 made.append(Copy(eui, hz, rate, 127, -1, stamp))
         return made
@@ -167,7 +168,8 @@ class Crowd:
                 for _ in range(chance.choice((1, 1, 2, 6))):
                     yield "ask", *self.request(it)
             elif not it.keys or chance.random() < 0.1:
-                yield "send", it.join(chance), self.copies()
+                channels = FIRST_CHANNELS if chance.random() < 0.9 else CHANNELS
+                yield "send", it.join(chance), self.copies(channels)
             else:
                 yield "send", it.data(chance), self.copies()
         if chance.random() < 0.3:
@@ -175,7 +177,8 @@ class Crowd:
 
     def last(self):
         """The round's last frame, of a device that does nothing else: its join, or an uplink."""
-        hz, stamp = self.chance.choice(CHANNELS), self.chance.randrange(2**32)
+        channels = CHANNELS if self.bell.keys else FIRST_CHANNELS
+        hz, stamp = self.chance.choice(channels), self.chance.randrange(2**32)
         self.bell.is_deaf = False
         frame = self.bell.uplink(9, b"\x01") if self.bell.keys else self.bell.join_request()
         return frame, [Copy(EUIS[0], hz, stamp=stamp)]

@@ -2,9 +2,12 @@
 reads."""
 import threading
 import time
+from dataclasses import replace
 
 from . import load
 from .trials import EUI, HEARD, OWNER, PROVISION, Pair, await_links, end_all, records
+from outside import network
+from outside.frames import FIRST_CHANNELS, LATER_CHANNELS
 from outside.gateway import Copy
 from server import wire
 from server.links import Application, Gateway, Link
@@ -22,9 +25,9 @@ def euis(count):
     return [f"{0xE000000000000000 + it:016X}" for it in range(count)]
 
 
-def up(number, counter, copies, heard):
+def up(number, counter, copies, heard, join_nonce=1):
     """The line of a device's uplink."""
-    words = f"up {load.dev_eui(number)} 1 {counter} 7"
+    words = f"up {load.dev_eui(number)} {join_nonce} {counter} 7"
     text = wire.byte_text(load.payload(number, counter))
     return f"{words} {text} {copies} {heard.heard()}"
 
@@ -84,6 +87,32 @@ def copies(trials):
             link.hands_in(frame, heard)
         trials.compare("the best copy", application.hears(), up(0, 5, 2, best[1]))
         finish(trials, program, [application, *links])
+
+
+def channels(trials):
+    """A session that was stored with three channels is served on these; a join, which is served on
+    these alone, gives eight."""
+    stored = [replace(it, has_three_channels=True) for it in records(1, OWNER)]
+    with trials.store(records=stored) as program:
+        address = program.serve(2)
+        application, gateway = Application(address, OWNER), Gateway(address, EUI)
+        await_links(gateway)
+        device = load.device(0)
+        first, later = Copy(EUI, FIRST_CHANNELS[1]), Copy(EUI, LATER_CHANNELS[0])
+        request = device.join_request()
+        for frame in (sent(device, 0), request):
+            gateway.hands_in(frame, later)
+        time.sleep(0.4)
+        gateway.hands_in(sent(device, 0), first)
+        trials.compare("on a first channel", application.hears(), up(0, 2, 1, first))
+        gateway.hands_in(request, first)
+        accept = network.Session(0, load.app_key(0), 2, device.dev_nonce).accept(first)
+        came = gateway.read()
+        trials.compare("the accept", came, bytes.fromhex(accept.split(" ")[2])[2:])
+        device.take_accept(came[20:])
+        gateway.hands_in(sent(device, 0), later)
+        trials.compare("on a later channel", application.hears(), up(0, 0, 1, later, 2))
+        finish(trials, program, [application, gateway])
 
 
 def windows(trials):
@@ -323,6 +352,7 @@ def refused_link(trials):
 TRIALS = {
     "a 65th gateway": gateways,
     "the 33rd copy, a gateway's second one, the best one": copies,
+    "a session of three channels": channels,
     "the 1,025th window": windows,
     "requests faster than the disk": backlog,
     "400,000 requests of an application that doesn't read": never_reads,

@@ -12,7 +12,7 @@ from . import cipher  # its AES is the quick one, so it comes before those that 
 from . import store
 from outside import network
 from outside.device import Device
-from outside.frames import session_keys
+from outside.frames import CHANNELS, session_keys
 from outside.gateway import Copy
 from server import wire
 from server.links import Application, Gateway
@@ -20,7 +20,6 @@ from server.links import Application, Gateway
 JOIN_EUI = "0102030405060708"
 # no more windows than this are to be open, of the 1,024 that there may be
 MOST_OPEN, WINDOW = 960, 200_000_000
-CHANNELS = (868_100_000, 868_300_000, 868_500_000)
 
 
 def dev_eui(number):
@@ -70,7 +69,7 @@ def copies_of(numbers, rounds, gateways, copies):
         it, of_device = device(number), []
         for counter in range(1, rounds + 1):
             frame = it.uplink(7, payload(number, counter))
-            how = {"frequency": CHANNELS[counter % 3], "stamp": counter * 1_000_000}
+            how = {"frequency": CHANNELS[counter % 8], "stamp": counter * 1_000_000}
             of_device.append(
                 [
                     wire.copy_of(frame, Copy(gateway_eui((number + more) % gateways), **how))

@@ -5,10 +5,9 @@ import re
 from dataclasses import dataclass, field
 
 from outside import network
-from outside.frames import UP, crypted, data_mic
+from outside.frames import CHANNELS, FIRST_CHANNELS, UP, crypted, data_mic
 from outside.aes import cmac
 
-CHANNELS = (868_100_000, 868_300_000, 868_500_000)
 LARGEST = (59, 59, 59, 123, 250, 250)
 # in quarters of a dB
 FLOORS = (-80, -70, -60, -50, -40, -30)
@@ -214,6 +213,8 @@ class Network:
         return left
 
     def joined(self, frame, copy):
+        if copy.frequency not in FIRST_CHANNELS:
+            raise Refused(24)
         device = self.named(frame[9:17][::-1].hex().upper())
         if not device:
             raise Refused(7)

@@ -15,7 +15,7 @@ def big(number, length):
 class Record:
     """A device's record. A session is its JoinNonce, NwkSKey and AppSKey, and the current one has
     its last uplink and its next downlink counter behind these; an item is its tag, its port,
-    whether it is confirmed, and its payload."""
+    whether it is confirmed, and its payload. The sessions have eight channels, or three."""
 
     dev_eui: str
     join_eui: str
@@ -30,17 +30,19 @@ class Record:
     awaited: int | None = None
     mac: bytes = b""
     items: tuple = ()
+    has_three_channels: bool = False
 
     def encoded(self):
         """Its bytes."""
         out = bytes.fromhex(self.dev_eui + self.join_eui + self.app_key)
         out += bytes([self.application, self.offset, self.delay, self.dev_nonce is not None])
         out += big(self.dev_nonce or 0, 2) + big(self.granted, 3)
-        out += big(self.current is not None, 1)
+        is_there = 1 if self.has_three_channels else 2
+        out += big(is_there if self.current else 0, 1)
         if self.current:
             join_nonce, nwk_key, app_key, last_up, next_down = self.current
             out += big(join_nonce, 3) + nwk_key + app_key + big(last_up, 4) + big(next_down, 8)
-        out += big(self.pending is not None, 1)
+        out += big(is_there if self.pending else 0, 1)
         if self.pending:
             join_nonce, nwk_key, app_key = self.pending
             out += big(join_nonce, 3) + nwk_key + app_key

@@ -1,3 +1,4 @@
 pub mod Equal
 pub mod Numbers
 pub mod OneMessage
+pub mod CfList

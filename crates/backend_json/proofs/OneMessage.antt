@@ -40,7 +40,7 @@ ask_of net_id dev_addr dl_settings rx_delay request transaction =
 pub same_question : TextLaws → (a b : JoinAsk) → IsAsk a → IsAsk b → join_req a ≡ join_req b → a ≡ b
 unfolding ask_of
 same_question laws a b ia ib e =
-    let r0 = inside e in
+    let r0 = behind refl (inside e) in
     let r1 = behind refl r0 in
     let r2 = behind refl r1 in
     let r3 = behind refl r2 in

@@ -78,7 +78,7 @@ IsJoinAns text ans = read text ≡ Some (join_ans ans)
 
 -- the values that an answer of a program has by its types
 abbrev pub IsSealed : List ℕ → Type 0
-IsSealed accept = IsBytes accept × (length accept ≡ 17)
+IsSealed accept = IsBytes accept × (length accept ≡ 33)
 
 pub record AreKeys (accepted : Accepted) : Type 0 where
   pub app_skey : IsKey accepted.app_skey

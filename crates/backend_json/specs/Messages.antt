@@ -7,13 +7,18 @@ use Rattle.serde_json.specs.Read.{read}
 use Rattle.lw_types.specs.Hex.{IsBytes, dev_addr_text, eui_text, hex_text, net_id_text}
 use Rattle.lw_types.specs.declared.identifiers.DevAddr.{DevAddr}
 use Rattle.lw_types.specs.declared.identifiers.Eui.{Eui}
+use Rattle.region_eu868.specs.Region.{cf_list}
 use Rattle.join_server.specs.Request.{IsRequest, dev_eui_of, join_eui_of}
 use Rattle.join_server.specs.declared.ask.JoinAsk.{JoinAsk}
 
 abbrev pub eui : ℕ → Eui
 eui n = record { 0 = n }
 
--- the members of a question up to MessageType
+-- the channels that an accept is to add, which are always these
+abbrev pub cf_list_member : Members → Members
+cf_list_member rest = member (codes "CFList") (string (hex_text cf_list)) rest
+
+-- the members of a question behind it, up to MessageType
 abbrev pub device_members : ℕ → DevAddr → Eui → Members → Members
 device_members dl_settings dev_addr dev_eui rest =
     member (codes "DLSettings") (string (hex_text (dl_settings ∷ [])))
@@ -35,11 +40,12 @@ network_members rx_delay net_id transaction =
 abbrev pub join_req : JoinAsk → Data
 join_req ask =
     object
+    (cf_list_member
     (device_members ask.dl_settings ask.dev_addr (eui (dev_eui_of ask.request))
     (member (codes "PHYPayload") (string (hex_text ask.request))
     (member (codes "ProtocolVersion") (string (codes "1.0"))
     (member (codes "ReceiverID") (string (eui_text (eui (join_eui_of ask.request))))
-    (network_members ask.rx_delay ask.net_id ask.transaction)))))
+    (network_members ask.rx_delay ask.net_id ask.transaction))))))
 
 -- a text is such a message if it is read as it
 abbrev pub IsJoinReq : List ℕ → JoinAsk → Type 0

@@ -11,13 +11,14 @@ ghost use Rattle.lw_types.specs.declared.identifiers.DevAddr.{DevAddr};
 ghost use Rattle.lw_types.specs.declared.identifiers.Eui.{Eui};
 ghost use Rattle.join_server.specs.declared.ask.JoinAsk.{JoinAsk};
 ghost use Rattle.join_server.specs.Request.{dev_eui_of, join_eui_of};
-ghost use Rattle.backend_json.specs.Messages.{IsAsk, IsJoinReq, device_members, eui, join_req};
-ghost use Rattle.backend_json.specs.Messages.{network_members};
+ghost use Rattle.backend_json.specs.Messages.{IsAsk, IsJoinReq, cf_list_member, device_members};
+ghost use Rattle.backend_json.specs.Messages.{eui, join_req, network_members};
 
 use crate::json::{Object, read_value};
 use crate::members::Rest;
 use join_server::{JoinAsk, JoinRequestBytes, RxDelay};
 use lw_types::{DevAddr, Eui, HexArray, NetId, Refusal};
+use region_eu868::CF_LIST;
 use serde_json::Value;
 use std::alloc::{AllocError, Global};
 
@@ -33,8 +34,8 @@ pub fn join_req_text(alloc: Global, ask: &JoinAsk) -> Result<String, Refusal>
 
 /// The question that a text is. Any other text is refused as `BadMessage`: white space and the
 /// order of the members are free, as JSON has them, and of a member that comes twice the last
-/// counts, but there are no others, numbers are whole, hex is in upper case, and the PHYPayload is
-/// a Join-Request of this DevEUI and JoinEUI.
+/// counts, but there are no others, numbers are whole, hex is in upper case, the CFList is that of
+/// the region, and the PHYPayload is a Join-Request of this DevEUI and JoinEUI.
 pub fn read_join_req(alloc: Global, text: &str) -> Result<JoinAsk, Refusal>
     ensures found { IfOk result (λ ask. IsAsk ask × IsJoinReq text.now ask) }
     ensures refused { IfErr result (λ e. (e ≡ OutOfMemory)
@@ -48,6 +49,7 @@ fn value_of(alloc: Global, ask: &JoinAsk) -> Result<Value, AllocError>
     ensures { IfOk result (λ value. view value ≡ join_req ask.now) }
 {
     Object::new(alloc)
+        .text("CFList", HexArray(CF_LIST))
         .text("DLSettings", HexArray([ask.dl_settings]))
         .text("DevAddr", ask.dev_addr)
         .text("DevEUI", ask.request.dev_eui())
@@ -68,6 +70,7 @@ fn ask_of(value: &Value) -> Option<JoinAsk>
         (λ ask. IsAsk ask × (view value.now ≡ join_req ask)) }
 {
     let mut rest = Rest::of(value)?;
+    pass_cf_list(&mut rest)?;
     let (dl_settings, dev_addr, dev_eui) = device_of(&mut rest)?;
     let request: JoinRequestBytes = rest.value("PHYPayload")?;
     rest.text("ProtocolVersion", "1.0")?;
@@ -85,6 +88,16 @@ fn ask_of(value: &Value) -> Option<JoinAsk>
     } else {
         None
     }
+}
+
+// The CFList, which is always the same.
+fn pass_cf_list(rest: &mut Rest<'_>) -> Option<()>
+    ensures { MatchOption result
+        ((others : Members) → members_view rest.old.members ≢ cf_list_member others)
+        (λ _. members_view rest.old.members ≡ cf_list_member (members_view rest.new.members)) }
+{
+    let HexArray(list): HexArray<16> = rest.value("CFList")?;
+    if list == CF_LIST { Some(()) } else { None }
 }
 
 // The members from DLSettings to MessageType.

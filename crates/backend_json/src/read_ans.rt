@@ -112,7 +112,7 @@ fn accept_of(rest: &mut Rest<'_>) -> Option<SealedAccept>
         → members_view rest.old.members
         ≡ member (codes "PHYPayload") (string (hex_text accept)) others → result ≡ Some accept }
 {
-    let HexArray(accept): HexArray<17> = rest.value("PHYPayload")?;
+    let HexArray(accept): HexArray<33> = rest.value("PHYPayload")?;
     Some(accept)
 }
 

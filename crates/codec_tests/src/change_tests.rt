@@ -2,10 +2,11 @@
 ghost use Rattle.std.specs.Prelude.{◌≡◌, IfSome, OnSome};
 ghost use Rattle.devices.specs.Becoming.{AreItemsAfter, AreProvisionedAlike, MayBecome};
 
-use crate::fixtures::{self, DEVICE, brought, items, session};
+use crate::fixtures::{self, DEVICE, items, new_device, session};
 use Items::{Added, AddedLong, Leaves, Same};
 use devices::{
-    Activation, CurrentSession, Device, Item, ItemQueue, MacQueue, NextDown, Payload, Port, Tag,
+    Activation, Channels, CurrentSession, Device, Item, ItemQueue, MacQueue, NextDown, Payload,
+    Port, Tag,
 };
 use lw_types::{JoinNonce, Refusal, read_hex};
 use record_codec::{LONGEST_CHANGE, RecordVersion, read_change, write_change};
@@ -18,7 +19,10 @@ struct Numbers {
     granted: u32,
     /// A JoinNonce, the last uplink counter and the next downlink counter.
     current: Option<(u32, u32, u64)>,
+    /// Of the current session.
+    channels: Channels,
     pending: Option<u32>,
+    pending_channels: Channels,
     awaited: Option<u32>,
     mac_queue: &'static [u8],
 }
@@ -27,7 +31,9 @@ const NEW: Numbers = Numbers {
     dev_nonce: None,
     granted: 0,
     current: None,
+    channels: Channels::Three,
     pending: None,
+    pending_channels: Channels::Three,
     awaited: None,
     mac_queue: &[],
 };
@@ -66,6 +72,32 @@ const FIRST_UPLINK: Numbers = Numbers {
     granted: 1,
     current: Some((1, 0, 0)),
     ..NEW
+};
+
+// With all eight channels.
+const IN_USE_ON_EIGHT: Numbers = Numbers {
+    channels: Channels::Eight,
+    ..IN_USE
+};
+
+const UPLINK_ON_EIGHT: Numbers = Numbers {
+    channels: Channels::Eight,
+    ..UPLINK
+};
+
+const JOINED_ON_EIGHT: Numbers = Numbers {
+    pending_channels: Channels::Eight,
+    ..JOINED
+};
+
+const FIRST_UPLINK_ON_EIGHT: Numbers = Numbers {
+    channels: Channels::Eight,
+    ..FIRST_UPLINK
+};
+
+const PENDING_ON_EIGHT: Numbers = Numbers {
+    pending_channels: Channels::Eight,
+    ..PENDING
 };
 
 const OTHER_NONCE: Numbers = Numbers {
@@ -173,9 +205,10 @@ fn item(alloc: Global) -> Option<Item> {
     }
 }
 
-fn current(session_number: u32, last_up: u32, next_down: u64) -> Option<CurrentSession> {
+fn current(counters: (u32, u32, u64), channels: Channels) -> Option<CurrentSession> {
+    let (session_number, last_up, next_down) = counters;
     Some(CurrentSession {
-        session: session(session_number)?,
+        session: session(session_number, channels)?,
         last_up,
         next_down: NextDown::new(next_down)?,
     })
@@ -184,11 +217,11 @@ fn current(session_number: u32, last_up: u32, next_down: u64) -> Option<CurrentS
 fn activation(numbers: &Numbers) -> Option<Activation> {
     let in_use = match numbers.current {
         None => None,
-        Some((number, up, down)) => Some(current(number, up, down)?),
+        Some(counters) => Some(current(counters, numbers.channels)?),
     };
     let pending = match numbers.pending {
         None => None,
-        Some(number) => Some(session(number)?),
+        Some(number) => Some(session(number, numbers.pending_channels)?),
     };
     Activation::new(JoinNonce::new(numbers.granted), in_use, pending)
 }
@@ -215,7 +248,7 @@ fn with_numbers(alloc: Global, device: Device, numbers: &Numbers) -> Option<Devi
 
 // A record in which so many items wait.
 fn found(alloc: Global, numbers: &Numbers, waiting: u32) -> Option<Device> {
-    let mut device = with_numbers(alloc, brought(alloc, DEVICE)?, numbers)?;
+    let mut device = with_numbers(alloc, new_device(alloc, DEVICE)?, numbers)?;
     device.items = ItemQueue::new(items(alloc, waiting, 1)?).ok()?;
     Some(device)
 }
@@ -305,6 +338,49 @@ const STEPS: &[Step] = &[
         FIRST_UPLINK,
         Same,
         "0A 01 000001 AA*16 BB*16 00000000 0000000000000000 00",
+    ),
+    (
+        NEW,
+        0,
+        JOINED_ON_EIGHT,
+        Same,
+        "09 01 0005 000001 02 000001 AA*16 BB*16",
+    ),
+    (
+        JOINED_ON_EIGHT,
+        0,
+        FIRST_UPLINK_ON_EIGHT,
+        Same,
+        "0A 02 000001 AA*16 BB*16 00000000 0000000000000000 00",
+    ),
+    (
+        IN_USE_ON_EIGHT,
+        0,
+        UPLINK_ON_EIGHT,
+        Same,
+        "04 00000006 0000000000000003",
+    ),
+    // other channels are another session
+    (
+        IN_USE,
+        0,
+        IN_USE_ON_EIGHT,
+        Same,
+        "02 02 000002 AA*16 BB*16 00000005 0000000000000003",
+    ),
+    (
+        IN_USE_ON_EIGHT,
+        0,
+        IN_USE,
+        Same,
+        "02 01 000002 AA*16 BB*16 00000005 0000000000000003",
+    ),
+    (
+        PENDING,
+        0,
+        PENDING_ON_EIGHT,
+        Same,
+        "08 02 000003 AA*16 BB*16",
     ),
     (IN_USE, 0, OTHER_NONCE, Same, "01 01 0008 000002"),
     (IN_USE, 0, NO_NONCE, Same, "01 00 0000 000002"),
@@ -445,7 +521,20 @@ const FAULTS: &[Fault] = &[
         "an equal session",
     ),
     (NEW, 0, "02 00", "no session, as before"),
-    (IN_USE, 0, "02 02", "flag of the session"),
+    (IN_USE, 0, "02 02", "a session of eight that is cut short"),
+    (IN_USE, 0, "02 03", "channels of the session"),
+    (
+        IN_USE,
+        0,
+        "02 03 000002 AA*16 BB*16 00000005 0000000000000003",
+        "channels of a whole session",
+    ),
+    (
+        IN_USE_ON_EIGHT,
+        0,
+        "02 02 000002 AA*16 BB*16 00000005 0000000000000003",
+        "an equal session of eight",
+    ),
     (
         IN_USE,
         0,
@@ -487,7 +576,25 @@ const FAULTS: &[Fault] = &[
         "08 01 000000 AA*16 BB*16",
         "a pending session of no JoinNonce",
     ),
-    (IN_USE, 0, "08 02", "flag of the pending session"),
+    (
+        IN_USE,
+        0,
+        "08 02",
+        "a pending session of eight that is cut short",
+    ),
+    (IN_USE, 0, "08 03", "channels of the pending session"),
+    (
+        GRANTED,
+        0,
+        "08 03 000003 AA*16 BB*16",
+        "channels of a whole pending session",
+    ),
+    (
+        PENDING_ON_EIGHT,
+        0,
+        "08 02 000003 AA*16 BB*16",
+        "an equal pending session of eight",
+    ),
     (IN_USE, 0, "10 00 00000000", "no tag, as before"),
     (AWAITED_1, 0, "10 01 00000001", "an equal tag"),
     (IN_USE, 0, "10 00 00000001", "a tag that is not there"),

@@ -1,9 +1,9 @@
 use crate::fixtures::{
-    DEVICE, brought, current, empty_downlink, has_hex, item, items, name, session,
+    DEVICE, current, empty_downlink, has_hex, item, items, name, new_device, session,
 };
 use devices::{
-    Activation, Application, Effect, Effects, Hearing, Hearings, Item, ItemQueue, MacQueue, Mark,
-    NextDown, Port, Report, RxDelay, Tag, dev_addr, slot_at,
+    Activation, Application, Channels, Effect, Effects, Hearing, Hearings, Item, ItemQueue,
+    MacQueue, Mark, NextDown, Port, Report, RxDelay, Tag, dev_addr, slot_at,
 };
 use lw_types::{DevAddr, Eui, JoinNonce, NetId, Reception, read_hex};
 use mac_commands::are_queueable;
@@ -183,7 +183,7 @@ fn activation(
         None => None,
     };
     let waiting = match waiting {
-        Some(number) => Some(session(number)?),
+        Some(number) => Some(session(number, Channels::Three)?),
         None => None,
     };
     Some(Activation::new(JoinNonce::new(granted), in_use, waiting))
@@ -223,7 +223,7 @@ fn has_parts() -> Option<bool> {
     let activation = both()?;
     let is_granted = activation.granted() == JoinNonce::new(2);
     let is_in_use = activation.current() == Some(current(1, 5)?);
-    Some(is_granted && is_in_use && activation.pending() == Some(session(2)?))
+    Some(is_granted && is_in_use && activation.pending() == Some(session(2, Channels::Three)?))
 }
 
 // The counters of a session in use.
@@ -290,7 +290,7 @@ fn addresses_have_network_slot_and_join(rt: HostRuntime) {
 // Whether a new device has its name and empty queues, is as its copy, and isn't as one with another
 // tag.
 fn is_copied_whole(alloc: Global) -> Option<bool> {
-    let device = brought(alloc, DEVICE)?;
+    let device = new_device(alloc, DEVICE)?;
     let are_empty = device.items.as_slice().is_empty() && device.mac_queue.as_slice().is_empty();
     let is_new = are_empty && device.dev_eui == DEVICE;
     let Ok(mut tagged) = device.copy() else {
@@ -306,7 +306,7 @@ fn a_device_is_copied_whole(rt: HostRuntime) {
     assert!(rt; is_copied_whole(rt.alloc()) == Some(true));
 }
 
-// The report that a device was brought to a slot.
+// The report that a device was provisioned to a slot.
 fn provisioned(slot: u16) -> Option<Effect> {
     Some(Effect::Report {
         application: Application::new(3)?,

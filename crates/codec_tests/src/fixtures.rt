@@ -1,7 +1,7 @@
 // Values that several tests are about.
 use devices::{
-    Application, CurrentSession, Device, Downlink, Item, NextDown, Payload, Port, Provisioning,
-    ReceiveWindows, Rx1Offset, RxDelay, Session, SessionName, Tag,
+    Application, Channels, CurrentSession, Device, Downlink, Item, NextDown, Payload, Port,
+    Provisioning, ReceiveWindows, Rx1Offset, RxDelay, Session, SessionName, Tag,
 };
 use lw_types::{Eui, JoinNonce, Key, PhyPayload, read_hex, write_hex};
 use std::alloc::Global;
@@ -29,7 +29,7 @@ pub fn provisioning(dev_eui: Eui) -> Option<Provisioning> {
     })
 }
 
-pub fn brought(alloc: Global, dev_eui: Eui) -> Option<Device> {
+pub fn new_device(alloc: Global, dev_eui: Eui) -> Option<Device> {
     Some(Device::provisioned(alloc, &provisioning(dev_eui)?))
 }
 
@@ -40,18 +40,19 @@ pub fn name(number: u32) -> Option<SessionName> {
     })
 }
 
-pub fn session(number: u32) -> Option<Session> {
+pub fn session(number: u32, channels: Channels) -> Option<Session> {
     Some(Session {
         join_nonce: JoinNonce::new(number)?,
         nwk_skey: Key([0xAA; 16]),
         app_skey: Key([0xBB; 16]),
+        channels,
     })
 }
 
-// A session whose last downlink counter was used.
+// A session of three channels whose last downlink counter was used.
 pub fn current(number: u32, last_up: u32) -> Option<CurrentSession> {
     Some(CurrentSession {
-        session: session(number)?,
+        session: session(number, Channels::Three)?,
         last_up,
         next_down: NextDown::new(1 << 32)?,
     })

@@ -1,6 +1,6 @@
 use crate::fixtures::{
-    DEVICE, GATEWAY, JOIN_EUI, KEY, brought, bytes, current, empty_downlink, has_hex, items, name,
-    provisioning,
+    DEVICE, GATEWAY, JOIN_EUI, KEY, bytes, current, empty_downlink, has_hex, items, name,
+    new_device, provisioning,
 };
 use devices::{
     Activation, Application, AskedBytes, Command, Copies, Device, Downlink, Effect, ItemQueue,
@@ -501,7 +501,7 @@ fn busy(alloc: Global) -> Option<Device> {
     let Ok(items) = ItemQueue::new(items(alloc, 1, 1)?) else {
         return None;
     };
-    let mut device = brought(alloc, Eui(0xAB))?;
+    let mut device = new_device(alloc, Eui(0xAB))?;
     device.activation = activation;
     device.items = items;
     Some(device)
@@ -525,7 +525,7 @@ const LISTS: [&str; 3] = [
 fn are_listed(alloc: Global, table: &mut Table) -> Option<bool> {
     let [none, one, two] = LISTS;
     let is_empty = is_listed(alloc, table, 0, none);
-    let Ok(()) = table.put(0, brought(alloc, DEVICE)?) else {
+    let Ok(()) = table.put(0, new_device(alloc, DEVICE)?) else {
         return None;
     };
     let has_one = is_listed(alloc, table, 1, one);

@@ -1,6 +1,7 @@
 // Tests of what tables decide: uplinks and downlinks, joins, and queues. What leaves is compared as
 // it leaves, as lines for the application and frames for the gateway, and the record is compared
 // whole.
+mod channels;
 mod fcnt;
 mod joins;
 mod loads;
@@ -12,9 +13,11 @@ mod session_choice;
 mod stories;
 mod windows;
 
+use crate::decisions::channels::{FIRST, LATER, ON_THREE};
 use crate::decisions::queueing::{FIFTY, ITEM};
 use crate::decisions::records::{ANSWERED, IN_USE};
-use crate::network::{Asked, Comes, Items, Refused, Row, State};
+use crate::fixture::REQUEST_1;
+use crate::network::{Asked, Comes, FRESH, Items, Refused, Row, State, told};
 use lw_types::Refusal;
 use std::alloc::Global;
 
@@ -33,13 +36,14 @@ fn rows_of(table: u8) -> &'static [Row] {
         8 => windows::LINK_CHECKS,
         9 => stories::STORIES,
         10 => joins::JOINS,
+        11 => channels::CHANNELS,
         _ => queueing::QUEUED,
     }
 }
 
 #[test]
 fn a_command_leaves_a_record_and_effects(rt: HostRuntime) {
-    for table in 0..12 {
+    for table in 0..13 {
         for row in rows_of(table) {
             assert!(rt;
                 row.holds(rt.alloc()) == Ok(true),
@@ -50,18 +54,19 @@ fn a_command_leaves_a_record_and_effects(rt: HostRuntime) {
     }
 }
 
-// The tables of refusals: of uplinks, of joins, and of items and MAC commands.
+// The tables of refusals: of uplinks, of joins, by channels, and of items and MAC commands.
 fn refusals_of(table: u8) -> &'static [Refused] {
     match table {
         0 => refusals::REFUSALS,
         1 => joins::REFUSALS,
+        2 => channels::REFUSALS,
         _ => queueing::REFUSALS,
     }
 }
 
 #[test]
 fn a_command_is_refused_for_its_first_cause(rt: HostRuntime) {
-    for table in 0..3 {
+    for table in 0..4 {
         for (before, comes, refusal) in refusals_of(table) {
             let refused = before.refuses(rt.alloc(), comes, *refusal);
             assert!(rt; refused == Ok(true), "{table}: {refusal}");
@@ -119,5 +124,80 @@ fn waits_behind(alloc: Global, waiting: u8) -> Result<bool, Refusal> {
 fn sixteen_items_wait_in_order(rt: HostRuntime) {
     for waiting in 0..16 {
         assert!(rt; waits_behind(rt.alloc(), waiting) == Ok(true), "{waiting}");
+    }
+}
+
+// What leaves where what comes on a channel at a data rate is answered in RX1: the frame for the
+// gateway, with this behind its frequency and data rate.
+fn is_answered(
+    alloc: Global,
+    before: &State,
+    length: &str,
+    digits: &'static str,
+    channel: (u32, &str),
+    answer: &str,
+) -> Result<bool, Refusal> {
+    let (frequency, written) = channel;
+    for data_rate in 0..6 {
+        let mut table = before.table(alloc)?;
+        let told = told(alloc, &mut table, &Comes::On(frequency, data_rate, digits))?;
+        let wanted = format!(in alloc;
+            "{length}1100000000000000B10000C350{written}0{data_rate}{answer}"
+        )?;
+        if told != wanted {
+            return Ok(false);
+        }
+    }
+    Ok(true)
+}
+
+// Whether a confirmed uplink on a channel is answered there at each data rate.
+fn uplinks_are_answered(
+    alloc: Global,
+    before: &State,
+    channel: (u32, &str),
+) -> Result<bool, Refusal> {
+    let ack = "01026001000054200000C46172EF";
+    is_answered(alloc, before, "0020", channels::CONFIRMED, channel, ack)
+}
+
+// Whether a Join-Request on a channel is granted there at each data rate.
+fn joins_are_granted(alloc: Global, channel: (u32, &str)) -> Result<bool, Refusal> {
+    let accept = "050620964FABE971240AB8E37F72AEFDC360B6FD3C4BE3FB883149AF03F6CC89235E53";
+    is_answered(alloc, &FRESH, "0035", REQUEST_1, channel, accept)
+}
+
+#[test]
+fn the_first_channels_serve_joins_and_uplinks(rt: HostRuntime) {
+    for channel in FIRST {
+        assert!(rt; joins_are_granted(rt.alloc(), channel) == Ok(true));
+        assert!(rt; uplinks_are_answered(rt.alloc(), &IN_USE, channel) == Ok(true));
+        assert!(rt; uplinks_are_answered(rt.alloc(), &ON_THREE, channel) == Ok(true));
+    }
+}
+
+// Whether what comes on a channel is refused for the channel at each data rate.
+fn is_off_channel(
+    alloc: Global,
+    before: &State,
+    frequency: u32,
+    digits: &'static str,
+) -> Result<bool, Refusal> {
+    for data_rate in 0..6 {
+        let comes = Comes::On(frequency, data_rate, digits);
+        if !before.refuses(alloc, &comes, Refusal::UnknownChannel)? {
+            return Ok(false);
+        }
+    }
+    Ok(true)
+}
+
+#[test]
+fn the_later_channels_serve_uplinks_of_eight(rt: HostRuntime) {
+    for channel in LATER {
+        let alloc = rt.alloc();
+        assert!(rt; uplinks_are_answered(alloc, &IN_USE, channel) == Ok(true));
+        assert!(rt; is_off_channel(alloc, &FRESH, channel.0, REQUEST_1) == Ok(true));
+        assert!(rt; is_off_channel(alloc, &ON_THREE, channel.0, channels::CONFIRMED) == Ok(true));
     }
 }

@@ -1,6 +1,7 @@
 //! What tests begin with. Frames and keys were made by Python's `cryptography`.
 use devices::{
-    Application, Command, Heard, Hearing, Hearings, Provisioning, Rx1Offset, RxDelay, Session,
+    Application, Channels, Command, Heard, Hearing, Hearings, Provisioning, Rx1Offset, RxDelay,
+    Session,
 };
 use lw_types::{Eui, JoinNonce, Key, PhyPayload, Reception, Refusal, read_hex};
 use std::alloc::Global;
@@ -50,12 +51,13 @@ pub fn key(digits: u128) -> Key {
     Key(digits.to_be_bytes())
 }
 
-/// The session of a JoinNonce with these keys, NwkSKey first.
-pub fn session(join_nonce: u32, keys: (u128, u128)) -> Option<Session> {
+/// The session of a JoinNonce with these keys, NwkSKey first, on these channels.
+pub fn session(join_nonce: u32, keys: (u128, u128), channels: Channels) -> Option<Session> {
     Some(Session {
         join_nonce: JoinNonce::new(join_nonce)?,
         nwk_skey: key(keys.0),
         app_skey: key(keys.1),
+        channels,
     })
 }
 

@@ -2,9 +2,9 @@
 use crate::fixture::{JOINER, heard, heard_by, joining, provisioning, session};
 use crate::tables::{alone, filled};
 use devices::{
-    Activation, Application, AskedBytes, Command, CurrentSession, Device, Effect, Hearing, Item,
-    ItemQueue, MacQueue, MacQueueing, NextDown, Payload, Port, Provisioning, Queueing, Rx1Offset,
-    Tag,
+    Activation, Application, AskedBytes, Channels, Command, CurrentSession, Device, Effect,
+    Hearing, Item, ItemQueue, MacQueue, MacQueueing, NextDown, Payload, Port, Provisioning,
+    Queueing, Rx1Offset, Tag,
 };
 use gateway_wire::Emission;
 use lw_types::{Eui, JoinNonce, Reception, Refusal, read_hex, write_hex};
@@ -38,16 +38,20 @@ pub(crate) struct State {
     pub join_nonce: u32,
     /// The current session, and its counters.
     pub in_use: Option<Grant>,
+    /// Its channels.
+    pub channels: Channels,
     pub last_up: u32,
     pub next_down: u64,
     /// The pending session, which had no uplink yet.
     pub waiting: Option<Grant>,
+    /// Its channels.
+    pub waiting_channels: Channels,
     pub awaited: Option<u32>,
     pub mac_queue: Option<&'static str>,
     pub items: Items,
 }
 
-/// The device that joins was brought, to slot 0.
+/// The device that joins was provisioned, to slot 0.
 pub(crate) const FRESH: State = State {
     dev_eui: JOINER,
     slot: 0,
@@ -55,9 +59,11 @@ pub(crate) const FRESH: State = State {
     last_dev_nonce: None,
     join_nonce: 0,
     in_use: None,
+    channels: Channels::Eight,
     last_up: 0,
     next_down: 0,
     waiting: None,
+    waiting_channels: Channels::Eight,
     awaited: None,
     mac_queue: None,
     items: Items::Ports(0),
@@ -81,12 +87,16 @@ pub(crate) struct Asked {
 /// What comes to a network.
 #[derive(Clone, Copy)]
 pub(crate) enum Comes {
-    /// A device of this DevEUI is brought.
+    /// A device of this DevEUI is provisioned.
     Device(u64),
     /// A frame, which the gateway B1 hears at data rate 5.
     Frame(&'static str),
     /// The same at this data rate.
     At(u8, &'static str),
+    /// A frame that the gateway B1 hears on this channel at this data rate.
+    On(u32, u8, &'static str),
+    /// A frame that B1 hears best, on the first of these channels, and B2 and B3 on the second.
+    Best(u32, u32, &'static str),
     /// A frame that so many gateways from B1 on hear at this data rate and with this SNR.
     Alike(u8, u8, i16, &'static str),
     /// A frame that three gateways hear so.
@@ -193,12 +203,12 @@ impl State {
 
     /// The record itself.
     pub fn device(&self, alloc: Global) -> Result<Device, Refusal> {
-        let brought = brought(self.dev_eui).ok_or(Refusal::Damaged)?;
+        let provisioned = provisioning_of(self.dev_eui).ok_or(Refusal::Damaged)?;
         let rx1_offset = Rx1Offset::new(self.rx1_offset).ok_or(Refusal::Damaged)?;
         let activation = self.activation().ok_or(Refusal::Damaged)?;
         let mac_queue = mac_queue(alloc, self.mac_queue.unwrap_or(""))?;
         let items = self.items.queue(alloc)?;
-        let mut device = Device::provisioned(alloc, &brought);
+        let mut device = Device::provisioned(alloc, &provisioned);
         device.rx1_offset = rx1_offset;
         device.last_dev_nonce = self.last_dev_nonce;
         device.activation = activation;
@@ -211,14 +221,14 @@ impl State {
     fn activation(&self) -> Option<Activation> {
         let current = match self.in_use {
             Some((join_nonce, keys)) => Some(CurrentSession {
-                session: session(join_nonce, keys)?,
+                session: session(join_nonce, keys, self.channels)?,
                 last_up: self.last_up,
                 next_down: NextDown::new(self.next_down)?,
             }),
             None => None,
         };
         let pending = match self.waiting {
-            Some((join_nonce, keys)) => Some(session(join_nonce, keys)?),
+            Some((join_nonce, keys)) => Some(session(join_nonce, keys, self.waiting_channels)?),
             None => None,
         };
         Activation::new(JoinNonce::new(self.join_nonce), current, pending)
@@ -275,8 +285,8 @@ fn item(alloc: Global, waiting: &Waiting) -> Result<Item, Refusal> {
     })
 }
 
-// What brings a device.
-fn brought(dev_eui: u64) -> Option<Provisioning> {
+// What provisions a device.
+fn provisioning_of(dev_eui: u64) -> Option<Provisioning> {
     if dev_eui == JOINER {
         joining()
     } else {
@@ -291,6 +301,11 @@ impl Comes {
             Comes::Device(dev_eui) => provision(*dev_eui),
             Comes::Frame(digits) => heard(alloc, digits),
             Comes::At(data_rate, digits) => alike(alloc, 1, *data_rate, -20, digits),
+            Comes::On(frequency, data_rate, digits) => {
+                let heard = on_channel(&(1, *data_rate, -20, -95), *frequency);
+                heard_by(alloc, digits, &[heard])
+            }
+            Comes::Best(best, others, digits) => best_on(alloc, *best, *others, digits),
             Comes::Alike(copies, data_rate, snr, digits) => {
                 alike(alloc, *copies, *data_rate, *snr, digits)
             }
@@ -308,8 +323,8 @@ impl Comes {
 }
 
 fn provision(dev_eui: u64) -> Result<Command, Refusal> {
-    match brought(dev_eui) {
-        Some(brought) => Ok(Command::Provision(brought)),
+    match provisioning_of(dev_eui) {
+        Some(provisioned) => Ok(Command::Provision(provisioned)),
         None => Err(Refusal::Damaged),
     }
 }
@@ -327,6 +342,23 @@ fn alike(
         hearings.push(heard_so(&(number.saturating_add(1), data_rate, snr, -95)))?;
     }
     heard_by(alloc, digits, &hearings)
+}
+
+// A frame that B2, B1 and B3 hear in turn, B1 best and on the first channel.
+fn best_on(alloc: Global, best: u32, others: u32, digits: &str) -> Result<Command, Refusal> {
+    let copies = [
+        on_channel(&(2, 5, -30, -80), others),
+        on_channel(&(1, 5, -20, -95), best),
+        on_channel(&(3, 5, -30, -70), others),
+    ];
+    heard_by(alloc, digits, &copies)
+}
+
+// How a gateway hears a frame on a channel.
+fn on_channel(copy: &HeardBy, frequency: u32) -> Hearing {
+    let mut heard = heard_so(copy);
+    heard.reception.frequency = frequency;
+    heard
 }
 
 fn heard_so(copy: &HeardBy) -> Hearing {

@@ -10,7 +10,7 @@ use sessions::{Batch, Records, Table};
 use std::alloc::Global;
 
 // What comes to a table of 2 slots without devices, and what leaves then or as what it is refused.
-const BROUGHT: &[(Comes, Result<&str, Refusal>)] = &[
+const PROVISIONED: &[(Comes, Result<&str, Refusal>)] = &[
     (Comes::Device(50), Ok("provisioned 0000000000000032 0")),
     (Comes::Device(40), Ok("provisioned 0000000000000028 1")),
     (Comes::Device(40), Err(Refusal::DevEuiTaken)),
@@ -34,7 +34,7 @@ fn comes_so(
 // Whether the devices 50 and 40 take the slots, and the device 60 none.
 fn take_slots(alloc: Global) -> Result<bool, Refusal> {
     let mut table = new_table(alloc, 2)?;
-    for (comes, wanted) in BROUGHT {
+    for (comes, wanted) in PROVISIONED {
         if !comes_so(alloc, &mut table, comes, wanted) {
             return Ok(false);
         }

@@ -60,7 +60,7 @@ fn bring(
     }
 }
 
-// Devices are brought to a table without devices, of the DevEUIs from 0 on.
+// Devices are put into a table without devices, of the DevEUIs from 0 on.
 fn fill(alloc: Global, table: &mut Table, devices: u64) -> Result<(), Refusal> {
     for dev_eui in 0..devices {
         bring(alloc, table, dev_eui, dev_eui, &mut Batch::new(alloc)?)?;

@@ -4,7 +4,7 @@ use Rattle.devices.specs.declared.command.Provisioning.{Provisioning}
 use Rattle.devices.specs.declared.device.Device.{Device}
 use Rattle.devices.specs.Activation.{no_grants}
 
--- the record of a device that was just brought: nothing granted, nothing awaited, nothing queued
+-- the record of a device that was just provisioned: nothing granted, awaited or queued
 abbrev pub new_device : Provisioning → Device
 new_device p =
     record {

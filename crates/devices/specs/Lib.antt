@@ -6,4 +6,5 @@ pub mod MacQueue
 pub mod Address
 pub mod DeviceStep
 pub mod Parts
+pub mod Channels
 pub mod Becoming

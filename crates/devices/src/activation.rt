@@ -2,16 +2,17 @@
 ghost use Rattle.std.specs.Prelude.{◌≡◌, ◌≤◌, ◌<◌, ◌↔◌, IsTrue, IfSome, option_map, unwrap_or};
 ghost use Rattle.devices.specs.Activation.{current_nonce};
 
-use crate::NextDown;
+use crate::{Channels, NextDown};
 use lw_types::{JoinNonce, Key};
 use std::marker::Model;
 
-/// A session as a join makes it: its JoinNonce and its keys.
+/// A session as a join makes it: its JoinNonce, its keys, and the channels that its accept gave.
 #[derive(Clone, Copy, PartialEq, Eq)]
 pub struct Session {
     pub join_nonce: JoinNonce,
     pub nwk_skey: Key,
     pub app_skey: Key,
+    pub channels: Channels,
 }
 
 /// The current session, with the counter of its last uplink and of its next downlink.

@@ -28,7 +28,7 @@ pub struct Device {
 impl Device {
     ghost use Rattle.devices.specs.Device.{new_device};
 
-    /// The record of a device that was just brought. Takes no memory.
+    /// The record of a device that was just provisioned. Takes no memory.
     pub fn provisioned(alloc: Global, provisioning: &Provisioning) -> Self
         ensures { result ≡ new_device provisioning.now }
     {

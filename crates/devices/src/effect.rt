@@ -30,7 +30,7 @@ pub struct Downlink {
 /// What is reported to an application of its device.
 #[derive(PartialEq, Eq, Drop)]
 pub enum Report {
-    /// The device was brought, and has this slot.
+    /// The device was provisioned, and has this slot.
     Provisioned {
         slot: u16,
     },

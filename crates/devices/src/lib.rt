@@ -6,6 +6,7 @@
 
 mod activation;
 mod address;
+mod channels;
 mod command;
 mod device;
 mod effect;
@@ -18,6 +19,7 @@ mod queue;
 
 pub use activation::{Activation, CurrentSession, Session};
 pub use address::{dev_addr, slot_at};
+pub use channels::Channels;
 pub use command::{Command, MacQueueing, Provisioning, Queueing};
 pub use device::Device;
 pub use effect::{Downlink, Effect, ReceiveWindows, Report};
@@ -31,7 +33,7 @@ pub use queue::{Item, ItemQueue};
 /// The number of an application, from 0 to 15.
 pub type Application = Ranged<0, 15>;
 
-/// RX1DROffset: how many data rates RX1 is below the uplink, from 0 to 5 (TS001-1.0.4 §6.2.7).
+/// RX1DROffset: how many data rates RX1 is below the uplink, from 0 to 5 (TS001-1.0.4 §6.2.6).
 pub type Rx1Offset = Ranged<0, 5>;
 
 /// An application's port, from 1 to 223 (TS001-1.0.4 §4.3.2).

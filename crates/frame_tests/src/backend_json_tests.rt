@@ -2,21 +2,21 @@
 // Python's `cryptography`.
 use backend_json::{answer_text, join_req_text, read_join_ans, read_join_req};
 use join_server::{JoinAsk, JoinRequestBytes, JoinState, RxDelay};
-use lw_types::{DevAddr, Eui, JoinNonce, Key, NetId};
+use lw_types::{DevAddr, Eui, JoinNonce, Key, NetId, Refusal};
 use std::alloc::{AllocError, Global};
 
 const REQUEST: [u8; 23] =
     *b"\x00\x08\x07\x06\x05\x04\x03\x02\x01\x18\x17\x16\x15\x14\x13\x12\x11\x01\x00\xAA\xBB\xCC\xDD";
 
 const QUESTION: &str =
-    r#"{"DLSettings":"00","DevAddr":"54000001","DevEUI":"1112131415161718","MACVersion":"1.0.4","MessageType":"JoinReq","PHYPayload":"00080706050403020118171615141312110100AABBCCDD","ProtocolVersion":"1.0","ReceiverID":"0102030405060708","RxDelay":1,"SenderID":"00002A","TransactionID":2}"#;
+    r#"{"CFList":"184F84E85684B85E84886684586E8400","DLSettings":"00","DevAddr":"54000001","DevEUI":"1112131415161718","MACVersion":"1.0.4","MessageType":"JoinReq","PHYPayload":"00080706050403020118171615141312110100AABBCCDD","ProtocolVersion":"1.0","ReceiverID":"0102030405060708","RxDelay":1,"SenderID":"00002A","TransactionID":2}"#;
 
 // The same question, with the MIC of its Join-Request.
 const SIGNED: &str =
-    r#"{"DLSettings":"00","DevAddr":"54000001","DevEUI":"1112131415161718","MACVersion":"1.0.4","MessageType":"JoinReq","PHYPayload":"000807060504030201181716151413121101009E7419CE","ProtocolVersion":"1.0","ReceiverID":"0102030405060708","RxDelay":1,"SenderID":"00002A","TransactionID":2}"#;
+    r#"{"CFList":"184F84E85684B85E84886684586E8400","DLSettings":"00","DevAddr":"54000001","DevEUI":"1112131415161718","MACVersion":"1.0.4","MessageType":"JoinReq","PHYPayload":"000807060504030201181716151413121101009E7419CE","ProtocolVersion":"1.0","ReceiverID":"0102030405060708","RxDelay":1,"SenderID":"00002A","TransactionID":2}"#;
 
 const GRANTED: &str =
-    r#"{"AppSKey":{"AESKey":"65A2E3FC3F681266CA0F9088A6AD5FE4"},"MessageType":"JoinAns","NwkSKey":{"AESKey":"38F19F1F7C923B7B392DFDBECE201B6B"},"PHYPayload":"2040A8AE29D75BA396C02EF9C963CAD8BE","ProtocolVersion":"1.0","ReceiverID":"00002A","Result":{"Description":"","ResultCode":"Success"},"SenderID":"0102030405060708","TransactionID":2}"#;
+    r#"{"AppSKey":{"AESKey":"65A2E3FC3F681266CA0F9088A6AD5FE4"},"MessageType":"JoinAns","NwkSKey":{"AESKey":"38F19F1F7C923B7B392DFDBECE201B6B"},"PHYPayload":"20964FABE971240AB8E37F72AEFDC360B6FD3C4BE3FB883149AF03F6CC89235E53","ProtocolVersion":"1.0","ReceiverID":"00002A","Result":{"Description":"","ResultCode":"Success"},"SenderID":"0102030405060708","TransactionID":2}"#;
 
 const NO_QUESTION: &str =
     r#"{"MessageType":"JoinAns","ProtocolVersion":"1.0","ReceiverID":"000000","Result":{"Description":"bad message","ResultCode":"Other"},"SenderID":"0102030405060708","TransactionID":0}"#;
@@ -147,6 +147,63 @@ fn is_no_question(alloc: Global, text: &str) -> bool {
 
 const NO_QUESTIONS: &[&str] = &["", "{}", "no JSON", "[1]", r#"{"DLSettings":"00"}"#, NESTED];
 
+// The signed question without its list of channels, which comes first.
+const WITHOUT_LIST: &str =
+    r#""DLSettings":"00","DevAddr":"54000001","DevEUI":"1112131415161718","MACVersion":"1.0.4","MessageType":"JoinReq","PHYPayload":"000807060504030201181716151413121101009E7419CE","ProtocolVersion":"1.0","ReceiverID":"0102030405060708","RxDelay":1,"SenderID":"00002A","TransactionID":2}"#;
+
+// Beginnings without the list or with another one, and with it.
+const OTHER_LISTS: &[&str] = &[
+    "{",
+    r#"{"CFList":"","#,
+    r#"{"CFList":"184F84E85684B85E84886684586E84","#,
+    r#"{"CFList":"184F84E85684B85E84886684586E840000","#,
+    r#"{"CFList":"184F84E85684B85E84886684586E8401","#,
+    r#"{"CFList":"184f84e85684b85e84886684586e8400","#,
+    r#"{"CFList":"FF000000000000000000000000000000","#,
+    r#"{"CFList":null,"#,
+    r#"{"CFList":"184F84E85684B85E84886684586E8400","CFList":"","#,
+];
+
+const THE_LIST: &[&str] = &[
+    r#"{"CFList":"184F84E85684B85E84886684586E8400","#,
+    r#"{"CFList":"","CFList":"184F84E85684B85E84886684586E8400","#,
+];
+
+fn is_no_question_behind(alloc: Global, front: &str) -> bool {
+    match format!(in alloc; "{front}{WITHOUT_LIST}") {
+        Ok(text) => is_no_question(alloc, &text),
+        Err(_) => false,
+    }
+}
+
+fn is_granted_behind(alloc: Global, front: &str) -> bool {
+    match format!(in alloc; "{front}{WITHOUT_LIST}") {
+        Ok(text) => answers(alloc, &known_state(), &text, GRANTED),
+        Err(_) => false,
+    }
+}
+
+#[test]
+fn a_question_names_the_channels_exactly(rt: HostRuntime) {
+    for front in OTHER_LISTS {
+        assert!(rt; is_no_question_behind(rt.alloc(), front), "{front}");
+    }
+    for front in THE_LIST {
+        assert!(rt; is_granted_behind(rt.alloc(), front), "{front}");
+    }
+}
+
+// The same answer with an accept that names no channels.
+const SHORT_ACCEPT: &str =
+    r#"{"AppSKey":{"AESKey":"65A2E3FC3F681266CA0F9088A6AD5FE4"},"MessageType":"JoinAns","NwkSKey":{"AESKey":"38F19F1F7C923B7B392DFDBECE201B6B"},"PHYPayload":"2040A8AE29D75BA396C02EF9C963CAD8BE","ProtocolVersion":"1.0","ReceiverID":"00002A","Result":{"Description":"","ResultCode":"Success"},"SenderID":"0102030405060708","TransactionID":2}"#;
+
+#[test]
+fn an_accept_has_33_bytes(rt: HostRuntime) {
+    let alloc = rt.alloc();
+    assert!(rt; read_join_ans(alloc, GRANTED).is_ok());
+    assert!(rt; read_join_ans(alloc, SHORT_ACCEPT).err() == Some(Refusal::BadMessage));
+}
+
 #[test]
 fn a_text_that_is_no_question_is_answered(rt: HostRuntime) {
     for text in NO_QUESTIONS {
@@ -156,7 +213,7 @@ fn a_text_that_is_no_question_is_answered(rt: HostRuntime) {
 
 // A question up to its last members.
 const FRONT: &str =
-    r#"{"DLSettings":"00","DevAddr":"54000001","DevEUI":"1112131415161718","MACVersion":"1.0.4","MessageType":"JoinReq","PHYPayload":"00080706050403020118171615141312110100AABBCCDD","ProtocolVersion":"1.0","ReceiverID":"0102030405060708","#;
+    r#"{"CFList":"184F84E85684B85E84886684586E8400","DLSettings":"00","DevAddr":"54000001","DevEUI":"1112131415161718","MACVersion":"1.0.4","MessageType":"JoinReq","PHYPayload":"00080706050403020118171615141312110100AABBCCDD","ProtocolVersion":"1.0","ReceiverID":"0102030405060708","#;
 
 // A question whose last members are these.
 fn question_with(alloc: Global, last: &str) -> Result<String, AllocError> {

@@ -1,4 +1,6 @@
-use region_eu868::{ReceiveWindow, is_channel, margin, max_mac, rx1, rx2};
+use region_eu868::{
+    CF_LIST, ReceiveWindow, is_channel, is_first_channel, margin, max_mac, rx1, rx2,
+};
 
 // SNRs in quarter dB, data rates, and margins.
 const MARGINS: &[(i16, u8, u8)] = &[
@@ -47,32 +49,57 @@ fn each_data_rate_has_its_longest_payload(rt: HostRuntime) {
     }
 }
 
-const FREQUENCIES: &[(u32, bool)] = &[
-    (868_100_000, true),
-    (868_300_000, true),
-    (868_500_000, true),
-    (868_200_000, false),
-    (869_525_000, false),
+// Frequencies, whether each is a channel, and whether it is one of the first three.
+const FREQUENCIES: &[(u32, bool, bool)] = &[
+    (867_100_000, true, false),
+    (867_300_000, true, false),
+    (867_500_000, true, false),
+    (867_700_000, true, false),
+    (867_900_000, true, false),
+    (868_100_000, true, true),
+    (868_300_000, true, true),
+    (868_500_000, true, true),
+    (866_900_000, false, false),
+    (867_100_001, false, false),
+    (868_200_000, false, false),
+    (868_700_000, false, false),
+    (869_525_000, false, false),
 ];
 
 #[test]
-fn the_channels_are_three(rt: HostRuntime) {
-    for (frequency, is) in FREQUENCIES {
+fn the_channels_are_eight(rt: HostRuntime) {
+    for (frequency, is, is_first) in FREQUENCIES {
         assert!(rt; is_channel(*frequency) == *is, "{frequency} Hz");
+        assert!(rt; is_first_channel(*frequency) == *is_first, "{frequency} Hz");
+    }
+}
+
+// As another implementation's Join-Accept has it (frame_crypt_tests.rt).
+#[test]
+fn the_list_of_channels_has_16_bytes(rt: HostRuntime) {
+    let list = *b"\x18\x4F\x84\xE8\x56\x84\xB8\x5E\x84\x88\x66\x84\x58\x6E\x84\x00";
+    assert!(rt; CF_LIST == list);
+}
+
+// RX1 of an uplink on a channel, at one of six data rates.
+fn rx1_of(frequency: u32, data_rate: u8, offset: u8) -> Option<ReceiveWindow> {
+    if !is_channel(frequency) || data_rate > 5 || offset > 5 {
+        return None;
+    }
+    Some(rx1(frequency, data_rate, offset))
+}
+
+fn window(frequency: u32, data_rate: u8) -> ReceiveWindow {
+    ReceiveWindow {
+        frequency,
+        data_rate,
     }
 }
 
 #[test]
 fn the_windows_are_the_regions(rt: HostRuntime) {
-    let first = ReceiveWindow {
-        frequency: 868_100_000,
-        data_rate: 0,
-    };
-    assert!(rt; rx1(868_100_000, 2, 3) == first);
-    assert!(rt; rx1(868_500_000, 5, 2).data_rate == 3);
-    let second = ReceiveWindow {
-        frequency: 869_525_000,
-        data_rate: 0,
-    };
-    assert!(rt; rx2() == second);
+    assert!(rt; rx1_of(868_100_000, 2, 3) == Some(window(868_100_000, 0)));
+    assert!(rt; rx1_of(868_500_000, 5, 2) == Some(window(868_500_000, 3)));
+    assert!(rt; rx1_of(867_900_000, 5, 0) == Some(window(867_900_000, 5)));
+    assert!(rt; rx2() == window(869_525_000, 0));
 }

@@ -150,12 +150,12 @@ fn provision(mut fields: Words<'_>) -> Option<Request>
     let rx_delay = next_ranged(&mut fields)?;
     match fields.next() {
         Some(_) => None,
-        None => Some(brought(dev_eui, join_eui, app_key, rx1_offset, rx_delay)),
+        None => Some(provisioning(dev_eui, join_eui, app_key, rx1_offset, rx_delay)),
     }
 }
 
 // The request for a device. What its fields' types say of them is what makes it a request.
-fn brought(
+fn provisioning(
     dev_eui: Eui,
     join_eui: Eui,
     app_key: Key,

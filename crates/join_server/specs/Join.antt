@@ -9,6 +9,7 @@ use Rattle.lw_types.specs.declared.refusal.Refusal.{Refusal}
 use Rattle.lw_types.specs.declared.refusal.Refusal.TheVariants.{WrongJoinEui, BadMic, DevNonceUsed}
 use Rattle.lw_types.specs.declared.refusal.Refusal.TheVariants.{JoinNonceSpent}
 use Rattle.frame_crypt.specs.Joins.{join_mic, sealed_accept, session_key, three_le_bytes}
+use Rattle.region_eu868.specs.Region.{cf_list}
 use Rattle.join_server.specs.Request.{join_eui_of, dev_nonce_of, message_of, mic_of}
 use Rattle.join_server.specs.declared.state.JoinState.{JoinState}
 use Rattle.join_server.specs.declared.ask.JoinAsk.{JoinAsk}
@@ -33,12 +34,13 @@ admission s request =
     else Ok tt)))
 
 -- a Join-Accept before it is sealed: MHDR, JoinNonce (3), NetID (3), DevAddr (4), DLSettings and
--- RXDelay, low bytes first, and four bytes for the MIC (§6.2.6)
+-- RXDelay, low bytes first, the CFList (16), and four bytes for the MIC (§6.2.6)
 abbrev pub accept_fields : ℕ → JoinAsk → List ℕ
 accept_fields join_nonce ask =
     0x20 ∷ (three_le_bytes join_nonce
     ++ (three_le_bytes ask.net_id
-    ++ (to_le_bytes w32 ask.dev_addr.0 ++ (ask.dl_settings ∷ ask.rx_delay ∷ replicate 4 0))))
+    ++ (to_le_bytes w32 ask.dev_addr.0
+    ++ (ask.dl_settings ∷ ask.rx_delay ∷ (cf_list ++ replicate 4 0)))))
 
 -- what a device is granted: the keys of the next JoinNonce and this DevNonce (§6.2.6), and the
 -- sealed accept

@@ -7,6 +7,7 @@ ghost use Rattle.join_server.specs.Join.{next_join_nonce};
 use crate::{JoinAsk, JoinGrant, JoinRequestBytes, JoinState, SealedAccept};
 use frame_crypt::{derive_keys, seal_accept};
 use lw_types::{JoinNonce, Key, Refusal};
+use region_eu868::CF_LIST;
 
 /// Answers a Join-Request of the state's device, with the device's state after it. Refused with
 /// `WrongJoinEui`, then `BadMic`, `DevNonceUsed` where the DevNonce isn't above the last accepted
@@ -73,11 +74,21 @@ fn next_join_nonce(last: Option<JoinNonce>) -> Option<JoinNonce>
 fn accept(key: &Key, join_nonce: JoinNonce, ask: &JoinAsk) -> SealedAccept
     ensures { result ≡ sealed_accept key.now.0 (accept_fields join_nonce ask.now) }
 {
+    let mut frame = fields(join_nonce, ask);
+    seal_accept(key, &mut frame);
+    frame
+}
+
+// The Join-Accept before it is sealed, with the channels that it adds.
+fn fields(join_nonce: JoinNonce, ask: &JoinAsk) -> SealedAccept
+    ensures { result ≡ accept_fields join_nonce ask.now }
+{
     let [j0, j1, j2, _] = join_nonce.get().to_le_bytes();
     let [n0, n1, n2, _] = u32::from(ask.net_id.get()).to_le_bytes();
     let [a0, a1, a2, a3] = ask.dev_addr.0.to_le_bytes();
     let rx_delay = ask.rx_delay.get() as u8;
-    let mut frame = [
+    let mut frame = [0; 33];
+    frame[..13].copy_from_slice(&[
         0x20,
         j0,
         j1,
@@ -91,11 +102,7 @@ fn accept(key: &Key, join_nonce: JoinNonce, ask: &JoinAsk) -> SealedAccept
         a3,
         ask.dl_settings,
         rx_delay,
-        0,
-        0,
-        0,
-        0,
-    ];
-    seal_accept(key, &mut frame);
+    ]);
+    frame[13..29].copy_from_slice(&CF_LIST);
     frame
 }

@@ -26,5 +26,5 @@ pub use refusal::Refusal;
 pub use text::FromText;
 pub use words::Words;
 
-/// RxDelay: the delay of RX1 after an uplink, from 1 to 15 s (TS001-1.0.4 §6.2.7).
+/// RxDelay: the delay of RX1 after an uplink, from 1 to 15 s (TS001-1.0.4 §6.2.6).
 pub type RxDelay = Ranged<1, 15>;

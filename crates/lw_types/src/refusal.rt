@@ -40,9 +40,9 @@ pub enum Refusal {
     TooLong,
     /// An item is to be queued for port 0 or a port above 223.
     BadPort,
-    /// A device is to be brought whose DevEUI a device has already.
+    /// A device is to be provisioned whose DevEUI a device has already.
     DevEuiTaken,
-    /// A device is to be brought where each slot has one.
+    /// A device is to be provisioned where each slot has one.
     TableFull,
     /// The bytes to be queued are not one or more whole commands of LinkADRReq, DutyCycleReq and
     /// DevStatusReq.
@@ -56,7 +56,8 @@ pub enum Refusal {
     /// A command comes while 4,096 decisions wait to be taken, or where the last number, 2^63 - 1,
     /// is used.
     Backlog,
-    /// A copy of a frame was heard on no channel, or at a data rate above 5.
+    /// A copy of a frame was heard on no channel, or at a data rate above 5; or a frame is on no
+    /// channel on which it is served.
     UnknownChannel,
     /// A call needed memory and got none.
     OutOfMemory,

@@ -14,12 +14,12 @@ use Rattle.devices.specs.declared.Tag.{Tag}
 use Rattle.devices.specs.declared.activation.Session.{Session}
 use Rattle.devices.specs.declared.activation.CurrentSession.{CurrentSession}
 use Rattle.devices.specs.declared.queue.Item.{Item}
-use Rattle.record_codec.specs.DeviceRecord.{awaited_bytes, current_session, dev_nonce, granted_bytes, item, session, IsCurrentSession, IsItem, IsJoinNonce, IsSession}
+use Rattle.record_codec.specs.DeviceRecord.{awaited_bytes, dev_nonce, granted_bytes, item, optional_current, optional_session, IsCurrentSession, IsItem, IsJoinNonce, IsSession}
 use Rattle.record_codec.specs.declared.version.RecordVersion.TheVariants.{V1}
 use Rattle.record_codec.specs.Change.{Added, Groups, ItemChange, Leaves, AreCounters, AreInRange, AreNonces, IsItemChange, change_bytes, counters_bytes, group_bytes, item_change_bytes, mask, nonces_bytes, there}
-use Rattle.record_codec.specs.Reading.{awaited_at, current_at, flagged_at, item_at, mac_queue_at, session_at}
+use Rattle.record_codec.specs.Reading.{awaited_at, current_at, flagged_at, item_at, mac_queue_at, optional_by, session_at}
 use Rattle.record_codec.specs.ChangeReading.{GroupFields, change_at, groups_of, change_read, counters_at, granted_at, group_at, groups_at, is_odd, item_change_at, item_change_of, next_group_at, none_left, nonces_at}
-use Rattle.record_codec.proofs.RecordFields.{IsNextDown, awaited_field, current_field, dev_nonce_field, granted_field, next_down_field, session_field}
+use Rattle.record_codec.proofs.RecordFields.{IsNextDown, awaited_field, dev_nonce_field, granted_field, next_down_field, optional_current_field, optional_session_field, respelled_field}
 use Rattle.record_codec.proofs.RecordLaws.{IsQueue, item_field, mac_queue_field}
 
 -- ---- a mask, bit by bit
@@ -95,13 +95,6 @@ none_left_field n = record {
   again = λ u rest h. rw (eq-eqb n 0 (sym h.1)) refl;
 }
 
--- the same field in other bytes that are the same
-respelled_field : {X : Type 0} (In : X → Type 0) (spelled other : X → List ℕ) (read : Reader X) → IsField In spelled read → ((x : X) → other x ≡ spelled x) → IsField In other read
-respelled_field In spelled other read field same = record {
-  takes = λ bytes x rest fits e. let t = field.takes bytes x rest fits e in (t.0, t.1 ∙ ap (λ (w : List ℕ). w ++ rest) (sym (same x)));
-  again = λ x rest h. ap (λ (w : List ℕ). read (w ++ rest)) (same x) ∙ field.again x rest h;
-}
-
 last_field : {X : Type 0} (In : X → Type 0) (spelled : X → List ℕ) (field : Reader X) → IsField In spelled field → (n : ℕ)
     → IsField (λ (p : Option X × Unit {0}). (IfSome p.0 In × Unit {0}) × (there p.0 + 2 * 0 ≡ n)) (λ p. group_bytes spelled p.0) (next_group_at field none_left n)
 last_field {X} In spelled field first n =
@@ -137,12 +130,6 @@ IsPending o = IfSome o IsSession
 
 abbrev IsTag : Option Tag → Type 0
 IsTag o = IfSome o (λ tag. tag.0 < 2 ^ 32)
-
-current_group : IsField IsCurrent (optional current_session) (optional_at current_at)
-current_group = optional_field IsCurrentSession current_session current_at current_field
-
-pending_group : IsField IsPending (optional session) (optional_at session_at)
-pending_group = optional_field IsSession session session_at session_field
 
 -- from a group on
 abbrev pub From6 : Type 0
@@ -215,13 +202,13 @@ abbrev text4 : From4 → List ℕ
 text4 p = group_bytes awaited_bytes p.0 ++ text5 p.1
 
 abbrev text3 : From3 → List ℕ
-text3 p = group_bytes (optional session) p.0 ++ text4 p.1
+text3 p = group_bytes optional_session p.0 ++ text4 p.1
 
 abbrev text2 : From2 → List ℕ
 text2 p = group_bytes counters_bytes p.0 ++ text3 p.1
 
 abbrev text1 : From1 → List ℕ
-text1 p = group_bytes (optional current_session) p.0 ++ text2 p.1
+text1 p = group_bytes optional_current p.0 ++ text2 p.1
 
 abbrev text0 : GroupFields → List ℕ
 text0 p = group_bytes nonces_bytes p.0 ++ text1 p.1
@@ -236,13 +223,13 @@ abbrev pub read4 : ℕ → Reader From4
 read4 = next_group_at awaited_at read5
 
 abbrev pub read3 : ℕ → Reader From3
-read3 = next_group_at (optional_at session_at) read4
+read3 = next_group_at (optional_by session_at) read4
 
 abbrev pub read2 : ℕ → Reader From2
 read2 = next_group_at counters_at read3
 
 abbrev pub read1 : ℕ → Reader From1
-read1 = next_group_at (optional_at current_at) read2
+read1 = next_group_at (optional_by current_at) read2
 
 abbrev pub read0 : ℕ → Reader GroupFields
 read0 = next_group_at nonces_at read1
@@ -257,13 +244,13 @@ field4 : (n : ℕ) → IsField (λ p. In4 p × (bits4 p ≡ n)) text4 (read4 n)
 field4 = next_group_field IsTag awaited_bytes awaited_at In5 bits5 text5 read5 awaited_field field5
 
 field3 : (n : ℕ) → IsField (λ p. In3 p × (bits3 p ≡ n)) text3 (read3 n)
-field3 = next_group_field IsPending (optional session) (optional_at session_at) In4 bits4 text4 read4 pending_group field4
+field3 = next_group_field IsPending optional_session (optional_by session_at) In4 bits4 text4 read4 optional_session_field field4
 
 field2 : (n : ℕ) → IsField (λ p. In2 p × (bits2 p ≡ n)) text2 (read2 n)
 field2 = next_group_field AreCounters counters_bytes counters_at In3 bits3 text3 read3 counters_field field3
 
 field1 : (n : ℕ) → IsField (λ p. In1 p × (bits1 p ≡ n)) text1 (read1 n)
-field1 = next_group_field IsCurrent (optional current_session) (optional_at current_at) In2 bits2 text2 read2 current_group field2
+field1 = next_group_field IsCurrent optional_current (optional_by current_at) In2 bits2 text2 read2 optional_current_field field2
 
 groups_field : (n : ℕ) → IsField (λ p. In0 p × (bits0 p ≡ n)) text0 (groups_at n)
 groups_field = next_group_field AreNonces nonces_bytes nonces_at In1 bits1 text1 read1 nonces_field field1
@@ -273,9 +260,9 @@ groups_field = next_group_field AreNonces nonces_bytes nonces_at In1 bits1 text1
 abbrev pub group_text : Groups → List ℕ
 group_text c =
     group_bytes nonces_bytes c.nonces
-    ++ (group_bytes (optional current_session) c.current
+    ++ (group_bytes optional_current c.current
     ++ (group_bytes counters_bytes c.counters
-    ++ (group_bytes (optional session) c.pending
+    ++ (group_bytes optional_session c.pending
     ++ (group_bytes awaited_bytes c.awaited
     ++ (group_bytes counted_bytes c.mac_queue
     ++ group_bytes item_change_bytes c.items)))))

@@ -2,13 +2,13 @@
 use Rattle.std.proofs.Common.{◌≡◌, ℕ, ◌+◌, ◌≤◌, List, ◌∷◌, ◌++◌, length, Option, Some, None, arith}
 use Rattle.std.specs.Prelude.{IfSome}
 use Rattle.std.proofs.lemmas.List.{length-append}
-use Rattle.byte_fields.specs.Spelling.{counted_bytes, optional}
+use Rattle.byte_fields.specs.Spelling.{counted_bytes}
 use Rattle.devices.specs.declared.Tag.{Tag}
 use Rattle.devices.specs.declared.activation.Session.{Session}
 use Rattle.devices.specs.declared.activation.CurrentSession.{CurrentSession}
 use Rattle.devices.specs.declared.device.Device.{Device}
 use Rattle.devices.specs.Activation.{Grants}
-use Rattle.record_codec.specs.DeviceRecord.{awaited_bytes, current_session, dev_nonce, granted_bytes, session, IsCurrentSession, IsSession}
+use Rattle.record_codec.specs.DeviceRecord.{awaited_bytes, dev_nonce, granted_bytes, optional_current, optional_session, IsCurrentSession, IsSession}
 use Rattle.record_codec.specs.declared.version.RecordVersion.{RecordVersion}
 use Rattle.record_codec.specs.declared.version.RecordVersion.TheVariants.{V1}
 use Rattle.record_codec.specs.Change.{Added, ItemChange, Leaves, IsChangeOf, IsCurrentGroup, IsItemChange, change_bytes, counters_bytes, group_bytes, item_change_bytes, mask, nonces_bytes}
@@ -24,13 +24,13 @@ most_nonces (Some n) =
     omega arith
 
 most_current : (o : Option (Option CurrentSession)) (n : Option (ℕ × ℕ)) (b a : Grants) → IsCurrentGroup o n b a → IfSome o (λ x. IfSome x IsCurrentSession)
-    → length (group_bytes (optional current_session) o) + length (group_bytes counters_bytes n) ≤ 48
+    → length (group_bytes optional_current o) + length (group_bytes counters_bytes n) ≤ 48
 most_current (Some x) (Some n) b a h is = absurd (let k : Some n ≡ None = h.2 in cc)
 most_current (Some x) None b a h is = let most = (has_optional_current x is).1 in omega arith
 most_current None (Some n) b a h is = omega arith
 most_current None None b a h is = omega arith
 
-most_pending : (o : Option (Option Session)) → IfSome o (λ x. IfSome x IsSession) → length (group_bytes (optional session) o) ≤ 36
+most_pending : (o : Option (Option Session)) → IfSome o (λ x. IfSome x IsSession) → length (group_bytes optional_session o) ≤ 36
 most_pending None is = omega arith
 most_pending (Some x) is = let most = (has_optional_session x is).1 in omega arith
 
@@ -65,7 +65,7 @@ most_change V1 before after bytes h =
     let awaited = most_awaited c.awaited in
     let queue = most_queue c.mac_queue (queue_in c.mac_queue _ r.mac_queue) in
     let items = most_items c.items r.items in
-    let long = seven (group_bytes nonces_bytes c.nonces) (group_bytes (optional current_session) c.current) (group_bytes counters_bytes c.counters) (group_bytes (optional session) c.pending) (group_bytes awaited_bytes c.awaited) (group_bytes counted_bytes c.mac_queue) (group_bytes item_change_bytes c.items) in
+    let long = seven (group_bytes nonces_bytes c.nonces) (group_bytes optional_current c.current) (group_bytes counters_bytes c.counters) (group_bytes optional_session c.pending) (group_bytes awaited_bytes c.awaited) (group_bytes counted_bytes c.mac_queue) (group_bytes item_change_bytes c.items) in
     let few : length (mask c ∷ group_text c) ≤ 411 = omega arith in
     rw h.3 few
 

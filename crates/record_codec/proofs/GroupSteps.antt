@@ -4,8 +4,7 @@ use Rattle.byte_fields.specs.Reading.{Reader, ◌>>=◌, byte_at}
 use Rattle.std.specs.Prelude.{◌≢◌}
 use Rattle.std.proofs.lemmas.Bool.{eq-eqb, ne_eqb}
 use Rattle.devices.specs.declared.activation.CurrentSession.{CurrentSession}
-use Rattle.byte_fields.specs.Reading.{optional_at}
-use Rattle.record_codec.specs.Reading.{current_at}
+use Rattle.record_codec.specs.Reading.{current_at, optional_by}
 use Rattle.record_codec.specs.Change.{Groups}
 use Rattle.record_codec.specs.ChangeReading.{GroupFields, change_at, counters_at, group_at, groups_at, groups_of, is_odd, next_group_at, none_left, nonces_at}
 use Rattle.record_codec.proofs.ChangeFields.{From3, read1, read2, read3}
@@ -58,11 +57,11 @@ three n current counters (Some y) = refl
 pub behind_three : (bytes r0 r1 r2 r3 : List ℕ) (b0 b1 b2 b3 : ℕ) (t0 t1 t2 : Bool) (nonces : Option (Option ℕ × Option ℕ)) (current : Option (Option CurrentSession)) (counters : Option (ℕ × ℕ)) (read : Option (From3 × List ℕ))
     → byte_at bytes ≡ Some (b0, r0)
     → t0 ≡ is_odd b0 → b1 ≡ b0 / 2 → group_at nonces_at t0 r0 ≡ Some (nonces, r1)
-    → t1 ≡ is_odd b1 → b2 ≡ b1 / 2 → group_at (optional_at current_at) t1 r1 ≡ Some (current, r2)
+    → t1 ≡ is_odd b1 → b2 ≡ b1 / 2 → group_at (optional_by current_at) t1 r1 ≡ Some (current, r2)
     → t2 ≡ is_odd b2 → b3 ≡ b2 / 2 → group_at counters_at t2 r2 ≡ Some (counters, r3)
     → read3 b3 r3 ≡ read → change_at bytes ≡ change_with nonces current counters read
 behind_three bytes r0 r1 r2 r3 b0 b1 b2 b3 t0 t1 t2 nonces current counters read mask v0 h0 g0 v1 h1 g1 v2 h2 g2 then =
     let at2 = behind_group counters_at read3 b2 b3 t2 r2 counters r3 read v2 h2 g2 then in
-    let at1 = behind_group (optional_at current_at) read2 b1 b2 t1 r1 current r2 _ v1 h1 g1 at2 in
+    let at1 = behind_group (optional_by current_at) read2 b1 b2 t1 r1 current r2 _ v1 h1 g1 at2 in
     let at0 = behind_group nonces_at read1 b0 b1 t0 r0 nonces r1 _ v0 h0 g0 at1 in
     behind_mask bytes b0 r0 _ mask at0 ∙ three nonces current counters read

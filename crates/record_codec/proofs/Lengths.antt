@@ -11,8 +11,8 @@ use Rattle.devices.specs.declared.activation.CurrentSession.{CurrentSession}
 use Rattle.devices.specs.declared.device.Device.{Device}
 use Rattle.devices.specs.declared.queue.Item.{Item}
 use Rattle.devices.specs.Activation.{Grants}
-use Rattle.byte_fields.specs.Spelling.{counted_bytes, flag, optional}
-use Rattle.record_codec.specs.DeviceRecord.{activation, awaited_bytes, current_session, dev_nonce, granted_bytes, head, item, item_queue, session, spelling, AreGrants, IsCurrentSession, IsDevice, IsItem, IsSession}
+use Rattle.byte_fields.specs.Spelling.{counted_bytes, flag}
+use Rattle.record_codec.specs.DeviceRecord.{activation, awaited_bytes, current_session, dev_nonce, granted_bytes, head, item, item_queue, optional_current, optional_session, session, spelling, AreGrants, IsCurrentSession, IsDevice, IsItem, IsSession}
 
 abbrev pub Has : ℕ → ℕ → List ℕ → Type 0
 Has least most bytes = (least ≤ length bytes) × (length bytes ≤ most)
@@ -52,18 +52,18 @@ has_session s h =
 has_current : (c : CurrentSession) → IsCurrentSession c → Has 47 47 (current_session c)
 has_current c h = has-append 35 35 12 12 (session c.session) (to_be_bytes w32 c.last_up ++ to_be_bytes w64 c.next_down) (has_session c.session h.session) (omega arith, omega arith)
 
-pub has_optional_current : (o : Option CurrentSession) → IfSome o IsCurrentSession → Has 1 48 (optional current_session o)
+pub has_optional_current : (o : Option CurrentSession) → IfSome o IsCurrentSession → Has 1 48 (optional_current o)
 has_optional_current None h = (omega arith, omega arith)
 has_optional_current (Some c) h = let k = has_current c h in let k0 = k.0 in let k1 = k.1 in (omega arith, omega arith)
 
-pub has_optional_session : (o : Option Session) → IfSome o IsSession → Has 1 36 (optional session o)
+pub has_optional_session : (o : Option Session) → IfSome o IsSession → Has 1 36 (optional_session o)
 has_optional_session None h = (omega arith, omega arith)
 has_optional_session (Some s) h = let k = has_session s h in let k0 = k.0 in let k1 = k.1 in (omega arith, omega arith)
 
 has_activation : (g : Grants) → AreGrants g → Has 5 87 (activation g)
 has_activation g h =
-    has-append 3 3 2 84 (granted_bytes g.granted) (optional current_session g.current ++ optional session g.pending) (has_granted g.granted)
-    (has-append 1 48 1 36 (optional current_session g.current) (optional session g.pending) (has_optional_current g.current h.current) (has_optional_session g.pending h.pending))
+    has-append 3 3 2 84 (granted_bytes g.granted) (optional_current g.current ++ optional_session g.pending) (has_granted g.granted)
+    (has-append 1 48 1 36 (optional_current g.current) (optional_session g.pending) (has_optional_current g.current h.current) (has_optional_session g.pending h.pending))
 
 pub has_counted : (bytes : List ℕ) (most : ℕ) → length bytes ≤ most → Has 1 (1 + most) (counted_bytes bytes)
 has_counted bytes most le = (omega arith, omega arith)

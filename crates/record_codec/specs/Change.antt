@@ -3,7 +3,7 @@ use Rattle.std.specs.Prelude.{◌≡◌, ◌≢◌, ◌≤◌, ◌<◌, ◌^◌,
 use Rattle.std.specs.Prelude.{Option, Some, None, IfSome}
 use Rattle.std.specs.Int.{w32, w64, to_be_bytes}
 use Rattle.lw_types.specs.Hex.{IsBytes}
-use Rattle.byte_fields.specs.Spelling.{counted_bytes, optional}
+use Rattle.byte_fields.specs.Spelling.{counted_bytes}
 use Rattle.mac_commands.specs.Queueable.{AreQueueable}
 use Rattle.devices.specs.declared.Tag.{Tag}
 use Rattle.devices.specs.declared.activation.Session.{Session}
@@ -15,9 +15,9 @@ use Rattle.devices.specs.declared.queue.TheConstants.ItemQueue.{MOST as MOST_ITE
 use Rattle.devices.specs.Activation.{Grants, AreInOrder}
 use Rattle.devices.specs.Becoming.{AreProvisionedAlike}
 use Rattle.devices.specs.Parts.{nonces_of, session_of, counters_of}
-use Rattle.record_codec.specs.DeviceRecord.{awaited_bytes, current_session, dev_nonce}
-use Rattle.record_codec.specs.DeviceRecord.{granted_bytes, item, session, IsCurrentSession, IsItem}
-use Rattle.record_codec.specs.DeviceRecord.{IsJoinNonce, IsSession}
+use Rattle.record_codec.specs.DeviceRecord.{awaited_bytes, dev_nonce, granted_bytes, item}
+use Rattle.record_codec.specs.DeviceRecord.{optional_current, optional_session, IsCurrentSession}
+use Rattle.record_codec.specs.DeviceRecord.{IsItem, IsJoinNonce, IsSession}
 use Rattle.record_codec.specs.declared.version.RecordVersion.{RecordVersion}
 use Rattle.record_codec.specs.declared.version.RecordVersion.TheVariants.{V1}
 
@@ -79,9 +79,9 @@ unfoldable pub change_bytes : RecordVersion → Groups → List ℕ
 change_bytes V1 c =
     mask c
     ∷ (group_bytes nonces_bytes c.nonces
-    ++ (group_bytes (optional current_session) c.current
+    ++ (group_bytes optional_current c.current
     ++ (group_bytes counters_bytes c.counters
-    ++ (group_bytes (optional session) c.pending
+    ++ (group_bytes optional_session c.pending
     ++ (group_bytes awaited_bytes c.awaited
     ++ (group_bytes counted_bytes c.mac_queue
     ++ group_bytes item_change_bytes c.items))))))

@@ -17,7 +17,7 @@ use Rattle.devices.specs.Activation.{Grants, AreInOrder}
 use Rattle.devices.specs.Parts.{nonces_of, session_of, counters_of}
 use Rattle.record_codec.specs.Change.{Groups, ItemChange, Leaves, Added}
 use Rattle.record_codec.specs.Reading.{awaited_at, current_at, flagged_at, granted_nonce, item_at}
-use Rattle.record_codec.specs.Reading.{mac_queue_at, session_at}
+use Rattle.record_codec.specs.Reading.{mac_queue_at, optional_by, session_at}
 
 -- ---- the groups
 
@@ -77,8 +77,8 @@ groups_of x =
 
 abbrev pub groups_at : ℕ → Reader GroupFields
 groups_at =
-    next_group_at nonces_at (next_group_at (optional_at current_at)
-    (next_group_at counters_at (next_group_at (optional_at session_at)
+    next_group_at nonces_at (next_group_at (optional_by current_at)
+    (next_group_at counters_at (next_group_at (optional_by session_at)
     (next_group_at awaited_at (next_group_at mac_queue_at
     (next_group_at item_change_at none_left))))))
 

@@ -6,10 +6,12 @@ use Rattle.std.specs.Int.{Width, w16, w32, w64, to_be_bytes}
 use Rattle.lw_types.specs.Hex.{IsBytes}
 use Rattle.lw_types.specs.Values.{IsKey}
 use Rattle.lw_types.specs.declared.payload.TheConstants.{LONGEST_PAYLOAD}
-use Rattle.byte_fields.specs.Spelling.{flag, three_be_bytes, counted_bytes, optional}
+use Rattle.byte_fields.specs.Spelling.{flag, three_be_bytes, counted_bytes}
 use Rattle.devices.specs.declared.Tag.{Tag}
 use Rattle.devices.specs.declared.activation.Session.{Session}
 use Rattle.devices.specs.declared.activation.CurrentSession.{CurrentSession}
+use Rattle.devices.specs.declared.channels.Channels.{Channels}
+use Rattle.devices.specs.declared.channels.Channels.TheVariants.{Three, Eight}
 use Rattle.devices.specs.declared.queue.Item.{Item}
 use Rattle.devices.specs.declared.device.Device.{Device}
 use Rattle.devices.specs.Activation.{Grants, AreInOrder}
@@ -39,15 +41,29 @@ abbrev pub granted_bytes : Option ℕ → List ℕ
 granted_bytes None = nonce 0
 granted_bytes (Some n) = nonce n
 
+-- without its channels, of which the byte before it tells
 abbrev pub session : Session → List ℕ
 session s = nonce s.join_nonce ++ (s.nwk_skey.0 ++ s.app_skey.0)
 
 abbrev pub current_session : CurrentSession → List ℕ
 current_session c = session c.session ++ (to_be_bytes w32 c.last_up ++ to_be_bytes w64 c.next_down)
 
+-- the byte that says that a session is there, and which channels it has; 0 says that none is
+abbrev pub channels_byte : Channels → ℕ
+channels_byte Three = 1
+channels_byte Eight = 2
+
+abbrev pub optional_current : Option CurrentSession → List ℕ
+optional_current None = 0 ∷ []
+optional_current (Some c) = channels_byte c.session.channels ∷ current_session c
+
+abbrev pub optional_session : Option Session → List ℕ
+optional_session None = 0 ∷ []
+optional_session (Some s) = channels_byte s.channels ∷ session s
+
 abbrev pub activation : Grants → List ℕ
 activation g =
-    granted_bytes g.granted ++ (optional current_session g.current ++ optional session g.pending)
+    granted_bytes g.granted ++ (optional_current g.current ++ optional_session g.pending)
 
 abbrev pub item : Item → List ℕ
 item i = to_be_bytes w32 i.tag.0 ++ (i.port ∷ [] ++ (flag i.confirmed ++ counted_bytes i.payload))
@@ -58,7 +74,7 @@ item_queue items = length items ∷ flat_map item items
 
 -- ---- the record
 
--- what a device was brought with
+-- what a device was provisioned with
 abbrev pub head : Device → List ℕ
 head d =
     to_be_bytes w64 d.dev_eui.0
@@ -102,7 +118,7 @@ pub record IsItem (i : Item) : Type 0 where
   pub port : (1 ≤ i.port) × (i.port ≤ 223)
   pub payload : IsBytes i.payload × (length i.payload ≤ LONGEST_PAYLOAD)
 
--- what a device was brought with is in its ranges
+-- what a device was provisioned with is in its ranges
 pub record HeadIsInRange (d : Device) : Type 0 where
   pub dev_eui : d.dev_eui.0 < 2 ^ 64
   pub join_eui : d.join_eui.0 < 2 ^ 64

@@ -9,12 +9,14 @@ use Rattle.lw_types.specs.declared.identifiers.Eui.{Eui}
 use Rattle.lw_types.specs.declared.key.Key.{Key}
 use Rattle.lw_types.specs.declared.payload.TheConstants.{LONGEST_PAYLOAD}
 use Rattle.byte_fields.specs.Reading.{Reader, ◌>>=◌, both, seen_as, that, whole, be_at, be_eui_at}
-use Rattle.byte_fields.specs.Reading.{counted_at, flag_at, key_at, optional_at, ranged_at}
+use Rattle.byte_fields.specs.Reading.{counted_at, flag_at, key_at, ranged_at}
 use Rattle.byte_fields.specs.Reading.{three_be_bytes_at}
 use Rattle.mac_commands.specs.Queueable.{AreQueueable}
 use Rattle.devices.specs.declared.Tag.{Tag}
 use Rattle.devices.specs.declared.activation.Session.{Session}
 use Rattle.devices.specs.declared.activation.CurrentSession.{CurrentSession}
+use Rattle.devices.specs.declared.channels.Channels.{Channels}
+use Rattle.devices.specs.declared.channels.Channels.TheVariants.{Three, Eight}
 use Rattle.devices.specs.declared.queue.Item.{Item}
 use Rattle.devices.specs.declared.device.Device.{Device}
 use Rattle.devices.specs.Activation.{Grants, current_nonce}
@@ -44,18 +46,38 @@ is_join_nonce n = nat_lt 0 n && nat_lt n (2 ^ 24)
 abbrev pub granted_nonce : ℕ → Option ℕ
 granted_nonce n = if is_join_nonce n then Some n else None
 
-abbrev pub session_of : ℕ × (Key × Key) → Session
-session_of x = record { join_nonce = x.0; nwk_skey = x.1.0; app_skey = x.1.1 }
+-- 00 where no session is there, 01 before one of three channels, 02 before one of eight
+abbrev pub channels_at : Reader (Option Channels)
+channels_at [] = None
+channels_at (zero ∷ rest) = Some (None, rest)
+channels_at (suc zero ∷ rest) = Some (Some Three, rest)
+channels_at (suc (suc zero) ∷ rest) = Some (Some Eight, rest)
+channels_at (suc (suc (suc byte)) ∷ rest) = None
 
-unfoldable pub session_at : Reader Session
-session_at = seen_as session_of (both (that is_join_nonce three_be_bytes_at) (both key_at key_at))
+-- the field of a session that has these channels, if one is there
+abbrev pub where_there : {X : Type 0} → (Channels → Reader X) → Option Channels → Reader (Option X)
+where_there field None = λ bytes. Some (None, bytes)
+where_there field (Some channels) = seen_as Some (field channels)
+
+-- the channels, and behind them the field
+abbrev pub optional_by : {X : Type 0} → (Channels → Reader X) → Reader (Option X)
+optional_by field bytes = channels_at bytes >>= λ given. where_there field given.0 given.1
+
+abbrev pub session_of : Channels → ℕ × (Key × Key) → Session
+session_of channels x =
+    record { join_nonce = x.0; nwk_skey = x.1.0; app_skey = x.1.1; channels = channels }
+
+unfoldable pub session_at : Channels → Reader Session
+session_at channels =
+    seen_as (session_of channels)
+    (both (that is_join_nonce three_be_bytes_at) (both key_at key_at))
 
 abbrev pub current_of : Session × (ℕ × ℕ) → CurrentSession
 current_of x = record { session = x.0; last_up = x.1.0; next_down = x.1.1 }
 
-unfoldable pub current_at : Reader CurrentSession
-current_at =
-    seen_as current_of (both session_at
+unfoldable pub current_at : Channels → Reader CurrentSession
+current_at channels =
+    seen_as current_of (both (session_at channels)
     (both (be_at w32) (that (λ n. nat_le n (2 ^ 32)) (be_at w64))))
 
 abbrev pub grants_of : Option ℕ × (Option CurrentSession × Option Session) → Grants
@@ -72,7 +94,7 @@ unfoldable pub activation_at : Reader Grants
 activation_at =
     that are_in_order (seen_as grants_of
     (both (seen_as granted_nonce three_be_bytes_at)
-    (both (optional_at current_at) (optional_at session_at))))
+    (both (optional_by current_at) (optional_by session_at))))
 
 -- ---- queues
 

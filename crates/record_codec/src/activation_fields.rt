@@ -1,22 +1,35 @@
 // Sessions, and what a device was granted.
 ghost use Rattle.std.specs.Prelude.{◌≡◌, ◌++◌, IfSome, OnOk};
-ghost use Rattle.record_codec.specs.DeviceRecord.{activation, current_session, granted_bytes};
-ghost use Rattle.record_codec.specs.DeviceRecord.{session, AreGrants, IsCurrentSession};
-ghost use Rattle.record_codec.specs.DeviceRecord.{IsJoinNonce, IsSession};
+ghost use Rattle.record_codec.specs.DeviceRecord.{activation, channels_byte, current_session};
+ghost use Rattle.record_codec.specs.DeviceRecord.{granted_bytes, optional_current};
+ghost use Rattle.record_codec.specs.DeviceRecord.{optional_session, session, AreGrants};
+ghost use Rattle.record_codec.specs.DeviceRecord.{IsCurrentSession, IsJoinNonce, IsSession};
 ghost use Rattle.record_codec.specs.Change.{counters_bytes, AreCounters};
-ghost use Rattle.byte_fields.specs.Spelling.{optional};
-ghost use Rattle.byte_fields.specs.Reading.{Gives, optional_at, seen_as, three_be_bytes_at};
-ghost use Rattle.record_codec.specs.Reading.{activation_at, current_at, granted_nonce, session_at};
+ghost use Rattle.byte_fields.specs.Reading.{Gives, seen_as, three_be_bytes_at};
+ghost use Rattle.record_codec.specs.Reading.{activation_at, channels_at, current_at};
+ghost use Rattle.record_codec.specs.Reading.{granted_nonce, optional_by, session_at};
 
 use crate::written_fields::put_key;
 use byte_fields::FieldReader;
-use devices::{Activation, CurrentSession, NextDown, Session};
+use devices::{Activation, Channels, CurrentSession, NextDown, Session};
 use lw_types::JoinNonce;
 use std::alloc::AllocError;
 
+/// 00 where no session is there, 01 before one of three channels, 02 before one of eight.
+fn read_channels(fields: &mut FieldReader<'_>) -> Option<Option<Channels>>
+    ensures { Gives result fields.new.rest.now (channels_at fields.old.rest.now) }
+{
+    match fields.byte()? {
+        0 => Some(None),
+        1 => Some(Some(Channels::Three)),
+        2 => Some(Some(Channels::Eight)),
+        _ => None,
+    }
+}
+
 #[tactic(auto, unfolding(crate::specs::Reading::session_at))]
-fn read_session(fields: &mut FieldReader<'_>) -> Option<Session>
-    ensures { Gives result fields.new.rest.now (session_at fields.old.rest.now) }
+fn read_session(fields: &mut FieldReader<'_>, channels: Channels) -> Option<Session>
+    ensures { Gives result fields.new.rest.now (session_at channels fields.old.rest.now) }
 {
     let join_nonce = JoinNonce::new(fields.u24_be()?)?;
     let nwk_skey = fields.key()?;
@@ -25,14 +38,15 @@ fn read_session(fields: &mut FieldReader<'_>) -> Option<Session>
         join_nonce,
         nwk_skey,
         app_skey,
+        channels,
     })
 }
 
 #[tactic(auto, unfolding(crate::specs::Reading::current_at))]
-fn read_current(fields: &mut FieldReader<'_>) -> Option<CurrentSession>
-    ensures { Gives result fields.new.rest.now (current_at fields.old.rest.now) }
+fn read_current(fields: &mut FieldReader<'_>, channels: Channels) -> Option<CurrentSession>
+    ensures { Gives result fields.new.rest.now (current_at channels fields.old.rest.now) }
 {
-    let session = read_session(fields)?;
+    let session = read_session(fields, channels)?;
     let last_up = fields.u32_be()?;
     let next_down = NextDown::new(fields.u64_be()?)?;
     Some(CurrentSession {
@@ -50,25 +64,23 @@ pub(crate) fn read_granted(fields: &mut FieldReader<'_>) -> Option<Option<JoinNo
     Some(JoinNonce::new(fields.u24_be()?))
 }
 
-/// 00, or 01 and the current session.
+/// 00, or the channels and the current session.
 pub(crate) fn read_optional_current(fields: &mut FieldReader<'_>) -> Option<Option<CurrentSession>>
-    ensures { Gives result fields.new.rest.now (optional_at current_at fields.old.rest.now) }
+    ensures { Gives result fields.new.rest.now (optional_by current_at fields.old.rest.now) }
 {
-    if fields.flag()? {
-        Some(Some(read_current(fields)?))
-    } else {
-        Some(None)
+    match read_channels(fields)? {
+        Some(channels) => Some(Some(read_current(fields, channels)?)),
+        None => Some(None),
     }
 }
 
-/// 00, or 01 and the session.
+/// 00, or the channels and the session.
 pub(crate) fn read_optional_session(fields: &mut FieldReader<'_>) -> Option<Option<Session>>
-    ensures { Gives result fields.new.rest.now (optional_at session_at fields.old.rest.now) }
+    ensures { Gives result fields.new.rest.now (optional_by session_at fields.old.rest.now) }
 {
-    if fields.flag()? {
-        Some(Some(read_session(fields)?))
-    } else {
-        Some(None)
+    match read_channels(fields)? {
+        Some(channels) => Some(Some(read_session(fields, channels)?)),
+        None => Some(None),
     }
 }
 
@@ -81,6 +93,16 @@ pub(crate) fn read_activation(fields: &mut FieldReader<'_>) -> Option<Activation
     let current = read_optional_current(fields)?;
     let pending = read_optional_session(fields)?;
     Activation::new(granted, current, pending)
+}
+
+// The byte that says that a session of these channels is there.
+fn channels_byte(channels: Channels) -> u8
+    ensures { result ≡ channels_byte channels }
+{
+    match channels {
+        Channels::Three => 1,
+        Channels::Eight => 2,
+    }
 }
 
 fn put_session(out: &mut Vec<u8>, s: &Session) -> Result<(), AllocError>
@@ -131,37 +153,36 @@ pub(crate) fn put_granted(out: &mut Vec<u8>, nonce: Option<JoinNonce>) -> Result
     out.extend_from_slice(&[high, middle, low])
 }
 
-/// Appends 00, or 01 and the current session.
+/// Appends 00, or the channels and the current session.
 pub(crate) fn put_optional_current(
     out: &mut Vec<u8>,
     current: &Option<CurrentSession>,
 ) -> Result<(), AllocError>
-    ensures written { OnOk result (out.new.items
-        ≡ out.old.items ++ optional current_session current.now) }
+    ensures written { OnOk result (out.new.items ≡ out.old.items ++ optional_current current.now) }
     ensures in_range { OnOk result (IfSome current.now IsCurrentSession) }
 {
     match current {
         None => out.push(0)?,
         Some(current) => {
-            out.push(1)?;
+            out.push(channels_byte(current.session.channels))?;
             put_current(out, current)?;
         }
     }
     Ok(())
 }
 
-/// Appends 00, or 01 and the session.
+/// Appends 00, or the channels and the session.
 pub(crate) fn put_optional_session(
     out: &mut Vec<u8>,
     pending: &Option<Session>,
 ) -> Result<(), AllocError>
-    ensures written { OnOk result (out.new.items ≡ out.old.items ++ optional session pending.now) }
+    ensures written { OnOk result (out.new.items ≡ out.old.items ++ optional_session pending.now) }
     ensures in_range { OnOk result (IfSome pending.now IsSession) }
 {
     match pending {
         None => out.push(0)?,
         Some(session) => {
-            out.push(1)?;
+            out.push(channels_byte(session.channels))?;
             put_session(out, session)?;
         }
     }

@@ -1,7 +1,8 @@
 // The groups of a change, read one after another.
 ghost use Rattle.std.specs.Prelude.{◌≡◌, ◌≤◌, ◌/◌, IfSome, length, option_map};
-ghost use Rattle.byte_fields.specs.Reading.{Gives, GivesSeen, optional_at};
-ghost use Rattle.record_codec.specs.Reading.{awaited_at, current_at, mac_queue_at, session_at};
+ghost use Rattle.byte_fields.specs.Reading.{Gives, GivesSeen};
+ghost use Rattle.record_codec.specs.Reading.{awaited_at, current_at, mac_queue_at, optional_by};
+ghost use Rattle.record_codec.specs.Reading.{session_at};
 ghost use Rattle.record_codec.specs.ChangeReading.{change_at, counters_at, group_at, is_odd};
 ghost use Rattle.record_codec.specs.ChangeReading.{item_change_at, nonces_at};
 ghost use Rattle.record_codec.specs.Parts.{groups_of_parts, item_change_of_parts, AreShort};
@@ -48,7 +49,7 @@ fn read_current(
     is_there: bool,
 ) -> Option<Option<Option<CurrentSession>>>
     ensures { Gives result fields.new.rest.now
-        (group_at (optional_at current_at) is_there fields.old.rest.now) }
+        (group_at (optional_by current_at) is_there fields.old.rest.now) }
 {
     if is_there {
         Some(Some(read_optional_current(fields)?))
@@ -70,7 +71,7 @@ fn read_counters(fields: &mut FieldReader<'_>, is_there: bool) -> Option<Option<
 
 fn read_pending(fields: &mut FieldReader<'_>, is_there: bool) -> Option<Option<Option<Session>>>
     ensures { Gives result fields.new.rest.now
-        (group_at (optional_at session_at) is_there fields.old.rest.now) }
+        (group_at (optional_by session_at) is_there fields.old.rest.now) }
 {
     if is_there {
         Some(Some(read_optional_session(fields)?))

@@ -2,9 +2,9 @@
 ghost use Rattle.std.specs.Prelude.{◌≡◌, ◌++◌, ◌≤◌, ◌<◌, ◌^◌, IfOk, IfSome, OnOk, length};
 ghost use Rattle.std.specs.Prelude.{option_map};
 ghost use Rattle.lw_types.specs.Hex.{IsBytes};
-ghost use Rattle.byte_fields.specs.Spelling.{counted_bytes, optional};
-ghost use Rattle.record_codec.specs.DeviceRecord.{awaited_bytes, current_session, session};
-ghost use Rattle.record_codec.specs.DeviceRecord.{IsCurrentSession, IsSession};
+ghost use Rattle.byte_fields.specs.Spelling.{counted_bytes};
+ghost use Rattle.record_codec.specs.DeviceRecord.{awaited_bytes, optional_current};
+ghost use Rattle.record_codec.specs.DeviceRecord.{optional_session, IsCurrentSession, IsSession};
 ghost use Rattle.record_codec.specs.Change.{change_bytes, counters_bytes, group_bytes};
 ghost use Rattle.record_codec.specs.Change.{item_change_bytes, mask, nonces_bytes, there};
 ghost use Rattle.record_codec.specs.Change.{AreCounters, AreInRange, AreNonces, IsItemChange};
@@ -66,7 +66,7 @@ fn put_current(
     current: &Option<Option<CurrentSession>>,
 ) -> Result<(), AllocError>
     ensures written { OnOk result (out.new.items
-        ≡ out.old.items ++ group_bytes (optional current_session) current.now) }
+        ≡ out.old.items ++ group_bytes optional_current current.now) }
     ensures in_range { OnOk result (IfSome current.now (λ o. IfSome o IsCurrentSession)) }
 {
     match current {
@@ -90,7 +90,7 @@ fn put_counts(out: &mut Vec<u8>, counters: &Option<Counters>) -> Result<(), Allo
 
 fn put_pending(out: &mut Vec<u8>, pending: &Option<Option<Session>>) -> Result<(), AllocError>
     ensures written { OnOk result (out.new.items
-        ≡ out.old.items ++ group_bytes (optional session) pending.now) }
+        ≡ out.old.items ++ group_bytes optional_session pending.now) }
     ensures in_range { OnOk result (IfSome pending.now (λ o. IfSome o IsSession)) }
 {
     match pending {

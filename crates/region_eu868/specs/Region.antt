@@ -1,11 +1,34 @@
 -- The channels and data rates of EU868 (RP002-1.0.4, EU863-870): DR 0 to 5 are SF12 to SF7 at 125
 -- kHz.
-use Rattle.std.specs.Prelude.{◌≡◌, ◌+◌, ◌*◌, ◌/◌, ℕ, min, List, [], ◌∷◌, slice_index, ℤ, pos}
-use Rattle.std.specs.Prelude.{negsuc, ◌+ℤ◌, ◌-ℤ◌, ◌<ℤ◌, ◌≤ℤ◌, neg_ℤ}
+use Rattle.std.specs.Prelude.{◌≡◌, ◌==◌, ◌+◌, ◌*◌, ◌/◌, ℕ, min, Bool, List, [], ◌∷◌, ◌++◌, take}
+use Rattle.std.specs.Prelude.{slice_index, ℤ, pos, negsuc, ◌+ℤ◌, ◌-ℤ◌, ◌<ℤ◌, ◌≤ℤ◌, neg_ℤ}
+use Rattle.std.specs.List.{flat_map, list_any}
+use Rattle.std.specs.Int.{w32, to_le_bytes}
 
 -- the channels that each device has from the start, in Hz
+abbrev pub first_channels : List ℕ
+first_channels = 868100000 ∷ 868300000 ∷ 868500000 ∷ []
+
+-- the channels that a Join-Accept adds, in Hz
+abbrev pub later_channels : List ℕ
+later_channels = 867100000 ∷ 867300000 ∷ 867500000 ∷ 867700000 ∷ 867900000 ∷ []
+
+-- all of them
 abbrev pub channels : List ℕ
-channels = 868100000 ∷ 868300000 ∷ 868500000 ∷ []
+channels = first_channels ++ later_channels
+
+-- whether a frequency is one of these
+abbrev pub is_among : List ℕ → ℕ → Bool
+is_among frequencies frequency = list_any (λ (f : ℕ). frequency == f) frequencies
+
+-- a frequency in a CFList: in units of 100 Hz, three bytes, low bytes first
+abbrev pub cf_frequency : ℕ → List ℕ
+cf_frequency frequency = take 3 (to_le_bytes w32 (frequency / 100))
+
+-- the CFList of a Join-Accept: the frequencies of five channels, and then the type of the list,
+-- which is 0 for frequencies (TS001-1.0.4 §6.2.6; RP002-1.0.4, EU863-870)
+abbrev pub cf_list : List ℕ
+cf_list = flat_map cf_frequency later_channels ++ 0 ∷ []
 
 -- the largest MACPayload of each data rate, in bytes
 abbrev pub max_payloads : List ℕ

@@ -1,10 +1,12 @@
 //! The channels and data rates of EU868 (RP002-1.0.4, EU863-870), for class A devices with the
-//! three channels that they have from the start. No call takes memory.
+//! three channels that they have from the start and the five that a Join-Accept adds. No call takes
+//! memory.
 #![tactic(auto)]
 
 ghost use Rattle.std.specs.Prelude.{◌≡◌, ◌≤◌, ◌-◌, ◌↔◌, IsTrue, Contains, slice_index};
-ghost use Rattle.region_eu868.specs.Region.{channels, max_payloads, snr_depths, margin_of};
-ghost use Rattle.region_eu868.specs.Region.{IsMargin};
+ghost use Rattle.region_eu868.specs.Region.{channels, first_channels, is_among};
+ghost use Rattle.region_eu868.specs.Region.{later_channels};
+ghost use Rattle.region_eu868.specs.Region.{max_payloads, snr_depths, margin_of, IsMargin};
 
 pub mod laws;
 
@@ -55,11 +57,37 @@ pub fn max_mac(data_rate: u8) -> u8
     }
 }
 
-/// Whether a frequency in Hz is a channel.
+/// The channels that a Join-Accept adds: the frequencies of five in units of 100 Hz, three bytes
+/// each, low bytes first, and a last byte that says so (TS001-1.0.4 §6.2.6; RP002-1.0.4,
+/// EU863-870).
+pub const CF_LIST: [u8; 16] = [
+    0x18, 0x4F, 0x84, 0xE8, 0x56, 0x84, 0xB8, 0x5E, 0x84, 0x88, 0x66, 0x84, 0x58, 0x6E, 0x84, 0x00,
+];
+
+/// Whether a frequency in Hz is a channel: one of the first three, or one that a Join-Accept adds.
 pub fn is_channel(frequency: u32) -> bool
-    ensures { IsTrue result ↔ Contains channels frequency }
+    ensures contained { IsTrue result ↔ Contains channels frequency }
+    ensures tested { result ≡ is_among channels frequency }
+{
+    is_first_channel(frequency) || is_later_channel(frequency)
+}
+
+/// Whether a frequency in Hz is one of the three channels that each device has from the start.
+pub fn is_first_channel(frequency: u32) -> bool
+    ensures contained { IsTrue result ↔ Contains first_channels frequency }
+    ensures tested { result ≡ is_among first_channels frequency }
 {
     matches!(frequency, 868_100_000 | 868_300_000 | 868_500_000)
+}
+
+// Whether a frequency is one of the channels that a Join-Accept adds.
+fn is_later_channel(frequency: u32) -> bool
+    ensures { result ≡ is_among later_channels frequency }
+{
+    matches!(
+        frequency,
+        867_100_000 | 867_300_000 | 867_500_000 | 867_700_000 | 867_900_000
+    )
 }
 
 /// The whole dB by which an SNR, in quarter dB, is above the floor of its data rate, from 0 to 254.

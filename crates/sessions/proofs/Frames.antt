@@ -1,9 +1,9 @@
 -- What is known of a frame that was carried out on a device's record.
-use Rattle.std.proofs.Common.{◌≡◌, ◌==◌, ◌∙◌, ℕ, Bool, cond, List, Option, Some, Result, Ok, Err, sym, ap}
+use Rattle.std.proofs.Common.{◌≡◌, ◌==◌, ◌∙◌, ℕ, Bool, true, false, cond, List, Option, Some, None, Result, Ok, Err, sym, ap}
 use Rattle.std.specs.List.{slice_get}
 use Rattle.std.proofs.lemmas.Bool.{eq-eqb, eqb-true}
 use Rattle.lw_types.specs.declared.refusal.Refusal.{Refusal}
-use Rattle.lw_types.specs.declared.refusal.Refusal.TheVariants.{MacBoth, NotServed, UnknownDevAddr, UnknownDevEui}
+use Rattle.lw_types.specs.declared.refusal.Refusal.TheVariants.{MacBoth, NotServed, UnknownChannel, UnknownDevAddr, UnknownDevEui}
 use Rattle.phy_payload.specs.declared.control.Control.{Control}
 use Rattle.phy_payload.specs.declared.control.Control.TheVariants as control
 use Rattle.phy_payload.specs.declared.data_frame.DataFrame.{DataFrame}
@@ -12,7 +12,9 @@ use Rattle.phy_payload.specs.declared.phy.Phy.TheVariants as phy
 use Rattle.phy_payload.specs.Reading.{phy_at}
 use Rattle.join_server.specs.Request.{dev_eui_of}
 use Rattle.join_server.specs.declared.ask.JoinAsk.{JoinAsk}
+use Rattle.region_eu868.specs.Region.{first_channels, is_among}
 use Rattle.devices.specs.Address.{slot_at}
+use Rattle.devices.specs.Heard.{best_of}
 use Rattle.devices.specs.DeviceStep.{DeviceStep}
 use Rattle.devices.specs.declared.command.Command.TheVariants as command
 use Rattle.devices.specs.declared.device.Device.{Device}
@@ -23,7 +25,7 @@ use Rattle.uplinks.specs.Step.{uplink_at}
 use Rattle.uplinks.specs.Uplink.{has_both, uplink_of, uplink_with}
 use Rattle.uplinks.specs.declared.uplink.Uplink as declared
 use Rattle.sessions.specs.Join.{join_ask, join_step}
-use Rattle.sessions.specs.Served.{frame_in, heard_at, served_at, served_in}
+use Rattle.sessions.specs.Served.{frame_in, heard_at, received_by, received_in, served_at, served_in}
 use Rattle.sessions.specs.Step.{step1}
 use Rattle.sessions.specs.Table.{TableStep, TableState, known_slot, sender_slot, slot_of, step, step_at, used_slot}
 use Rattle.sessions.specs.declared.served.Served.{Served}
@@ -63,12 +65,28 @@ uplink-read bytes u h =
         let found = both_ok (uplink_of frame) (λ u. Ok (Uplink u)) (Uplink u) h in
         ap (λ (f : DataFrame). phy.DataFrame f) (uplink-frame frame frame.control found.0 found.1 ∙ ap (λ (v : declared.Uplink). v.frame) (same_uplink found.0 u found.2))
 
+-- an uplink may be heard on each channel
+pub uplink-received : (h : Heard) (u : declared.Uplink) → received_in h ≡ Ok (Uplink u) → frame_in h.phy_payload ≡ Ok (Uplink u)
+uplink-received h u is =
+    let read = both_ok (frame_in h.phy_payload) (received_by (best_of h.hearings)) (Uplink u) is in
+    read.1 ∙ at (best_of h.hearings) read.0 read.2
+  where
+    on_first : (first : Bool) (bytes : List ℕ) → cond first (Ok (Request bytes)) (Err UnknownChannel) ≡ Ok (Uplink u)
+        → ◌≡◌ {A = Result Served Refusal} (Ok (Request bytes)) (Ok (Uplink u))
+    on_first true bytes e = e
+    on_first false bytes e = no_ok UnknownChannel (Uplink u) _ e
+
+    at : (best : Option Hearing) (served : Served) → received_by best served ≡ Ok (Uplink u) → ◌≡◌ {A = Result Served Refusal} (Ok served) (Ok (Uplink u))
+    at None served e = e
+    at (Some best) (Request bytes) e = on_first (is_among first_channels best.reception.frequency) bytes e
+    at (Some best) (Uplink v) e = e
+
 -- ---- what it does
 
 -- a frame that was carried out is served
 pub heard-ok : (net_id slot : ℕ) (d : Device) (h : Heard) (o : DeviceStep) → heard_at net_id slot d h ≡ Ok o
-    → (served : Served) × (frame_in h.phy_payload ≡ Ok served) × (served_at net_id slot d h.hearings served ≡ Ok o)
-heard-ok net_id slot d h o is = both_ok (frame_in h.phy_payload) (served_at net_id slot d h.hearings) o is
+    → (served : Served) × (received_in h ≡ Ok served) × (served_at net_id slot d h.hearings served ≡ Ok o)
+heard-ok net_id slot d h o is = both_ok (received_in h) (served_at net_id slot d h.hearings) o is
 
 -- an uplink that was carried out is of the slot
 pub uplink-ok : (net_id slot : ℕ) (d : Device) (hearings : List Hearing) (u : declared.Uplink) (o : DeviceStep) → served_at net_id slot d hearings (Uplink u) ≡ Ok o
@@ -98,7 +116,7 @@ served-sender t slot d hearings (Uplink u) o is own at =
     ap (λ s. used_slot s (slice_get t.devices s)) (uplink-ok t.net_id slot d hearings u o is).0 ∙ ap (used_slot slot) at
 
 pub heard-sender : (t : TableState) (slot : ℕ) (d : Device) (h : Heard) (o : DeviceStep) → heard_at t.net_id slot d h ≡ Ok o
-    → slot_of d.dev_eui.0 t.devices ≡ Some slot → slice_get t.devices slot ≡ Some d → (frame_in h.phy_payload >>= sender_slot t) ≡ Ok slot
+    → slot_of d.dev_eui.0 t.devices ≡ Some slot → slice_get t.devices slot ≡ Some d → (received_in h >>= sender_slot t) ≡ Ok slot
 heard-sender t slot d h o is own at =
     let found = heard-ok t.net_id slot d h o is in
     ap (λ (r : Result Served Refusal). r >>= sender_slot t) found.1 ∙ served-sender t slot d h.hearings found.0 o found.2 own at
@@ -106,7 +124,7 @@ heard-sender t slot d h o is own at =
 -- ---- its step
 
 -- a frame from no slot
-pub step-unsent : (t : TableState) (h : Heard) (served : Served) (e : Refusal) → frame_in h.phy_payload ≡ Ok served → sender_slot t served ≡ Err e
+pub step-unsent : (t : TableState) (h : Heard) (served : Served) (e : Refusal) → received_in h ≡ Ok served → sender_slot t served ≡ Err e
     → step t (command.Heard h) ≡ Err e
 step-unsent t h served e is unsent =
     ap (λ (r : Result Served Refusal). (r >>= sender_slot t) >>= stepped_at) is ∙ ap (λ (r : Result ℕ Refusal). r >>= stepped_at) unsent
@@ -115,7 +133,7 @@ step-unsent t h served e is unsent =
     stepped_at slot = step1 t.net_id slot (slice_get t.devices slot) (command.Heard h) >>= λ o. Ok (step_at slot (slice_get t.devices slot) o)
 
 -- a frame of a device that is there
-step-served : (t : TableState) (h : Heard) (served : Served) (slot : ℕ) (d : Device) → frame_in h.phy_payload ≡ Ok served → sender_slot t served ≡ Ok slot
+step-served : (t : TableState) (h : Heard) (served : Served) (slot : ℕ) (d : Device) → received_in h ≡ Ok served → sender_slot t served ≡ Ok slot
     → slice_get t.devices slot ≡ Some d → step t (command.Heard h) ≡ (served_at t.net_id slot d h.hearings served >>= λ o. Ok (step_at slot (Some d) o))
 step-served t h served slot d is sender at =
     ap (λ (r : Result Served Refusal). (r >>= sender_slot t) >>= stepped_at) is
@@ -130,7 +148,7 @@ step-served t h served slot d is sender at =
     stepped_at slot = step1 t.net_id slot (slice_get t.devices slot) (command.Heard h) >>= λ o. Ok (step_at slot (slice_get t.devices slot) o)
 
 -- a Join-Request, by any question that differs in its number alone
-pub step-request : (t : TableState) (h : Heard) (request : List ℕ) (slot : ℕ) (d : Device) (ask : JoinAsk) → frame_in h.phy_payload ≡ Ok (Request request)
+pub step-request : (t : TableState) (h : Heard) (request : List ℕ) (slot : ℕ) (d : Device) (ask : JoinAsk) → received_in h ≡ Ok (Request request)
     → slot_of (dev_eui_of request) t.devices ≡ Some slot → slice_get t.devices slot ≡ Some d → d.dev_eui.0 ≡ dev_eui_of request
     → (n : ℕ) → ask ≡ join_ask t.net_id slot d request n
     → step t (command.Heard h) ≡ (join_step d h.hearings ask >>= λ o. Ok (step_at slot (Some d) o))
@@ -144,7 +162,7 @@ step-request t h request slot d ask is found at name n asked =
     placed_at o = Ok (step_at slot (Some d) o)
 
 -- an uplink
-pub step-uplink : (t : TableState) (h : Heard) (u : declared.Uplink) (slot : ℕ) (d : Device) → frame_in h.phy_payload ≡ Ok (Uplink u)
+pub step-uplink : (t : TableState) (h : Heard) (u : declared.Uplink) (slot : ℕ) (d : Device) → received_in h ≡ Ok (Uplink u)
     → slot ≡ slot_at u.frame.dev_addr.0 → slice_get t.devices slot ≡ Some d
     → step t (command.Heard h) ≡ (uplink_at t.net_id slot d h.hearings u >>= λ o. Ok (step_at slot (Some d) o))
 step-uplink t h u slot d is leads at =

@@ -22,7 +22,7 @@ use Rattle.devices.specs.declared.mark.Mark.TheVariants.{Granted}
 use Rattle.devices.specs.Mark.{mark_of}
 use Rattle.sessions.specs.Join.{accept_effects, join_ask, join_state, session_name, session_of}
 use Rattle.sessions.specs.Marks.{AreDistinct, AreOnce, Covers, HasUsedUp, IsSound, IsSubsequence, marks_of, session_in}
-use Rattle.sessions.specs.Served.{frame_in, served_at}
+use Rattle.sessions.specs.Served.{received_in, served_at}
 use Rattle.sessions.specs.Step.{provisioned_effects, step1}
 use Rattle.sessions.specs.Table.{TableState, TableStep, effects_of, empty_table, fold_of, new_slot, place_for, sender_slot, slot_of, step, step_effects, with_step}
 use Rattle.sessions.specs.declared.served.Served.{Served}
@@ -124,7 +124,7 @@ module _ (fits : FitsAreOf) where
       subst (λ (o : DeviceStep). Changes t slot o.device (marks_of o.effects)) (ok_is (device_step (new_device p) (provisioned_effects slot p)) o carried)
       (inr (record { next = next.1; is_new = next.0; in_order = order_none }, refl))
   carried-changes t (Heard h) slot o sound place is =
-      let served = both_ok (frame_in h.phy_payload) (sender_slot t) slot place in
+      let served = both_ok (received_in h) (sender_slot t) slot place in
       let found = sender-device t served.0 slot sound.own served.2 in
       let carried : step1 t.net_id slot (Some found.0) (Heard h) ≡ Ok o = ap (λ b. step1 t.net_id slot b (Heard h)) (sym found.1) ∙ is in
       let heard = heard-ok t.net_id slot found.0 h o carried in

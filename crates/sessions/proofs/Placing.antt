@@ -145,7 +145,7 @@ own-placed t slot x can own =
     (λ old at same. own_names-replaced name slot x old t.devices own at (ap (λ (u : Eui). u.0) same))
     (λ none next. subst (λ ds. HaveOwnSlots ds) (sym (at_end slot x t.devices next.0)) (own_names-pushed name x t.devices own next.2))
 
-own-left : (t : TableState) (ds : List Decision) → FitAll t ds → HaveOwnSlots t.devices → HaveOwnSlots (with_decisions t ds).devices
+pub own-left : (t : TableState) (ds : List Decision) → FitAll t ds → HaveOwnSlots t.devices → HaveOwnSlots (with_decisions t ds).devices
 own-left t [] fit own = own
 own-left t (d ∷ ds) fit own = own-left (with_decision t d) ds fit.1 (own-placed t d.slot d.after (CanPlace-fits t d fit.0) own)
 

@@ -23,7 +23,7 @@ use Rattle.devices.specs.DeviceStep.{DeviceStep, device_step}
 use Rattle.devices.specs.Address.{slot_at}
 use Rattle.join_server.specs.Request.{dev_eui_of}
 use Rattle.sessions.specs.Step.{step1, provisioned_effects}
-use Rattle.sessions.specs.Served.{frame_in, unknown_sender}
+use Rattle.sessions.specs.Served.{received_in, unknown_sender}
 use Rattle.sessions.specs.declared.served.Served.{Served}
 use Rattle.sessions.specs.declared.served.Served.TheVariants.{Request, Uplink}
 use Rattle.sessions.specs.Index.{HaveOwnSlots}
@@ -77,7 +77,7 @@ MatchOption-of_some o x P Q is q = subst (λ o. MatchOption o P Q) (sym is) q
 name_provisioned : (net_id slot : ℕ) (p : Provisioning) (o : DeviceStep) → step1 net_id slot None (Provision p) ≡ Ok o → o.device.dev_eui.0 ≡ p.dev_eui.0
 name_provisioned net_id slot p o is = ap (λ (o : DeviceStep). o.device.dev_eui.0) (sym (same_Ok (device_step (new_device p) (provisioned_effects slot p)) o is))
 
--- no device is brought to a slot in use
+-- no device is provisioned to a slot in use
 not_provisioned : (net_id slot : ℕ) (d : Device) (p : Provisioning) (o : DeviceStep) (P : Type 0) → step1 net_id slot (Some d) (Provision p) ≡ Ok o → P
 not_provisioned net_id slot d p o P is = ok-or-err DevEuiTaken o P is
 
@@ -102,7 +102,7 @@ place-carried t slot (Provision p) None o is at place =
     let within : nat_lt (length t.devices) t.slots ≡ true = lt-ltb (length t.devices) t.slots (omega (arith, place.0, place.1)) in
     ap (new_slot t) (ap (λ e. slot_of e t.devices) (sym name) ∙ place.2)
     ∙ (ap (λ b. cond b (Ok (length t.devices)) (Err TableFull)) within ∙ ap Ok (sym place.0))
-place-carried t slot (Heard h) None o is at place = unheard_ok (frame_in h.phy_payload) o _ is
+place-carried t slot (Heard h) None o is at place = unheard_ok (received_in h) o _ is
 place-carried t slot (Heard h) (Some d) o is at place = heard-sender t slot d h o is place (sym at)
 place-carried t slot (Queue q) None o is at place = no_ok UnknownDevEui o _ is
 place-carried t slot (Queue q) (Some d) o is at place = ap known_slot (ap (λ e. slot_of e t.devices) (queue-ok d q o is).asked ∙ place)
@@ -385,7 +385,7 @@ place-stepped t (Provision p) slot o few own place is =
     let name = name_provisioned t.net_id slot p o (ap (λ b. step1 t.net_id slot b (Provision p)) (sym empty) ∙ is) in
     (room, MatchOption-of_none (slice_get t.devices slot) _ _ empty (last, room, ap (λ e. slot_of e t.devices) name ∙ new)))
 place-stepped t (Heard h) slot o few own place is =
-    let served = both_ok (frame_in h.phy_payload) (sender_slot t) slot place in
+    let served = both_ok (received_in h) (sender_slot t) slot place in
     let found = sender-device t served.0 slot own served.2 in
     device-place t slot o.device found.0 few found.1 found.2
 place-stepped t (Queue q) slot o few own place is = known-place t q.dev_eui.0 slot o.device few place

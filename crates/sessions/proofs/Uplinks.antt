@@ -2,11 +2,12 @@
 use Rattle.std.proofs.Common.{◌≡◌, ◌∙◌, ◌⊎◌, inl, inr, ℕ, ◌==◌, ◌^◌, Bool, true, false, cond, List, [], ◌∷◌, ◌++◌, length, Option, Some, None, Ok, sym, ap, refl, subst}
 use Rattle.std.specs.List.{AllByRecursion}
 use Rattle.lw_types.specs.declared.identifiers.DevAddr.{DevAddr}
-use Rattle.lw_types.specs.declared.refusal.Refusal.TheVariants.{Repeat, UnknownDevAddr}
+use Rattle.lw_types.specs.declared.refusal.Refusal.TheVariants.{Repeat, UnknownChannel, UnknownDevAddr}
 use Rattle.mac_commands.specs.Reading.{reported_bytes}
 use Rattle.phy_payload.specs.declared.contents.PortPayload.{PortPayload}
 use Rattle.phy_payload.specs.declared.data_frame.DataFrame.{DataFrame}
 use Rattle.devices.specs.Activation.{AreInOrder, Grants, with_down_used}
+use Rattle.devices.specs.Channels.{may_use}
 use Rattle.devices.specs.Heard.{best_of}
 use Rattle.devices.specs.DeviceStep.{DeviceStep, device_step, report_effects}
 use Rattle.devices.specs.declared.Tag.{Tag}
@@ -22,8 +23,9 @@ use Rattle.downlinks.specs.Load.{is_due}
 use Rattle.downlinks.specs.Reply.{acknowledgement_step, answer_step, name_of}
 use Rattle.downlinks.specs.declared.load.Demand.{Demand}
 use Rattle.uplinks.specs.Accepted.{is_acknowledgement, demand_of, commands_of, forward_effects, grants_after, is_application, mac_report, awaited_report, session_after, uplink_step, effects_before_answer, with_uplink}
-use Rattle.uplinks.specs.Fit.{IsOf, fit_of}
-use Rattle.uplinks.specs.Step.{step_in_session, step_of_best, uplink_at}
+use Rattle.uplinks.specs.Chain.{◌>>=◌}
+use Rattle.uplinks.specs.Fit.{IsOf, fit_of, fitted_session}
+use Rattle.uplinks.specs.Step.{if_on_channel, step_in_session, step_of_best, uplink_at}
 use Rattle.uplinks.specs.declared.fit.Fit.{Fit}
 use Rattle.uplinks.specs.declared.fit.Fit.TheVariants.{First, Next, Again}
 use Rattle.uplinks.specs.declared.uplink.Uplink.{Uplink}
@@ -206,8 +208,10 @@ uplink-fits net_id slot d hearings u o is = by_best (best_of hearings) is
         → (best : Hearing) × (fit : Fit) × (fit_of net_id slot d.activation u.frame ≡ Ok fit) × (step_in_session net_id slot d u (length hearings) best fit ≡ Ok o)
     by_best None h = no_ok UnknownDevAddr o _ h
     by_best (Some best) h =
-        let found = both_ok (fit_of net_id slot d.activation u.frame) (step_in_session net_id slot d u (length hearings) best) o h in
-        (best, found.0, found.1, found.2)
+        let found = both_ok (fit_of net_id slot d.activation u.frame >>= if_on_channel best) (step_in_session net_id slot d u (length hearings) best) o h in
+        let fitted = both_ok (fit_of net_id slot d.activation u.frame) (if_on_channel best) found.0 found.1 in
+        let on = where_true (may_use (fitted_session fitted.0).channels best.reception.frequency) (Ok fitted.0) UnknownChannel found.0 fitted.2 in
+        (best, found.0, fitted.1 ∙ on.1, found.2)
 
 -- it leaves the device its name
 pub uplink-name : (net_id slot : ℕ) (d : Device) (hearings : List Hearing) (u : Uplink) (o : DeviceStep) → uplink_at net_id slot d hearings u ≡ Ok o

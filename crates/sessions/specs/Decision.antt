@@ -9,7 +9,7 @@ use Rattle.devices.specs.declared.device.Device.{Device}
 use Rattle.devices.specs.declared.command.Command.{Command}
 use Rattle.devices.specs.declared.command.Command.TheVariants.{Provision, Heard, Queue, QueueMac}
 use Rattle.devices.specs.declared.effect.Effect.{Effect}
-use Rattle.sessions.specs.Served.{frame_in, is_request}
+use Rattle.sessions.specs.Served.{is_request, received_in}
 use Rattle.sessions.specs.Table.{TableState, TableStep, TakesNext, slot_of, step, with_record}
 use Rattle.sessions.specs.declared.table.decide.Stepped.{Stepped}
 use Rattle.sessions.specs.declared.decision.Decision.{Decision}
@@ -97,10 +97,10 @@ pub record IsDecision (t : TableState) (seq : ℕ) (asked : Command) (s : TableS
   pub effects : d.effects ≡ s.effects
 
 -- whether each refusal of a command is known before any memory is taken for it: of all but a
--- Join-Request, of which the join server is asked by texts
+-- Join-Request on one of the first channels, of which the join server is asked by texts
 abbrev pub is_frugal : Command → Bool
 is_frugal (Provision p) = true
-is_frugal (Heard h) = not (is_request (frame_in h.phy_payload))
+is_frugal (Heard h) = not (is_request (received_in h))
 is_frugal (Queue q) = true
 is_frugal (QueueMac q) = true
 

@@ -18,6 +18,7 @@ use Rattle.devices.specs.Address.{dev_addr}
 use Rattle.devices.specs.Heard.{best_of}
 use Rattle.devices.specs.DeviceStep.{DeviceStep, device_step}
 use Rattle.devices.specs.declared.activation.Session.{Session}
+use Rattle.devices.specs.declared.channels.Channels.TheVariants.{Eight}
 use Rattle.devices.specs.declared.device.Device.{Device}
 use Rattle.devices.specs.declared.heard.Hearing.{Hearing}
 use Rattle.devices.specs.declared.mark.SessionName.{SessionName}
@@ -68,9 +69,15 @@ refusal_of causes.BadMessage = BadMessage
 
 -- ---- what is granted
 
+-- its accept has the CFList, so the device has all eight channels
 abbrev pub session_of : JoinGrant → Session
 session_of grant =
-    record { join_nonce = grant.join_nonce; nwk_skey = grant.nwk_skey; app_skey = grant.app_skey }
+    record {
+      join_nonce = grant.join_nonce;
+      nwk_skey = grant.nwk_skey;
+      app_skey = grant.app_skey;
+      channels = Eight;
+    }
 
 -- the device's record after a grant: the DevNonce is used, and the session waits for its first
 -- uplink

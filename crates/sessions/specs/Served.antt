@@ -1,13 +1,16 @@
 -- Frames that are served: Join-Requests and uplinks.
-use Rattle.std.specs.Prelude.{ℕ, ◌==◌, Bool, true, false, if◌then◌else◌, List, Result, Ok, Err}
+use Rattle.std.specs.Prelude.{ℕ, ◌==◌, Bool, true, false, if◌then◌else◌, List, Option, Some, None}
+use Rattle.std.specs.Prelude.{Result, Ok, Err}
 use Rattle.lw_types.specs.declared.refusal.Refusal.{Refusal}
 use Rattle.lw_types.specs.declared.refusal.Refusal.TheVariants.{NotServed, UnknownDevAddr}
-use Rattle.lw_types.specs.declared.refusal.Refusal.TheVariants.{UnknownDevEui}
+use Rattle.lw_types.specs.declared.refusal.Refusal.TheVariants.{UnknownDevEui, UnknownChannel}
 use Rattle.phy_payload.specs.declared.phy.Phy.{Phy}
 use Rattle.phy_payload.specs.declared.phy.Phy.TheVariants.{JoinRequest, JoinAccept, DataFrame}
 use Rattle.phy_payload.specs.Reading.{phy_at}
+use Rattle.region_eu868.specs.Region.{first_channels, is_among}
 use Rattle.devices.specs.Address.{slot_at}
 use Rattle.devices.specs.DeviceStep.{DeviceStep}
+use Rattle.devices.specs.Heard.{best_of}
 use Rattle.devices.specs.declared.command.Command.{Command}
 use Rattle.devices.specs.declared.command.Command.TheVariants as command
 use Rattle.devices.specs.declared.device.Device.{Device}
@@ -36,15 +39,33 @@ is_request (Err refusal) = false
 abbrev pub frame_in : List ℕ → Result Served Refusal
 frame_in bytes = phy_at bytes >>= served_in bytes
 
+-- a device that joins sends on one of the first three channels (RP002-1.0.4, EU863-870): the copy
+-- that was heard best is on one of these, wherever the others are
+abbrev pub if_on_first_channel : List ℕ → Hearing → Result Served Refusal
+if_on_first_channel bytes best =
+    if is_among first_channels best.reception.frequency
+    then Ok (Request bytes) else Err UnknownChannel
+
+abbrev pub received_by : Option Hearing → Served → Result Served Refusal
+received_by None served = Ok served  -- not reached
+received_by (Some best) (Request bytes) = if_on_first_channel bytes best
+received_by (Some best) (Uplink u) = Ok (Uplink u)
+
+-- the frame that was heard
+abbrev pub received_in : Heard → Result Served Refusal
+received_in h = frame_in h.phy_payload >>= received_by (best_of h.hearings)
+
 -- a frame that no device sent
 abbrev pub unknown_sender : Served → Refusal
 unknown_sender (Request bytes) = UnknownDevEui
 unknown_sender (Uplink u) = UnknownDevAddr
 
--- the command that a frame is which was heard so
+-- a frame that was heard so, and the command that it is
+abbrev pub heard_frame : List ℕ → List Hearing → Heard
+heard_frame phy_payload hearings = record { phy_payload = phy_payload; hearings = hearings }
+
 abbrev pub heard_command : List ℕ → List Hearing → Command
-heard_command phy_payload hearings =
-    command.Heard (record { phy_payload = phy_payload; hearings = hearings })
+heard_command phy_payload hearings = command.Heard (heard_frame phy_payload hearings)
 
 -- what the device at a slot does of a frame: an uplink is its own only where the address leads to
 -- the slot
@@ -56,9 +77,9 @@ served_at net_id slot d hearings (Uplink u) =
 
 -- what the device at a slot does of a frame that was heard
 abbrev pub heard_at : ℕ → ℕ → Device → Heard → Result DeviceStep Refusal
-heard_at net_id slot d h = frame_in h.phy_payload >>= served_at net_id slot d h.hearings
+heard_at net_id slot d h = received_in h >>= served_at net_id slot d h.hearings
 
 -- what is done of a frame where no device is: it is refused as any frame is, and then since no
 -- device sent it
 abbrev pub unheard : Heard → Result DeviceStep Refusal
-unheard h = frame_in h.phy_payload >>= λ served. Err (unknown_sender served)
+unheard h = received_in h >>= λ served. Err (unknown_sender served)

@@ -15,7 +15,7 @@ use Rattle.devices.specs.DeviceStep.{DeviceStep}
 use Rattle.join_server.specs.Request.{dev_eui_of}
 use Rattle.uplinks.specs.Chain.{◌>>=◌}
 use Rattle.sessions.specs.Join.{join_ask, transaction_of}
-use Rattle.sessions.specs.Served.{frame_in}
+use Rattle.sessions.specs.Served.{received_in}
 use Rattle.sessions.specs.Step.{step1}
 use Rattle.sessions.specs.declared.table.hear.Question.{Question}
 use Rattle.sessions.specs.declared.served.Served.{Served}
@@ -75,7 +75,7 @@ pub record IsQuestion (t : TableState) (seq : ℕ) (request : List ℕ) (q : Que
 -- which or from which it is
 abbrev pub place_for : TableState → Command → Result ℕ Refusal
 place_for t (Provision p) = new_slot t (slot_of p.dev_eui.0 t.devices)
-place_for t (Heard h) = frame_in h.phy_payload >>= sender_slot t
+place_for t (Heard h) = received_in h >>= sender_slot t
 place_for t (Queue q) = known_slot (slot_of q.dev_eui.0 t.devices)
 place_for t (QueueMac q) = known_slot (slot_of q.dev_eui.0 t.devices)
 

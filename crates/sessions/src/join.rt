@@ -13,8 +13,8 @@ ghost use Rattle.sessions.specs.Join.{with_session};
 
 use backend_json::{Accepted, Cause, JoinAns, answer_text, join_req_text, read_join_ans};
 use devices::{
-    Device, Downlink, Effect, Effects, Hearing, Hearings, ReceiveWindows, RxDelay, Session,
-    SessionName, dev_addr,
+    Channels, Device, Downlink, Effect, Effects, Hearing, Hearings, ReceiveWindows, RxDelay,
+    Session, SessionName, dev_addr,
 };
 use join_server::{JoinAsk, JoinGrant, JoinRequestBytes, JoinState, SealedAccept};
 use lw_types::{Eui, JoinNonce, NetId, PhyPayload, Refusal};
@@ -168,6 +168,7 @@ fn with_session(mut device: Device, state: &JoinState, grant: &JoinGrant) -> Dev
         join_nonce: grant.join_nonce,
         nwk_skey: grant.nwk_skey,
         app_skey: grant.app_skey,
+        channels: Channels::Eight,
     });
     device
 }

@@ -91,6 +91,12 @@ fit_of net_id slot g frame =
     verdict (later_trial (try_pending net_id slot g.pending frame)
     (try_current net_id slot g.current frame))
 
+-- the session of a fit
+abbrev pub fitted_session : Fit → Session
+fitted_session (First s counter) = s
+fitted_session (Next c counter) = c.session
+fitted_session (Again c) = c.session
+
 -- the session is the device's: the pending or the current one, in which a new counter is above the
 -- last one
 abbrev pub IsOf : Grants → Fit → Type 0

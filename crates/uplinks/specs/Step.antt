@@ -1,7 +1,9 @@
 -- What a data frame does to the device at a slot (TS001-1.0.4 §4.3).
 use Rattle.std.specs.Prelude.{ℕ, if◌then◌else◌, List, length, Option, Some, None, Result, Ok, Err}
 use Rattle.lw_types.specs.declared.refusal.Refusal.{Refusal}
-use Rattle.lw_types.specs.declared.refusal.Refusal.TheVariants.{Repeat, UnknownDevAddr}
+use Rattle.lw_types.specs.declared.refusal.Refusal.TheVariants.{Repeat, UnknownChannel}
+use Rattle.lw_types.specs.declared.refusal.Refusal.TheVariants.{UnknownDevAddr}
+use Rattle.devices.specs.Channels.{may_use}
 use Rattle.devices.specs.Heard.{best_of}
 use Rattle.devices.specs.DeviceStep.{DeviceStep}
 use Rattle.devices.specs.declared.device.Device.{Device}
@@ -12,7 +14,7 @@ use Rattle.uplinks.specs.declared.fit.Fit.TheVariants.{First, Next, Again}
 use Rattle.uplinks.specs.declared.uplink.Uplink.{Uplink}
 use Rattle.uplinks.specs.Accepted.{uplink_step}
 use Rattle.uplinks.specs.Chain.{◌>>=◌}
-use Rattle.uplinks.specs.Fit.{fit_of}
+use Rattle.uplinks.specs.Fit.{fit_of, fitted_session}
 
 -- what an uplink does in the session of which it is: one that comes again is acknowledged where it
 -- is confirmed, else refused
@@ -24,11 +26,19 @@ step_in_session net_id slot d u copies best (Next c counter) =
 step_in_session net_id slot d u copies best (Again c) =
     if u.frame.confirmed then Ok (acknowledgement_step net_id slot d c best) else Err Repeat
 
+-- an uplink counts in its session only where the device may send: the copy that was heard best is
+-- on a channel of the session, wherever the others are
+abbrev pub if_on_channel : Hearing → Fit → Result Fit Refusal
+if_on_channel best fit =
+    if may_use (fitted_session fit).channels best.reception.frequency
+    then Ok fit else Err UnknownChannel
+
 -- an uplink that was heard by `copies` gateways, and best in this copy
 abbrev pub step_of_best : ℕ → ℕ → Device → Uplink → ℕ → Option Hearing → Result DeviceStep Refusal
 step_of_best net_id slot d u copies None = Err UnknownDevAddr
 step_of_best net_id slot d u copies (Some best) =
-    fit_of net_id slot d.activation u.frame >>= step_in_session net_id slot d u copies best
+    fit_of net_id slot d.activation u.frame >>= if_on_channel best
+    >>= step_in_session net_id slot d u copies best
 
 -- what an uplink does to the record of the device at a slot, with all the copies of it
 abbrev pub uplink_at : ℕ → ℕ → Device → List Hearing → Uplink → Result DeviceStep Refusal

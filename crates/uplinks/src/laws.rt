@@ -1,11 +1,15 @@
 //! Laws on the definitions that the contracts of this crate cite. Nothing here is of use but its
 //! contracts.
 ghost use Rattle.std.specs.Prelude.{◌≡◌, ℕ, Ok};
+ghost use Rattle.devices.specs.Heard.{IsReceivable};
+ghost use Rattle.devices.specs.declared.channels.Channels.TheVariants.{Eight};
+ghost use Rattle.devices.specs.declared.heard.Hearing.{Hearing};
 ghost use Rattle.phy_payload.specs.declared.data_frame.DataFrame.{DataFrame};
 ghost use Rattle.devices.specs.Activation.{Grants};
 ghost use Rattle.uplinks.specs.declared.fit.Fit.{Fit};
 ghost use Rattle.uplinks.specs.Candidates.{candidates, verdict_among};
-ghost use Rattle.uplinks.specs.Fit.{fit_of, IsOf};
+ghost use Rattle.uplinks.specs.Fit.{fit_of, fitted_session, IsOf};
+ghost use Rattle.uplinks.specs.Step.{if_on_channel};
 
 /// The session into which an uplink fits is the device's: the pending or the current one, and there
 /// a new counter is above the last one.
@@ -23,4 +27,10 @@ pub fn a_fit_is_of_its_device()
 pub fn a_frame_is_of_the_first_session_that_fits()
     ensures { (net_id slot : ℕ) (g : Grants) (frame : DataFrame) →
         fit_of net_id slot g frame ≡ verdict_among frame (candidates net_id slot g frame) }
+{}
+
+/// An uplink of a session with all eight channels is refused on none: no copy is taken elsewhere.
+pub fn eight_channels_are_all()
+    ensures { (best : Hearing) (fit : Fit) → IsReceivable best.reception
+        → (fitted_session fit).channels ≡ Eight → if_on_channel best fit ≡ Ok fit }
 {}

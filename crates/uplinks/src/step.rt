@@ -6,8 +6,9 @@ ghost use Rattle.phy_payload.specs.Frame.{data_mic_input};
 ghost use Rattle.devices.specs.DeviceStep.{IsDeviceStep};
 ghost use Rattle.downlinks.specs.Reply.{acknowledgement_step};
 ghost use Rattle.uplinks.specs.Accepted.{uplink_step};
+ghost use Rattle.devices.specs.Channels.{may_use};
 ghost use Rattle.devices.specs.Heard.{IsReceivable};
-ghost use Rattle.uplinks.specs.Fit.{IsOf};
+ghost use Rattle.uplinks.specs.Fit.{fitted_session, IsOf};
 ghost use Rattle.uplinks.specs.Step.{step_in_session, uplink_at};
 
 use crate::Fit;
@@ -21,7 +22,8 @@ use std::alloc::Global;
 /// What an uplink does to the record of the device at a slot of a network: the record after it, and
 /// its effects. It is refused where no session of the device has its address (`UnknownDevAddr`),
 /// where in each that has its counter is too far above the last one (`CounterGap`), where its MIC
-/// isn't the session's (`BadMic`), and where it comes again unconfirmed (`Repeat`), each of them
+/// isn't the session's (`BadMic`), where the copy that was heard best isn't on a channel of the
+/// session (`UnknownChannel`), and where it comes again unconfirmed (`Repeat`), each of them
 /// whether or not there is memory; for want of memory as `OutOfMemory`. The cost is bounded by the
 /// frame and the device's queues.
 pub fn hear(
@@ -42,8 +44,22 @@ pub fn hear(
         best: received.hearings.best(),
     };
     match place.fit(&device.activation, &uplink.frame, received.message) {
-        Ok(fit) => place.enter(alloc, device, fit, &heard),
+        Ok(fit) if fit.is_on_channel(&heard.best) => place.enter(alloc, device, fit, &heard),
+        Ok(_) => Err(Refusal::UnknownChannel),
         Err(refusal) => Err(refusal),
+    }
+}
+
+impl Fit {
+    // Whether the device may send where it was heard best: on a channel of the session.
+    fn is_on_channel(&self, best: &Hearing) -> bool
+        ensures { result ≡ may_use (fitted_session self.now).channels best.now.reception.frequency }
+    {
+        let session = match self {
+            Fit::First { session, .. } => session,
+            Fit::Next { session, .. } | Fit::Again { session } => &session.session,
+        };
+        session.channels.may_use(best.reception.frequency)
     }
 }
 

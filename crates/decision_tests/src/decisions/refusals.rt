@@ -23,7 +23,7 @@ pub(super) const REFUSALS: &[Refused] = &[
     ),
     (
         IN_USE,
-        Comes::Frame("2040A8AE29D75BA396C02EF9C963CAD8BE"),
+        Comes::Frame("20964FABE971240AB8E37F72AEFDC360B6FD3C4BE3FB883149AF03F6CC89235E53"),
         Refusal::NotServed,
     ),
     (

@@ -47,7 +47,7 @@ pub(super) enum Step {
     Again(u64, Event, Answer),
     /// At 0 copies come of so many frames, by so many gateways each: the refusal of the last one.
     Crowd(u16, u64, Option<Refusal>),
-    /// So many devices are brought, the DevEUIs from 0 on, to a core without decisions.
+    /// So many devices are provisioned, the DevEUIs from 0 on, to a core without decisions.
     Fill(u64),
     /// At most so many decisions are taken: those of the numbers from one to before another.
     Take(u64, u64, u64),

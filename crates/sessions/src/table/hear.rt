@@ -3,7 +3,7 @@ ghost use Rattle.std.specs.Prelude.{◌≡◌, None, Ok, Some, MatchOption, slic
 ghost use Rattle.lw_types.specs.Answer.{Answers, AnswersWithMemory};
 ghost use Rattle.phy_payload.specs.Frame.{data_mic_input};
 ghost use Rattle.join_server.specs.Request.{dev_eui_of, IsRequest};
-ghost use Rattle.sessions.specs.Served.{frame_in, heard_command};
+ghost use Rattle.sessions.specs.Served.{frame_in, heard_command, heard_frame, received_in};
 ghost use Rattle.sessions.specs.Table.{slot_of, step, IsQuestion};
 ghost use Rattle.sessions.specs.Decision.{AnswersTo, IsStepped};
 
@@ -15,6 +15,7 @@ use devices::{Device, Hearings, slot_at};
 use join_server::{JoinAsk, JoinRequestBytes};
 use lw_types::{Eui, PhyPayload, Refusal};
 use phy_payload::{PhyRef, read_phy};
+use region_eu868::is_first_channel;
 use std::alloc::Global;
 use uplinks::{NetworkSlot, ReceivedUplink, Uplink};
 
@@ -55,7 +56,7 @@ impl Table {
         ensures { let command = heard_command phy_payload.now hearings.now in
             AnswersTo command (step self.now command) IsStepped result }
     {
-        match read_frame(phy_payload.as_slice())? {
+        match receive(phy_payload, hearings)? {
             Served::Request(request) => {
                 self.hear_request(alloc, seq, phy_payload, hearings, request)
             }
@@ -84,7 +85,8 @@ impl Table {
         hearings: &Hearings,
         request: JoinRequestBytes,
     ) -> Result<Stepped, Refusal>
-        requires { frame_in phy_payload.now ≡ Ok (Served.Request request) }
+        requires { received_in (heard_frame phy_payload.now hearings.now)
+            ≡ Ok (Served.Request request) }
         ensures { AnswersWithMemory (step self.now (heard_command phy_payload.now hearings.now))
             IsStepped result }
     {
@@ -109,7 +111,8 @@ impl Table {
         hearings: &Hearings,
         uplink: &Uplink<'_>,
     ) -> Result<Stepped, Refusal>
-        requires { frame_in phy_payload.now ≡ Ok (Served.Uplink uplink.now) }
+        requires { received_in (heard_frame phy_payload.now hearings.now)
+            ≡ Ok (Served.Uplink uplink.now) }
         ensures { Answers (step self.now (heard_command phy_payload.now hearings.now))
             IsStepped result }
     {
@@ -148,6 +151,18 @@ impl Table {
         let slot = self.slot_of(dev_eui)?;
         Some((slot, &self.devices()[slot as usize]))
     }
+}
+
+// The frame that was heard, where it is served and on a channel on which it may be sent: a
+// Join-Request on one of the first. Takes no memory.
+fn receive<'a>(phy_payload: &'a PhyPayload, hearings: &Hearings) -> Result<Served<'a>, Refusal>
+    ensures { result ≡ received_in (heard_frame phy_payload.now hearings.now) }
+{
+    let served = read_frame(phy_payload.as_slice())?;
+    if served.is_request() && !is_first_channel(hearings.best().reception.frequency) {
+        return Err(Refusal::UnknownChannel);
+    }
+    Ok(served)
 }
 
 // The frame that these bytes are, where it is served. Takes no memory.

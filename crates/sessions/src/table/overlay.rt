@@ -2,7 +2,7 @@
 ghost use Rattle.std.specs.Prelude.{◌≡◌, ◌≤◌, ◌+◌, ◌↔◌, IsTrue, MatchOption, None, length};
 ghost use Rattle.std.specs.Prelude.{slice_get};
 ghost use Rattle.std.specs.Option.{option_copied};
-ghost use Rattle.sessions.specs.Table.{TakesNext, slot_of};
+ghost use Rattle.sessions.specs.Table.{TableState, TakesNext, slot_of};
 ghost use Rattle.sessions.specs.Decision.{FitsTable, FitAll, HasPlace, Continues, ContinueAll};
 ghost use Rattle.sessions.specs.Decision.{with_decisions};
 
@@ -21,9 +21,29 @@ impl Table {
             (¬ (ContinueAll self.now seq decisions.now))
             (λ last. ContinueAll self.now seq decisions.now × (last ≡ seq + length decisions.now)) }
     {
+        self.continuation_end_behind(&[], seq, decisions)
+    }
+
+    /// The same behind `earlier` decisions that fit the table and aren't put there yet: the number
+    /// of the last of decisions that continue what those leave, where the last of those has the
+    /// number `seq`. What an own decision leaves is found before what an earlier one does, and that
+    /// before the table. Takes no memory. The cost grows with the number of decisions, times that
+    /// of both runs together, and not with the devices.
+    pub fn continuation_end_behind(
+        &self,
+        earlier: &[Decision],
+        seq: u64,
+        decisions: &[Decision],
+    ) -> Option<u64>
+        requires { FitAll self.now earlier.now }
+        ensures { MatchOption result
+            (¬ (ContinueAll (with_decisions self.now earlier.now) seq decisions.now))
+            (λ last. ContinueAll (with_decisions self.now earlier.now) seq decisions.now
+            × (last ≡ seq + length decisions.now)) }
+    {
         let mut last = seq;
         for (at, decision) in decisions.iter().enumerate() {
-            if !self.admits_behind(&decisions[..at], last, decision) {
+            if !self.admits_behind(earlier, &decisions[..at], last, decision) {
                 return None;
             }
             last = decision.seq;
@@ -31,93 +51,148 @@ impl Table {
         Some(last)
     }
 
-    // Whether the decision was made of what earlier ones leave of this table, and has the number
-    // after `seq`.
-    fn admits_behind(&self, earlier: &[Decision], seq: u64, decision: &Decision) -> bool
-        requires { FitAll self.now earlier.now }
-        ensures { IsTrue result ↔ Continues (with_decisions self.now earlier.now) seq decision.now }
+    // Whether the decision was made of what earlier ones, and its own batch's behind them, leave of
+    // this table, and has the number after `seq`.
+    fn admits_behind(
+        &self,
+        earlier: &[Decision],
+        own: &[Decision],
+        seq: u64,
+        decision: &Decision,
+    ) -> bool
+        requires earlier { FitAll self.now earlier.now }
+        requires own { FitAll (with_decisions self.now earlier.now) own.now }
+        ensures { IsTrue result ↔ Continues
+            (with_decisions (with_decisions self.now earlier.now) own.now) seq decision.now }
     {
-        seq < decision.seq && decision.seq - seq == 1 && self.fits_behind(earlier, decision)
+        seq < decision.seq && decision.seq - seq == 1 && self.fits_behind(earlier, own, decision)
     }
 
-    // Whether the decision was made of what earlier ones leave of this table.
+    // Whether the decision was made of what the two runs leave of this table.
     #[tactic(auto, using(crate::proofs::Placing::same_net, crate::proofs::Placing::same_slots))]
-    fn fits_behind(&self, earlier: &[Decision], decision: &Decision) -> bool
-        requires { FitAll self.now earlier.now }
-        ensures { IsTrue result ↔ FitsTable (with_decisions self.now earlier.now) decision.now }
+    fn fits_behind(&self, earlier: &[Decision], own: &[Decision], decision: &Decision) -> bool
+        requires earlier { FitAll self.now earlier.now }
+        requires own { FitAll (with_decisions self.now earlier.now) own.now }
+        ensures { IsTrue result ↔ FitsTable
+            (with_decisions (with_decisions self.now earlier.now) own.now) decision.now }
     {
         self.has_slot(decision)
-            && is_record(&decision.before, self.device_behind(earlier, decision.slot))
-            && self.has_place_behind(earlier, decision)
+            && is_record(
+                &decision.before,
+                self.device_behind(earlier, own, decision.slot),
+            )
+            && self.has_place_behind(earlier, own, decision)
     }
 
-    // Whether the record that the decision leaves has its place in what earlier ones leave of this
+    // Whether the record that the decision leaves has its place in what the two runs leave of this
     // table, where it was made on the record there.
-    fn has_place_behind(&self, earlier: &[Decision], decision: &Decision) -> bool
-        requires fit { FitAll self.now earlier.now }
-        requires found { decision.now.before
-            ≡ slice_get (with_decisions self.now earlier.now).devices decision.now.slot }
+    fn has_place_behind(&self, earlier: &[Decision], own: &[Decision], decision: &Decision) -> bool
+        requires earlier { FitAll self.now earlier.now }
+        requires own { FitAll (with_decisions self.now earlier.now) own.now }
+        requires found { decision.now.before ≡ slice_get
+            (with_decisions (with_decisions self.now earlier.now) own.now).devices
+            decision.now.slot }
         ensures { IsTrue result ↔ HasPlace
-            (with_decisions self.now earlier.now) decision.now.slot decision.now.after
-            decision.now.before }
+            (with_decisions (with_decisions self.now earlier.now) own.now) decision.now.slot
+            decision.now.after decision.now.before }
     {
         self.devices_are_apart();
         match &decision.before {
             Some(_) => true,
-            None => self.takes_next_behind(earlier, decision.slot, &decision.after),
+            None => self.takes_next_behind(earlier, own, decision.slot, &decision.after),
         }
     }
 
-    // What earlier decisions leave at a slot of this table.
-    fn device_behind<'a>(&'a self, earlier: &'a [Decision], slot: u16) -> Option<&'a Device>
-        requires { FitAll self.now earlier.now }
-        ensures { option_copied result
-            ≡ slice_get (with_decisions self.now earlier.now).devices slot }
+    // What the two runs leave at a slot of this table.
+    fn device_behind<'a>(
+        &'a self,
+        earlier: &'a [Decision],
+        own: &'a [Decision],
+        slot: u16,
+    ) -> Option<&'a Device>
+        requires earlier { FitAll self.now earlier.now }
+        requires own { FitAll (with_decisions self.now earlier.now) own.now }
+        ensures { option_copied result ≡ slice_get
+            (with_decisions (with_decisions self.now earlier.now) own.now).devices slot }
     {
-        let mut found = self.devices().get(slot as usize);
-        for decision in earlier {
-            if decision.slot == slot {
-                found = Some(&decision.after);
-            }
-        }
-        found
+        let found = self.devices().get(slot as usize);
+        device_after(device_after(found, earlier, slot), own, slot)
     }
 
-    // Whether a new device with this record may have this slot of what earlier decisions leave.
+    // Whether a new device with this record may have this slot of what the two runs leave.
     #[tactic(auto, using(crate::proofs::Placing::same_slots))]
-    fn takes_next_behind(&self, earlier: &[Decision], slot: u16, device: &Device) -> bool
-        requires { FitAll self.now earlier.now }
-        ensures { IsTrue result ↔ TakesNext (with_decisions self.now earlier.now) slot device.now }
+    fn takes_next_behind(
+        &self,
+        earlier: &[Decision],
+        own: &[Decision],
+        slot: u16,
+        device: &Device,
+    ) -> bool
+        requires earlier { FitAll self.now earlier.now }
+        requires own { FitAll (with_decisions self.now earlier.now) own.now }
+        ensures { IsTrue result ↔ TakesNext
+            (with_decisions (with_decisions self.now earlier.now) own.now) slot device.now }
     {
-        slot as usize == self.len_behind(earlier)
+        slot as usize == len_after(len_after(self.devices().len(), earlier), own)
             && u64::from(slot) < self.slots().get()
-            && self.is_new_behind(earlier, device.dev_eui)
+            && self.is_new_behind(earlier, own, device.dev_eui)
     }
 
-    // How many devices earlier decisions leave in this table.
-    fn len_behind(&self, earlier: &[Decision]) -> usize
-        requires { FitAll self.now earlier.now }
-        ensures { result ≡ length (with_decisions self.now earlier.now).devices }
+    // Whether no device has this DevEUI in what the two runs leave of this table.
+    fn is_new_behind(&self, earlier: &[Decision], own: &[Decision], dev_eui: Eui) -> bool
+        requires earlier { FitAll self.now earlier.now }
+        requires own { FitAll (with_decisions self.now earlier.now) own.now }
+        ensures { IsTrue result ↔ (slot_of dev_eui.0
+            (with_decisions (with_decisions self.now earlier.now) own.now).devices ≡ None) }
     {
-        let mut len = self.devices().len();
-        for decision in earlier {
-            if decision.slot as usize == len {
-                len += 1;
-            }
-        }
-        len
+        let is_new = self.slot_of(dev_eui).is_none();
+        is_new_after(is_new_after(is_new, earlier, dev_eui), own, dev_eui)
     }
+}
 
-    // Whether no device has this DevEUI in what earlier decisions leave of this table.
-    fn is_new_behind(&self, earlier: &[Decision], dev_eui: Eui) -> bool
-        requires { FitAll self.now earlier.now }
-        ensures { IsTrue result ↔ (slot_of dev_eui.0 (with_decisions self.now earlier.now).devices
-            ≡ None) }
-    {
-        let mut is_new = self.slot_of(dev_eui).is_none();
-        for decision in earlier {
-            is_new = is_new && decision.after.dev_eui != dev_eui;
+// What decisions leave at a slot of any table that they fit, where this stood there before.
+fn device_after<'a>(
+    before: Option<&'a Device>,
+    decisions: &'a [Decision],
+    slot: u16,
+) -> Option<&'a Device>
+    ensures { (t : TableState) → FitAll t decisions.now
+        → option_copied before.entry ≡ slice_get t.devices slot
+        → option_copied result ≡ slice_get (with_decisions t decisions.now).devices slot }
+{
+    let mut found = before;
+    for decision in decisions {
+        if decision.slot == slot {
+            found = Some(&decision.after);
         }
-        is_new
     }
+    found
+}
+
+// How many devices decisions leave in any table that they fit, where these many were there before.
+fn len_after(before: usize, decisions: &[Decision]) -> usize
+    ensures { (t : TableState) → FitAll t decisions.now → before ≡ length t.devices
+        → result ≡ length (with_decisions t decisions.now).devices }
+{
+    let mut len = before;
+    for decision in decisions {
+        if decision.slot as usize == len {
+            len += 1;
+        }
+    }
+    len
+}
+
+// Whether a DevEUI is new in what decisions leave in any table that they fit, where it was new
+// before or wasn't.
+fn is_new_after(before: bool, decisions: &[Decision], dev_eui: Eui) -> bool
+    ensures { (t : TableState) → FitAll t decisions.now
+        → (IsTrue before ↔ (slot_of dev_eui.0 t.devices ≡ None))
+        → IsTrue result ↔ (slot_of dev_eui.0 (with_decisions t decisions.now).devices ≡ None) }
+{
+    let mut is_new = before;
+    for decision in decisions {
+        is_new = is_new && decision.after.dev_eui != dev_eui;
+    }
+    is_new
 }

@@ -5,18 +5,24 @@ use Rattle.backend_json.proofs.Numbers.{number_of_part}
 use Rattle.backend_json.proofs.Equal.{inside, behind, behind_five, no_value, refused}
 use Rattle.backend_json.proofs.join_req.ask_of.Goals as goal
 
+pub returns-in_err-pass_cf_list : goal.returns-in_err-pass_cf_list
+returns-in_err-pass_cf_list c =
+    refused _ c.from_residual-in_err-pass_cf_list.result c.from_residual-in_err-pass_cf_list.ensures
+    (λ ask is h.
+    c.in_err-pass_cf_list.ensures _ (inside (sym c.in_ok-rest.ensures ∙ h)))
+
 pub returns-in_err-dl_settings : goal.returns-in_err-dl_settings
 returns-in_err-dl_settings c =
     refused _ c.from_residual-in_err-dl_settings.result c.from_residual-in_err-dl_settings.ensures
     (λ ask is h.
-    let r0 = inside (sym c.in_ok-rest.ensures ∙ h) in
+    let r0 = behind c.in_ok-pass_cf_list.ensures (inside (sym c.in_ok-rest.ensures ∙ h)) in
     no_value (c.in_err-dl_settings.ensures.only ask.dl_settings ask.dev_addr (eui (dev_eui_of ask.request)) _ is.dl_settings is.dev_addr (number_of_part 9 ask.request is.request.1) r0))
 
 pub returns-in_err-request : goal.returns-in_err-request
 returns-in_err-request c =
     refused _ c.from_residual-in_err-request.result c.from_residual-in_err-request.ensures
     (λ ask is h.
-    let r0 = inside (sym c.in_ok-rest.ensures ∙ h) in
+    let r0 = behind c.in_ok-pass_cf_list.ensures (inside (sym c.in_ok-rest.ensures ∙ h)) in
     let r1 = behind_five c.in_ok-dl_settings.ensures.found r0 in
     no_value (c.in_err-request.ensures.only ask.request _ is.request r1))
 
@@ -24,7 +30,7 @@ pub returns-in_err-text : goal.returns-in_err-text
 returns-in_err-text c =
     refused _ c.from_residual-in_err-text.result c.from_residual-in_err-text.ensures
     (λ ask is h.
-    let r0 = inside (sym c.in_ok-rest.ensures ∙ h) in
+    let r0 = behind c.in_ok-pass_cf_list.ensures (inside (sym c.in_ok-rest.ensures ∙ h)) in
     let r1 = behind_five c.in_ok-dl_settings.ensures.found r0 in
     let r2 = behind c.in_ok-request.ensures.found r1 in
     c.in_err-text.ensures _ r2)
@@ -33,7 +39,7 @@ pub returns-in_err-join_eui : goal.returns-in_err-join_eui
 returns-in_err-join_eui c =
     refused _ c.from_residual-in_err-join_eui.result c.from_residual-in_err-join_eui.ensures
     (λ ask is h.
-    let r0 = inside (sym c.in_ok-rest.ensures ∙ h) in
+    let r0 = behind c.in_ok-pass_cf_list.ensures (inside (sym c.in_ok-rest.ensures ∙ h)) in
     let r1 = behind_five c.in_ok-dl_settings.ensures.found r0 in
     let r2 = behind c.in_ok-request.ensures.found r1 in
     let r3 = behind c.in_ok-text.ensures r2 in
@@ -43,7 +49,7 @@ pub returns-in_err-rx_delay : goal.returns-in_err-rx_delay
 returns-in_err-rx_delay c =
     refused _ c.from_residual-in_err-rx_delay.result c.from_residual-in_err-rx_delay.ensures
     (λ ask is h.
-    let r0 = inside (sym c.in_ok-rest.ensures ∙ h) in
+    let r0 = behind c.in_ok-pass_cf_list.ensures (inside (sym c.in_ok-rest.ensures ∙ h)) in
     let r1 = behind_five c.in_ok-dl_settings.ensures.found r0 in
     let r2 = behind c.in_ok-request.ensures.found r1 in
     let r3 = behind c.in_ok-text.ensures r2 in
@@ -52,7 +58,7 @@ returns-in_err-rx_delay c =
 
 pub returns-else-is_between : goal.returns-else-is_between
 returns-else-is_between c ask is h =
-    let r0 = inside (sym c.in_ok-rest.ensures ∙ h) in
+    let r0 = behind c.in_ok-pass_cf_list.ensures (inside (sym c.in_ok-rest.ensures ∙ h)) in
     let r1 = behind_five c.in_ok-dl_settings.ensures.found r0 in
     let r2 = behind c.in_ok-request.ensures.found r1 in
     let r3 = behind c.in_ok-text.ensures r2 in

@@ -21,8 +21,8 @@ returns-in-None-clause-found c =
     let four = c.in_ok-rx1_offset.ensures.found in
     let five = c.in_ok-rx_delay.ensures.found in
     let end = c.in-None.ensures.steps.0 in
-    let made : c.brought.result ≡ Provision c.in_ok-dev_eui.dev_eui c.in_ok-join_eui.join_eui c.in_ok-app_key.app_key c.in_ok-rx1_offset.rx1_offset c.in_ok-rx_delay.rx_delay = c.brought.ensures.value in
-    (c.brought.ensures.in_range, rw made cc)
+    let made : c.provisioning.result ≡ Provision c.in_ok-dev_eui.dev_eui c.in_ok-join_eui.join_eui c.in_ok-app_key.app_key c.in_ok-rx1_offset.rx1_offset c.in_ok-rx_delay.rx_delay = c.provisioning.ensures.value in
+    (c.provisioning.ensures.in_range, rw made cc)
 
 pub returns-in-None-clause-only : goal.returns-in-None-clause-only
 returns-in-None-clause-only c dev_eui join_eui app_key offset delay ranges is =
@@ -37,5 +37,5 @@ returns-in-None-clause-only c dev_eui join_eui app_key offset delay ranges is =
     let d = c.in_ok-app_key.was in
     let e = c.in_ok-rx1_offset.was in
     let f = c.in_ok-rx_delay.was in
-    let made = c.brought.ensures.value in
+    let made = c.provisioning.ensures.value in
     cc

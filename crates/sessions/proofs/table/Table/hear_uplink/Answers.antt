@@ -8,9 +8,9 @@ use Rattle.lw_types.specs.declared.identifiers.DevAddr.{DevAddr}
 use Rattle.devices.specs.declared.device.Device.{Device}
 use Rattle.uplinks.specs.Chain.{◌>>=◌}
 use Rattle.uplinks.specs.Step.{uplink_at}
-use Rattle.sessions.specs.Served.{heard_command}
+use Rattle.sessions.specs.Served.{frame_in, heard_command}
 use Rattle.sessions.specs.Table.{step, step_at}
-use Rattle.sessions.proofs.Frames.{step-uplink}
+use Rattle.sessions.proofs.Frames.{step-uplink, uplink-received}
 use Rattle.sessions.proofs.Exact.{exact-ok, exact-refused}
 use Rattle.sessions.proofs.table.Table.hear_uplink.Goals as goal
 
@@ -19,6 +19,11 @@ looked_up : (devices found : List Device) (slot : ℕ) (d : Device) → found �
     → slice_get devices slot ≡ Some d
 looked_up devices found slot d same within at =
     subst (λ (ds : List Device). slice_get ds slot ≡ Some d) same (slice_get_read found (length found) slot d refl (ltb-true slot (length found) (sym within)) at)
+
+pub message_of-requires : goal.message_of-requires
+message_of-requires c =
+    let h : Heard = record { phy_payload = c.args.phy_payload.now; hearings = c.args.hearings.now } in
+    ap frame_in c.as_slice.ensures.bytes ∙ uplink-received h c.args.uplink.now c.requires
 
 pub returns-in-Ok : goal.returns-in-Ok
 returns-in-Ok c =

@@ -3,17 +3,17 @@ use Rattle.std.proofs.lemmas.Bool.{false≢true}
 use Rattle.std.proofs.lemmas.List.{take_all}
 use Rattle.sessions.specs.Decision.{Continues, ContinueAll, with_decisions}
 use Rattle.sessions.proofs.Runs.{ContinueAll-next, ContinueAll-more}
-use Rattle.sessions.proofs.table.Table.continuation_end.Goals as goal
+use Rattle.sessions.proofs.table.Table.continuation_end_behind.Goals as goal
 
 pub loop-at-init : goal.loop-at-init
 loop-at-init c = record { so_far = record { fit = tt; numbered = tt }; number = omega arith }
 
-pub admits_behind-requires : goal.admits_behind-requires
-admits_behind-requires c = c.loop-at.invariant.so_far.fit
+pub admits_behind-requires-clause-own : goal.admits_behind-requires-clause-own
+admits_behind-requires-clause-own c = c.loop-at.invariant.so_far.fit
 
 pub returns-then-not-admits_behind : goal.returns-then-not-admits_behind
 returns-then-not-admits_behind c all =
-    let t = c.args.self.now in
+    let t = with_decisions c.args.self.now c.args.earlier.now in
     let ds = c.args.decisions.now in
     let n = c.loop-at.at in
     let d = c.index-decisions-at.result in
@@ -24,7 +24,7 @@ returns-then-not-admits_behind c all =
 
 pub loop-at-preserved : goal.loop-at-preserved
 loop-at-preserved c =
-    let t = c.args.self.now in
+    let t = with_decisions c.args.self.now c.args.earlier.now in
     let ds = c.args.decisions.now in
     let n = c.loop-at.at in
     let d = c.index-decisions-at.result in
@@ -39,6 +39,6 @@ loop-at-preserved c =
 pub returns : goal.returns
 returns c =
     let past : length c.args.decisions.now ≤ c.loop-at.at = c.loop-at-test.false in (
-      subst (ContinueAll c.args.self.now c.args.seq) (take_all c.loop-at.at c.args.decisions.now past) c.loop-at.invariant.so_far,
+      subst (ContinueAll (with_decisions c.args.self.now c.args.earlier.now) c.args.seq) (take_all c.loop-at.at c.args.decisions.now past) c.loop-at.invariant.so_far,
       c.loop-at.invariant.number ∙ ap (λ k. c.args.seq + k) (let n : c.loop-at.at ≡ length c.args.decisions.now = omega (arith, past, c.loop-at.auto.at-end) in n),
     )
