@@ -3,16 +3,13 @@ use Rattle.std.proofs.Common.{◌≡◌, ◌≢◌, ◌⊎◌, ◌∙◌, ◌+�
 use Rattle.lw_types.specs.declared.refusal.Refusal.{Refusal}
 use Rattle.lw_types.specs.declared.refusal.Refusal.TheVariants.{Damaged, DeviceFailed, Failed, OutOfMemory, OutOfStep}
 use Rattle.disk.specs.Outlook.{IsForeseen, Outlook}
-use Rattle.disk.specs.State.{EveryImage, IsPermitted, State}
+use Rattle.disk.specs.State.{State}
 use Rattle.sessions.specs.Decision.{IsLegalContinuation}
 use Rattle.sessions.specs.Table.{TableState}
 use Rattle.sessions.specs.declared.decision.Decision.{Decision}
 use Rattle.store.specs.declared.areas.TheConstants.{LAST_GENERATION}
-use Rattle.store.specs.Image.{HoldsTable}
 use Rattle.store.specs.declared.store.Store.{Store}
-use Rattle.store.specs.State.{IsOneCall, IsSettled, StoreState, disk_of, store_state}
-use Rattle.flusher.proofs.Holding.{held_along, with_or_without_along}
-use Rattle.flusher.specs.Cycle.{HoldsWithOrWithout, IsUncommitted}
+use Rattle.store.specs.State.{IsOneCall, IsSettled, disk_of, store_state}
 use Rattle.flusher.specs.Calls.{AreStoreCalls, IsUntouched, LastFailed, NoneFailed}
 
 pub none_untouched : {D : Type 0} {g : _} (state : D → State) (failures : D → ℕ) (outlook : D → Outlook) (old new : Store D g)
@@ -42,13 +39,6 @@ none_then failures outlook old mid new first next = record {
   unarmed = λ all. next.unarmed (first.unarmed all);
   failed = next.failed ∙ first.failed;
 }
-
--- a store that has failed stays untouched
-pub untouched_then : {D : Type 0} {g : _} (state : D → State) (old mid new : Store D g) → (store_state state old).failed ≡ true → IsUntouched state old mid
-    → ((store_state state mid).failed ≡ true → IsUntouched state mid new) → IsUntouched state old new
-untouched_then state old mid new is first next =
-    let then = next (ap (λ s. s.failed) first.0 ∙ is) in
-    (then.0 ∙ first.0, then.1 ∙ first.1)
 
 -- no call
 pub none_yet : {D : Type 0} {g : _} (failures : D → ℕ) (outlook : D → Outlook) (s : Store D g) → NoneFailed failures outlook s s
@@ -87,20 +77,6 @@ settled_still state failures outlook old mid new e first (inl same) settled none
 settled_still state failures outlook old mid new e first (inr (is, last)) settled none =
     absurd (omega (arith, none.count, first.count, last.count))
 
--- what a crash leaves, where a store was refused behind calls that succeeded
-pub refused_images : {D : Type 0} {g : _} (state : D → State) (failures : D → ℕ) (outlook : D → Outlook) (mid new : Store D g) (e : Refusal)
-    (s : StoreState) (batch : List Decision)
-    → ((s : StoreState) → IsSettled s → EveryImage s.log.disk (HoldsTable s.table s.seq))
-    → (store_state state mid).table ≡ s.table → (store_state state mid).seq ≡ s.seq → IsSettled (store_state state mid)
-    → IsUntouched state mid new ⊎ ((e ≡ DeviceFailed) × LastFailed failures outlook mid new)
-    → EveryImage (state (disk_of new)) (HoldsWithOrWithout (store_state state mid) batch)
-    → EveryImage (state (disk_of new)) (HoldsTable s.table s.seq)
-    ⊎ ((e ≡ DeviceFailed) × EveryImage (state (disk_of new)) (HoldsWithOrWithout s batch))
-refused_images state failures outlook mid new e s batch law table seq settled (inl same) images =
-    inl (λ image p. held_along s (store_state state mid) image table seq (law (store_state state mid) settled image (subst (λ d. IsPermitted (state d) image) same.1 p)))
-refused_images state failures outlook mid new e s batch law table seq settled (inr (is, last)) images =
-    inr (is, λ image p. with_or_without_along s (store_state state mid) batch image table seq (images image p))
-
 -- ---- why a batch wasn't committed
 
 -- by whether the store has failed, its table and its number
@@ -110,28 +86,6 @@ WhyNot failed table seq ds failure e =
     (e ≡ Failed)
     (((e ≡ OutOfStep) × (¬ (IsLegalContinuation table seq ds)))
     ⊎ (IsLegalContinuation table seq ds × ((e ≡ OutOfMemory) ⊎ ((e ≡ DeviceFailed) × failure))))
-
-why_not : (failed : Bool) (table : TableState) (seq : ℕ) (ds : List Decision) (X Y : Type 0) (e : Refusal) → (X → Y)
-    → WhyNot failed table seq ds X e → WhyNot failed table seq ds Y e
-why_not true table seq ds X Y e step is = is
-why_not false table seq ds X Y e step (inl is) = inl is
-why_not false table seq ds X Y e step (inr (legal, inl is)) = inr (legal, inl is)
-why_not false table seq ds X Y e step (inr (legal, inr (is, x))) = inr (legal, inr (is, step x))
-
--- the same holds of the store before calls that succeeded and left its table and number
-pub uncommitted_along : {D : Type 0} {g : _} (state : D → State) (failures : D → ℕ) (outlook : D → Outlook) (old mid new : Store D g) (ds : List Decision)
-    (e : Refusal) → NoneFailed failures outlook old mid
-    → (store_state state mid).table ≡ (store_state state old).table → (store_state state mid).seq ≡ (store_state state old).seq
-    → IsUncommitted (store_state state mid) ds (LastFailed failures outlook mid new) e
-    → IsUncommitted (store_state state old) ds (LastFailed failures outlook old new) e
-uncommitted_along state failures outlook old mid new ds e first table seq is =
-    let X = LastFailed failures outlook mid new in
-    let a : WhyNot old.failed (store_state state mid).table (store_state state mid).seq ds X e = subst (λ f. WhyNot f (store_state state mid).table (store_state state mid).seq ds X e) first.failed is in
-    let b : WhyNot old.failed (store_state state old).table (store_state state mid).seq ds X e = subst (λ (t : TableState). WhyNot old.failed t (store_state state mid).seq ds X e) table a in
-    let d : WhyNot old.failed (store_state state old).table (store_state state old).seq ds X e = subst (λ n. WhyNot old.failed (store_state state old).table n ds X e) seq b in
-    why_not old.failed (store_state state old).table (store_state state old).seq ds X (LastFailed failures outlook old new) e
-    (λ last. record { count = last.count ∙ ap (λ n. n + 1) first.count; armed = λ all. last.armed (first.unarmed all); failed = last.failed })
-    d
 
 -- ---- why no checkpoint was written
 
@@ -169,13 +123,3 @@ pub not_written : {T : Type 0} (failed : Bool) (table : TableState) (seq : ℕ) 
 not_written true table seq ds X r e was memory h = cc
 not_written false table seq ds X r OutOfMemory was memory h = inr (memory was, inl refl)
 not_written false table seq ds X r e was memory h = inl (h (λ is. cc))
-
--- it was begun, and its calls came
-pub once_written : {T U : Type 0} (failed : Bool) (table : TableState) (seq : ℕ) (ds : List Decision) (may N X : Type 0) (x : T) (r : Result U Refusal)
-    → (may → IsLegalContinuation table seq ds)
-    → MatchBool failed (Ok x ≡ Err Failed) may
-    → MatchResult r (λ _. N) (λ e. (e ≡ DeviceFailed) × X)
-    → MatchResult r (λ _. N) (λ e. WhyNot failed table seq ds X e)
-once_written true table seq ds may N X x r legal is calls = let no : ⊥ = cc in absurd no
-once_written false table seq ds may N X x (Ok y) legal h calls = calls
-once_written false table seq ds may N X x (Err e) legal h (is, failure) = inr (legal h, inr (is, failure))

@@ -1,6 +1,11 @@
 pub mod Calling
+pub mod Chains
+pub mod Ends
 pub mod Holding
 pub mod Lasting
 pub mod Leading
 pub mod Leaving
+pub mod Links
 pub mod Living
+pub mod Single
+pub mod Starts

@@ -14,7 +14,7 @@ use Rattle.flusher.specs.Lives.{Lives, beginning, lives_after}
 use Rattle.flusher.specs.Lives.LifeEvent.{Opened, Released, Torn}
 use Rattle.flusher.proofs.Holding.{held_along}
 
-either_way : {X : Type 0} (b : Bool) → X → MatchBool b (Unit {0}) X
+pub either_way : {X : Type 0} (b : Bool) → X → MatchBool b (Unit {0}) X
 either_way true x = tt
 either_way false x = x
 

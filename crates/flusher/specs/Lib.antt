@@ -1,4 +1,5 @@
 pub mod Calls
+pub mod Chain
 pub mod Cycle
 pub mod Feed
 pub mod Lived

@@ -1,14 +1,14 @@
--- What leaves over all lives of a store: cycles of flushers, crashes and openings.
+-- What leaves over all lives of a store: batches of flushers, crashes and openings.
 use Rattle.std.specs.Prelude.{Bool, true, false, List, [], ◌∷◌, ◌++◌}
 use Rattle.devices.specs.declared.command.Command.{Command}
 use Rattle.devices.specs.declared.effect.Effect.{Effect}
 use Rattle.sessions.specs.Table.{TableState, effects_of, fold_of}
 
--- what changes a store, its disk or what has left; any other cycle changes none of these
+-- what changes a store, its disk or what has left; nothing else that a flusher does changes these
 pub data LifeEvent : Type 0 where
-  -- a cycle with this batch, whose effects left
+  -- this batch was committed, and its effects left
   Released : List Command → LifeEvent
-  -- a cycle in which the disk failed: a crash may leave the batch or not, and no effect leaves
+  -- the disk failed at this batch: a crash may leave it or not, and no effect of it leaves
   Torn : List Command → LifeEvent
   -- an opening, after a crash or without one, which finds the torn batch or doesn't
   Opened : Bool → LifeEvent

@@ -1,5 +1,5 @@
 // Whole checkpoints.
-ghost use Rattle.std.specs.Prelude.{◌≡◌, ◌⊎◌, ◌+◌, true, false, IfOk, IfErr, OnOk, MatchResult};
+ghost use Rattle.std.specs.Prelude.{◌≡◌, ◌⊎◌, ◌+◌, true, IfErr, OnOk, MatchResult};
 ghost use Rattle.disk.specs.State.{EveryImage};
 ghost use Rattle.flusher.specs.Calls.{AreStoreCalls, IsUntouched, LastFailed, NoneFailed};
 ghost use Rattle.flusher.specs.Cycle.{ChecksWhereFull, IsReady, IsUnready};
@@ -11,7 +11,7 @@ ghost use Rattle.store.specs.State.{store_state, disk_of, IsRoomy, IsSettled};
 use disk::Disk;
 use lw_types::Refusal;
 use std::alloc::Global;
-use store::{Checkpoint, Store};
+use store::{Checkpoint, Publishing, Store};
 
 /// Makes room for the largest batch: where there is none, a checkpoint is written.
 pub(crate) fn make_room<D: Disk>(alloc: Global, store: &mut Store<D>) -> Result<(), Refusal>
@@ -58,34 +58,11 @@ fn publish<D: Disk>(store: &mut Store<D>, checkpoint: Checkpoint) -> Result<(), 
     ensures table { (store_state D.state store.new).table ≡ (store_state D.state store.old).table }
     ensures seq { (store_state D.state store.new).seq ≡ (store_state D.state store.old).seq }
 {
-    let checkpoint = close_gate(store, checkpoint)?;
-    let written = checkpoint.write(store)?;
-    let synced = written.sync(store)?;
-    let opened = synced.open_gate(store)?;
-    opened.sync(store)
-}
-
-// Closes the other area's gate, where it is open.
-fn close_gate<D: Disk>(store: &mut Store<D>, checkpoint: Checkpoint) -> Result<Checkpoint, Refusal>
-    requires { FitsOther (store_state D.state store.old) (checkpoint_size checkpoint) }
-    ensures calls { AreStoreCalls D.failures D.outlook store.old store.new result }
-    ensures closed { OnOk result ((store_state D.state store.new).log.other_open ≡ false) }
-    ensures generation { OnOk result ((store_state D.state store.new).log.generation
-        ≡ (store_state D.state store.old).log.generation) }
-    ensures fits { IfOk result (λ phase. FitsOther (store_state D.state store.new)
-        (checkpoint_size phase)) }
-    ensures images { D.honest → IsCheckpointOn (store_state D.state store.old) checkpoint
-        → MatchResult result
-        (IsCheckpointOn (store_state D.state store.new))
-        (λ _. EveryImage (D.state (disk_of store.new))
-        (HoldsTable (store_state D.state store.old).table (store_state D.state store.old).seq)) }
-    ensures table { (store_state D.state store.new).table ≡ (store_state D.state store.old).table }
-    ensures seq { (store_state D.state store.new).seq ≡ (store_state D.state store.old).seq }
-{
-    if store.must_retire() {
-        let retiring = checkpoint.retire(store)?;
-        retiring.sync(store)
-    } else {
-        Ok(checkpoint)
+    let mut publishing = Publishing::Begun(checkpoint);
+    'calls: loop {
+        match publishing.call(store)? {
+            Some(next) => publishing = next,
+            None => return Ok(()),
+        }
     }
 }

@@ -9,20 +9,16 @@ ghost use Rattle.flusher.specs.Lived.{GoOn, HaveLed};
 ghost use Rattle.flusher.specs.Lives.{Lives};
 ghost use Rattle.flusher.specs.Released.{effects_of_all};
 ghost use Rattle.lw_types.specs.declared.refusal.Refusal.TheVariants.{DeviceFailed};
-ghost use Rattle.sessions.specs.Decision.{commands_of, effects_in};
+ghost use Rattle.sessions.specs.Decision.{commands_of};
 ghost use Rattle.sessions.specs.Table.{TableState, effects_of};
 ghost use Rattle.sessions.specs.declared.batch.TheConstants.Batch.{MOST};
 ghost use Rattle.sessions.specs.declared.decision.Decision.{Decision};
 ghost use Rattle.store.specs.Image.{HoldsTable};
-ghost use Rattle.store.specs.Phases.{durable_decisions};
 ghost use Rattle.store.specs.State.{store_state, disk_of, IsSettled};
 
-use crate::checkpointing::make_room;
-use crate::committing::commit;
-use crate::{Durable, Feed, Most, Released, Room};
+use crate::{ChainLength, Feed, Released, chain};
 use disk::Disk;
 use lw_types::Refusal;
-use sessions::Batch;
 use std::alloc::Global;
 use store::Store;
 
@@ -114,42 +110,14 @@ pub fn cycle<D: Disk, F: Feed, C: FnMut(Vec<Released>)>(
         ⊎ ((released : _) × ((next.left ≡ lives.left ++ effects_of_all released.items)
         × C.step out.old released tt out.new))))) }
 {
-    sessions::laws::folding();
     sessions::laws::composing();
     store::laws::a_settled_store_is_on_its_disk();
-    let room = Room::new(alloc)?;
-    make_room(alloc, store)?;
-    let batch = take(feed)?;
-    let count = batch.len();
-    if count == 0 {
-        return Ok(0);
-    }
-    let durable = commit(alloc, store, batch)?;
-    release(durable, room, out);
-    Ok(count)
+    chain(store, feed, alloc, one(), out)
 }
 
-// The feed's next batch, asked for as many decisions as the largest one has.
-fn take<F: Feed>(feed: &mut F) -> Result<Batch, Refusal>
-    ensures { F.gives feed.old MOST result feed.new }
+// A chain of one batch.
+fn one() -> ChainLength
+    ensures { result ≡ 1 }
 {
-    feed.next(largest())
-}
-
-// Gives the effects of a durable batch to `out`.
-fn release<C: FnMut(Vec<Released>)>(durable: store::Durable, room: Room, out: &mut C)
-    requires { C.IsAlwaysCallable out.old }
-    ensures { (released : _) × ((effects_of_all released.items
-        ≡ effects_in (durable_decisions durable))
-        × C.step out.old released tt out.new) }
-{
-    let released = Durable::new(durable, room).release();
-    out(released);
-}
-
-// As many decisions as the largest batch has.
-fn largest() -> Most
-    ensures { result ≡ MOST }
-{
-    Most::new(Batch::MOST as u64).unwrap()
+    ChainLength::new(1).unwrap()
 }

@@ -7,7 +7,7 @@ use std::sync::Wait;
 
 /// The decisions that wait behind the lock of a core: each batch is the oldest of them, as
 /// [`Sessions::take`] gives them. Of a batch nothing is promised but that the taker's share counts
-/// it: [`cycle`](crate::cycle) compares each batch with the durable table.
+/// it: [`chain`](crate::chain) compares each batch with what is durable or under way.
 #[derive(Drop)]
 pub struct Drawn<'x, B: Books, S: Sessions<B>, R: Wait> {
     rt: &'x R,

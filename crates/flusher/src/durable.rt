@@ -1,6 +1,7 @@
 // A durable batch, whose effects may leave.
 ghost use Rattle.std.specs.Prelude.{◌≡◌, ◌≤◌, ◌+◌, ◌++◌, length, vec_capacity};
 ghost use Rattle.sessions.specs.Decision.{effects_in};
+ghost use Rattle.sessions.specs.declared.batch.TheConstants.Batch.{MOST};
 ghost use Rattle.store.specs.Phases.{durable_decisions};
 ghost use Rattle.flusher.specs.Released.{decisions_of, effects_of_all};
 
@@ -24,6 +25,14 @@ impl Durable {
             batch: durable.into_batch(),
             room,
         }
+    }
+
+    // How many decisions the batch has.
+    pub(crate) fn len(&self) -> usize
+        ensures len { result ≡ length (decisions_of self.now) }
+        ensures few { length (decisions_of self.now) ≤ MOST }
+    {
+        self.batch.len()
     }
 
     /// The effects of the batch's decisions, in order and complete, at most

@@ -21,11 +21,11 @@ pub fn lives_go_on()
     store::laws::a_settled_store_is_on_its_disk();
 }
 
-/// No mark leaves twice, over any cycles, crashes and openings: what has left is part of the
+/// No mark leaves twice, over any chains, crashes and openings: what has left is part of the
 /// effects of the commands that the store has, from its beginning on.
 ///
-/// These lives are those that [`crate::cycle`] moves on (`lives`), each call by one event or none,
-/// and [`lives_go_on`] an opening.
+/// These lives are those that [`crate::chain`] moves on (`lives`), by an event for each of its
+/// batches, and [`lives_go_on`] an opening.
 pub fn no_mark_leaves_twice()
     ensures part { (t : TableState) (events : List LifeEvent)
         → IsSubsequence (lives_of t events).left (effects_of t (lives_of t events).durable) }

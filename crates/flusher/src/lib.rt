@@ -1,10 +1,10 @@
 //! What leaves the network, and when: an effect is seen outside only as a [`Released`], which is
-//! made of a durable batch alone. [`cycle`] is one of its cycles: a batch is taken, committed and
-//! released.
+//! made of a durable batch alone. [`chain`] takes batches, commits and releases them, one after
+//! another, and [`cycle`] one alone.
 #![tactic(auto)]
 
+mod chaining;
 mod checkpointing;
-mod committing;
 mod cycles;
 mod drawn;
 mod durable;
@@ -14,6 +14,7 @@ mod released;
 mod room;
 mod serving;
 
+pub use chaining::{ChainLength, chain};
 pub use cycles::cycle;
 pub use drawn::Drawn;
 pub use durable::Durable;

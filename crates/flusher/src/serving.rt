@@ -5,16 +5,17 @@ ghost use Rattle.flusher.specs.Lived.{LeadOn};
 ghost use Rattle.flusher.specs.Released.{effects_of_all};
 ghost use Rattle.store.specs.State.{store_state};
 
-use crate::{Feed, Released, cycle};
+use crate::{ChainLength, Feed, Released, chain};
 use disk::Disk;
 use lw_types::Refusal;
 use std::alloc::Global;
 use std::sync::Wait;
 use store::Store;
 
-/// Repeats [`cycle`] until one is refused, or until `done` answers true after an empty batch. It
-/// waits nowhere itself: `done` is where the flusher waits for decisions. Each cycle is as `cycle`
-/// says, so the effects of the one that was refused didn't leave. It need not return.
+/// Repeats [`chain`], of at most 64 batches, until one is refused, or until `done` answers true
+/// after one without a batch. It waits nowhere itself: `done` is where the flusher waits.
+/// Each chain is as `chain` says, so of the batch that was refused no effect left. It need not
+/// return.
 pub fn serve<R: Wait, D: Disk, F: Feed, C: FnMut(Vec<Released>), S: FnMut() -> bool>(
     rt: &R,
     store: &mut Store<D>,
@@ -32,9 +33,14 @@ pub fn serve<R: Wait, D: Disk, F: Feed, C: FnMut(Vec<Released>), S: FnMut() -> b
         (store_state D.state store.old) (store_state D.state store.new) out.old out.new }
 {
     for _ in rt.forever() {
-        if cycle(store, feed, alloc, out)? == 0 && done() {
+        if chain(store, feed, alloc, served(), out)? == 0 && done() {
             return Ok(());
         }
     }
     unreachable!()
+}
+
+// How many batches a chain has at most.
+fn served() -> ChainLength {
+    ChainLength::new(64).unwrap()
 }

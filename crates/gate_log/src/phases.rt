@@ -151,6 +151,13 @@ impl BodySynced {
 }
 
 impl GateWritten {
+    /// How far behind the batch's gate the next one stands, in bytes.
+    pub fn size(&self) -> u64
+        ensures { result ≡ gate_written_size self.now }
+    {
+        self.size
+    }
+
     /// Syncs the batch's gate. Afterwards the batch is durable.
     pub fn sync<D: Disk>(self, log: &mut Log<D>) -> Result<Durable, DeviceFailed>
         requires { (log_state D.state log.old).next + gate_written_size self

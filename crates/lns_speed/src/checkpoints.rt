@@ -32,7 +32,7 @@ fn measure(rt: &impl Clock, alloc: Global) -> Result<(u32, u32), Unmeasured> {
     Ok((checkpoint?, opening?))
 }
 
-fn measure_checkpoint(rt: &impl Clock, server: &mut Server) -> Result<u32, Unmeasured> {
+fn measure_checkpoint(rt: &impl Clock, server: &mut Server<MemDisk>) -> Result<u32, Unmeasured> {
     server.load_all(MOST)?;
     let start = clock_nanos(rt);
     server.checkpoint()?;

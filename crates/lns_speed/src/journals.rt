@@ -3,6 +3,7 @@ use crate::server::Server;
 use crate::timing::{Unmeasured, clock_nanos, nanos_of_one, nanos_since};
 use crate::told::{Told, tell};
 use crate::whole::Senders;
+use disk::MemDisk;
 use lw_types::Refusal;
 use std::alloc::Global;
 use std::io;
@@ -37,7 +38,7 @@ fn measure(rt: &impl Clock, alloc: Global) -> Result<(u32, u32), Unmeasured> {
 
 // One uplink is committed after another until the journal has no room for the largest batch: how
 // many there were.
-fn fill(server: &mut Server) -> Result<u32, Refusal> {
+fn fill(server: &mut Server<MemDisk>) -> Result<u32, Refusal> {
     server.join_all(SENDING)?;
     let mut senders = Senders::new(SENDING);
     for batches in 0..MOST_BATCHES {

@@ -2,11 +2,14 @@
 //! into the table, in tables of 8 to 4,096 devices; and how long whole uplinks take, from the
 //! copies of their frames to the release of their effects, committed to a disk in memory; and how
 //! long a checkpoint of the largest store takes, and opening it; how many bytes of the journal a
-//! decision takes, and how long it takes to open a full one. What was measured goes to standard
-//! error, since it is never the same twice; standard output stays empty.
+//! decision takes, and how long it takes to open a full one; and how many decisions a second become
+//! durable on a file with real syncs, each batch alone and in chains. What was measured goes to
+//! standard error, since it is never the same twice; standard output stays empty.
 #![tactic(auto)]
 
+mod chains;
 mod checkpoints;
+mod counted;
 mod decided;
 mod entries;
 mod journals;
@@ -98,5 +101,6 @@ fn main(rt: HostRuntime) -> io::Result<()> {
     }
     checkpoints::tell_checkpoint(&rt, rt.alloc())?;
     entries::tell_entries(&rt, rt.alloc())?;
-    journals::tell_journal(&rt, rt.alloc())
+    journals::tell_journal(&rt, rt.alloc())?;
+    chains::tell_chains(&rt, rt.alloc())
 }

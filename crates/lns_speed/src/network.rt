@@ -3,9 +3,9 @@ ghost use Rattle.std.specs.Prelude.{◌≤◌, length};
 
 use crate::decided::Workload;
 use devices::{
-    Activation, Application, AskedBytes, CurrentSession, Device, Heard, Hearing, Hearings, Item,
-    ItemQueue, NextDown, Payload, Port, Provisioning, Queueing, Rx1Offset, RxDelay, Session, Tag,
-    dev_addr,
+    Activation, Application, AskedBytes, Channels, CurrentSession, Device, Heard, Hearing,
+    Hearings, Item, ItemQueue, NextDown, Payload, Port, Provisioning, Queueing, Rx1Offset, RxDelay,
+    Session, Tag, dev_addr,
 };
 use frame_crypt::{data_mic, derive_keys, join_mic};
 use lw_types::{Direction, Eui, FrameCopy, JoinNonce, Key, NetId, PhyPayload, Reception, Refusal};
@@ -37,7 +37,7 @@ fn dev_eui(slot: u16) -> Eui {
     Eui(FIRST_DEV_EUI + u64::from(slot))
 }
 
-/// The device at a slot is brought.
+/// The device at a slot is provisioned.
 pub fn provisioning(slot: u16) -> Provisioning {
     Provisioning {
         application: Application::new(0).unwrap(),
@@ -83,6 +83,7 @@ fn in_use() -> Option<Activation> {
             join_nonce: first,
             nwk_skey: NWK_SKEY,
             app_skey: APP_KEY,
+            channels: Channels::Eight,
         },
         last_up: 0,
         next_down: NextDown::new(0)?,

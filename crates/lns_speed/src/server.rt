@@ -1,12 +1,15 @@
 // A server with a network of its own: what comes is decided, committed and released.
+ghost use Rattle.store.specs.Checkpointing.{FitsOther, checkpoint_size};
+ghost use Rattle.store.specs.State.{store_state};
+
 use crate::network::{copy_of, join_request, longest_item, provisioning};
-use disk::MemDisk;
-use flusher::{StoredBatches, cycle};
+use disk::{Disk, MemDisk};
+use flusher::{ChainLength, StoredBatches, chain};
 use lw_types::{FrameCopy, NetId, Refusal};
 use session_core::{Core, Moment, Most, Turn};
 use sessions::Slots;
 use std::alloc::Global;
-use store::{Store, disk_len};
+use store::{Checkpoint, Publishing, Store, disk_len};
 
 /// For how long the copies of a frame are gathered, in milliseconds.
 const WAIT: u64 = 200;
@@ -20,20 +23,29 @@ const ITEMS: u32 = 16;
 /// The gateway that hears a device join.
 const GATEWAY: u64 = 1;
 
-/// A core over a store on a disk in memory.
+/// A core over a store.
 #[derive(Drop)]
-pub struct Server {
+pub struct Server<D: Disk> {
     pub alloc: Global,
-    store: Store<MemDisk>,
+    store: Store<D>,
     core: Core,
     now: Moment,
 }
 
-impl Server {
-    /// A server without devices, with so many slots.
+impl Server<MemDisk> {
+    /// A server without devices, with so many slots, on a disk in memory.
     pub fn new(alloc: Global, slots: u16) -> Result<Self, Refusal> {
+        let len = len_of(slots)?;
+        let disk = MemDisk::new(alloc, vec![in alloc; 0; len as usize]?)?;
+        Server::on(alloc, disk, slots)
+    }
+}
+
+impl<D: Disk + Drop> Server<D> {
+    /// A server without devices, with so many slots, on a disk of the length for them.
+    pub fn on(alloc: Global, disk: D, slots: u16) -> Result<Self, Refusal> {
         let now = Moment::new(0).ok_or(Refusal::Damaged)?;
-        let store = new_store(alloc, u64::from(slots))?;
+        let store = store::format(alloc, disk, NetId::zero(), u64::from(slots))?;
         Ok(Server {
             alloc,
             core: Core::new(alloc, store.table(), store.seq())?,
@@ -42,7 +54,7 @@ impl Server {
         })
     }
 
-    /// So many devices are brought, and each joins.
+    /// So many devices are provisioned, and each joins.
     pub fn join_all(&mut self, slots: u16) -> Result<(), Refusal> {
         for slot in 0..slots {
             self.bring(slot)?;
@@ -54,13 +66,13 @@ impl Server {
         self.settle()
     }
 
-    /// So many devices are brought, and as many items are queued for each as may wait, the longest
-    /// there are.
+    /// So many devices are provisioned, and as many items are queued for each as may wait, the
+    /// longest there are.
     pub fn load_all(&mut self, slots: u16) -> Result<(), Refusal> {
         for slot in 0..slots {
             self.bring(slot)?;
             self.load(slot)?;
-            self.commit()?;
+            let _ = self.commit()?;
         }
         Ok(())
     }
@@ -87,16 +99,28 @@ impl Server {
         self.settle()
     }
 
+    /// Copies of frames come, and their windows are closed, so that they are decided.
+    pub fn decide(&mut self, copies: Vec<FrameCopy>) -> Result<(), Refusal> {
+        for copy in copies {
+            self.hear(copy)?;
+        }
+        self.close_windows()
+    }
+
     fn hear(&mut self, copy: FrameCopy) -> Result<(), Refusal> {
         is_done(self.core.hear(self.now, copy))
     }
 
+    fn close_windows(&mut self) -> Result<(), Refusal> {
+        self.now = Moment::new(self.now.get().saturating_add(WAIT)).ok_or(Refusal::Damaged)?;
+        is_done(self.core.tick(self.now))
+    }
+
     // All windows are closed, and what was decided is committed and released.
     fn settle(&mut self) -> Result<(), Refusal> {
-        self.now = Moment::new(self.now.get().saturating_add(WAIT)).ok_or(Refusal::Damaged)?;
-        is_done(self.core.tick(self.now))?;
+        self.close_windows()?;
         for _ in 0..self.core.untaken().div_ceil(usize::from(BATCH)) {
-            self.commit()?;
+            let _ = self.commit()?;
         }
         Ok(())
     }
@@ -108,42 +132,53 @@ impl Server {
 
     /// A checkpoint of what is durable.
     pub fn checkpoint(&mut self) -> Result<(), Refusal> {
-        let store = &mut self.store;
-        let mut checkpoint = store.checkpoint(self.alloc)?;
-        if store.must_retire() {
-            checkpoint = checkpoint.retire(store)?.sync(store)?;
-        }
-        checkpoint
-            .write(store)?
-            .sync(store)?
-            .open_gate(store)?
-            .sync(store)
+        let checkpoint = self.store.checkpoint(self.alloc)?;
+        publish(&mut self.store, checkpoint)
     }
 
     /// Ends the server, and gives its disk back.
-    pub fn close(self) -> MemDisk {
+    pub fn close(self) -> D {
         self.store.close()
     }
 
     // The oldest decisions are committed, after a checkpoint where the journal is full, and their
     // effects are released.
-    fn commit(&mut self) -> Result<(), Refusal> {
-        let most = Most::new(u64::from(BATCH)).ok_or(Refusal::Damaged)?;
+    fn commit(&mut self) -> Result<usize, Refusal> {
+        let one = ChainLength::new(1).ok_or(Refusal::Damaged)?;
+        self.commit_chain(one)
+    }
+
+    /// The same of so many batches at most, in a chain: how many decisions they had.
+    pub fn commit_chain(&mut self, most: ChainLength) -> Result<usize, Refusal> {
+        let size = Most::new(u64::from(BATCH)).ok_or(Refusal::Damaged)?;
         let mut batches = Vec::new(self.alloc);
-        batches.push(self.core.take(most)?)?;
+        for _ in 0..most.get() {
+            if self.core.untaken() == 0 {
+                break;
+            }
+            batches.push(self.core.take(size)?)?;
+        }
         let mut feed = StoredBatches::new(self.alloc, batches);
-        match cycle(&mut self.store, &mut feed, self.alloc, &mut |_| {}) {
-            Ok(_) => Ok(()),
-            Err(refusal) => Err(refusal),
+        chain(&mut self.store, &mut feed, self.alloc, most, &mut |_| {})
+    }
+}
+
+// Makes the calls of a checkpoint.
+fn publish<D: Disk>(store: &mut Store<D>, checkpoint: Checkpoint) -> Result<(), Refusal>
+    requires { FitsOther (store_state D.state store.old) (checkpoint_size checkpoint) }
+{
+    let mut publishing = Publishing::Begun(checkpoint);
+    'calls: loop {
+        match publishing.call(store)? {
+            Some(next) => publishing = next,
+            None => return Ok(()),
         }
     }
 }
 
-// A store with so many slots on an empty disk.
-fn new_store(alloc: Global, slots: u64) -> Result<Store<MemDisk>, Refusal> {
-    let len = disk_len(Slots::new(slots).ok_or(Refusal::Damaged)?);
-    let disk = MemDisk::new(alloc, vec![in alloc; 0; len as usize]?)?;
-    store::format(alloc, disk, NetId::zero(), slots)
+/// The length of a disk for so many slots.
+pub fn len_of(slots: u16) -> Result<u64, Refusal> {
+    Ok(disk_len(Slots::new(u64::from(slots)).ok_or(Refusal::Damaged)?))
 }
 
 fn is_done(turn: Turn) -> Result<(), Refusal> {

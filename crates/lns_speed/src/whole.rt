@@ -2,6 +2,7 @@
 use crate::network::{copy_of, joined_key, uplink};
 use crate::server::{BATCH, Server};
 use crate::timing::{Unmeasured, clock_nanos, nanos_of_one, nanos_since};
+use disk::MemDisk;
 use lw_types::{FrameCopy, Key, Refusal};
 use std::alloc::Global;
 use std::rt::Clock;
@@ -99,7 +100,7 @@ fn one_life(
 // nanoseconds of the batches, and how many there were.
 fn measure_life(
     rt: &impl Clock,
-    server: &mut Server,
+    server: &mut Server<MemDisk>,
     gateways: u64,
     slots: u16,
 ) -> Result<(u128, u32), Unmeasured> {

@@ -1,4 +1,4 @@
-// A flusher's cycles over a file: twenty batches with checkpoints between them, a call of the disk
+// A flusher's chains over a file: twenty batches with checkpoints between them, a call of the disk
 // that fails, and the store that is opened again.
 ghost use Rattle.std.specs.Prelude.{◌≡◌, ◌+◌, ◌≤◌, length, is_ok};
 ghost use Rattle.disk.specs.Outlook.{HasCause, IsForeseen};
@@ -192,13 +192,14 @@ fn serve_until<R: Wait + Files<File = File>>(
     Ok((end, left, reopened(rt, alloc, path)?.0))
 }
 
-// The calls that succeed, the effects that have left, and the number that is found again.
+// The calls that succeed, of the seven that two batches take; the effects that have left, and the
+// number that is found again.
 const FAILURES: &[(u64, usize, u64)] = &[
     (0, 0, 0),
     (2, 0, 0),
     (3, 0, 64),
     (5, 64, 64),
-    (7, 64, 128),
+    (6, 64, 128),
 ];
 
 #[test]

@@ -14,13 +14,13 @@ use Rattle.sessions.specs.Table.{TableState, empty_table}
 use Rattle.record_codec.specs.declared.version.RecordVersion.{RecordVersion}
 use Rattle.record_codec.specs.declared.version.RecordVersion.TheVariants.{V1}
 use Rattle.record_codec.specs.Version.{version_byte}
-use Rattle.store_layout.specs.Entries.{EntryValue, Leads}
+use Rattle.store_layout.specs.Entries.{EntryValue, EntriesLead}
 use Rattle.store_layout.specs.Superblock.{disk_len, superblock}
 use Rattle.store.specs.declared.areas.TheConstants.{LAST_GENERATION}
 use Rattle.store.specs.declared.found.Found.{Found}
 use Rattle.store.specs.Faults.{HasGoodFront, HeaderFault, IsFault, IsKnown, IsStoreOf, IsUsable}
 use Rattle.store.specs.Found.{IsFound}
-use Rattle.store.specs.Image.{AreAreas, HoldsTable, IsLive, Lead, NoneLive, Restores, Says, area_a, area_b}
+use Rattle.store.specs.Image.{AreAreas, HoldsTable, IsLive, BatchesLead, NoneLive, Restores, Says, area_a, area_b}
 use Rattle.store.proofs.Holding.{front_is, store_of}
 
 -- the laws of areas that this file stands on
@@ -33,15 +33,15 @@ pub record AreaLaws : Type 0 where
 
 -- entries that are put keep the network and the number of slots
 pub record KeepLaws : Type 0 where
-  pub net_id : (v : RecordVersion) (t u : TableState) (es : List EntryValue) → Leads v t es u → u.net_id ≡ t.net_id
-  pub slots : (v : RecordVersion) (t u : TableState) (es : List EntryValue) → Leads v t es u → u.slots ≡ t.slots
+  pub net_id : (v : RecordVersion) (t u : TableState) (es : List EntryValue) → EntriesLead v t es u → u.net_id ≡ t.net_id
+  pub slots : (v : RecordVersion) (t u : TableState) (es : List EntryValue) → EntriesLead v t es u → u.slots ≡ t.slots
 
-lead_net : KeepLaws → (v : RecordVersion) (t : TableState) (seq : ℕ) (batches : List BatchValue) (u : TableState) (n : ℕ) → Lead v t seq batches u n → u.net_id ≡ t.net_id
+lead_net : KeepLaws → (v : RecordVersion) (t : TableState) (seq : ℕ) (batches : List BatchValue) (u : TableState) (n : ℕ) → BatchesLead v t seq batches u n → u.net_id ≡ t.net_id
 lead_net keep v t seq [] u n lead = ap (λ (x : TableState). x.net_id) lead.0
 lead_net keep v t seq (b ∷ batches) u n lead =
     lead_net keep v lead.1 b.last_sequence batches u n lead.3 ∙ keep.net_id v t lead.1 lead.0 lead.2.replay.leads
 
-lead_slots : KeepLaws → (v : RecordVersion) (t : TableState) (seq : ℕ) (batches : List BatchValue) (u : TableState) (n : ℕ) → Lead v t seq batches u n → u.slots ≡ t.slots
+lead_slots : KeepLaws → (v : RecordVersion) (t : TableState) (seq : ℕ) (batches : List BatchValue) (u : TableState) (n : ℕ) → BatchesLead v t seq batches u n → u.slots ≡ t.slots
 lead_slots keep v t seq [] u n lead = ap (λ (x : TableState). x.slots) lead.0
 lead_slots keep v t seq (b ∷ batches) u n lead =
     lead_slots keep v lead.1 b.last_sequence batches u n lead.3 ∙ keep.slots v t lead.1 lead.0 lead.2.replay.leads

@@ -9,20 +9,20 @@ use Rattle.sessions.specs.Decision.{with_decisions}
 use Rattle.sessions.specs.declared.decision.Decision.{Decision}
 use Rattle.sessions.specs.Table.{TableState, with_record}
 use Rattle.store_layout.specs.Superblock.{area_len, disk_len}
-use Rattle.store.specs.Commit.{Change, table_after}
+use Rattle.store.specs.Commit.{Sequel, table_after}
 use Rattle.store.specs.Faults.{IsStoreOf, IsFault, IsNamed, IsNoSuperblock, SuperblockFault}
 use Rattle.store.specs.Image.{AreAreas, HaveLength, HoldsTable, area_a, area_b}
 use Rattle.store.specs.Phases.{HoldsEither, Journals}
 use Rattle.store.specs.State.{StoreState}
 
-module _ (s : StoreState) (change : Change) (c : LogContents) (b : BatchValue) (journals : Journals s change c b) (image : List ℕ) where
+module _ (s : StoreState) (sequel : Sequel) (c : LogContents) (b : BatchValue) (journals : Journals s sequel c b) (image : List ℕ) where
   pub held : Holds c image → HoldsTable s.table s.seq image
   held holds = record { version = s.version; contents = c; holds = holds; says = journals.before }
 
-  pub held_with : Holds (contents_with_batch c b) image → HoldsTable (table_after s change) change.seq image
+  pub held_with : Holds (contents_with_batch c b) image → HoldsTable (table_after s sequel) sequel.seq image
   held_with holds = record { version = s.version; contents = contents_with_batch c b; holds = holds; says = journals.after }
 
-  pub held_either : LogHoldsEither c (contents_with_batch c b) image → HoldsEither s change image
+  pub held_either : LogHoldsEither c (contents_with_batch c b) image → HoldsEither s sequel image
   held_either (inl without) = inl (held without)
   held_either (inr with_it) = inr (held_with with_it)
 

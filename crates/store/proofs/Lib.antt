@@ -5,3 +5,4 @@ pub mod EmptyStore
 pub mod Beginning
 pub mod Finding
 pub mod Republishing
+pub mod NextCalls

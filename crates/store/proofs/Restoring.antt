@@ -6,19 +6,19 @@ use Rattle.sessions.specs.Table.{TableState}
 use Rattle.store_layout.specs.Entries.{EntryValue}
 use Rattle.record_codec.specs.declared.version.RecordVersion.{RecordVersion}
 use Rattle.store_layout.specs.Superblock.{disk_len, superblock}
-use Rattle.store.specs.Image.{AreAreas, IsBatchOn, IsCheckpointOf, Lead, Says}
+use Rattle.store.specs.Image.{AreAreas, IsBatchOn, IsCheckpointOf, BatchesLead, Says}
 
 -- one batch is put on the table, and there is one way to do that
 pub lead_on : (v : RecordVersion) (t t' : TableState) (seq : ℕ) (b : BatchValue) (batches : List BatchValue) (es : List EntryValue) → IsBatchOn v t seq b es t'
-    → ((fs : List EntryValue) (u : TableState) → IsBatchOn v t seq b fs u → u ≡ t') → (u : TableState) (n : ℕ) → Lead v t seq (b ∷ batches) u n ↔ Lead v t' b.last_sequence batches u n
+    → ((fs : List EntryValue) (u : TableState) → IsBatchOn v t seq b fs u → u ≡ t') → (u : TableState) (n : ℕ) → BatchesLead v t seq (b ∷ batches) u n ↔ BatchesLead v t' b.last_sequence batches u n
 lead_on v t t' seq b batches es is one u n = (
-  λ lead. subst (λ (x : TableState). Lead v x b.last_sequence batches u n) (one lead.0 lead.1 lead.2) lead.3,
+  λ lead. subst (λ (x : TableState). BatchesLead v x b.last_sequence batches u n) (one lead.0 lead.1 lead.2) lead.3,
   λ lead. (es, t', is, lead),
 )
 
 -- one batch more
 pub lead_push : (v : RecordVersion) (t : TableState) (seq : ℕ) (batches : List BatchValue) (u : TableState) (n : ℕ) (b : BatchValue) (es : List EntryValue) (w : TableState)
-    → Lead v t seq batches u n → IsBatchOn v u n b es w → Lead v t seq (batches ++ b ∷ []) w b.last_sequence
+    → BatchesLead v t seq batches u n → IsBatchOn v u n b es w → BatchesLead v t seq (batches ++ b ∷ []) w b.last_sequence
 lead_push v t seq [] u n b es w (same, number) is =
     (es, w, subst (λ k. IsBatchOn v t k b es w) number (subst (λ (x : TableState). IsBatchOn v x n b es w) same is), (refl, refl))
 lead_push v t seq (x ∷ batches) u n b es w lead is =

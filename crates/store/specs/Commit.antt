@@ -7,12 +7,12 @@ use Rattle.store.specs.declared.commit.Commit.{Commit}
 use Rattle.store.specs.State.{StoreState}
 
 -- decisions, and the number of the last of them
-pub record Change : Type 0 where
+pub record Sequel : Type 0 where
   pub decisions : List Decision
   pub seq : ℕ
 
-abbrev pub change_of : Commit → Change
-change_of commit = record { decisions = commit.batch; seq = commit.last }
+abbrev pub sequel_of : Commit → Sequel
+sequel_of commit = record { decisions = commit.batch; seq = commit.last }
 
 -- where a journal goes on: a table and the number of its last decision, the place of the next
 -- batch's gate, and the end of the area
@@ -25,16 +25,30 @@ pub record Tip : Type 0 where
 abbrev pub tip_of : StoreState → Tip
 tip_of s = record { table = s.table; seq = s.seq; next = s.log.next; end = s.log.areas.live.end }
 
--- the change may follow: it is a legal continuation, and `size` bytes fit behind the next gate
-pub record MayFollow (tip : Tip) (change : Change) (size : ℕ) : Type 0 where
-  pub legal : IsLegalContinuation tip.table tip.seq change.decisions
-  pub seq : change.seq ≡ tip.seq + length change.decisions
+-- the sequel may follow: it is a legal continuation, and `size` bytes fit behind the next gate
+pub record MayFollow (tip : Tip) (sequel : Sequel) (size : ℕ) : Type 0 where
+  pub legal : IsLegalContinuation tip.table tip.seq sequel.decisions
+  pub seq : sequel.seq ≡ tip.seq + length sequel.decisions
   pub room : tip.next + size < tip.end
 
--- the change is on its way in this store
-abbrev pub IsUnderWay : StoreState → Change → ℕ → Type 0
-IsUnderWay s change size = MayFollow (tip_of s) change size
+-- the sequel is on its way in this store
+abbrev pub IsUnderWay : StoreState → Sequel → ℕ → Type 0
+IsUnderWay s sequel size = MayFollow (tip_of s) sequel size
 
--- the table that the change leaves in this store
-abbrev pub table_after : StoreState → Change → TableState
-table_after s change = with_decisions s.table change.decisions
+-- the table that the sequel leaves in this store
+abbrev pub table_after : StoreState → Sequel → TableState
+table_after s sequel = with_decisions s.table sequel.decisions
+
+-- where it goes on behind a sequel of `size` bytes
+abbrev pub tip_past : Tip → Sequel → ℕ → Tip
+tip_past tip sequel size =
+    record {
+      table = with_decisions tip.table sequel.decisions;
+      seq = sequel.seq;
+      next = tip.next + size;
+      end = tip.end;
+    }
+
+-- where the journal of this store goes on behind a sequel that is on its way
+abbrev pub tip_behind : StoreState → Sequel → ℕ → Tip
+tip_behind s sequel size = tip_past (tip_of s) sequel size

@@ -56,18 +56,18 @@ pub record IsBatchOn (version : RecordVersion) (t : TableState) (seq : ℕ) (b :
   pub number : b.last_sequence ≡ seq + b.entry_count
 
 -- batches lead from one table and number to another
-abbrev pub Lead : RecordVersion → TableState → ℕ → List BatchValue → TableState → ℕ → Type 0
-Lead version t seq [] u n = (u ≡ t) × (n ≡ seq)
-Lead version t seq (b ∷ batches) u n =
+abbrev pub BatchesLead : RecordVersion → TableState → ℕ → List BatchValue → TableState → ℕ → Type 0
+BatchesLead version t seq [] u n = (u ≡ t) × (n ≡ seq)
+BatchesLead version t seq (b ∷ batches) u n =
     (entries : List EntryValue) × (next : TableState) × IsBatchOn version t seq b entries next
-    × Lead version next b.last_sequence batches u n
+    × BatchesLead version next b.last_sequence batches u n
 
 -- the table and number that a checkpoint and the batches behind it lead to
 pub record Restores (version : RecordVersion) (net_id slots : ℕ) (header : Header)
     (records : List ℕ) (later : List BatchValue) (t : TableState) (seq : ℕ) : Type 0 where
   pub base : TableState
   pub checkpoint : IsCheckpointOf version net_id slots records header.record_count base
-  pub batches : Lead version base header.sequence later t seq
+  pub batches : BatchesLead version base header.sequence later t seq
 
 -- the contents of a disk, with records of a version, are those of a store with this table and
 -- number: its superblock is in front, and its journal leads there

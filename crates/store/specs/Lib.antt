@@ -5,4 +5,8 @@ pub mod Formatting
 pub mod State
 pub mod Commit
 pub mod Phases
+pub mod Pairing
 pub mod Checkpointing
+pub mod Flights
+pub mod Publishing
+pub mod UnderWay

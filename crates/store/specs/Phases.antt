@@ -15,13 +15,13 @@ use Rattle.store.specs.declared.phases.Written.{Written}
 use Rattle.store.specs.declared.phases.BodySynced.{BodySynced}
 use Rattle.store.specs.declared.phases.GateWritten.{GateWritten}
 use Rattle.store.specs.declared.phases.Durable.{Durable}
-use Rattle.store.specs.Commit.{Change, change_of, table_after}
+use Rattle.store.specs.Commit.{Sequel, sequel_of, table_after}
 use Rattle.store.specs.Image.{HoldsTable, Says}
 use Rattle.store.specs.State.{StoreState}
 
--- the change of each phase, and how many bytes of the journal it takes
-abbrev pub begun_change : Begun → Change
-begun_change begun = change_of begun.commit
+-- the sequel of each phase, and how many bytes of the journal it takes
+abbrev pub begun_sequel : Begun → Sequel
+begun_sequel begun = sequel_of begun.commit
 
 abbrev pub begun_size : Begun → ℕ
 begun_size begun = length (bytes_of begun.phase)
@@ -37,20 +37,20 @@ HasEntries version begun =
       entries = entries;
     })
 
-abbrev pub written_change : Written → Change
-written_change written = change_of written.commit
+abbrev pub written_sequel : Written → Sequel
+written_sequel written = sequel_of written.commit
 
 abbrev pub written_size : Written → ℕ
 written_size written = log_written_size written.phase
 
-abbrev pub body_synced_change : BodySynced → Change
-body_synced_change phase = change_of phase.commit
+abbrev pub body_synced_sequel : BodySynced → Sequel
+body_synced_sequel phase = sequel_of phase.commit
 
 abbrev pub body_synced_size : BodySynced → ℕ
 body_synced_size phase = log_body_synced_size phase.phase
 
-abbrev pub gate_written_change : GateWritten → Change
-gate_written_change phase = change_of phase.commit
+abbrev pub gate_written_sequel : GateWritten → Sequel
+gate_written_sequel phase = sequel_of phase.commit
 
 abbrev pub gate_written_size : GateWritten → ℕ
 gate_written_size phase = log_gate_written_size phase.phase
@@ -59,23 +59,23 @@ abbrev pub durable_decisions : Durable → List Decision
 durable_decisions durable = durable.batch
 
 -- the batch as the journal has it: without it the contents say the store's table and number, and
--- with it the change's
-pub record Journals (s : StoreState) (change : Change) (c : LogContents)
+-- with it the sequel's
+pub record Journals (s : StoreState) (sequel : Sequel) (c : LogContents)
     (b : BatchValue) : Type 0 where
-  pub slots : (table_after s change).slots ≡ s.table.slots
+  pub slots : (table_after s sequel).slots ≡ s.table.slots
   pub before : Says s.version c s.table s.seq
-  pub after : Says s.version (contents_with_batch c b) (table_after s change) change.seq
+  pub after : Says s.version (contents_with_batch c b) (table_after s sequel) sequel.seq
 
--- an image holds the table and number from before the change, or those that it leaves
-abbrev pub HoldsEither : StoreState → Change → List ℕ → Type 0
-HoldsEither s change image =
-    HoldsTable s.table s.seq image ⊎ HoldsTable (table_after s change) change.seq image
+-- an image holds the table and number from before the sequel, or those that it leaves
+abbrev pub HoldsEither : StoreState → Sequel → List ℕ → Type 0
+HoldsEither s sequel image =
+    HoldsTable s.table s.seq image ⊎ HoldsTable (table_after s sequel) sequel.seq image
 
 -- nothing of the batch is written
 pub record IsBegunOn (s : StoreState) (begun : Begun) : Type 0 where
   pub contents : LogContents
   pub batch : BatchValue
-  pub journals : Journals s (begun_change begun) contents batch
+  pub journals : Journals s (begun_sequel begun) contents batch
   pub rest : IsAtRest s.log contents
   pub bytes : IsBegun begun.phase batch
 
@@ -83,19 +83,19 @@ pub record IsBegunOn (s : StoreState) (begun : Begun) : Type 0 where
 pub record IsWrittenOn (s : StoreState) (written : Written) : Type 0 where
   pub contents : LogContents
   pub batch : BatchValue
-  pub journals : Journals s (written_change written) contents batch
+  pub journals : Journals s (written_sequel written) contents batch
   pub log : IsWritten s.log contents batch (written_size written)
 
 -- its body is on the disk
 pub record IsBodySyncedOn (s : StoreState) (phase : BodySynced) : Type 0 where
   pub contents : LogContents
   pub batch : BatchValue
-  pub journals : Journals s (body_synced_change phase) contents batch
+  pub journals : Journals s (body_synced_sequel phase) contents batch
   pub log : IsBodySynced s.log contents batch (body_synced_size phase)
 
 -- its gate is open, and may be torn
 pub record IsGateWrittenOn (s : StoreState) (phase : GateWritten) : Type 0 where
   pub contents : LogContents
   pub batch : BatchValue
-  pub journals : Journals s (gate_written_change phase) contents batch
+  pub journals : Journals s (gate_written_sequel phase) contents batch
   pub log : IsGateWritten s.log contents batch (gate_written_size phase)

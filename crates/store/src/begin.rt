@@ -1,16 +1,18 @@
 // Begins the commit of a batch.
-ghost use Rattle.std.specs.Prelude.{◌≡◌, ◌≢◌, ◌⊎◌, ◌+◌, Err, MatchBool, MatchResult, IfOk, length};
+ghost use Rattle.std.specs.Prelude.{◌≡◌, ◌≢◌, ◌⊎◌, ◌+◌, ◌<◌, ◌≤◌, Err, MatchBool, MatchResult};
+ghost use Rattle.std.specs.Prelude.{IfErr, IfOk, length};
 ghost use Rattle.lw_types.specs.declared.refusal.Refusal.TheVariants.{Failed, OutOfMemory};
 ghost use Rattle.lw_types.specs.declared.refusal.Refusal.TheVariants.{OutOfStep};
-ghost use Rattle.sessions.specs.Decision.{IsLegalContinuation};
-ghost use Rattle.store.specs.Commit.{IsUnderWay, MayFollow, tip_of};
-ghost use Rattle.store.specs.Phases.{HasEntries, IsBegunOn, begun_change, begun_size};
+ghost use Rattle.sessions.specs.Decision.{FitAll, IsLegalContinuation, with_decisions};
+ghost use Rattle.sessions.specs.declared.batch.TheConstants.Batch.{MOST};
+ghost use Rattle.store.specs.Commit.{MayFollow, sequel_of, tip_of};
+ghost use Rattle.store.specs.Phases.{HasEntries, IsBegunOn, begun_sequel, begun_size};
 
 use crate::commit::Commit;
-use crate::{Begun, Store};
+use crate::{Begun, LARGEST_BATCH, Store};
 use disk::Disk;
 use lw_types::Refusal;
-use sessions::Batch;
+use sessions::{Batch, Decision};
 use std::alloc::Global;
 use store_layout::{batch_entries, laws};
 
@@ -30,7 +32,7 @@ impl<D: Disk> Store<D> {
         ensures answer { MatchBool (store_state D.state self.old).failed
             (result ≡ Err Failed)
             (MatchResult result
-            (λ begun. MayFollow (tip_of (store_state D.state self.old)) (begun_change begun)
+            (λ begun. MayFollow (tip_of (store_state D.state self.old)) (begun_sequel begun)
             (begun_size begun))
             (λ e. e ≢ OutOfMemory → (e ≡ OutOfStep)
             × ¬ (IsLegalContinuation (store_state D.state self.old).table
@@ -38,7 +40,7 @@ impl<D: Disk> Store<D> {
         ensures memory { result ≡ Err OutOfMemory
             → IsLegalContinuation (store_state D.state self.old).table
             (store_state D.state self.old).seq batch }
-        ensures batch { IfOk result (λ begun. (begun_change begun).decisions ≡ batch) }
+        ensures batch { IfOk result (λ begun. (begun_sequel begun).decisions ≡ batch) }
         ensures entries { IfOk result (HasEntries (store_state D.state self.old).version) }
         ensures begun { IsSettled (store_state D.state self.old)
             → IfOk result (IsBegunOn (store_state D.state self.old)) }
@@ -46,33 +48,36 @@ impl<D: Disk> Store<D> {
         if self.failed {
             return Err(Refusal::Failed);
         }
-        let commit = self.commit_of(alloc, batch)?;
-        let entries = batch_entries(alloc, self.version, &commit.batch)?;
         laws::decisions_replay();
         laws::entries_keep_the_network();
-        let count = commit.batch.len() as u16;
-        let phase = gate_log::Begun::new(alloc, commit.last, count, &entries)?;
-        Ok(Begun { phase, commit })
+        let commit = self.commit_of(alloc, &[], self.seq, batch)?;
+        self.begun_of(alloc, commit)
     }
 
-    // The batch with its last number, and copies of its records.
-    fn commit_of(&self, alloc: Global, batch: Batch) -> Result<Commit, Refusal>
+    // The batch with its last number, behind `earlier` decisions that end with the number `seq`,
+    // and copies of its records.
+    pub(crate) fn commit_of(
+        &self,
+        alloc: Global,
+        earlier: &[Decision],
+        seq: u64,
+        batch: Batch,
+    ) -> Result<Commit, Refusal>
+        requires { FitAll (store_state D.state self.now).table earlier.now }
         ensures { MatchResult result
-            (λ commit. IsLegalContinuation (store_state D.state self.now).table
-            (store_state D.state self.now).seq batch
-            × ((commit.batch ≡ batch) × (commit.last
-            ≡ (store_state D.state self.now).seq + length batch)))
-            (λ e. ((e ≡ OutOfMemory)
-            × IsLegalContinuation (store_state D.state self.now).table
-            (store_state D.state self.now).seq batch)
-            ⊎ ((e ≡ OutOfStep)
-            × ¬ (IsLegalContinuation (store_state D.state self.now).table
-            (store_state D.state self.now).seq batch))) }
+            (λ commit. IsLegalContinuation
+            (with_decisions (store_state D.state self.now).table earlier.now) seq batch
+            × ((commit.batch ≡ batch) × (commit.last ≡ seq + length batch)))
+            (λ e. ((e ≡ OutOfMemory) × IsLegalContinuation
+            (with_decisions (store_state D.state self.now).table earlier.now) seq batch)
+            ⊎ ((e ≡ OutOfStep) × ¬ (IsLegalContinuation
+            (with_decisions (store_state D.state self.now).table earlier.now) seq batch))) }
     {
         if batch.is_empty() {
             return Err(Refusal::OutOfStep);
         }
-        let Some(last) = self.table.continuation_end(self.seq, batch.as_slice()) else {
+        let decisions = batch.as_slice();
+        let Some(last) = self.table.continuation_end_behind(earlier, seq, decisions) else {
             return Err(Refusal::OutOfStep);
         };
         let records = batch.records(alloc)?;
@@ -81,5 +86,19 @@ impl<D: Disk> Store<D> {
             records,
             last,
         })
+    }
+
+    // The first phase of a commit: the bytes of its batch.
+    pub(crate) fn begun_of(&self, alloc: Global, commit: Commit) -> Result<Begun, Refusal>
+        ensures memory { IfErr result (λ e. e ≡ OutOfMemory) }
+        ensures sequel { IfOk result (λ begun. begun_sequel begun ≡ sequel_of commit) }
+        ensures entries { IfOk result (HasEntries (store_state D.state self.now).version) }
+        ensures few { length commit.batch ≤ MOST }
+        ensures size { IfOk result (λ begun. begun_size begun < LARGEST_BATCH) }
+    {
+        let entries = batch_entries(alloc, self.version, &commit.batch)?;
+        let count = commit.batch.len() as u16;
+        let phase = gate_log::Begun::new(alloc, commit.last, count, &entries)?;
+        Ok(Begun { phase, commit })
     }
 }

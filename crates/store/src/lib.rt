@@ -13,11 +13,14 @@ mod formatting;
 mod found;
 pub mod laws;
 mod opening;
+mod pairing;
 mod phases;
 mod preparing;
+mod publishing;
 mod recover;
 mod restore;
 mod store;
+mod under_way;
 
 pub use areas::{LAST_GENERATION, RECORD_VERSION};
 pub use checkpointing::{
@@ -25,5 +28,8 @@ pub use checkpointing::{
 };
 pub use formatting::{disk_len, format, format_back};
 pub use opening::{open, open_back};
+pub use pairing::Paired;
 pub use phases::{Begun, BodySynced, Durable, GateWritten, Written};
+pub use publishing::Publishing;
 pub use store::{LARGEST_BATCH, Store};
+pub use under_way::{Called, UnderWay};

@@ -2,12 +2,12 @@
 ghost use Rattle.std.specs.Prelude.{◌≡◌, ◌<◌, ◌+◌, IfOk, OnOk, OnErr, MatchResult};
 ghost use Rattle.disk.specs.State.{EveryImage};
 ghost use Rattle.sessions.specs.Decision.{effects_in};
-ghost use Rattle.store.specs.Commit.{IsUnderWay, table_after};
+ghost use Rattle.store.specs.Commit.{IsUnderWay, table_after, tip_behind, tip_of};
 ghost use Rattle.store.specs.Image.{HoldsTable};
 ghost use Rattle.store.specs.Phases.{HoldsEither, IsBegunOn, IsWrittenOn, IsBodySyncedOn};
-ghost use Rattle.store.specs.Phases.{IsGateWrittenOn, begun_change, begun_size, written_change};
-ghost use Rattle.store.specs.Phases.{written_size, body_synced_change, body_synced_size};
-ghost use Rattle.store.specs.Phases.{gate_written_change, gate_written_size, durable_decisions};
+ghost use Rattle.store.specs.Phases.{IsGateWrittenOn, begun_sequel, begun_size, written_sequel};
+ghost use Rattle.store.specs.Phases.{written_size, body_synced_sequel, body_synced_size};
+ghost use Rattle.store.specs.Phases.{gate_written_sequel, gate_written_size, durable_decisions};
 ghost use Rattle.store.specs.State.{store_state, disk_of, IsSettled, IsOneCall};
 
 use crate::Store;
@@ -30,14 +30,14 @@ pub struct Written {
 
 /// A batch whose body is on the disk, behind its closed gate.
 pub struct BodySynced {
-    phase: gate_log::BodySynced,
-    commit: Commit,
+    pub(crate) phase: gate_log::BodySynced,
+    pub(crate) commit: Commit,
 }
 
 /// A batch whose gate is open, and may be torn.
 pub struct GateWritten {
-    phase: gate_log::GateWritten,
-    commit: Commit,
+    pub(crate) phase: gate_log::GateWritten,
+    pub(crate) commit: Commit,
 }
 
 /// A batch that every crash leaves. Its effects may leave.
@@ -49,7 +49,7 @@ impl Begun {
     /// Writes the batch's body and the closed gate of the next batch. Refused with `DeviceFailed`
     /// exactly where the disk failed; then the store has failed.
     pub fn write<D: Disk>(self, store: &mut Store<D>) -> Result<Written, Refusal>
-        requires { IsUnderWay (store_state D.state store.old) (begun_change self)
+        requires { IsUnderWay (store_state D.state store.old) (begun_sequel self)
             (begun_size self) }
         ensures next { D.honest → IsBegunOn (store_state D.state store.old) self
             → IfOk result (IsWrittenOn (store_state D.state store.new)) }
@@ -57,8 +57,11 @@ impl Begun {
             → EveryImage (D.state (disk_of store.new))
             (HoldsTable (store_state D.state store.old).table (store_state D.state store.old).seq) }
         ensures under_way { IfOk result (λ written. IsUnderWay (store_state D.state store.new)
-            (written_change written) (written_size written)) }
-        ensures change { IfOk result (λ written. written_change written ≡ begun_change self) }
+            (written_sequel written) (written_size written)) }
+        ensures tip { IfOk result (λ written. tip_behind (store_state D.state store.new)
+            (written_sequel written) (written_size written)
+            ≡ tip_behind (store_state D.state store.old) (begun_sequel self) (begun_size self)) }
+        ensures sequel { IfOk result (λ written. written_sequel written ≡ begun_sequel self) }
         ensures table { (store_state D.state store.new).table
             ≡ (store_state D.state store.old).table }
         ensures seq { (store_state D.state store.new).seq ≡ (store_state D.state store.old).seq }
@@ -84,7 +87,7 @@ impl Written {
     /// Syncs the batch's body. Refused with `DeviceFailed` exactly where the disk failed; then the
     /// store has failed.
     pub fn sync<D: Disk>(self, store: &mut Store<D>) -> Result<BodySynced, Refusal>
-        requires { IsUnderWay (store_state D.state store.old) (written_change self)
+        requires { IsUnderWay (store_state D.state store.old) (written_sequel self)
             (written_size self) }
         ensures next { D.honest → IsWrittenOn (store_state D.state store.old) self
             → IfOk result (IsBodySyncedOn (store_state D.state store.new)) }
@@ -92,8 +95,12 @@ impl Written {
             → EveryImage (D.state (disk_of store.new))
             (HoldsTable (store_state D.state store.old).table (store_state D.state store.old).seq) }
         ensures under_way { IfOk result (λ synced. IsUnderWay (store_state D.state store.new)
-            (body_synced_change synced) (body_synced_size synced)) }
-        ensures change { IfOk result (λ synced. body_synced_change synced ≡ written_change self) }
+            (body_synced_sequel synced) (body_synced_size synced)) }
+        ensures tip { IfOk result (λ synced. tip_behind (store_state D.state store.new)
+            (body_synced_sequel synced) (body_synced_size synced)
+            ≡ tip_behind (store_state D.state store.old) (written_sequel self)
+            (written_size self)) }
+        ensures sequel { IfOk result (λ synced. body_synced_sequel synced ≡ written_sequel self) }
         ensures table { (store_state D.state store.new).table
             ≡ (store_state D.state store.old).table }
         ensures seq { (store_state D.state store.new).seq ≡ (store_state D.state store.old).seq }
@@ -119,17 +126,21 @@ impl BodySynced {
     /// Opens the batch's gate. Refused with `DeviceFailed` exactly where the disk failed; then the
     /// store has failed.
     pub fn open_gate<D: Disk>(self, store: &mut Store<D>) -> Result<GateWritten, Refusal>
-        requires { IsUnderWay (store_state D.state store.old) (body_synced_change self)
+        requires { IsUnderWay (store_state D.state store.old) (body_synced_sequel self)
             (body_synced_size self) }
         ensures next { D.honest → IsBodySyncedOn (store_state D.state store.old) self
             → IfOk result (IsGateWrittenOn (store_state D.state store.new)) }
         ensures images { D.honest → IsBodySyncedOn (store_state D.state store.old) self
             → EveryImage (D.state (disk_of store.new))
-            (HoldsEither (store_state D.state store.old) (body_synced_change self)) }
+            (HoldsEither (store_state D.state store.old) (body_synced_sequel self)) }
         ensures under_way { IfOk result (λ opened. IsUnderWay (store_state D.state store.new)
-            (gate_written_change opened) (gate_written_size opened)) }
-        ensures change { IfOk result
-            (λ opened. gate_written_change opened ≡ body_synced_change self) }
+            (gate_written_sequel opened) (gate_written_size opened)) }
+        ensures tip { IfOk result (λ opened. tip_behind (store_state D.state store.new)
+            (gate_written_sequel opened) (gate_written_size opened)
+            ≡ tip_behind (store_state D.state store.old) (body_synced_sequel self)
+            (body_synced_size self)) }
+        ensures sequel { IfOk result
+            (λ opened. gate_written_sequel opened ≡ body_synced_sequel self) }
         ensures table { (store_state D.state store.new).table
             ≡ (store_state D.state store.old).table }
         ensures seq { (store_state D.state store.new).seq ≡ (store_state D.state store.old).seq }
@@ -156,25 +167,28 @@ impl GateWritten {
     /// number. Refused with `DeviceFailed` exactly where the disk failed; then the store has
     /// failed, and whether the batch is on the disk is found out by opening it again.
     pub fn sync<D: Disk>(self, store: &mut Store<D>) -> Result<Durable, Refusal>
-        requires { IsUnderWay (store_state D.state store.old) (gate_written_change self)
+        requires { IsUnderWay (store_state D.state store.old) (gate_written_sequel self)
             (gate_written_size self) }
         ensures settled { D.honest → IsGateWrittenOn (store_state D.state store.old) self
             → OnOk result (IsSettled (store_state D.state store.new)) }
         ensures durable { D.honest → IsGateWrittenOn (store_state D.state store.old) self
             → OnOk result (EveryImage (D.state (disk_of store.new))
-            (HoldsTable (table_after (store_state D.state store.old) (gate_written_change self))
-            (gate_written_change self).seq)) }
+            (HoldsTable (table_after (store_state D.state store.old) (gate_written_sequel self))
+            (gate_written_sequel self).seq)) }
         ensures images { D.honest → IsGateWrittenOn (store_state D.state store.old) self
             → EveryImage (D.state (disk_of store.new))
-            (HoldsEither (store_state D.state store.old) (gate_written_change self)) }
+            (HoldsEither (store_state D.state store.old) (gate_written_sequel self)) }
+        ensures tip { OnOk result (tip_of (store_state D.state store.new)
+            ≡ tip_behind (store_state D.state store.old) (gate_written_sequel self)
+            (gate_written_size self)) }
         ensures batch { IfOk result
-            (λ durable. durable_decisions durable ≡ (gate_written_change self).decisions) }
+            (λ durable. durable_decisions durable ≡ (gate_written_sequel self).decisions) }
         ensures table { MatchResult result
             (λ _. (store_state D.state store.new).table
-            ≡ table_after (store_state D.state store.old) (gate_written_change self))
+            ≡ table_after (store_state D.state store.old) (gate_written_sequel self))
             (λ _. (store_state D.state store.new).table ≡ (store_state D.state store.old).table) }
         ensures seq { MatchResult result
-            (λ _. (store_state D.state store.new).seq ≡ (gate_written_change self).seq)
+            (λ _. (store_state D.state store.new).seq ≡ (gate_written_sequel self).seq)
             (λ _. (store_state D.state store.new).seq ≡ (store_state D.state store.old).seq) }
         ensures generation { OnOk result ((store_state D.state store.new).log.generation
             ≡ (store_state D.state store.old).log.generation) }
@@ -184,7 +198,7 @@ impl GateWritten {
         match phase.sync(&mut store.log) {
             Ok(durable) => {
                 durable.finish();
-                Ok(store.adopt(commit))
+                Ok(store.take_over(commit))
             }
             Err(_) => Err(store.fail()),
         }
@@ -211,7 +225,7 @@ impl<D: Disk> Store<D> {
     ghost use Rattle.std.specs.Prelude.{true};
     ghost use Rattle.lw_types.specs.declared.refusal.Refusal.TheVariants.{DeviceFailed};
     ghost use Rattle.sessions.specs.Decision.{FitAll};
-    ghost use Rattle.store.specs.Commit.{change_of};
+    ghost use Rattle.store.specs.Commit.{sequel_of};
 
     // A call of the disk failed.
     pub(crate) fn fail(&mut self) -> Refusal
@@ -225,14 +239,14 @@ impl<D: Disk> Store<D> {
     }
 
     // Puts the records of a batch that is on the disk on the table, and takes over its number.
-    fn adopt(&mut self, commit: Commit) -> Durable
+    pub(crate) fn take_over(&mut self, commit: Commit) -> Durable
         requires fit { FitAll (store_state D.state self.old).table commit.batch }
         ensures store { store_state D.state self.new ≡ record (store_state D.state self.old) {
-          table = table_after (store_state D.state self.old) (change_of commit);
-          seq = (change_of commit).seq;
+          table = table_after (store_state D.state self.old) (sequel_of commit);
+          seq = (sequel_of commit).seq;
         } }
         ensures disk { disk_of self.new ≡ disk_of self.old }
-        ensures batch { durable_decisions result ≡ (change_of commit).decisions }
+        ensures batch { durable_decisions result ≡ (sequel_of commit).decisions }
     {
         let Commit {
             batch,

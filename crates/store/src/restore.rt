@@ -3,7 +3,7 @@ ghost use Rattle.std.specs.Prelude.{◌≡◌, ◌≢◌, ◌↔◌, ℕ, List, 
 ghost use Rattle.lw_types.specs.declared.refusal.Refusal.TheVariants.{Damaged, OutOfMemory};
 ghost use Rattle.sessions.specs.Table.{TableState};
 ghost use Rattle.store_layout.specs.Entries.{EntryValue};
-ghost use Rattle.store.specs.Image.{IsBatchOn, IsCheckpointOf, Lead, Restores};
+ghost use Rattle.store.specs.Image.{IsBatchOn, IsCheckpointOf, BatchesLead, Restores};
 
 use gate_log::{Batch, Recovered};
 use lw_types::Refusal;
@@ -79,10 +79,10 @@ fn replay_batches(
     batches: &[Batch],
 ) -> Result<u64, Refusal>
     ensures { MatchResult result
-        (λ last. (u : TableState) (n : ℕ) → Lead version table.old seq batches.now u n
+        (λ last. (u : TableState) (n : ℕ) → BatchesLead version table.old seq batches.now u n
         ↔ ((u ≡ table.new) × (n ≡ last)))
         (λ e. e ≢ OutOfMemory → (e ≡ Damaged)
-        × ((u : TableState) (n : ℕ) → ¬ Lead version table.old seq batches.now u n)) }
+        × ((u : TableState) (n : ℕ) → ¬ BatchesLead version table.old seq batches.now u n)) }
 {
     let mut last = seq;
     for batch in batches {

@@ -11,7 +11,7 @@ use Rattle.record_codec.specs.declared.version.RecordVersion.{RecordVersion}
 use Rattle.record_codec.specs.declared.version.RecordVersion.TheVariants.{V1}
 use Rattle.record_codec.specs.Change.{IsChangeOf}
 use Rattle.record_codec.specs.Version.{IsRecordIn, record_in}
-use Rattle.store_layout.specs.Entries.{EntryValue, kind_of, body_in, entry, entries, IsEntry, AreEntries, Replay, LeavesRecord, Puts, Leads, NoEntry, slot_in}
+use Rattle.store_layout.specs.Entries.{EntryValue, kind_of, body_in, entry, entries, IsEntry, AreEntries, Replay, LeavesRecord, Puts, EntriesLead, NoEntry, slot_in}
 use Rattle.store_layout.specs.Entries.EntryValue.{Changed, Whole}
 
 -- the parts of two lists that begin alike
@@ -147,18 +147,18 @@ pub not_put : {v : RecordVersion} → RecordLaws v → (t : TableState) (e : Ent
 not_put laws t e slot device at leaves cannot w p =
     cannot (subst (λ n. CanPut t n device) (sym at) (subst (CanPut t (slot_in e)) (one_left laws t e p.after device p.leaves leaves) p.can))
 
-pub one_lead : {v : RecordVersion} → RecordLaws v → (t : TableState) (es : List EntryValue) (u w : TableState) → Leads v t es u → Leads v t es w → u ≡ w
+pub one_lead : {v : RecordVersion} → RecordLaws v → (t : TableState) (es : List EntryValue) (u w : TableState) → EntriesLead v t es u → EntriesLead v t es w → u ≡ w
 one_lead laws t [] u w p q = p ∙ sym q
 one_lead {v} laws t (e ∷ es) u w p q =
-    one_lead laws q.0 es u w (subst (λ (x : TableState). Leads v x es u) (one_put laws t e p.0 q.0 p.1 q.1) p.2) q.2
+    one_lead laws q.0 es u w (subst (λ (x : TableState). EntriesLead v x es u) (one_put laws t e p.0 q.0 p.1 q.1) p.2) q.2
 
 -- one entry more
-leads_push : (v : RecordVersion) (t : TableState) (es : List EntryValue) (x : TableState) (e : EntryValue) (u : TableState) → Leads v t es x → Puts v x e u → Leads v t (es ++ e ∷ []) u
+leads_push : (v : RecordVersion) (t : TableState) (es : List EntryValue) (x : TableState) (e : EntryValue) (u : TableState) → EntriesLead v t es x → Puts v x e u → EntriesLead v t (es ++ e ∷ []) u
 leads_push v t [] x e u lead put = (u, subst (λ (y : TableState). Puts v y e u) lead put, refl)
 leads_push v t (f ∷ es) x e u lead put = (lead.0, lead.1, leads_push v lead.0 es x e u lead.2 put)
 
 -- what entries in front lead to, and the others from there
-leads_apart : (v : RecordVersion) (t : TableState) (front es : List EntryValue) (u : TableState) → Leads v t (front ++ es) u → (x : TableState) × Leads v t front x × Leads v x es u
+leads_apart : (v : RecordVersion) (t : TableState) (front es : List EntryValue) (u : TableState) → EntriesLead v t (front ++ es) u → (x : TableState) × EntriesLead v t front x × EntriesLead v x es u
 leads_apart v t [] es u lead = (t, refl, lead)
 leads_apart v t (f ∷ front) es u lead =
     let rest = leads_apart v lead.0 front es u lead.2 in
@@ -168,7 +168,7 @@ leads_apart v t (f ∷ front) es u lead =
 put_keeps : (v : RecordVersion) (t : TableState) (e : EntryValue) (u : TableState) → Puts v t e u → (u.net_id ≡ t.net_id) × (u.slots ≡ t.slots)
 put_keeps v t e u p = (ap (λ (x : TableState). x.net_id) p.is, ap (λ (x : TableState). x.slots) p.is)
 
-pub leads_keep : (v : RecordVersion) (t u : TableState) (es : List EntryValue) → Leads v t es u → (u.net_id ≡ t.net_id) × (u.slots ≡ t.slots)
+pub leads_keep : (v : RecordVersion) (t u : TableState) (es : List EntryValue) → EntriesLead v t es u → (u.net_id ≡ t.net_id) × (u.slots ≡ t.slots)
 leads_keep v t u [] same = (ap (λ (x : TableState). x.net_id) same, ap (λ (x : TableState). x.slots) same)
 leads_keep v t u (e ∷ es) lead =
     let one = put_keeps v t e lead.0 lead.1 in
@@ -182,7 +182,7 @@ pub record ReadSo (v : RecordVersion) (t : TableState) (bytes : List ℕ) (n : �
   pub spelled : bytes ≡ entries v front ++ rest
   pub number : length front ≡ n
   pub each : AreEntries v front
-  pub leads : Leads v t front now_table
+  pub leads : EntriesLead v t front now_table
 
 pub read_none : (v : RecordVersion) (t : TableState) (bytes : List ℕ) → ReadSo v t bytes 0 t bytes
 read_none v t bytes = record { front = []; spelled = refl; number = refl; each = tt; leads = refl }
@@ -236,8 +236,8 @@ next_entry {v} laws t bytes n count now_table rest es u so less r =
     at : (more : List EntryValue) → es ≡ so.front ++ more → rest ≡ entries v more → (e : EntryValue) × (behind : List ℕ) × IsEntry v e × (rest ≡ entry v e ++ behind) × (w : TableState) × Puts v now_table e w
     at [] es_is rest_is = absurd (longer so.front [] count (ap length (sym es_is) ∙ r.number) (let a = so.number in omega arith) refl)
     at (e ∷ more) es_is rest_is =
-        let parts = leads_apart v t so.front (e ∷ more) u (subst (λ (l : List EntryValue). Leads v t l u) es_is r.leads) in
-        let here = subst (λ (x : TableState). Leads v x (e ∷ more) u) (one_lead laws t so.front parts.0 now_table parts.1 so.leads) parts.2 in
+        let parts = leads_apart v t so.front (e ∷ more) u (subst (λ (l : List EntryValue). EntriesLead v t l u) es_is r.leads) in
+        let here = subst (λ (x : TableState). EntriesLead v x (e ∷ more) u) (one_lead laws t so.front parts.0 now_table parts.1 so.leads) parts.2 in
         (e, entries v more, entry_at so.front e more (subst (AreEntries v) es_is r.each), rest_is, here.0, here.1)
       where
         entry_at : (front : List EntryValue) (e : EntryValue) (more : List EntryValue) → AreEntries v (front ++ e ∷ more) → IsEntry v e

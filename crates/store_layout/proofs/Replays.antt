@@ -9,7 +9,7 @@ use Rattle.sessions.specs.declared.decision.Decision.{Decision}
 use Rattle.record_codec.specs.declared.version.RecordVersion.{RecordVersion}
 use Rattle.record_codec.specs.Change.{IsChangeOf}
 use Rattle.record_codec.specs.Version.{IsRecordIn, record_in}
-use Rattle.store_layout.specs.Entries.{EntryValue, body_in, entry, entries, AreEntries, AreEntriesOf, IsEntryOf, Leads, Puts, Replay}
+use Rattle.store_layout.specs.Entries.{EntryValue, body_in, entry, entries, AreEntries, AreEntriesOf, IsEntryOf, EntriesLead, Puts, Replay}
 use Rattle.store_layout.specs.Entries.EntryValue.{Changed, Whole}
 use Rattle.store_layout.proofs.EntryLaws.{RecordLaws, entry-one, one_lead, short_body}
 
@@ -26,7 +26,7 @@ puts_of v t d e fits can is = at d.before refl is
 
 -- and so do those of more of them
 pub leads_of : ((t : TableState) (d : Decision) → FitsTable t d → CanPut t d.slot d.after)
-    → (v : RecordVersion) (t : TableState) (ds : List Decision) (es : List EntryValue) → FitAll t ds → AreEntriesOf v ds es → Leads v t es (with_decisions t ds)
+    → (v : RecordVersion) (t : TableState) (ds : List Decision) (es : List EntryValue) → FitAll t ds → AreEntriesOf v ds es → EntriesLead v t es (with_decisions t ds)
 leads_of put v t [] [] fit are = refl
 leads_of put v t [] (e ∷ es) fit are = absurd are
 leads_of put v t (d ∷ ds) [] fit are = absurd are
@@ -56,7 +56,7 @@ one-replay laws t t' u u' bytes count es fs a b = same-entries laws es fs a.each
 pub one-table : {v : RecordVersion} → RecordLaws v → (t u u' : TableState) (bytes : List ℕ) (count : ℕ) (es fs : List EntryValue)
     → Replay v t bytes count es u → Replay v t bytes count fs u' → u ≡ u'
 one-table {v} laws t u u' bytes count es fs a b =
-    one_lead laws t fs u u' (subst (λ (l : List EntryValue). Leads v t l u) (one-replay laws t t u u' bytes count es fs a b) a.leads) b.leads
+    one_lead laws t fs u u' (subst (λ (l : List EntryValue). EntriesLead v t l u) (one-replay laws t t u u' bytes count es fs a b) a.leads) b.leads
 
 pub short-entries : (v : RecordVersion) → ((a : Device) → IsRecordIn v a → length (record_in v a) ≤ 4300) → (es : List EntryValue) → AreEntries v es
     → length (entries v es) ≤ length es * 4305

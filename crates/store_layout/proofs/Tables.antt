@@ -9,7 +9,7 @@ use Rattle.devices.specs.declared.device.Device.{Device}
 use Rattle.sessions.specs.Index.{HaveOwnSlots}
 use Rattle.sessions.specs.Table.{CanPut, TableState, empty_table, slot_of, with_device}
 use Rattle.record_codec.specs.declared.version.RecordVersion.{RecordVersion}
-use Rattle.store_layout.specs.Entries.{AreEntries, IsEntry, Leads, Replay, entries, entries_from, entries_of_table, entry}
+use Rattle.store_layout.specs.Entries.{AreEntries, IsEntry, EntriesLead, Replay, entries, entries_from, entries_of_table, entry}
 use Rattle.store_layout.specs.Entries.EntryValue.{Whole}
 
 pub length-entries_from : (slot : ℕ) (devices : List Device) → length (entries_from slot devices) ≡ length devices
@@ -41,7 +41,7 @@ behind : (done : List Device) (d : Device) → with_device (length done) d done 
 behind done d = λ i. take_all (length done) done (omega arith) i ++ d ∷ drop_all (suc (length done)) done (omega arith) i
 
 put_rest : (version : RecordVersion) (net_id slots : ℕ) (done rest : List Device) → HaveOwnSlots (done ++ rest) → length (done ++ rest) ≤ slots
-    → Leads version (record { net_id = net_id; slots = slots; devices = done }) (entries_from (length done) rest) (record { net_id = net_id; slots = slots; devices = done ++ rest })
+    → EntriesLead version (record { net_id = net_id; slots = slots; devices = done }) (entries_from (length done) rest) (record { net_id = net_id; slots = slots; devices = done ++ rest })
 put_rest version net_id slots done [] own few = ap (λ (l : List Device). record { net_id = net_id; slots = slots; devices = l }) (append-nil done)
 put_rest version net_id slots done (d ∷ rest) own few =
     let with_devices : List Device → TableState = λ l. record { net_id = net_id; slots = slots; devices = l } in
@@ -51,8 +51,8 @@ put_rest version net_id slots done (d ∷ rest) own few =
     let others = put_rest version net_id slots (done ++ d ∷ []) rest (subst HaveOwnSlots (sym whole) own) (omega (arith, few, ap length whole)) in (
       with_devices (done ++ d ∷ []),
       record { after = d; leaves = refl; can = next_fits net_id slots done rest d own room; is = ap with_devices (sym (behind done d)) },
-      subst (λ (l : List Device). Leads version (with_devices (done ++ d ∷ [])) (entries_from (suc (length done)) rest) (with_devices l)) whole
-          (subst (λ (n : ℕ). Leads version (with_devices (done ++ d ∷ [])) (entries_from n rest) (with_devices ((done ++ d ∷ []) ++ rest))) next others),
+      subst (λ (l : List Device). EntriesLead version (with_devices (done ++ d ∷ [])) (entries_from (suc (length done)) rest) (with_devices l)) whole
+          (subst (λ (n : ℕ). EntriesLead version (with_devices (done ++ d ∷ [])) (entries_from n rest) (with_devices ((done ++ d ∷ []) ++ rest))) next others),
     )
 
 pub table_replays : (version : RecordVersion) (t : TableState) → HaveOwnSlots t.devices → length t.devices ≤ t.slots → AreEntries version (entries_of_table t)

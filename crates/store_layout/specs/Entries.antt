@@ -75,10 +75,10 @@ pub record Puts (version : RecordVersion) (t : TableState) (e : EntryValue)
   pub is : u ≡ with_record t (slot_in e) after
 
 -- entries lead from one table to another, each from where those before it lead
-abbrev pub Leads : RecordVersion → TableState → List EntryValue → TableState → Type 0
-Leads version t [] u = u ≡ t
-Leads version t (e ∷ es) u =
-    (next : TableState) × Puts version t e next × Leads version next es u
+abbrev pub EntriesLead : RecordVersion → TableState → List EntryValue → TableState → Type 0
+EntriesLead version t [] u = u ≡ t
+EntriesLead version t (e ∷ es) u =
+    (next : TableState) × Puts version t e next × EntriesLead version next es u
 
 -- `count` entries that spell these bytes and lead from one table to another
 pub record Replay (version : RecordVersion) (t : TableState) (bytes : List ℕ) (count : ℕ)
@@ -86,7 +86,7 @@ pub record Replay (version : RecordVersion) (t : TableState) (bytes : List ℕ) 
   pub spelled : bytes ≡ entries version es
   pub number : length es ≡ count
   pub each : AreEntries version es
-  pub leads : Leads version t es u
+  pub leads : EntriesLead version t es u
 
 -- the entry of a decision: the record that it leaves, where it found none; else the change from the
 -- one that it found

@@ -5,7 +5,8 @@ ghost use Rattle.sessions.specs.Table.{TableState, empty_table};
 ghost use Rattle.sessions.specs.Decision.{FitAll, with_decisions};
 ghost use Rattle.sessions.specs.declared.decision.Decision.{Decision};
 ghost use Rattle.record_codec.specs.declared.version.RecordVersion.{RecordVersion};
-ghost use Rattle.store_layout.specs.Entries.{AreEntries, AreEntriesOf, EntryValue, Leads, Replay};
+ghost use Rattle.store_layout.specs.Entries.{AreEntries, AreEntriesOf, EntriesLead, EntryValue};
+ghost use Rattle.store_layout.specs.Entries.{Replay};
 ghost use Rattle.store_layout.specs.Entries.{entries, entries_of_table};
 
 use crate::{JOURNAL_ROOM, LONGEST_ENTRY, RESERVED_ENTRY};
@@ -61,9 +62,9 @@ pub fn entries_are_short()
 /// Entries that are put on a table leave its network and its number of slots.
 pub fn entries_keep_the_network()
     ensures net_id { (version : RecordVersion) (t u : TableState) (es : List EntryValue)
-        → Leads version t es u → u.net_id ≡ t.net_id }
+        → EntriesLead version t es u → u.net_id ≡ t.net_id }
     ensures slots { (version : RecordVersion) (t u : TableState) (es : List EntryValue)
-        → Leads version t es u → u.slots ≡ t.slots }
+        → EntriesLead version t es u → u.slots ≡ t.slots }
 {}
 
 /// The room of an area, and the most bytes of an entry.

@@ -54,9 +54,20 @@ pub fn heard(alloc: Global, digits: &str) -> Result<Command, Refusal> {
     heard_frame(alloc, read_hex(alloc, digits)?)
 }
 
+/// The same of a frame that it heard on this channel.
+pub fn heard_on(alloc: Global, digits: &str, frequency: u32) -> Result<Command, Refusal> {
+    let mut hearing = HEARING;
+    hearing.reception.frequency = frequency;
+    heard_as(alloc, read_hex(alloc, digits)?, hearing)
+}
+
 /// The command of a frame, which one gateway heard.
 pub fn heard_frame(alloc: Global, frame: Vec<u8>) -> Result<Command, Refusal> {
-    let hearings = Hearings::new(vec![in alloc; HEARING; 1]?);
+    heard_as(alloc, frame, HEARING)
+}
+
+fn heard_as(alloc: Global, frame: Vec<u8>, hearing: Hearing) -> Result<Command, Refusal> {
+    let hearings = Hearings::new(vec![in alloc; hearing; 1]?);
     match (PhyPayload::new(frame), hearings) {
         (Ok(phy_payload), Some(hearings)) => Ok(Command::Heard(Heard {
             phy_payload,
@@ -134,7 +145,8 @@ pub fn add(
     }
 }
 
-fn apply(table: &mut Table, seq: u64, decision: &Decision) -> Result<(), Refusal> {
+/// Puts the record of a decision on the table, where that admits it.
+pub fn apply(table: &mut Table, seq: u64, decision: &Decision) -> Result<(), Refusal> {
     if table.admits(seq, decision) {
         table.apply(decision)
     } else {

@@ -67,8 +67,8 @@ fn durable(alloc: Global, count: u64) -> Result<Durable, Refusal> {
     Ok(Durable::new(durable, room))
 }
 
-// Whether the application 3 is told that the device of this DevEUI has this slot.
-fn is_brought(effect: &Effect, slot: u16, dev_eui: u64) -> bool {
+/// Whether the application 3 is told that the device of this DevEUI has this slot.
+pub fn is_provisioned(effect: &Effect, slot: u16, dev_eui: u64) -> bool {
     match effect {
         Effect::Report {
             application,
@@ -83,9 +83,9 @@ fn is_brought(effect: &Effect, slot: u16, dev_eui: u64) -> bool {
 }
 
 // How many provisionings are told, where these effects are those of a batch of them, in order.
-fn brought(released: &[Released]) -> Option<usize> {
+fn count_provisioned(released: &[Released]) -> Option<usize> {
     for (slot, one) in (0..64).zip(released) {
-        if !is_brought(one.effect(), slot, 2000_u64.saturating_sub(u64::from(slot))) {
+        if !is_provisioned(one.effect(), slot, 2000_u64.saturating_sub(u64::from(slot))) {
             return None;
         }
     }
@@ -97,7 +97,7 @@ fn brought(released: &[Released]) -> Option<usize> {
 fn leave(alloc: Global, count: u64) -> Result<Option<usize>, Refusal> {
     durable(alloc, count)?.lose();
     let released = durable(alloc, count)?.release();
-    Ok(brought(&released))
+    Ok(count_provisioned(&released))
 }
 
 #[test]
@@ -111,7 +111,7 @@ fn effects_leave_in_order(rt: HostRuntime) {
 enum Leaves {
     Nothing,
     /// Once the effects of so many provisionings, in order.
-    Brought(usize),
+    Provisioned(usize),
     /// Once so many accepts and nothing else.
     Accepts(usize),
     /// Anything else.
@@ -129,8 +129,8 @@ fn are_accepts(released: &[Released]) -> bool {
 }
 
 fn what_leaves(released: &[Released]) -> Leaves {
-    match brought(released) {
-        Some(count) => Leaves::Brought(count),
+    match count_provisioned(released) {
+        Some(count) => Leaves::Provisioned(count),
         None if are_accepts(released) => Leaves::Accepts(released.len()),
         None => Leaves::Other,
     }
@@ -184,9 +184,9 @@ const FAILED: Round = (Err(Refusal::DeviceFailed), Leaves::Nothing);
 
 const CLOSED: Round = (Err(Refusal::Failed), Leaves::Nothing);
 
-const THREE: Round = (Ok(3), Leaves::Brought(3));
+const THREE: Round = (Ok(3), Leaves::Provisioned(3));
 
-const ALL: Round = (Ok(64), Leaves::Brought(64));
+const ALL: Round = (Ok(64), Leaves::Provisioned(64));
 
 // Two rounds on a disk whose call of this number fails, or none where it is 0; the second batch is
 // made of the empty table too. How many devices each batch brings, what comes of the rounds, and
@@ -214,7 +214,8 @@ fn batches(alloc: Global, table: &Table, counts: (u64, u64)) -> Result<StoredBat
     Ok(StoredBatches::new(alloc, batches))
 }
 
-// What comes of two rounds, and how many decisions are durable after them; each brought a device.
+// What comes of two rounds, and how many decisions are durable after them; each provisioned a
+// device.
 fn rounds(
     alloc: Global,
     failing: u64,
@@ -265,7 +266,7 @@ impl Flushed {
         })
     }
 
-    // The device that joins is brought, and sixteen items are queued for it.
+    // The device that joins is provisioned, and sixteen items are queued for it.
     fn queue(&mut self, alloc: Global) -> Result<(), Refusal> {
         self.carry_out(alloc, joining()?)?;
         for tag in 0..16 {
@@ -312,8 +313,8 @@ fn feed_of(alloc: Global, batch: Batch) -> Result<StoredBatches, Refusal> {
     Ok(StoredBatches::new(alloc, batches))
 }
 
-// The Join-Request with this DevNonce.
-fn request(alloc: Global, dev_nonce: u16) -> Result<Command, Refusal> {
+/// The Join-Request with this DevNonce.
+pub fn request(alloc: Global, dev_nonce: u16) -> Result<Command, Refusal> {
     let [low, high] = dev_nonce.to_le_bytes();
     let message = [
         0x00, 0x08, 0x07, 0x06, 0x05, 0x04, 0x03, 0x02, 0x01, 0x18, 0x17, 0x16, 0x15, 0x14, 0x13,
@@ -355,8 +356,8 @@ fn a_store_never_fills(rt: HostRuntime) {
     assert!(rt; joins(rt.alloc(), 20_000) == Ok((20_000, 1, 20_017)));
 }
 
-// So many entries of the device that joins, with a full queue.
-fn records(alloc: Global, count: u8) -> Result<Vec<u8>, Refusal> {
+/// So many entries of the device that joins, with a full queue.
+pub fn records(alloc: Global, count: u8) -> Result<Vec<u8>, Refusal> {
     let device = busy_joiner(alloc)?;
     let mut bytes = Vec::new(alloc);
     for _ in 0..count {

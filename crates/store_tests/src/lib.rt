@@ -3,11 +3,15 @@
 #![tactic(auto)]
 
 #[cfg(test)]
+mod chains_tests;
+#[cfg(test)]
 mod devices_under_test;
 #[cfg(test)]
 mod flusher_tests;
 #[cfg(test)]
 mod store_changes_tests;
+#[cfg(test)]
+mod store_channels_tests;
 #[cfg(test)]
 mod store_checkpoints_tests;
 #[cfg(test)]
@@ -18,6 +22,8 @@ mod store_images_tests;
 mod store_joins_tests;
 #[cfg(test)]
 mod store_layout_tests;
+#[cfg(test)]
+mod store_pairs_tests;
 #[cfg(test)]
 mod store_tests;
 #[cfg(test)]

@@ -13,17 +13,17 @@ use std::alloc::Global;
 use store::{Store, open};
 use store_layout::{RecordVersion, batch_entries};
 
-// The entry of the device that joins, as it was brought.
-const BROUGHT: &str = concat!(
+// The entry of the device that joins, as it was provisioned.
+const PROVISIONED: &str = concat!(
     "0100000032",
     "111213141516171801020304050607082B7E151628AED2A6ABF7158809CF4F3C",
     "030001000000000000000000000000000000",
 );
 
-// Batches of a store without changes: the device is brought; an item with the tag 9 and the MAC
-// command DevStatusReq are queued for it; and a second device is brought.
+// Batches of a store without changes: the device is provisioned; an item with the tag 9 and the MAC
+// command DevStatusReq are queued for it; and a second device is provisioned.
 const WHOLE_RECORDS: &[((u8, u8), &str)] = &[
-    ((1, 1), BROUGHT),
+    ((1, 1), PROVISIONED),
     (
         (3, 2),
         concat!(
@@ -125,7 +125,7 @@ fn changes_are_of_the_record_that_the_slot_has_then(rt: HostRuntime) {
 
 // What comes of a checkpoint of the device that says so many records, with a change behind it.
 fn checkpointed(alloc: Global, count: u8, change: &str) -> Result<Found, Refusal> {
-    let mut records = read_hex(alloc, BROUGHT)?;
+    let mut records = read_hex(alloc, PROVISIONED)?;
     let change = read_hex(alloc, change)?;
     records.extend_from_slice(&change)?;
     let bytes = checkpoint_of(alloc, count, &records)?;
@@ -156,7 +156,7 @@ fn queueing(alloc: Global, tag: u32) -> Result<Command, Refusal> {
     }
 }
 
-// The entries of a batch: the device is brought, an item is queued for it, and it joins.
+// The entries of a batch: the device is provisioned, an item is queued for it, and it joins.
 fn entries(alloc: Global) -> Result<Vec<u8>, Refusal> {
     let mut batch = Batch::new(alloc)?;
     let mut table = new_table(alloc, 8)?;
@@ -179,11 +179,11 @@ fn add_changes(alloc: Global, table: &mut Table, batch: &mut Batch) -> Result<()
 // The entries of the item and, but for its session's keys, of the join.
 const QUEUED: &str = "020000000A400100000009070001AA";
 
-const JOINED: &str = "020000002B0901000100000101000001";
+const JOINED: &str = "020000002B0901000100000102000001";
 
 fn have_their_layout(alloc: Global) -> Result<bool, Refusal> {
     let entries = entries(alloc)?;
-    let mut wanted = read_hex(alloc, BROUGHT)?;
+    let mut wanted = read_hex(alloc, PROVISIONED)?;
     wanted.extend_from_slice(&read_hex(alloc, QUEUED)?)?;
     wanted.extend_from_slice(&read_hex(alloc, JOINED)?)?;
     Ok(entries.starts_with(&wanted) && entries.len() == wanted.len().saturating_add(32))

@@ -131,7 +131,7 @@ fn a_record_of_a_slot_in_use_is_replaced(rt: HostRuntime) {
 }
 
 // What a crash behind the first calls of the commit of such a batch leaves, of a device that was
-// brought.
+// provisioned.
 fn left(
     alloc: Global,
     letters: &str,
@@ -139,15 +139,15 @@ fn left(
     image: &Image,
 ) -> Result<Option<Joined>, Refusal> {
     let mut store = new_store(alloc, 8)?;
-    let brought = commit(alloc, &mut store, "b", ALL);
+    let provisioned = commit(alloc, &mut store, "b", ALL);
     let begun = commit(alloc, &mut store, letters, calls);
     let left = joined(&crashed(alloc, store, image)?);
-    brought?;
+    provisioned?;
     begun?;
     Ok(left)
 }
 
-const BROUGHT: Joined = (1, None);
+const PROVISIONED: Joined = (1, None);
 
 // One join, and three of one slot in a batch.
 const BATCHES: &[Leads] = &[("1", (2, Some(1))), ("123", (4, Some(3)))];
@@ -163,7 +163,7 @@ const CALLS: &[(u64, bool, bool, bool)] = &[
 
 fn leaves(alloc: Global, batch: &Leads, calls: u64, image: &Image, is_left: bool) -> bool {
     let (letters, joined) = *batch;
-    let wanted = if is_left { joined } else { BROUGHT };
+    let wanted = if is_left { joined } else { PROVISIONED };
     left(alloc, letters, calls, image) == Ok(Some(wanted))
 }
 

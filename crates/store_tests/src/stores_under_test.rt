@@ -3,9 +3,9 @@ ghost use Rattle.std.specs.Prelude.{◌≡◌, true, false};
 ghost use Rattle.store.specs.Checkpointing.{FitsOther, checkpoint_size, checkpoint_synced_size};
 ghost use Rattle.store.specs.Checkpointing.{checkpoint_written_size};
 ghost use Rattle.store.specs.Commit.{IsUnderWay};
-ghost use Rattle.store.specs.Phases.{begun_change, begun_size, gate_written_change};
-ghost use Rattle.store.specs.Phases.{gate_written_size, body_synced_change, body_synced_size};
-ghost use Rattle.store.specs.Phases.{written_change, written_size};
+ghost use Rattle.store.specs.Phases.{begun_sequel, begun_size, gate_written_sequel};
+ghost use Rattle.store.specs.Phases.{gate_written_size, body_synced_sequel, body_synced_size};
+ghost use Rattle.store.specs.Phases.{written_sequel, written_size};
 ghost use Rattle.store.specs.State.{store_state};
 
 use crate::devices_under_test::{net_id, provisionings, slots};
@@ -76,7 +76,7 @@ pub fn begin_commit(
 }
 
 fn write_batch<D: Disk>(begun: Begun, store: &mut Store<D>, calls: u64) -> Result<(), Refusal>
-    requires { IsUnderWay (store_state D.state store.old) (begun_change begun) (begun_size begun) }
+    requires { IsUnderWay (store_state D.state store.old) (begun_sequel begun) (begun_size begun) }
 {
     match begun.write(store) {
         Ok(written) if calls == 1 => {
@@ -89,7 +89,7 @@ fn write_batch<D: Disk>(begun: Begun, store: &mut Store<D>, calls: u64) -> Resul
 }
 
 fn sync_batch<D: Disk>(written: Written, store: &mut Store<D>, calls: u64) -> Result<(), Refusal>
-    requires { IsUnderWay (store_state D.state store.old) (written_change written)
+    requires { IsUnderWay (store_state D.state store.old) (written_sequel written)
         (written_size written) }
 {
     match written.sync(store) {
@@ -103,7 +103,7 @@ fn sync_batch<D: Disk>(written: Written, store: &mut Store<D>, calls: u64) -> Re
 }
 
 fn open_batch<D: Disk>(synced: BodySynced, store: &mut Store<D>, calls: u64) -> Result<(), Refusal>
-    requires { IsUnderWay (store_state D.state store.old) (body_synced_change synced)
+    requires { IsUnderWay (store_state D.state store.old) (body_synced_sequel synced)
         (body_synced_size synced) }
 {
     match synced.open_gate(store) {
@@ -117,7 +117,7 @@ fn open_batch<D: Disk>(synced: BodySynced, store: &mut Store<D>, calls: u64) -> 
 }
 
 fn finish_batch<D: Disk>(opened: GateWritten, store: &mut Store<D>) -> Result<(), Refusal>
-    requires { IsUnderWay (store_state D.state store.old) (gate_written_change opened)
+    requires { IsUnderWay (store_state D.state store.old) (gate_written_sequel opened)
         (gate_written_size opened) }
 {
     match opened.sync(store) {

@@ -1,105 +1,39 @@
-use Rattle.std.proofs.Common.{◌∙◌, Err, Ok}
+use Rattle.std.proofs.Common.{◌∙◌, Ok, refl, subst}
+use Rattle.store.specs.Publishing.{IsPublishingCall}
 use Rattle.store.specs.State.{store_state}
-use Rattle.flusher.proofs.Calling.{calls_then, none_then, one_call}
-use Rattle.flusher.proofs.Holding.{held_along, on_both, on_refused}
+use Rattle.flusher.proofs.Calling.{none_then, none_yet, one_call}
+use Rattle.flusher.proofs.Holding.{held_along, on_refused}
 use Rattle.flusher.proofs.checkpointing.publish.Goals as goal
 
-pub returns-in_err-checkpoint-clause-images : goal.returns-in_err-checkpoint-clause-images
-returns-in_err-checkpoint-clause-images g c honest on =
-    on_refused c.from_residual.result c.in_err-checkpoint.field-0.0 _ _ c.from_residual.ensures.1 (c.in_err-checkpoint.ensures.images honest on)
+pub calls-init : goal.calls-init
+calls-init g c = record {
+  fits = c.requires;
+  calls = none_yet g.D.Disk.failures g.D.Disk.outlook c.args.store.now;
+  table = refl;
+  seq = refl;
+  on_disk = λ honest on. on;
+  generation = λ honest on. refl;
+}
 
-pub returns-in_err-written-clause-images : goal.returns-in_err-written-clause-images
-returns-in_err-written-clause-images g c honest on =
+pub returns-in_err-next-clause-images : goal.returns-in_err-next-clause-images
+returns-in_err-next-clause-images g c honest on =
     let s = store_state g.D.Disk.state c.args.store.now in
-    let s1 = store_state g.D.Disk.state c.close_gate.new.store in
-    let closed = c.in_ok-checkpoint.ensures in
-    on_refused c.from_residual-in_err-written.result c.in_err-written.field-0.0 _ _ c.from_residual-in_err-written.ensures.1
-    (λ image p. held_along s s1 image closed.table closed.seq (c.in_err-written.ensures.images honest (closed.images honest on) image p))
+    let here = store_state g.D.Disk.state c.calls.store in
+    let so_far = c.calls.invariant in
+    on_refused c.from_residual.result c.in_err-next.field-0.0 _ _ c.from_residual.ensures.1
+    (λ image p. held_along s here image so_far.table so_far.seq (c.in_err-next.ensures.next.images honest (so_far.on_disk honest on) image p))
 
-pub returns-in_err-synced-clause-images : goal.returns-in_err-synced-clause-images
-returns-in_err-synced-clause-images g c honest on =
-    let s = store_state g.D.Disk.state c.args.store.now in
-    let s2 = store_state g.D.Disk.state c.write.new.store in
-    let closed = c.in_ok-checkpoint.ensures in
-    let first = c.in_ok-written.ensures in
-    on_refused c.from_residual-in_err-synced.result c.in_err-synced.field-0.0 _ _ c.from_residual-in_err-synced.ensures.1
-    (λ image p. held_along s s2 image (first.table ∙ closed.table) (first.seq ∙ closed.seq)
-    (c.in_err-synced.ensures.images honest (first.next honest (closed.images honest on)) image p))
-
-pub returns-in_err-opened-clause-images : goal.returns-in_err-opened-clause-images
-returns-in_err-opened-clause-images g c honest on =
-    let s = store_state g.D.Disk.state c.args.store.now in
-    let s3 = store_state g.D.Disk.state c.sync.new.store in
-    let closed = c.in_ok-checkpoint.ensures in
-    let first = c.in_ok-written.ensures in
-    let second = c.in_ok-synced.ensures in
-    on_refused c.from_residual-in_err-opened.result c.in_err-opened.field-0.0 _ _ c.from_residual-in_err-opened.ensures.1
-    (λ image p. held_along s s3 image (second.table ∙ (first.table ∙ closed.table)) (second.seq ∙ (first.seq ∙ closed.seq))
-    (c.in_err-opened.ensures.images honest (second.next honest (first.next honest (closed.images honest on))) image p))
-
-pub returns-clause-images : goal.returns-clause-images
-returns-clause-images g c honest on =
-    let s = store_state g.D.Disk.state c.args.store.now in
-    let s4 = store_state g.D.Disk.state c.open_gate.new.store in
-    let closed = c.in_ok-checkpoint.ensures in
-    let first = c.in_ok-written.ensures in
-    let second = c.in_ok-synced.ensures in
-    let third = c.in_ok-opened.ensures in
-    let opened = third.next honest (second.next honest (first.next honest (closed.images honest on))) in
-    on_both c.sync-2.result _ _ (c.sync-2.ensures.settled honest opened)
-    (λ image p. held_along s s4 image (third.table ∙ (second.table ∙ (first.table ∙ closed.table))) (third.seq ∙ (second.seq ∙ (first.seq ∙ closed.seq)))
-    (c.sync-2.ensures.images honest opened image p))
-
-pub returns-in_err-checkpoint-clause-calls : goal.returns-in_err-checkpoint-clause-calls
-returns-in_err-checkpoint-clause-calls g c =
-    on_refused c.from_residual.result c.in_err-checkpoint.field-0.0 _ _ c.from_residual.ensures.1 c.in_err-checkpoint.ensures.calls
-
-pub returns-in_err-written-clause-calls : goal.returns-in_err-written-clause-calls
-returns-in_err-written-clause-calls g c =
-    let failures = g.D.Disk.failures in
-    let outlook = g.D.Disk.outlook in
-    let e = c.in_err-written.field-0.0 in
-    let r = c.from_residual-in_err-written in
-    on_refused r.result e _ _ r.ensures.1
-    (calls_then {T = Unit {0}} failures outlook c.args.store.now c.close_gate.new.store c.write.new.store (Err e)
-    c.in_ok-checkpoint.ensures.calls
-    (one_call failures outlook c.close_gate.new.store c.write.new.store (Err e) c.in_err-written.ensures.call))
-
-pub returns-in_err-synced-clause-calls : goal.returns-in_err-synced-clause-calls
-returns-in_err-synced-clause-calls g c =
-    let failures = g.D.Disk.failures in
-    let outlook = g.D.Disk.outlook in
-    let e = c.in_err-synced.field-0.0 in
-    let r = c.from_residual-in_err-synced in
-    on_refused r.result e _ _ r.ensures.1
-    (calls_then {T = Unit {0}} failures outlook c.args.store.now c.write.new.store c.sync.new.store (Err e)
-    (none_then failures outlook c.args.store.now c.close_gate.new.store c.write.new.store c.in_ok-checkpoint.ensures.calls
-    (one_call failures outlook c.close_gate.new.store c.write.new.store (Ok c.in_ok-written.written) c.in_ok-written.ensures.call))
-    (one_call failures outlook c.write.new.store c.sync.new.store (Err e) c.in_err-synced.ensures.call))
-
-pub returns-in_err-opened-clause-calls : goal.returns-in_err-opened-clause-calls
-returns-in_err-opened-clause-calls g c =
-    let failures = g.D.Disk.failures in
-    let outlook = g.D.Disk.outlook in
-    let e = c.in_err-opened.field-0.0 in
-    let r = c.from_residual-in_err-opened in
-    on_refused r.result e _ _ r.ensures.1
-    (calls_then {T = Unit {0}} failures outlook c.args.store.now c.sync.new.store c.open_gate.new.store (Err e)
-    (none_then failures outlook c.args.store.now c.write.new.store c.sync.new.store
-    (none_then failures outlook c.args.store.now c.close_gate.new.store c.write.new.store c.in_ok-checkpoint.ensures.calls
-    (one_call failures outlook c.close_gate.new.store c.write.new.store (Ok c.in_ok-written.written) c.in_ok-written.ensures.call))
-    (one_call failures outlook c.write.new.store c.sync.new.store (Ok c.in_ok-synced.synced) c.in_ok-synced.ensures.call))
-    (one_call failures outlook c.sync.new.store c.open_gate.new.store (Err e) c.in_err-opened.ensures.call))
-
-pub returns-clause-calls : goal.returns-clause-calls
-returns-clause-calls g c =
-    let failures = g.D.Disk.failures in
-    let outlook = g.D.Disk.outlook in
-    calls_then failures outlook c.args.store.now c.open_gate.new.store c.sync-2.new.store c.sync-2.result
-    (none_then failures outlook c.args.store.now c.sync.new.store c.open_gate.new.store
-    (none_then failures outlook c.args.store.now c.write.new.store c.sync.new.store
-    (none_then failures outlook c.args.store.now c.close_gate.new.store c.write.new.store c.in_ok-checkpoint.ensures.calls
-    (one_call failures outlook c.close_gate.new.store c.write.new.store (Ok c.in_ok-written.written) c.in_ok-written.ensures.call))
-    (one_call failures outlook c.write.new.store c.sync.new.store (Ok c.in_ok-synced.synced) c.in_ok-synced.ensures.call))
-    (one_call failures outlook c.sync.new.store c.open_gate.new.store (Ok c.in_ok-opened.opened) c.in_ok-opened.ensures.call))
-    (one_call failures outlook c.open_gate.new.store c.sync-2.new.store c.sync-2.result c.sync-2.ensures.call)
+pub calls-preserved : goal.calls-preserved
+calls-preserved g c =
+    let so_far = c.calls.invariant in
+    let e = subst (λ o. IsPublishingCall g.D.Disk c.calls.store c.calls.publishing (Ok o) c.call.new.store) c.in-Some.is c.in_ok-next.ensures.next in
+    record {
+      fits = e.fits;
+      calls =
+          none_then g.D.Disk.failures g.D.Disk.outlook c.args.store.now c.calls.store c.call.new.store so_far.calls
+          (one_call g.D.Disk.failures g.D.Disk.outlook c.calls.store c.call.new.store (Ok c.in_ok-next.field-0) c.in_ok-next.ensures.call);
+      table = e.table ∙ so_far.table;
+      seq = e.seq ∙ so_far.seq;
+      on_disk = λ honest on. e.on_disk honest (so_far.on_disk honest on);
+      generation = λ honest on. e.generation honest (so_far.on_disk honest on) ∙ so_far.generation honest on;
+    }

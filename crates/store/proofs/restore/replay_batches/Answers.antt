@@ -2,7 +2,7 @@ use Rattle.std.proofs.Common.{◌≡◌, ◌∙◌, ◌+◌, ◌∷◌, ℕ, dro
 use Rattle.std.proofs.lemmas.List.{drop_more}
 use Rattle.std.proofs.lemmas.Result.{err_from_is_err_and}
 use Rattle.gate_log.specs.Layout.{BatchValue}
-use Rattle.store.specs.Image.{Lead}
+use Rattle.store.specs.Image.{BatchesLead}
 use Rattle.store.proofs.Restoring.{lead_on}
 use Rattle.store.proofs.restore.replay_batches.Goals as goal
 
@@ -17,7 +17,7 @@ returns-in_err-replay_batch c =
     let at : drop i bs ≡ b ∷ drop (i + 1) bs = drop_more bs i b c.loop-batch-test.true ∙ ap (λ (x : BatchValue). x ∷ drop (i + 1) bs) (sym c.batch-item.is) in (
       found.0,
       λ u n lead.
-          let here = subst (λ l. Lead c.args.version c.loop-batch.table c.loop-batch.last l u n) at ((c.loop-batch.invariant u n).0 lead) in
+          let here = subst (λ l. BatchesLead c.args.version c.loop-batch.table c.loop-batch.last l u n) at ((c.loop-batch.invariant u n).0 lead) in
           found.1 here.0 here.1 here.2,
     ))
 
@@ -29,7 +29,7 @@ loop-batch-preserved c u n =
     let at : drop i bs ≡ b ∷ drop (i + 1) bs = drop_more bs i b c.loop-batch-test.true ∙ ap (λ (x : BatchValue). x ∷ drop (i + 1) bs) (sym c.batch-item.is) in
     let put = c.in_ok-replay_batch.ensures in
     let on = lead_on c.args.version c.loop-batch.table c.replay_batch.new.table c.loop-batch.last b (drop (i + 1) bs) put.0 put.1 put.2 u n in
-    let to_last : ℕ → Type 0 = λ k. Lead c.args.version c.replay_batch.new.table k (drop (i + 1) bs) u n in (
-      λ lead. subst to_last (sym c.last_sequence-last.ensures) (on.0 (subst (λ l. Lead c.args.version c.loop-batch.table c.loop-batch.last l u n) at ((c.loop-batch.invariant u n).0 lead))),
-      λ lead. (c.loop-batch.invariant u n).1 (subst (λ l. Lead c.args.version c.loop-batch.table c.loop-batch.last l u n) (sym at) (on.1 (subst to_last c.last_sequence-last.ensures lead))),
+    let to_last : ℕ → Type 0 = λ k. BatchesLead c.args.version c.replay_batch.new.table k (drop (i + 1) bs) u n in (
+      λ lead. subst to_last (sym c.last_sequence-last.ensures) (on.0 (subst (λ l. BatchesLead c.args.version c.loop-batch.table c.loop-batch.last l u n) at ((c.loop-batch.invariant u n).0 lead))),
+      λ lead. (c.loop-batch.invariant u n).1 (subst (λ l. BatchesLead c.args.version c.loop-batch.table c.loop-batch.last l u n) (sym at) (on.1 (subst to_last c.last_sequence-last.ensures lead))),
     )

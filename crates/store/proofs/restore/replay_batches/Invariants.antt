@@ -1,9 +1,9 @@
 -- the batches lead wherever those that are left lead from here
 use Rattle.std.proofs.Common.{◌↔◌, ℕ, drop}
 use Rattle.sessions.specs.Table.{TableState}
-use Rattle.store.specs.Image.{Lead}
+use Rattle.store.specs.Image.{BatchesLead}
 use Rattle.store.proofs.restore.replay_batches.Given as goal
 
 abbrev pub invariant-loop-batch : goal.invariant-loop-batch
 invariant-loop-batch l =
-    (u : TableState) (n : ℕ) → Lead l.version l.fn.table l.fn.seq l.batches u n ↔ Lead l.version l.table l.last (drop l.batch-index l.batches) u n
+    (u : TableState) (n : ℕ) → BatchesLead l.version l.fn.table l.fn.seq l.batches u n ↔ BatchesLead l.version l.table l.last (drop l.batch-index l.batches) u n

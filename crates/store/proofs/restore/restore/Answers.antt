@@ -2,7 +2,7 @@ use Rattle.std.proofs.Common.{◌≡◌, ℕ, List, sym, subst, refl}
 use Rattle.std.proofs.lemmas.Result.{err_from_is_err_and}
 use Rattle.gate_log.specs.Layout.{BatchValue}
 use Rattle.sessions.specs.Table.{TableState}
-use Rattle.store.specs.Image.{IsCheckpointOf, Lead}
+use Rattle.store.specs.Image.{IsCheckpointOf, BatchesLead}
 use Rattle.store.proofs.restore.restore.Goals as goal
 
 pub returns-in_err-table : goal.returns-in_err-table
@@ -28,8 +28,8 @@ returns-in_err-seq c =
           let base : r.base ≡ c.in_ok-table.table =
           (c.in_ok-table.ensures r.base).0 (subst (λ (l : List ℕ). IsCheckpointOf c.args.version s.net_id s.slots l h.record_count r.base) (sym c.deref.ensures.value) r.checkpoint) in
           found.1 t seq
-          (subst (λ (x : TableState). Lead c.args.version x h.sequence c.deref-2.result.now t seq) base
-          (subst (λ (bs : List BatchValue). Lead c.args.version r.base h.sequence bs t seq) (sym c.deref-2.ensures.value) r.batches)),
+          (subst (λ (x : TableState). BatchesLead c.args.version x h.sequence c.deref-2.result.now t seq) base
+          (subst (λ (bs : List BatchValue). BatchesLead c.args.version r.base h.sequence bs t seq) (sym c.deref-2.ensures.value) r.batches)),
     ))
 
 pub returns : goal.returns
@@ -42,11 +42,11 @@ returns c =
           let base : r.base ≡ table =
           (c.in_ok-table.ensures r.base).0 (subst (λ (l : List ℕ). IsCheckpointOf c.args.version s.net_id s.slots l h.record_count r.base) (sym c.deref.ensures.value) r.checkpoint) in
           (c.in_ok-seq.ensures t seq).0
-          (subst (λ (x : TableState). Lead c.args.version x h.sequence c.deref-2.result.now t seq) base
-          (subst (λ (bs : List BatchValue). Lead c.args.version r.base h.sequence bs t seq) (sym c.deref-2.ensures.value) r.batches)),
+          (subst (λ (x : TableState). BatchesLead c.args.version x h.sequence c.deref-2.result.now t seq) base
+          (subst (λ (bs : List BatchValue). BatchesLead c.args.version r.base h.sequence bs t seq) (sym c.deref-2.ensures.value) r.batches)),
       λ same. record {
         base = table;
         checkpoint = subst (λ (l : List ℕ). IsCheckpointOf c.args.version s.net_id s.slots l h.record_count table) c.deref.ensures.value ((c.in_ok-table.ensures table).1 refl);
-        batches = subst (λ (bs : List BatchValue). Lead c.args.version table h.sequence bs t seq) c.deref-2.ensures.value ((c.in_ok-seq.ensures t seq).1 same);
+        batches = subst (λ (bs : List BatchValue). BatchesLead c.args.version table h.sequence bs t seq) c.deref-2.ensures.value ((c.in_ok-seq.ensures t seq).1 same);
       },
     )

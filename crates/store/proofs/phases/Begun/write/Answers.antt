@@ -1,5 +1,5 @@
 use Rattle.disk.specs.State.{IsPermitted}
-use Rattle.store.specs.Phases.{begun_change}
+use Rattle.store.specs.Phases.{begun_sequel}
 use Rattle.store.specs.State.{store_state}
 use Rattle.std.proofs.Common.{subst}
 use Rattle.store.proofs.Holding.{held}
@@ -15,10 +15,10 @@ returns-in-Ok-clause-next g c honest on = record {
 
 pub returns-in-Ok-clause-images : goal.returns-in-Ok-clause-images
 returns-in-Ok-clause-images g c honest on image permitted =
-    held (store_state g.D.Disk.state c.args.store.now) (begun_change c.args.self) on.contents on.batch on.journals image
+    held (store_state g.D.Disk.state c.args.store.now) (begun_sequel c.args.self) on.contents on.batch on.journals image
     (c.in-Ok.ensures.images honest on.contents on.rest image permitted)
 
 pub returns-in-Err-clause-images : goal.returns-in-Err-clause-images
 returns-in-Err-clause-images g c honest on image permitted =
-    held (store_state g.D.Disk.state c.args.store.now) (begun_change c.args.self) on.contents on.batch on.journals image
+    held (store_state g.D.Disk.state c.args.store.now) (begun_sequel c.args.self) on.contents on.batch on.journals image
     (c.in-Err.ensures.images honest on.contents on.rest image (subst (λ d. IsPermitted (g.D.Disk.state d) image) c.fail.ensures.disk permitted))

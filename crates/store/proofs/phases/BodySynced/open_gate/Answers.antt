@@ -1,6 +1,6 @@
 use Rattle.std.proofs.Common.{subst}
 use Rattle.disk.specs.State.{IsPermitted}
-use Rattle.store.specs.Phases.{body_synced_change}
+use Rattle.store.specs.Phases.{body_synced_sequel}
 use Rattle.store.specs.State.{store_state}
 use Rattle.store.proofs.Holding.{held_either}
 use Rattle.store.proofs.phases.BodySynced.open_gate.Goals as goal
@@ -15,10 +15,10 @@ returns-in-Ok-clause-next g c honest on = record {
 
 pub returns-in-Ok-clause-images : goal.returns-in-Ok-clause-images
 returns-in-Ok-clause-images g c honest on image permitted =
-    held_either (store_state g.D.Disk.state c.args.store.now) (body_synced_change c.args.self) on.contents on.batch on.journals image
+    held_either (store_state g.D.Disk.state c.args.store.now) (body_synced_sequel c.args.self) on.contents on.batch on.journals image
     (c.in-Ok.ensures.images honest on.contents on.batch on.log image permitted)
 
 pub returns-in-Err-clause-images : goal.returns-in-Err-clause-images
 returns-in-Err-clause-images g c honest on image permitted =
-    held_either (store_state g.D.Disk.state c.args.store.now) (body_synced_change c.args.self) on.contents on.batch on.journals image
+    held_either (store_state g.D.Disk.state c.args.store.now) (body_synced_sequel c.args.self) on.contents on.batch on.journals image
     (c.in-Err.ensures.images honest on.contents on.batch on.log image (subst (λ d. IsPermitted (g.D.Disk.state d) image) c.fail.ensures.disk permitted))

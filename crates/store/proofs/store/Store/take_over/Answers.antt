@@ -1,5 +1,5 @@
 use Rattle.store.proofs.Holding.{have_length_after}
-use Rattle.store.proofs.store.Store.adopt.Goals as goal
+use Rattle.store.proofs.store.Store.take_over.Goals as goal
 
 pub invariant_of-self : goal.invariant_of-self
 invariant_of-self g c =

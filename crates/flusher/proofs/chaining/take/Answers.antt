@@ -1,5 +1,5 @@
 use Rattle.std.proofs.Common.{rules}
-use Rattle.flusher.proofs.cycles.take.Goals as goal
+use Rattle.flusher.proofs.chaining.take.Goals as goal
 
 pub returns : goal.returns
 returns g c = search rules

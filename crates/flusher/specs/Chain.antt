@@ -1,0 +1,140 @@
+-- What a chain of commits does, and why it ends.
+use Rattle.std.specs.Prelude.{◌≡◌, ◌≢◌, ◌⊎◌, ◌<◌, ◌≤◌, ◌+◌, ℕ, List, [], ◌∷◌, length, flat_map}
+use Rattle.std.specs.List.{FoldsTo}
+use Rattle.std.specs.Prelude.{Result, Ok, Err, MatchResult}
+use Rattle.devices.specs.declared.effect.Effect.{Effect}
+use Rattle.disk.specs.State.{EveryImage}
+use Rattle.disk.specs.declared.disk.Disk.{Ghosts}
+use Rattle.lw_types.specs.declared.refusal.Refusal.{Refusal}
+use Rattle.lw_types.specs.declared.refusal.Refusal.TheVariants.{DeviceFailed, OutOfMemory}
+use Rattle.sessions.specs.Decision.{commands_of}
+use Rattle.sessions.specs.Table.{TableState, effects_of, fold_of}
+use Rattle.sessions.specs.declared.batch.TheConstants.Batch.{MOST}
+use Rattle.sessions.specs.declared.decision.Decision.{Decision}
+use Rattle.store.specs.Pairing.{IsBegunBehind, IsRoomyBehind, MayFollowBehind, table_behind}
+use Rattle.store.specs.Phases.{begun_sequel, gate_written_sequel}
+use Rattle.store.specs.State.{StoreState, IsRoomy, IsSettled, disk_of, store_state}
+use Rattle.store.specs.declared.phases.Begun.{Begun}
+use Rattle.store.specs.declared.phases.GateWritten.{GateWritten}
+use Rattle.store.specs.declared.store.Store.{Store}
+use Rattle.flusher.specs.Calls.{LastFailed, NoneFailed}
+use Rattle.flusher.specs.Cycle.{Commits, HoldsWithOrWithout, IsReady, IsUncommitted, IsUnready}
+
+-- a feed as it was, how many decisions were asked for at most, its answer, and the feed then
+abbrev pub FeedGives : Type 0 → Type 1
+FeedGives F = F → ℕ → Result (List Decision) Refusal → F → Type 0
+
+-- the decisions of several batches, in order
+abbrev pub decisions_in : List (List Decision) → List Decision
+decisions_in batches = flat_map (λ batch. batch) batches
+
+-- a feed that is asked again and again for the largest batch gives these, none of which is empty
+abbrev pub GivesAll : {F : Type 0} → FeedGives F → F → List (List Decision) → F → Type 0
+GivesAll gives old batches new =
+    FoldsTo (λ feed batch next. (batch ≢ []) × gives feed MOST (Ok batch) next) old batches new
+
+-- the effects of these batches leave a table: those of each at once, one batch after another
+abbrev pub LeaveInOrder : {C V : Type 0} → (V → List Effect) → (C → V → C → Type 0) → TableState
+    → List (List Decision) → C → C → Type 0
+LeaveInOrder effects call t [] old new = new ≡ old
+LeaveInOrder {C} {V} effects call t (batch ∷ batches) old new =
+    (released : V) × ((next : C) × ((effects released ≡ effects_of t (commands_of batch))
+    × (call old released next
+    × LeaveInOrder effects call (fold_of t (commands_of batch)) batches next new)))
+
+-- the store that has committed these batches, where no call of its disk failed
+abbrev pub store_behind : StoreState → List (List Decision) → StoreState
+store_behind s batches = record s {
+  table = fold_of s.table (commands_of (decisions_in batches));
+  seq = s.seq + length (decisions_in batches);
+}
+
+-- Why a chain ends behind these batches without a refusal: they are as many as it may have, or the
+-- journal lacks room for one more, or the feed gave an empty one.
+abbrev pub HasEnded : {F : Type 0} → FeedGives F → ℕ → StoreState → List (List Decision) → F → F
+    → Type 0
+HasEnded gives most new batches old_feed new_feed =
+    ((new_feed ≡ old_feed) × ((length batches ≡ most) ⊎ ((batches ≢ []) × ¬ (IsRoomy new))))
+    ⊎ ((length batches < most) × gives old_feed MOST (Ok []) new_feed)
+
+-- Why a chain is refused behind these batches. No other was asked for; or the feed refused one; or
+-- it gave this one, which wasn't committed. Where a device call failed, the feed may have been
+-- asked for the batch behind that, which is given up too.
+abbrev pub HasBroken : {F : Type 0} → FeedGives F → ℕ → Type 0 → StoreState → List (List Decision)
+    → List Decision → F → F → Refusal → Type 0
+HasBroken {F} gives most failure s batches torn old_feed new_feed e =
+    ((new_feed ≡ old_feed) × ((torn ≡ [])
+    × ((e ≡ OutOfMemory) ⊎ ((batches ≡ []) × IsUnready s failure e))))
+    ⊎ (IsReady s × (((torn ≡ []) × gives old_feed MOST (Err e) new_feed)
+    ⊎ ((next : F) × (GivesAll gives old_feed (torn ∷ []) next
+    × (IsUncommitted (store_behind s batches) torn failure e
+    × ((new_feed ≡ next)
+    ⊎ ((e ≡ DeviceFailed) × ((length batches + 1 < most)
+    × ((answer : Result (List Decision) Refusal) × gives next MOST answer new_feed)))))))))
+
+-- A chain of at most so many commits. These batches came from the feed, were committed, and their
+-- effects left. The one that was given up behind them is the torn one, which is empty where there
+-- is none: whatever a crash leaves holds what the store has, or that with this batch.
+pub record IsChain {D F C V : Type 0} (disk : Ghosts D) (gives : FeedGives F)
+    (effects : V → List Effect) (call : C → V → C → Type 0) (most : ℕ)
+    (old new : Store D disk) (old_feed new_feed : F)
+    (old_out new_out : C) (result : Result ℕ Refusal) : Type 0 where
+  pub batches : List (List Decision)
+  pub torn : List Decision
+  pub feed : F
+  pub given : GivesAll gives old_feed batches feed
+  pub few : length batches ≤ most
+  pub commits : Commits (store_state disk.state old) (store_state disk.state new)
+      (decisions_in batches)
+  pub leave : LeaveInOrder effects call (store_state disk.state old).table batches old_out new_out
+  pub ends : MatchResult result
+      (λ count. (count ≡ length (decisions_in batches)) × ((torn ≡ [])
+      × HasEnded gives most (store_state disk.state new) batches feed new_feed))
+      (λ e. (length batches < most)
+      × HasBroken gives most (LastFailed disk.failures disk.outlook old new)
+      (store_state disk.state old) batches torn feed new_feed e)
+  pub calls : MatchResult result
+      (λ _. NoneFailed disk.failures disk.outlook old new)
+      (λ e. NoneFailed disk.failures disk.outlook old new
+      ⊎ ((e ≡ DeviceFailed) × LastFailed disk.failures disk.outlook old new))
+  pub settled : disk.honest → IsSettled (store_state disk.state old)
+      → NoneFailed disk.failures disk.outlook old new → IsSettled (store_state disk.state new)
+  pub images : disk.honest → IsSettled (store_state disk.state old)
+      → EveryImage (disk.state (disk_of new))
+      (HoldsWithOrWithout (store_state disk.state new) torn)
+
+-- ---- what the private function that gets the batch behind the one under way answers
+
+-- the store's table and number behind the batch under way
+abbrev pub store_behind_opened : StoreState → GateWritten → StoreState
+store_behind_opened s opened = record s {
+  table = table_behind s opened;
+  seq = (gate_written_sequel opened).seq;
+}
+
+-- no batch follows: no other may, or the journal lacks room behind the one under way, or the feed
+-- gave an empty one
+abbrev pub NoneFollows : {F : Type 0} → FeedGives F → ℕ → StoreState → GateWritten → F → F → Type 0
+NoneFollows gives more s opened old_feed new_feed =
+    ((new_feed ≡ old_feed) × ((more ≡ 0) ⊎ ¬ (IsRoomyBehind s opened)))
+    ⊎ ((more ≢ 0) × gives old_feed MOST (Ok []) new_feed)
+
+-- the feed gave this one, which may follow
+pub record FollowsOpened {F : Type 0} (gives : FeedGives F) (more : ℕ) (s : StoreState)
+    (opened : GateWritten)
+    (old_feed new_feed : F) (begun : Begun) : Type 0 where
+  pub more_may : more ≢ 0
+  pub given : GivesAll gives old_feed ((begun_sequel begun).decisions ∷ []) new_feed
+  pub may : MayFollowBehind s opened begun
+  pub on_disk : IsBegunBehind s opened begun
+
+-- one was refused: there was no memory for its effects, or the feed refused it, or it was given and
+-- not begun
+abbrev pub IsFollowRefusal : {F : Type 0} → FeedGives F → ℕ → StoreState → GateWritten → F → F
+    → Refusal → Type 0
+IsFollowRefusal gives more s opened old_feed new_feed e =
+    (more ≢ 0)
+    × (((new_feed ≡ old_feed) × (e ≡ OutOfMemory))
+    ⊎ (gives old_feed MOST (Err e) new_feed
+    ⊎ ((batch : List Decision) × (GivesAll gives old_feed (batch ∷ []) new_feed
+    × IsUncommitted (store_behind_opened s opened) batch ⊥ e))))

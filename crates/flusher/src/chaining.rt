@@ -1,0 +1,217 @@
+// Chains of commits: each batch's gate shares its sync with the next one's body.
+ghost use Rattle.std.specs.Global.{Global};
+ghost use Rattle.std.specs.Prelude.{◌≡◌, ◌<◌, ◌≤◌, ◌+◌, ◌∷◌, [], true, false, OnOk, Ok};
+ghost use Rattle.std.specs.Prelude.{MatchOption, MatchResult, Vec, length};
+ghost use Rattle.flusher.specs.Calls.{IsUntouched};
+ghost use Rattle.flusher.specs.Chain.{FollowsOpened, GivesAll, IsChain, IsFollowRefusal};
+ghost use Rattle.flusher.specs.Chain.{NoneFollows};
+ghost use Rattle.flusher.specs.Cycle.{ChecksWhereFull, IsReady};
+ghost use Rattle.flusher.specs.Lived.{LeadOn};
+ghost use Rattle.flusher.specs.Released.{effects_of_all};
+ghost use Rattle.sessions.specs.Decision.{effects_in};
+ghost use Rattle.sessions.specs.declared.batch.TheConstants.Batch.{MOST};
+ghost use Rattle.store.specs.Commit.{IsUnderWay};
+ghost use Rattle.store.specs.Phases.{IsBegunOn, begun_sequel, begun_size, gate_written_sequel};
+ghost use Rattle.store.specs.Phases.{durable_decisions, gate_written_size};
+ghost use Rattle.store.specs.State.{store_state, IsRoomy, IsSettled};
+
+use crate::checkpointing::make_room;
+use crate::{Durable, Feed, Most, Released, Room};
+use disk::Disk;
+use lw_types::{Ranged, Refusal};
+use sessions::Batch;
+use std::alloc::Global;
+use store::{Begun, Called, GateWritten, Store, UnderWay};
+
+/// How many batches a chain has at most.
+pub type ChainLength = Ranged<1, 4096>;
+
+/// A chain of a flusher's commits, on a store with nothing under way: takes batches from the feed,
+/// commits them, and gives the effects of each to `out` as soon as it is durable, once and all
+/// together, in the order of the batches. A batch's gate and the body of the next one share a sync,
+/// so that n batches take 3n + 1 calls of the disk. Answers how many decisions the batches had.
+/// The chain ends behind `most` batches, where the feed gives an empty batch, or where the journal
+/// lacks room for the largest one. Where it lacks that at the start, a checkpoint is written first,
+/// by four calls or six.
+///
+/// A refusal is as [`cycle`](crate::cycle) says of the batch at which it comes: those before it are
+/// durable and their effects have left, none of its own has. Where the batch behind the one under
+/// way is refused, that one is synced alone and its effects leave before the refusal is answered;
+/// and where this sync fails, the answer is `DeviceFailed`. Of one batch at most it isn't known
+/// then whether the disk has it. A batch that was taken and refused is given up, and so is the one
+/// behind it.
+///
+/// A chain costs by its batches, and one with a checkpoint by the whole table.
+pub fn chain<D: Disk, F: Feed, C: FnMut(Vec<Released>)>(
+    store: &mut Store<D>,
+    feed: &mut F,
+    alloc: Global,
+    most: ChainLength,
+    out: &mut C,
+) -> Result<usize, Refusal>
+    requires { C.IsAlwaysCallable out.old }
+    ensures chain { IsChain D.Disk F.gives
+        (λ (released : Vec Released Global). effects_of_all released.items)
+        (λ before released after. C.step before released tt after) most
+        store.old store.new feed.old feed.new out.old out.new result }
+    ensures ready { OnOk result (IsReady (store_state D.state store.old)) }
+
+    // A checkpoint was written exactly where the largest batch had no room.
+    ensures checkpoint { D.honest → IsSettled (store_state D.state store.old) → OnOk result
+        (ChecksWhereFull (store_state D.state store.old) (store_state D.state store.new)) }
+
+    // A store that has failed isn't touched.
+    ensures closed { (store_state D.state store.old).failed ≡ true
+        → IsUntouched D.state store.old store.new }
+
+    // Whatever lives led the store here go on, and what left besides was given to `out`, in order.
+    ensures lives { D.honest → LeadOn (λ (released : Vec Released Global).
+        effects_of_all released.items) (λ before released after. C.step before released tt after)
+        (store_state D.state store.old) (store_state D.state store.new) out.old out.new }
+{
+    sessions::laws::composing();
+    store::laws::a_settled_store_is_on_its_disk();
+    let room = Room::new(alloc)?;
+    make_room(alloc, store)?;
+    let batch = take(feed)?;
+    if batch.is_empty() {
+        return Ok(0);
+    }
+    let begun = store.begin(alloc, batch)?;
+    follow(begun, room, store, feed, alloc, most.get() - 1, out)
+}
+
+// Commits a batch that is begun, and at most so many `more` behind it.
+fn follow<D: Disk, F: Feed, C: FnMut(Vec<Released>)>(
+    begun: Begun,
+    room: Room,
+    store: &mut Store<D>,
+    feed: &mut F,
+    alloc: Global,
+    more: u64,
+    out: &mut C,
+) -> Result<usize, Refusal>
+    requires out { C.IsAlwaysCallable out.old }
+    requires few { more < 4096 }
+    requires roomy { IsRoomy (store_state D.state store.old) }
+    requires alive { (store_state D.state store.old).failed ≡ false }
+    requires way { IsUnderWay (store_state D.state store.old) (begun_sequel begun)
+        (begun_size begun) }
+    requires begun { IsSettled (store_state D.state store.old)
+        → IsBegunOn (store_state D.state store.old) begun }
+    ensures chain { (before : F) → GivesAll F.gives before ((begun_sequel begun).decisions ∷ [])
+        feed.old → IsChain D.Disk F.gives
+        (λ (released : Vec Released Global). effects_of_all released.items)
+        (λ before released after. C.step before released tt after) (more + 1)
+        store.old store.new before feed.new out.old out.new result }
+    ensures generation { D.honest → IsSettled (store_state D.state store.old) → OnOk result
+        ((store_state D.state store.new).log.generation
+        ≡ (store_state D.state store.old).log.generation) }
+{
+    sessions::laws::folding();
+    sessions::laws::joining();
+    sessions::laws::composing();
+    store::laws::a_settled_store_is_on_its_disk();
+    let mut under_way = UnderWay::Begun(begun, room);
+    let mut more = more;
+    let mut count = 0;
+    let mut end = Ok(());
+    'calls: loop {
+        match under_way.call(store)? {
+            Called::UnderWay(next) => match next {
+                UnderWay::GateWritten(opened, room) => {
+                    match begin_following(&opened, store, feed, alloc, more) {
+                        Ok(Some((following, behind))) => {
+                            more -= 1;
+                            under_way = UnderWay::Following {
+                                opened,
+                                along: room,
+                                following,
+                                behind,
+                            };
+                        }
+                        Ok(None) => under_way = UnderWay::GateWritten(opened, room),
+                        Err(refusal) => {
+                            end = Err(refusal);
+                            under_way = UnderWay::GateWritten(opened, room);
+                        }
+                    }
+                }
+                next => under_way = next,
+            },
+            Called::Durable(durable, room, behind) => {
+                count += release(durable, room, out);
+                match behind {
+                    Some(next) => under_way = next,
+                    None => {
+                        end?;
+                        return Ok(count);
+                    }
+                }
+            }
+            Called::Published => unreachable!(),
+        }
+    }
+}
+
+// Begins the commit of the batch behind the one under way, with room for its effects; `None` where
+// `more` is 0, the journal lacks room behind the one under way, or the feed gives an empty batch.
+fn begin_following<D: Disk, F: Feed>(
+    under_way: &GateWritten,
+    store: &Store<D>,
+    feed: &mut F,
+    alloc: Global,
+    more: u64,
+) -> Result<Option<(Begun, Room)>, Refusal>
+    requires way { IsUnderWay (store_state D.state store.now)
+        (gate_written_sequel under_way.now) (gate_written_size under_way.now) }
+    requires alive { (store_state D.state store.now).failed ≡ false }
+    ensures { MatchResult result
+        (λ answer. MatchOption answer
+        (NoneFollows F.gives more (store_state D.state store.now) under_way.now feed.old feed.new)
+        (λ both. FollowsOpened F.gives more (store_state D.state store.now) under_way.now feed.old
+        feed.new both.0))
+        (λ e. IsFollowRefusal F.gives more (store_state D.state store.now) under_way.now feed.old
+        feed.new e) }
+{
+    if more == 0 || !store.roomy_next(under_way) {
+        return Ok(None);
+    }
+    let room = Room::new(alloc)?;
+    let batch = take(feed)?;
+    if batch.is_empty() {
+        return Ok(None);
+    }
+    let begun = store.begin_next(alloc, under_way, batch)?;
+    Ok(Some((begun, room)))
+}
+
+// The feed's next batch, asked for as many decisions as the largest one has.
+fn take<F: Feed>(feed: &mut F) -> Result<Batch, Refusal>
+    ensures { F.gives feed.old MOST result feed.new }
+{
+    feed.next(largest())
+}
+
+// Gives the effects of a durable batch to `out`, and answers how many decisions it has.
+fn release<C: FnMut(Vec<Released>)>(durable: store::Durable, room: Room, out: &mut C) -> usize
+    requires { C.IsAlwaysCallable out.old }
+    ensures count { result ≡ length (durable_decisions durable) }
+    ensures few { result ≤ MOST }
+    ensures released { (released : _) × ((effects_of_all released.items
+        ≡ effects_in (durable_decisions durable))
+        × C.step out.old released tt out.new) }
+{
+    let batch = Durable::new(durable, room);
+    let count = batch.len();
+    let released = batch.release();
+    out(released);
+    count
+}
+
+// As many decisions as the largest batch has.
+fn largest() -> Most
+    ensures { result ≡ MOST }
+{
+    Most::new(Batch::MOST as u64).unwrap()
+}

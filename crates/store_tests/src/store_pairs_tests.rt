@@ -1,0 +1,102 @@
+// A second batch behind one whose gate is open.
+use crate::chains_tests::next_batch;
+use crate::devices_under_test::{bringing, new_table, provisionings};
+use crate::stores_under_test::{found, new_store};
+use disk::MemDisk;
+use lw_types::Refusal;
+use sessions::{Batch, Table};
+use std::alloc::Global;
+use store::Store;
+
+// A batch behind one of two provisionings, on a store that has one.
+#[derive(Clone, Copy)]
+enum Other {
+    /// Of so many provisionings that continue what the first one leaves.
+    Next(u64),
+    /// Made of the table after it, under the number behind the store's.
+    OtherNumber,
+    /// Made of the durable table.
+    OfDurable,
+    /// Of a table without devices.
+    OfNone,
+}
+
+// A provisioning on this table, under the number behind this one.
+fn numbered(alloc: Global, table: &Table, seq: u64) -> Result<Batch, Refusal> {
+    let mut batch = Batch::new(alloc)?;
+    let decision = table.decide(alloc, seq.saturating_add(1), bringing(900)?)?;
+    batch.push(decision);
+    Ok(batch)
+}
+
+// The first batch and the second one.
+fn pair(alloc: Global, store: &Store<MemDisk>, other: Other) -> Result<(Batch, Batch), Refusal> {
+    let mut now = store.table().copy()?;
+    let seq = store.seq();
+    let first = next_batch(alloc, &mut now, seq, 2)?;
+    let second = match other {
+        Other::Next(count) => provisionings(alloc, &now, seq.saturating_add(2), count)?,
+        Other::OtherNumber => numbered(alloc, &now, seq)?,
+        Other::OfDurable => provisionings(alloc, store.table(), seq.saturating_add(2), 1)?,
+        Other::OfNone => provisionings(alloc, &new_table(alloc, 8)?, 0, 1)?,
+    };
+    Ok((first, second))
+}
+
+// Commits the first batch, with the second one begun behind its open gate, and given up.
+fn begun_behind(
+    alloc: Global,
+    store: &mut Store<MemDisk>,
+    first: Batch,
+    second: Batch,
+) -> Result<Option<Refusal>, Refusal> {
+    if !store.roomy() {
+        return Err(Refusal::Backlog);
+    }
+    let written = store.begin(alloc, first)?.write(store)?;
+    let opened = written.sync(store)?.open_gate(store)?;
+    if !store.roomy_next(&opened) {
+        opened.lose();
+        return Err(Refusal::Backlog);
+    }
+    let refusal = match store.begin_next(alloc, &opened, second) {
+        Ok(begun) => {
+            begun.lose();
+            None
+        }
+        Err(refusal) => Some(refusal),
+    };
+    let _ = opened.sync(store)?.into_batch();
+    Ok(refusal)
+}
+
+// What the second batch is refused, the number of the store behind the first one, and what is found
+// on its disk.
+type Answer = (Option<Refusal>, u64, (usize, u64));
+
+fn answer(alloc: Global, other: Other) -> Result<Answer, Refusal> {
+    let mut store = new_store(alloc, 8)?;
+    let one = provisionings(alloc, store.table(), 0, 1)?;
+    let _ = begun_behind(alloc, &mut store, one, Batch::new(alloc)?)?;
+    let (first, second) = pair(alloc, &store, other)?;
+    let refusal = begun_behind(alloc, &mut store, first, second)?;
+    let seq = store.seq();
+    Ok((refusal, seq, found(alloc, store.close())?))
+}
+
+const ANSWERS: &[(Other, Option<Refusal>)] = &[
+    (Other::Next(1), None),
+    (Other::Next(5), None),
+    (Other::Next(0), Some(Refusal::OutOfStep)),
+    (Other::OtherNumber, Some(Refusal::OutOfStep)),
+    (Other::OfDurable, Some(Refusal::OutOfStep)),
+    (Other::OfNone, Some(Refusal::OutOfStep)),
+];
+
+#[test]
+fn a_second_batch_continues_the_one_under_way(rt: HostRuntime) {
+    for (at, (other, refusal)) in ANSWERS.iter().enumerate() {
+        let answer = answer(rt.alloc(), *other);
+        assert!(rt; answer == Ok((*refusal, 3, (3, 3))), "{at}");
+    }
+}
