@@ -9,10 +9,9 @@ ghost use Rattle.store.specs.State.{store_state};
 ghost use Rattle.world.specs.Answers.{AreRight};
 ghost use Rattle.world.specs.Calls.{AreForetold, outlook_after_opening};
 ghost use Rattle.world.specs.Course.{beginning, course_of, new_store};
-ghost use Rattle.sessions.specs.Marks.{AreOnce};
 ghost use Rattle.headline.specs.Crash.{IsOpenedAfterCrash};
 ghost use Rattle.headline.specs.Failing.{ArmsNothing};
-ghost use Rattle.headline.specs.Recovers.{Recovers};
+ghost use Rattle.headline.specs.Recovers.{NoMarkTwice, Recovers};
 
 use disk::{Image, Sim};
 use lw_types::{NetId, Refusal};
@@ -56,9 +55,9 @@ pub fn crash_after<D: Sim + Drop>(
         → IsFormatRefusal slots (length (D.state disk).content) e) }
     ensures unarmed { D.outlook disk ≡ AllSucceed → ArmsNothing steps.now
         → IfErr result (λ e. e ≢ DeviceFailed) }
-    ensures once { IfOk result (λ found. AreOnce
+    ensures once { IfOk result (λ found. NoMarkTwice (new_store net_id slots)
         (course_of (new_store net_id slots) (beginning (new_store net_id slots)) steps.now
-        found.0.items).left) }
+        found.0.items)) }
 {
     world::laws::what_a_crash_leaves();
     sessions::laws::no_mark_stands_twice();

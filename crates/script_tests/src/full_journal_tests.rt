@@ -50,7 +50,7 @@ fn add(input: &mut Vec<u8>, wanted: &mut Vec<u8>, leg: &Leg) -> io::Result<()> {
     wanted.write_all(leg.1.as_bytes())
 }
 
-// A device is brought, and 16 items of 242 bytes are queued for it: 17 decisions, whose entries
+// A device is provisioned, and 16 items of 242 bytes are queued for it: 17 decisions, whose entries
 // take 55 bytes and 16 times 256.
 fn add_items(input: &mut Vec<u8>, wanted: &mut Vec<u8>, number: u16) -> io::Result<()> {
     write!(

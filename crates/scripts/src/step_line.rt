@@ -2,6 +2,7 @@
 use disk::Image;
 use gateway_wire::{next_ranged, next_value, read_request};
 use lw_types::{FrameCopy, NetId, Reception, Refusal, Words, read_field};
+use session_core::Most;
 use std::alloc::Global;
 use std::str;
 use world::{Event, Step};
@@ -63,7 +64,8 @@ fn read_text(alloc: Global, line: &str) -> Result<Step, Refusal> {
 fn read_words(alloc: Global, line: &str) -> Result<Step, Refusal> {
     let mut words = Words::of(line);
     match words.next() {
-        Some("take") => take(words).ok_or(Refusal::BadMessage),
+        Some("take") => Ok(Step::Take(most(words).ok_or(Refusal::BadMessage)?)),
+        Some("next") => Ok(Step::Next(most(words).ok_or(Refusal::BadMessage)?)),
         Some("tick") => tick(words).ok_or(Refusal::BadMessage),
         Some("hear") => hear(alloc, words),
         Some(name) => request(alloc, name, words),
@@ -71,12 +73,12 @@ fn read_words(alloc: Global, line: &str) -> Result<Step, Refusal> {
     }
 }
 
-// How many decisions are taken.
-fn take(mut words: Words<'_>) -> Option<Step> {
+// How many decisions are taken at most.
+fn most(mut words: Words<'_>) -> Option<Most> {
     let most = next_ranged(&mut words)?;
     match words.next() {
         Some(_) => None,
-        None => Some(Step::Take(most)),
+        None => Some(most),
     }
 }
 

@@ -14,9 +14,10 @@ use Rattle.world.specs.Folding.{RunLaws}
 use Rattle.session_core.specs.declared.decisions.TheConstants.{MOST_UNTAKEN, LAST_NUMBER}
 use Rattle.session_core.specs.State.{DecisionsState, IsLawful, now_of, last_number}
 use Rattle.session_core.specs.Deciding.{Keeps, Makes, has_room as core_has_room, step_if_room as core_step_if_room}
+use Rattle.store.specs.Flights.{in_flight}
 use Rattle.store.specs.State.{StoreState}
-use Rattle.world.specs.declared.commit.UnderWay.{UnderWay}
-use Rattle.world.specs.Course.{Origin, Course, decided_commands, commands_in_flight, table_from, number_from, has_room, step_if_room, after_command}
+use Rattle.world.specs.declared.commit.Pipeline.{Pipeline}
+use Rattle.world.specs.Course.{Origin, Course, decided_commands, table_from, number_from, has_room, step_if_room, after_command}
 use Rattle.world.specs.Follows.{IsLife, taken_commands}
 
 not_refused : (why : Refusal) → ◌≡◌ {A = Result (Unit {0}) Refusal} (Ok tt) (Err why) → ⊥
@@ -27,7 +28,7 @@ no_step st why h = cc
 
 pub decided_is : (c : Course) → taken_commands c ++ c.untaken ≡ decided_commands c
 decided_is c =
-    append_assoc c.settled (commands_in_flight c.flights ++ c.given_up) c.untaken ∙ ap (λ l. c.settled ++ l) (append_assoc (commands_in_flight c.flights) c.given_up c.untaken)
+    append_assoc c.settled (in_flight c.flights ++ c.given_up) c.untaken ∙ ap (λ l. c.settled ++ l) (append_assoc (in_flight c.flights) c.given_up c.untaken)
 
 -- the course after a command that was to get this, and was answered so
 abbrev pub answered : Course → Command → Result TableStep Refusal → Result (Unit {0}) Refusal → Course
@@ -44,7 +45,7 @@ with-memory c command outcome (Ok done) memory = refl
 with-memory c command outcome (Err OutOfMemory) memory = absurd (memory refl)
 with-memory c command outcome (Err e) memory = refl
 
-module _ (laws : RunLaws) (origin : Origin) (c : Course) (s : StoreState) (core : DecisionsState) (commit : UnderWay) (lawful : IsLawful core)
+module _ (laws : RunLaws) (origin : Origin) (c : Course) (s : StoreState) (core : DecisionsState) (commit : Pipeline) (lawful : IsLawful core)
     (f : IsLife origin c s core commit) where
   pub waiting : length core.log ≡ length c.untaken
   waiting = sym (length-map core.log (λ (d : Decision). d.command)) ∙ ap length f.untaken

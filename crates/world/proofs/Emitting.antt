@@ -1,5 +1,5 @@
 -- What an emit does to a course.
-use Rattle.std.proofs.Common.{◌≡◌, ◌∙◌, ◌+◌, ◌<◌, ◌⊎◌, ℕ, zero, suc, List, [], ◌∷◌, ◌++◌, slice_get, get_or, Option, Some, None, length, map, ap, subst, sym, refl, arith}
+use Rattle.std.proofs.Common.{◌≡◌, ◌∙◌, ◌<◌, ◌⊎◌, ℕ, zero, suc, List, [], ◌∷◌, slice_get, get_or, Option, Some, None, length, map, ap, subst, sym, refl}
 use Rattle.flusher.specs.declared.released.Released.{Released}
 use Rattle.flusher.specs.Released.{effect_of, effects_of_all}
 use Rattle.std.specs.Option.{MatchOption}
@@ -16,12 +16,6 @@ use Rattle.world.specs.Answers.{AnswersEmit}
 use Rattle.world.specs.Follows.{FollowsPlace}
 use Rattle.world.proofs.Shapes.{same-life}
 
-get_behind : {A : Type 0} (xs ys : List A) (n : ℕ) → slice_get (xs ++ ys) (length xs + n) ≡ slice_get ys n
-get_behind [] ys n = ap (slice_get ys) (omega arith)
-get_behind (x ∷ xs) ys n =
-    let next : length (x ∷ xs) + n ≡ suc (length xs + n) = omega arith in
-    ap (slice_get (x ∷ (xs ++ ys))) next ∙ get_behind xs ys n
-
 abbrev each : {A B : Type 0} → (A → B) → Option A → Option B
 each f None = None
 each f (Some x) = Some (f x)
@@ -32,11 +26,10 @@ get_map f (x ∷ xs) zero = refl
 get_map f (x ∷ xs) (suc n) = get_map f xs n
 
 -- what is emitted next
-next_left : (origin : Origin) (c : Course) (items : List Released) (n : ℕ) → c.left ≡ origin.left ++ effects_of_all items
-    → c.emitted ≡ length origin.left + n → slice_get c.left c.emitted ≡ each effect_of (slice_get items n)
+next_left : (origin : Origin) (c : Course) (items : List Released) (n : ℕ) → c.left ≡ effects_of_all items
+    → c.emitted ≡ n → slice_get c.left c.emitted ≡ each effect_of (slice_get items n)
 next_left origin c items n left emitted =
-    ap (λ l. slice_get l c.emitted) left
-    ∙ (ap (slice_get (origin.left ++ effects_of_all items)) emitted ∙ (get_behind origin.left (effects_of_all items) n ∙ get_map effect_of items n))
+    ap (λ l. slice_get l c.emitted) left ∙ (ap (slice_get (effects_of_all items)) emitted ∙ get_map effect_of items n)
 
 -- what stands where a look found this
 pub found_at : (xs items : List Released) (n : ℕ) (released : Released) → xs ≡ items → n < length xs → released ≡ get_or xs n released
@@ -45,8 +38,8 @@ found_at xs items n released same within is =
     subst (λ xs. slice_get xs n ≡ Some released) same (slice_get-get_or xs n released within ∙ ap Some (sym is))
 
 -- an answer with the effect of this release is right
-pub emits : (origin : Origin) (c : Course) (items : List Released) (n : ℕ) (released : Released) (answer : Answer) → c.left ≡ origin.left ++ effects_of_all items
-    → c.emitted ≡ length origin.left + n → slice_get items n ≡ Some released
+pub emits : (origin : Origin) (c : Course) (items : List Released) (n : ℕ) (released : Released) (answer : Answer) → c.left ≡ effects_of_all items
+    → c.emitted ≡ n → slice_get items n ≡ Some released
     → (answer ≡ answers.Emitted (emission (effect_of released))) ⊎ (answer ≡ answers.Refused OutOfMemory) → AnswersEmit c answer
 emits origin c items n released answer left emitted there right =
     let next = next_left origin c items n left emitted ∙ ap (each effect_of) there in

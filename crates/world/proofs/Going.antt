@@ -4,6 +4,7 @@ use Rattle.std.proofs.lemmas.List.{append-nil}
 use Rattle.lw_types.specs.declared.refusal.Refusal.{Refusal}
 use Rattle.lw_types.specs.declared.refusal.Refusal.TheVariants.{OutOfStep}
 use Rattle.disk.specs.declared.sim.Image.{Image}
+use Rattle.devices.specs.declared.command.Command.{Command}
 use Rattle.devices.specs.declared.effect.Effect.{Effect}
 use Rattle.sessions.specs.Table.{effects_of}
 use Rattle.world.specs.Folding.{RunLaws}
@@ -12,7 +13,8 @@ use Rattle.world.specs.declared.answer.Answer.TheVariants as answers
 use Rattle.world.specs.declared.event.Event.{Event}
 use Rattle.world.specs.declared.step.Step.{Step}
 use Rattle.world.specs.declared.step.Step.TheVariants as steps
-use Rattle.world.specs.Course.{Origin, Course, Flight, course_after, effects_from, after_piece, after_release, table_from, with_piece, after_event, after_events}
+use Rattle.store.specs.Flights.{Flight}
+use Rattle.world.specs.Course.{Origin, Course, course_after, effects_from, after_piece, after_release, table_from, with_piece, after_event, after_events}
 use Rattle.world.specs.Answers.{AnswersOpen, AnswersClosed, IsRight}
 use Rattle.sessions.specs.Marks.{IsSubsequence}
 use Rattle.world.specs.Follows.{IsOwn}
@@ -52,13 +54,11 @@ keeps_on origin a b c first second = record {
   );
 }
 
-released_keeps : (laws : RunLaws) (origin : Origin) (c : Course) (flights : List Flight) → Keeps origin c (after_release origin c flights)
+released_keeps : (laws : RunLaws) (origin : Origin) (c : Course) (flights : List (Flight Command)) → Keeps origin c (after_release origin c flights)
 released_keeps laws origin c [] = same_keeps origin c
 released_keeps laws origin c (flight ∷ flights) =
-    let more = effects_of (table_from origin c.settled) flight.commands in
-    let whole : effects_from origin (c.settled ++ flight.commands) ≡ effects_from origin c.settled ++ more =
-    ap (λ l. origin.left ++ l) (laws.joined_effects origin.table c.settled flight.commands)
-    ∙ sym (append_assoc origin.left (effects_of origin.table c.settled) more) in
+    let more = effects_of (table_from origin c.settled) flight.batch in
+    let whole : effects_from origin (c.settled ++ flight.batch) ≡ effects_from origin c.settled ++ more = laws.joined_effects origin.table c.settled flight.batch in
     record {
       emitted = refl;
       is_open = refl;
@@ -111,6 +111,7 @@ pub step_keeps : (laws : RunLaws) (origin : Origin) (c : Course) (step : Step) (
 step_keeps laws origin c (steps.Event moment event) answer own = event_keeps origin c moment event answer
 step_keeps laws origin c (steps.Piece link moment bytes) answer own = piece_keeps origin c link moment bytes.items answer
 step_keeps laws origin c (steps.Take most) answer own = take_keeps origin c most answer
+step_keeps laws origin c (steps.Next most) answer own = take_keeps origin c most answer
 step_keeps laws origin c steps.Checkpoint answer own = checkpoint_keeps origin c answer
 step_keeps laws origin c steps.Call answer own = call_keeps origin c answer
 step_keeps laws origin c steps.Release answer own = release_keeps laws origin c answer

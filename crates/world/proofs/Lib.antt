@@ -1,5 +1,7 @@
 pub mod Flights
+pub mod Commands
 pub mod Calling
+pub mod Waiting
 pub mod Shapes
 pub mod Saying
 pub mod Deciding
@@ -11,6 +13,7 @@ pub mod Releasing
 pub mod Emitting
 pub mod Known
 pub mod Taking
+pub mod Following
 pub mod Publishing
 pub mod Opening
 pub mod OneLife

@@ -15,11 +15,12 @@ use Rattle.session_core.specs.declared.turn.Turn.{Turn}
 use Rattle.sessions.specs.Table.{TableState}
 use Rattle.store.specs.State.{StoreState}
 use Rattle.world.specs.Folding.{RunLaws}
-use Rattle.world.specs.declared.commit.UnderWay.{UnderWay}
+use Rattle.store.specs.Flights.{Flight}
+use Rattle.world.specs.declared.commit.Pipeline.{Pipeline}
 use Rattle.world.specs.declared.event.Event.{Event}
 use Rattle.world.specs.declared.event.Event.TheVariants as events
 use Rattle.world.specs.declared.step.Step.TheVariants as steps
-use Rattle.world.specs.Course.{Origin, Course, Flight, after_commands, at_moment, commands_of, handed_in_count, after_copy, after_release, with_closings, after_event}
+use Rattle.world.specs.Course.{Origin, Course, after_commands, at_moment, commands_of, handed_in_count, after_copy, after_release, with_closings, after_event}
 use Rattle.world.specs.Answers.{IsTurnAnswer}
 use Rattle.world.specs.Links.{HasSaid, Piece, heard_on, stream_on}
 use Rattle.world.specs.declared.links.Links.{Links}
@@ -43,7 +44,7 @@ listens-on c c' core core' links links' clock arrivals shut pieces core_clock wi
           (subst (λ (k : Links). HasSaid (stream_on link c.pieces) (heard_on k link)) (sym same) (f.said link));
     }
 
-pub listens-released : (origin : Origin) (c : Course) (flights : List Flight) (core : CoreState) (links : Links) → IsListening c core links
+pub listens-released : (origin : Origin) (c : Course) (flights : List (Flight Command)) (core : CoreState) (links : Links) → IsListening c core links
     → IsListening (after_release origin c flights) core links
 listens-released origin c [] core links f = f
 listens-released origin c (flight ∷ flights) core links f =
@@ -124,7 +125,7 @@ heard_clock copy s None new own = by (windows_with s.windows s.clock copy) (own.
         no_refusal : (e : Refusal) → ◌≡◌ {A = Result (Unit {0}) Refusal} (Ok tt) (Err e) → ⊥
         no_refusal e h = cc
 
-module _ (laws : RunLaws) (origin : Origin) (s : StoreState) (commit : UnderWay) (c : Course) (moment : ℕ) (old new : CoreState) (links : Links) (turn : Turn)
+module _ (laws : RunLaws) (origin : Origin) (s : StoreState) (commit : Pipeline) (c : Course) (moment : ℕ) (old new : CoreState) (links : Links) (turn : Turn)
     (f : IsLife origin c s old.decisions commit) (listens : IsListening c old links) (lawful : IsLawfulCore old) where
   -- the answer to an event, and where its life is then
   abbrev Does : Event → Type 0

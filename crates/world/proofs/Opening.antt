@@ -1,5 +1,5 @@
 -- What a crash and an opening do to a course.
-use Rattle.std.proofs.Common.{◌≡◌, ◌-◌, ◌≢◌, ◌∙◌, ◌⊎◌, inl, inr, ℕ, Bool, true, false, List, length, take, MatchBool, sym, ap, subst, refl, arith}
+use Rattle.std.proofs.Common.{◌≡◌, ◌-◌, ◌≢◌, ◌∙◌, ◌⊎◌, inl, inr, ℕ, Bool, true, false, List, [], length, take, MatchBool, sym, ap, subst, refl, arith}
 use Rattle.std.proofs.lemmas.List.{append-nil}
 use Rattle.disk.specs.declared.sim.Image.{Image}
 use Rattle.disk.specs.State.{State, EveryImage, IsPermitted}
@@ -11,7 +11,6 @@ use Rattle.world.specs.Folding.{RunLaws}
 use Rattle.session_core.specs.State.{new_decisions}
 use Rattle.store.specs.Image.{HoldsTable}
 use Rattle.store.specs.State.{StoreState, IsSettled}
-use Rattle.world.specs.declared.commit.UnderWay.TheVariants as commits
 use Rattle.world.specs.declared.place.Place.{Place}
 use Rattle.world.specs.declared.place.Place.TheVariants.{Open, Closed, Crashing}
 use Rattle.world.specs.declared.answer.Answer.{Answer}
@@ -19,6 +18,7 @@ use Rattle.world.specs.declared.answer.Answer.TheVariants as answers
 use Rattle.world.specs.declared.step.Step.TheVariants as steps
 use Rattle.world.specs.Course.{Origin, Course, decided_commands, after_opening, course_after, table_from, number_from, effects_from}
 use Rattle.world.specs.Answers.{Leaves, AnswersCrash}
+use Rattle.world.specs.Commits.{at_rest}
 use Rattle.world.specs.Sound.{HasDisk}
 use Rattle.sessions.specs.Marks.{IsSubsequence}
 use Rattle.world.specs.Follows.{FollowsPlace, IsLife, Survives}
@@ -39,7 +39,7 @@ cut_to origin c kept n leaves is =
 -- the life that begins with what a crash left
 pub life_opened : (origin : Origin) (c : Course) (kept : List Command) (n : ℕ) (s : StoreState) → Leaves c kept → n ≡ number_from origin kept → IsSettled s
     → s.failed ≡ false → s.table ≡ table_from origin kept → s.seq ≡ number_from origin kept → EveryImage s.log.disk (HoldsTable s.table s.seq)
-    → IsLife origin (after_opening origin c n) s (new_decisions s.table s.seq) commits.Idle
+    → IsLife origin (after_opening origin c n) s (new_decisions s.table s.seq) at_rest
 life_opened origin c kept n s leaves n_is settled healthy table seq holds =
     let front = cut_to origin c kept n leaves n_is in
     let table_is = table ∙ ap (table_from origin) front in
@@ -53,7 +53,7 @@ life_opened origin c kept n s leaves n_is settled healthy table seq holds =
       number = omega (arith, seq_is, alone_length);
       untaken = refl;
       made = refl;
-      under_way = (refl, (tt, (settled, refl)));
+      under_way = record { behind = []; flights_are = refl; fit = tt; last = (refl, (tt, (settled, refl))) };
       healthy = healthy;
       survives = λ image p. (take (n - origin.number) (decided_commands c), refl, held s.table _ s.seq _ image table_is seq_is (holds image p));
     }

@@ -7,7 +7,7 @@ use Rattle.sessions.specs.Table.{TableStep}
 use Rattle.dedup.specs.Groups.{Arrival}
 use Rattle.session_core.specs.State.{DecisionsState}
 use Rattle.store.specs.State.{StoreState}
-use Rattle.world.specs.declared.commit.UnderWay.{UnderWay}
+use Rattle.world.specs.declared.commit.Pipeline.{Pipeline}
 use Rattle.world.specs.declared.answer.EventTurn.{EventTurn}
 use Rattle.world.specs.declared.event.Event.{Event}
 use Rattle.world.specs.declared.event.Event.TheVariants as events
@@ -17,7 +17,7 @@ use Rattle.world.specs.Follows.{IsLife}
 use Rattle.world.specs.Links.{Piece}
 
 -- the same life, whatever was heard, and however much was emitted
-pub same-life : {origin : Origin} {c : Course} {s : StoreState} {core : DecisionsState} {commit : UnderWay} {emitted clock shut : ℕ} {arrivals : List Arrival} {pieces : List Piece}
+pub same-life : {origin : Origin} {c : Course} {s : StoreState} {core : DecisionsState} {commit : Pipeline} {emitted clock shut : ℕ} {arrivals : List Arrival} {pieces : List Piece}
     → IsLife origin c s core commit → IsLife origin (record c { emitted = emitted; clock = clock; arrivals = arrivals; shut = shut; pieces = pieces }) s core commit
 same-life f =
     record { table = f.table; seq = f.seq; base = f.base; number = f.number; untaken = f.untaken; made = f.made; under_way = f.under_way; healthy = f.healthy; survives = f.survives }

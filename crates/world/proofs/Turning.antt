@@ -21,7 +21,7 @@ use Rattle.session_core.specs.declared.turn.Turn.{Turn}
 use Rattle.sessions.specs.Table.{TableStep}
 use Rattle.store.specs.State.{StoreState}
 use Rattle.world.specs.Folding.{RunLaws}
-use Rattle.world.specs.declared.commit.UnderWay.{UnderWay}
+use Rattle.world.specs.declared.commit.Pipeline.{Pipeline}
 use Rattle.world.specs.declared.event.Event.{Event}
 use Rattle.world.specs.declared.event.Event.TheVariants as events
 use Rattle.world.specs.Course.{Origin, Course, after_commands, at_moment, command_in, due_frames, after_copy, with_closings, after_event, step_if_room, after_command, windows_of}
@@ -163,7 +163,7 @@ outcome_closings s d (Err refusal) = refl
 
 -- ---- closings
 
-module _ (laws : RunLaws) (origin : Origin) (s : StoreState) (commit : UnderWay) where
+module _ (laws : RunLaws) (origin : Origin) (s : StoreState) (commit : Pipeline) where
   -- the same life once a copy was accepted, or wasn't
   pub at-listened : (c : Course) (core : DecisionsState) (copy : FrameCopy) (refused : Option Refusal) → IsLife origin c s core commit → IsLife origin (after_copy copy refused c) s core commit
   at-listened c core copy None f = same-life f

@@ -1,10 +1,12 @@
 -- Which answers are right in a course. Whether a call of the disk fails is said by `Calls.antt`.
-use Rattle.std.specs.Prelude.{◌≡◌, ◌≢◌, ◌≤◌, ◌⊎◌, ℕ, false, nat_lt, List, [], ◌∷◌, ◌++◌, length}
+use Rattle.std.specs.Prelude.{◌≡◌, ◌≢◌, ◌≤◌, ◌⊎◌, ℕ, false, nat_lt, List, [], ◌∷◌, length}
 use Rattle.std.specs.Prelude.{map, take, slice_get, Option, Some, None, MatchBool}
 use Rattle.std.specs.Option.{MatchOption}
 use Rattle.lw_types.specs.declared.refusal.Refusal.TheVariants as refusals
 use Rattle.devices.specs.declared.command.Command.{Command}
 use Rattle.sessions.specs.Table.{effects_of}
+use Rattle.store.specs.Flights.{Flight, MayLeave, Stage}
+use Rattle.store.specs.Flights.Stage.{GateWritten, Durable, Stopped, Unsure}
 use Rattle.lw_types.specs.Answer.{AnswersWithMemory}
 use Rattle.lw_types.specs.declared.refusal.Refusal.{Refusal}
 use Rattle.lw_types.specs.declared.frame_copy.FrameCopy.{FrameCopy}
@@ -22,12 +24,11 @@ use Rattle.world.specs.declared.step.Step.{Step}
 use Rattle.world.specs.declared.step.Step.TheVariants as steps
 use Rattle.world.specs.declared.answer.Answer.{Answer}
 use Rattle.world.specs.declared.answer.Answer.TheVariants as answers
-use Rattle.world.specs.Course.{Checkpoint, Origin, Course, Flight, Stage, after_commands}
+use Rattle.world.specs.Course.{Checkpoint, Origin, Course, after_commands}
 use Rattle.world.specs.Course.{course_after, at_moment, decided_commands, due_frames, has_room}
 use Rattle.world.specs.Course.{number_from, with_closings, table_from, with_piece, after_event}
 use Rattle.world.specs.Course.{step_if_room, windows_of}
 use Rattle.world.specs.Course.Checkpoint.{NotUnderWay, CallsLeft, CallFailed}
-use Rattle.world.specs.Course.Stage.{GateWritten, Durable, Stopped, Unsure}
 
 -- what a command is answered: it is decided, or refused as it has to be; that there is no room is
 -- known before any memory is taken
@@ -117,25 +118,39 @@ Beside NotUnderWay free answer = free
 Beside (CallsLeft n) free answer = answer ≡ answers.Idle
 Beside CallFailed free answer = answer ≡ answers.Refused refusals.Failed
 
--- nor before the batch under way was released
+-- how far the youngest of these batches is
+abbrev pub last_stage : Flight Command → List (Flight Command) → Stage
+last_stage flight [] = flight.stage
+last_stage flight (next ∷ rest) = last_stage next rest
+
+-- nor before the batches under way were released
 abbrev pub Behind : Stage → Answer → Type 0
 Behind Stopped answer = answer ≡ answers.Refused refusals.Failed
 Behind Unsure answer = answer ≡ answers.Refused refusals.Failed
 Behind stage answer = answer ≡ answers.Idle
 
-abbrev pub AnswersTake : List Flight → Course → ℕ → Answer → Type 0
+abbrev pub AnswersTake : List (Flight Command) → Course → ℕ → Answer → Type 0
 AnswersTake [] c most answer = Beside c.checkpoint (Takes c most answer) answer
-AnswersTake (flight ∷ flights) c most answer = Behind flight.stage answer
+AnswersTake (flight ∷ flights) c most answer = Behind (last_stage flight flights) answer
 
-abbrev pub AnswersCheckpoint : List Flight → Checkpoint → Answer → Type 0
+-- a batch is taken behind the one that is begun, alone, while its gate is written and not synced
+abbrev pub NextBehind : Stage → Type 0 → Answer → Type 0
+NextBehind GateWritten free answer = free
+NextBehind stage free answer = answer ≡ answers.Idle
+
+abbrev pub AnswersNext : List (Flight Command) → Course → ℕ → Answer → Type 0
+AnswersNext (flight ∷ []) c most answer = NextBehind flight.stage (Takes c most answer) answer
+AnswersNext flights c most answer = answer ≡ answers.Idle
+
+abbrev pub AnswersCheckpoint : List (Flight Command) → Checkpoint → Answer → Type 0
 AnswersCheckpoint [] checkpoint answer = Beside checkpoint (Checkpoints answer) answer
-AnswersCheckpoint (flight ∷ flights) checkpoint answer = Behind flight.stage answer
+AnswersCheckpoint (flight ∷ flights) checkpoint answer = Behind (last_stage flight flights) answer
 
 -- one device call succeeds, or the device fails
 abbrev pub IsCalled : Answer → Type 0
 IsCalled answer = (answer ≡ answers.Called) ⊎ (answer ≡ answers.Refused refusals.DeviceFailed)
 
--- one of the oldest batch
+-- one of the youngest batch, and of the one in front of it
 abbrev pub AnswersStage : Stage → Answer → Type 0
 AnswersStage Durable answer = answer ≡ answers.Idle
 AnswersStage Stopped answer = answer ≡ answers.Idle
@@ -147,19 +162,19 @@ abbrev pub CallsFor : Checkpoint → Answer → Type 0
 CallsFor (CallsLeft n) answer = IsCalled answer
 CallsFor checkpoint answer = answer ≡ answers.Idle
 
-abbrev pub AnswersCall : List Flight → Checkpoint → Answer → Type 0
+abbrev pub AnswersCall : List (Flight Command) → Checkpoint → Answer → Type 0
 AnswersCall [] checkpoint answer = CallsFor checkpoint answer
-AnswersCall (flight ∷ flights) checkpoint answer = AnswersStage flight.stage answer
+AnswersCall (flight ∷ flights) checkpoint answer = AnswersStage (last_stage flight flights) answer
 
 -- the oldest batch is released once it is durable
 abbrev pub Releases : Stage → ℕ → Answer → Type 0
 Releases Durable n answer = answer ≡ answers.Released n
 Releases stage n answer = answer ≡ answers.Idle
 
-abbrev pub AnswersRelease : Origin → Course → List Flight → Answer → Type 0
+abbrev pub AnswersRelease : Origin → Course → List (Flight Command) → Answer → Type 0
 AnswersRelease origin c [] answer = answer ≡ answers.Idle
 AnswersRelease origin c (flight ∷ flights) answer =
-    Releases flight.stage (length (effects_of (table_from origin c.settled) flight.commands)) answer
+    Releases flight.stage (length (effects_of (table_from origin c.settled) flight.batch)) answer
 
 abbrev pub AnswersList : Origin → Course → Answer → Type 0
 AnswersList origin c answer =
@@ -174,24 +189,6 @@ AnswersEmit c answer =
     (answer ≡ answers.Idle)
     (λ effect. (answer ≡ answers.Emitted (emission effect))
     ⊎ (answer ≡ answers.Refused refusals.OutOfMemory))
-
--- what may come of a batch by its stage: it is there, it may be there, or it isn't
-abbrev pub ByStage : Stage → Type 0 → Type 0 → Type 0 → Type 0
-ByStage Durable there doubtful gone = there
-ByStage GateWritten there doubtful gone = doubtful
-ByStage Unsure there doubtful gone = doubtful
-ByStage stage there doubtful gone = gone
-
--- Which commands a crash may leave, where these are settled and these batches under way, the oldest
--- first: a durable one is left with what comes behind it, one whose gate may be open is left or
--- not, and no other is.
-abbrev pub MayLeave : List Command → List Flight → List Command → Type 0
-MayLeave settled [] kept = kept ≡ settled
-MayLeave settled (flight ∷ flights) kept =
-    ByStage flight.stage
-    (MayLeave (settled ++ flight.commands) flights kept)
-    ((kept ≡ settled) ⊎ (kept ≡ settled ++ flight.commands))
-    (kept ≡ settled)
 
 -- a crash leaves these
 abbrev pub Leaves : Course → List Command → Type 0
@@ -212,6 +209,7 @@ AnswersOpen origin c (steps.Event moment event) answer = AnswersEvent origin c m
 AnswersOpen origin c (steps.Piece link moment bytes) answer =
     AnswersPiece origin c link moment bytes.items answer
 AnswersOpen origin c (steps.Take most) answer = AnswersTake c.flights c most answer
+AnswersOpen origin c (steps.Next most) answer = AnswersNext c.flights c most answer
 AnswersOpen origin c steps.Checkpoint answer = AnswersCheckpoint c.flights c.checkpoint answer
 AnswersOpen origin c steps.Call answer = AnswersCall c.flights c.checkpoint answer
 AnswersOpen origin c steps.Fail answer = answer ≡ answers.Armed

@@ -1,83 +1,149 @@
--- What is under way, and what one device call of it does.
-use Rattle.std.specs.Prelude.{◌≡◌, ◌+◌, List, [], ◌∷◌, ◌++◌, length}
+-- What a life has begun and not released.
+use Rattle.std.specs.Prelude.{◌≡◌, ◌⊎◌, List, [], ◌∷◌, ◌++◌, Option, Some, None, length, map}
+use Rattle.lw_types.specs.declared.refusal.Refusal.TheVariants as refusals
 use Rattle.devices.specs.declared.command.Command.{Command}
-use Rattle.disk.specs.State.{EveryImage}
-use Rattle.sessions.specs.Table.{fold_of}
-use Rattle.sessions.specs.Decision.{commands_of}
-use Rattle.sessions.specs.declared.decision.Decision.{Decision}
-use Rattle.store.specs.Image.{HoldsTable}
-use Rattle.store.specs.Phases.{IsBegunOn, IsWrittenOn, IsBodySyncedOn, IsGateWrittenOn}
-use Rattle.store.specs.Phases.{begun_change, written_change, body_synced_change}
-use Rattle.store.specs.Phases.{gate_written_change}
-use Rattle.store.specs.State.{StoreState, IsSettled}
 use Rattle.flusher.specs.Released.{decisions_of}
-use Rattle.world.specs.declared.commit.UnderWay.{UnderWay}
-use Rattle.world.specs.declared.commit.UnderWay.TheVariants as commits
-use Rattle.world.specs.Checkpoints.{IsPublishingOn, calls_left}
-use Rattle.world.specs.Course.{Checkpoint, Flight, Stage}
-use Rattle.world.specs.Course.Checkpoint.{CallsLeft, NotUnderWay}
-use Rattle.world.specs.Course.Stage.{Begun, Written, BodySynced, GateWritten, Durable}
-use Rattle.world.specs.Answers.{MayLeave}
+use Rattle.flusher.specs.declared.durable.Durable.{Durable}
+use Rattle.flusher.specs.declared.room.Room.{Room}
+use Rattle.sessions.specs.Decision.{FitAll, commands_of, with_decisions}
+use Rattle.sessions.specs.Table.{TableState}
+use Rattle.sessions.specs.declared.decision.Decision.{Decision}
+use Rattle.store.specs.Flights.{Flight, Stage}
+use Rattle.store.specs.Phases.{durable_decisions}
+use Rattle.store.specs.State.{StoreState, IsSettled}
+use Rattle.store.specs.UnderWay.{IsOnDisk, IsOnItsWay, checkpoint_calls, flight, flights_in}
+use Rattle.store.specs.declared.under_way.Called.{Called}
+use Rattle.store.specs.declared.under_way.Called.TheVariants as calls
+use Rattle.store.specs.declared.phases.GateWritten.{GateWritten}
+use Rattle.store.specs.declared.under_way.UnderWay.TheVariants as ways
+use Rattle.world.specs.Course.{Checkpoint, with_calls_left}
+use Rattle.world.specs.Course.Checkpoint.{NotUnderWay}
+use Rattle.world.specs.declared.answer.Answer.{Answer}
+use Rattle.world.specs.declared.answer.Answer.TheVariants as answers
+use Rattle.world.specs.declared.commit.LastCommit.{LastCommit}
+use Rattle.world.specs.declared.commit.LastCommit.TheVariants.{Idle, Failed, UnderWay}
+use Rattle.world.specs.declared.commit.LastCommit.TheVariants.{Durable as Done}
+use Rattle.world.specs.declared.commit.Pipeline.{Pipeline}
 
--- the decisions of the batch under way
-abbrev pub decisions_in : UnderWay → List Decision
-decisions_in (commits.Begun phase room) = (begun_change phase).decisions
-decisions_in (commits.Written phase room) = (written_change phase).decisions
-decisions_in (commits.BodySynced phase room) = (body_synced_change phase).decisions
-decisions_in (commits.GateWritten phase room) = (gate_written_change phase).decisions
-decisions_in (commits.Durable durable) = decisions_of durable
-decisions_in commit = []
+-- nothing is begun
+abbrev pub at_rest : Pipeline
+at_rest = record { ahead = None; last = Idle }
 
-abbrev pub flight : Stage → List Decision → List Flight
-flight stage decisions = record { commands = commands_of decisions; stage = stage } ∷ []
+-- one commit, with none ahead of it
+abbrev pub alone : LastCommit → Pipeline
+alone commit = record { ahead = None; last = commit }
 
--- the batch under way, of a commit that hasn't failed
-abbrev pub flights_in : UnderWay → List Flight
-flights_in (commits.Begun phase room) = flight Begun (begun_change phase).decisions
-flights_in (commits.Written phase room) = flight Written (written_change phase).decisions
-flights_in (commits.BodySynced phase room) = flight BodySynced (body_synced_change phase).decisions
-flights_in (commits.GateWritten phase room) =
-    flight GateWritten (gate_written_change phase).decisions
-flights_in (commits.Durable durable) = flight Durable (decisions_of durable)
-flights_in commit = []
+-- a batch whose gate is written and not synced, and no other
+abbrev pub at_gate : GateWritten → Room → Pipeline
+at_gate opened room = alone (UnderWay (ways.GateWritten opened room))
 
--- the checkpoint under way, where nothing has failed
-abbrev pub checkpoint_in : StoreState → UnderWay → Checkpoint
-checkpoint_in s (commits.Checkpoint phase) = CallsLeft (calls_left s phase)
+abbrev pub IsNoGate : Option Durable → LastCommit → Type 0
+IsNoGate None (UnderWay (ways.GateWritten opened room)) = ⊥
+IsNoGate ahead commit = Unit {0}
+
+-- there is none
+pub record HasNoGate (old new : Pipeline) : Type 0 where
+  pub same : new ≡ old
+  pub none : IsNoGate old.ahead old.last
+
+-- or it is this one, and is taken out
+abbrev pub GivesGate : Pipeline → GateWritten → Room → Pipeline → Type 0
+GivesGate old opened room new = (old ≡ at_gate opened room) × (new ≡ at_rest)
+
+-- the batch that is ahead
+abbrev pub flights_ahead : Option Durable → List (Flight Decision)
+flights_ahead None = []
+flights_ahead (Some durable) = flight Stage.Durable (decisions_of durable) ∷ []
+
+-- those of the last commit, where it hasn't failed
+abbrev pub flights_last : LastCommit → List (Flight Decision)
+flights_last (UnderWay under_way) = flights_in under_way
+flights_last (Done durable) = flight Stage.Durable (decisions_of durable) ∷ []
+flights_last commit = []
+
+-- all of them, the oldest first
+abbrev pub flights_begun : Pipeline → List (Flight Decision)
+flights_begun commits = flights_ahead commits.ahead ++ flights_last commits.last
+
+-- the same of commands
+abbrev pub flight_of : Flight Decision → Flight Command
+flight_of f = record { batch = commands_of f.batch; stage = f.stage }
+
+abbrev pub flights_of : List (Flight Decision) → List (Flight Command)
+flights_of flights = map flight_of flights
+
+-- the commands that are settled once the batch ahead is released
+abbrev pub settled_ahead : List Command → Option Durable → List Command
+settled_ahead settled None = settled
+settled_ahead settled (Some durable) = settled ++ commands_of (decisions_of durable)
+
+-- each batch was made of the table that those before it leave
+abbrev pub FitFlights : TableState → List (Flight Decision) → Type 0
+FitFlights t [] = Unit {0}
+FitFlights t (f ∷ flights) =
+    FitAll t f.batch × FitFlights (with_decisions t f.batch) flights
+
+-- the checkpoint under way
+abbrev pub checkpoint_in : StoreState → LastCommit → Checkpoint
+checkpoint_in s (UnderWay under_way) = with_calls_left (checkpoint_calls s under_way)
 checkpoint_in s commit = NotUnderWay
 
--- what the store's disk holds of what is under way
-abbrev pub IsOn : StoreState → UnderWay → Type 0
-IsOn s (commits.Begun phase room) = IsBegunOn s phase
-IsOn s (commits.Written phase room) = IsWrittenOn s phase
-IsOn s (commits.BodySynced phase room) = IsBodySyncedOn s phase
-IsOn s (commits.GateWritten phase room) = IsGateWrittenOn s phase
-IsOn s (commits.Checkpoint phase) = IsPublishingOn s phase
-IsOn s commits.Failed = ⊥
+-- what the store's disk holds of the last commit
+abbrev pub IsOn : StoreState → LastCommit → Type 0
+IsOn s (UnderWay under_way) = IsOnDisk s under_way
+IsOn s Failed = ⊥
 IsOn s commit = IsSettled s
 
--- there is a device call to make
-abbrev pub HasCall : UnderWay → Type 0
-HasCall commits.Idle = ⊥
-HasCall commits.Failed = ⊥
-HasCall (commits.Durable durable) = ⊥
-HasCall commit = Unit {0}
+-- it is the store's
+abbrev pub MayGoOn : StoreState → LastCommit → Type 0
+MayGoOn s (UnderWay under_way) = IsOnItsWay s under_way
+MayGoOn s commit = Unit {0}
 
--- the commands whose table the store has: those that are settled, and those of the durable batches
-abbrev pub with_durable : Stage → List Command → List Command → List Command
-with_durable Durable settled more = more
-with_durable stage settled more = settled
+-- a batch is ahead of one batch alone
+abbrev pub IsBehind : Option Durable → LastCommit → Type 0
+IsBehind None commit = Unit {0}
+IsBehind (Some durable) Failed = Unit {0}
+IsBehind (Some durable) commit = length (flights_last commit) ≡ 1
 
-abbrev pub durable_commands : List Command → List Flight → List Command
-durable_commands settled [] = settled
-durable_commands settled (flight ∷ flights) =
-    with_durable flight.stage settled (durable_commands (settled ++ flight.commands) flights)
+-- none is ahead of a batch that became durable in front of another one
+abbrev pub IsAlone : Option Durable → Called Room → Type 0
+IsAlone ahead (calls.Durable durable room (Some next)) = ahead ≡ None
+IsAlone ahead called = Unit {0}
 
--- From a store with no durable batch to one with these batches under way: it has the table and the
--- number of the durable ones, and whatever a crash leaves of its disk holds those of commands that
--- a crash may leave.
-pub record GoesTo (flights : List Flight) (old new : StoreState) : Type 0 where
-  pub table : new.table ≡ fold_of old.table (durable_commands [] flights)
-  pub seq : new.seq ≡ old.seq + length (durable_commands [] flights)
-  pub images : EveryImage new.log.disk (λ image. (kept : List Command) × MayLeave [] flights kept
-      × HoldsTable (fold_of old.table kept) (old.seq + length kept) image)
+-- The last commit goes on with what a device call led to. A batch that is durable keeps its
+-- decisions, and is ahead of what is under way behind it.
+abbrev pub GoesOn : Option Durable → Called Room → Pipeline → Type 0
+GoesOn ahead (calls.UnderWay next) new = new ≡ record { ahead = ahead; last = UnderWay next }
+GoesOn ahead (calls.Durable durable room None) new =
+    (done : Durable) × (decisions_of done ≡ durable_decisions durable)
+    × (new ≡ record { ahead = ahead; last = Done done })
+GoesOn ahead (calls.Durable durable room (Some next)) new =
+    (done : Durable) × (decisions_of done ≡ durable_decisions durable)
+    × (new ≡ record { ahead = Some done; last = UnderWay next })
+GoesOn ahead calls.Published new = new ≡ record { ahead = ahead; last = Idle }
+
+-- what is answered where nothing may begin
+abbrev pub HindersLast : LastCommit → Answer → Type 0
+HindersLast Failed answer = answer ≡ answers.Refused refusals.Failed
+HindersLast commit answer = answer ≡ answers.Idle
+
+pub record Hinders (commits : Pipeline) (answer : Answer) : Type 0 where
+  pub begun : commits ≡ at_rest → ⊥
+  pub answered : HindersLast commits.last answer
+
+-- the last commit isn't durable
+abbrev pub IsUnfinished : LastCommit → Type 0
+IsUnfinished (Done durable) = ⊥
+IsUnfinished commit = Unit {0}
+
+-- the oldest batch isn't durable
+pub record KeepsAll (old new : Pipeline) : Type 0 where
+  pub same : new ≡ old
+  pub none_ahead : old.ahead ≡ None
+  pub unfinished : IsUnfinished old.last
+
+-- it is this one, and is taken out
+abbrev pub GivesOldest : Pipeline → Durable → Pipeline → Type 0
+GivesOldest old durable new =
+    ((old.ahead ≡ Some durable) × (new ≡ record old { ahead = None }))
+    ⊎ ((old ≡ record { ahead = None; last = Done durable }) × (new ≡ at_rest))

@@ -1,6 +1,6 @@
 -- The course of a world: what was decided, how far it is on its way to the disk, and what has left,
 -- as the steps and their answers alone tell it.
-use Rattle.std.specs.Prelude.{ℕ, suc, ◌+◌, ◌-◌, Bool, true, false, List, [], ◌∷◌, ◌++◌, length}
+use Rattle.std.specs.Prelude.{ℕ, zero, ◌+◌, ◌-◌, Bool, true, false, List, [], ◌∷◌, ◌++◌, length}
 use Rattle.std.specs.Prelude.{take, drop, map, filter, max, nat_lt, ◌&&◌, if◌then◌else◌, Option}
 use Rattle.std.specs.Prelude.{Some, None, Result, Ok, Err}
 use Rattle.lw_types.specs.declared.refusal.Refusal.{Refusal}
@@ -9,10 +9,12 @@ use Rattle.lw_types.specs.declared.frame_copy.FrameCopy.{FrameCopy}
 use Rattle.devices.specs.declared.command.Command.{Command}
 use Rattle.devices.specs.declared.command.Command.TheVariants.{Heard}
 use Rattle.devices.specs.declared.effect.Effect.{Effect}
+use Rattle.devices.specs.declared.mark.Mark.{Mark}
 use Rattle.sessions.specs.Table.{TableState, empty_table, fold_of, effects_of, step, TableStep}
 use Rattle.dedup.specs.Groups.{Arrival, arrival, groups}
 use Rattle.dedup.specs.Windows.{Window, window_of_group, heard_in, is_due}
 use Rattle.session_core.specs.declared.decisions.TheConstants.{MOST_UNTAKEN, LAST_NUMBER}
+use Rattle.store.specs.Flights.{Flight, Stage, all_failed, all_succeeded, in_flight}
 use Rattle.world.specs.Links.{Piece}
 use Rattle.world.specs.declared.answer.EventTurn.{EventTurn}
 use Rattle.world.specs.declared.event.Event.{Event}
@@ -21,28 +23,6 @@ use Rattle.world.specs.declared.step.Step.{Step}
 use Rattle.world.specs.declared.step.Step.TheVariants as steps
 use Rattle.world.specs.declared.answer.Answer.{Answer}
 use Rattle.world.specs.declared.answer.Answer.TheVariants as answers
-
--- how far the commit of a batch is
-pub data Stage : Type 0 where
-  -- nothing is written
-  Begun : Stage
-  -- its body is written
-  Written : Stage
-  -- and synced
-  BodySynced : Stage
-  -- its gate is open
-  GateWritten : Stage
-  -- and synced: every crash leaves it
-  Durable : Stage
-  -- a device call failed before the gate was touched
-  Stopped : Stage
-  -- a device call on the gate failed
-  Unsure : Stage
-
--- a batch under way
-pub record Flight : Type 0 where
-  pub commands : List Command
-  pub stage : Stage
 
 -- a checkpoint
 pub data Checkpoint : Type 0 where
@@ -53,16 +33,16 @@ pub data Checkpoint : Type 0 where
   -- a device call of it failed
   CallFailed : Checkpoint
 
--- where a course begins: the table and the number of the store, and the effects that had left
+-- where a course begins: the table and the number of the store, and the marks that were used up
 -- before
 pub record Origin : Type 0 where
   pub table : TableState
   pub number : ℕ
-  pub left : List Effect
+  pub marks : List Mark
 
 -- a store that was just formatted
 abbrev pub new_store : ℕ → ℕ → Origin
-new_store net_id slots = record { table = empty_table net_id slots; number = 0; left = [] }
+new_store net_id slots = record { table = empty_table net_id slots; number = 0; marks = [] }
 
 -- the table, the number and the effects of these commands
 abbrev pub table_from : Origin → List Command → TableState
@@ -72,13 +52,13 @@ abbrev pub number_from : Origin → List Command → ℕ
 number_from origin commands = origin.number + length commands
 
 abbrev pub effects_from : Origin → List Command → List Effect
-effects_from origin commands = origin.left ++ effects_of origin.table commands
+effects_from origin commands = effects_of origin.table commands
 
 pub record Course : Type 0 where
   -- the commands whose batches were released, or that an opening found on the disk
   pub settled : List Command
   -- the batches under way, the oldest first
-  pub flights : List Flight
+  pub flights : List (Flight Command)
   -- the checkpoint under way, which no batch is beside
   pub checkpoint : Checkpoint
   -- the commands that were taken in this life, and lost for want of memory
@@ -112,8 +92,8 @@ beginning origin =
       given_up = [];
       untaken = [];
       made = 0;
-      left = origin.left;
-      emitted = length origin.left;
+      left = [];
+      emitted = 0;
       is_open = true;
       clock = 0;
       arrivals = [];
@@ -121,14 +101,9 @@ beginning origin =
       pieces = [];
     }
 
--- the commands of these batches
-abbrev pub commands_in_flight : List Flight → List Command
-commands_in_flight [] = []
-commands_in_flight (flight ∷ flights) = flight.commands ++ commands_in_flight flights
-
 -- the decided commands
 abbrev pub decided_commands : Course → List Command
-decided_commands c = c.settled ++ (commands_in_flight c.flights ++ (c.given_up ++ c.untaken))
+decided_commands c = c.settled ++ (in_flight c.flights ++ (c.given_up ++ c.untaken))
 
 -- whether there is room for one command more that waits, and a number for it
 abbrev pub has_room : Origin → Course → Bool
@@ -231,7 +206,7 @@ after_piece origin c link moment bytes answer = c
 abbrev pub after_take : Course → ℕ → Course
 after_take c most =
     record c {
-      flights = c.flights ++ record { commands = take most c.untaken; stage = Begun } ∷ [];
+      flights = c.flights ++ record { batch = take most c.untaken; stage = Stage.Begun } ∷ [];
       untaken = drop most c.untaken;
     }
 
@@ -240,34 +215,21 @@ abbrev pub after_give_up : Course → ℕ → Course
 after_give_up c most =
     record c { given_up = c.given_up ++ take most c.untaken; untaken = drop most c.untaken }
 
--- a device call more succeeded
-abbrev pub next_stage : Stage → Stage
-next_stage Begun = Written
-next_stage Written = BodySynced
-next_stage BodySynced = GateWritten
-next_stage GateWritten = Durable
-next_stage stage = stage
+-- the course after a take that was answered so
+abbrev pub after_answered_take : Course → ℕ → Answer → Course
+after_answered_take c most (answers.Taken n) = after_take c most
+after_answered_take c most (answers.GivenUp n) = after_give_up c most
+after_answered_take c most (answers.Refused OutOfStep) = after_give_up c most
+after_answered_take c most answer = c
 
--- or failed
-abbrev pub failed_stage : Stage → Stage
-failed_stage Begun = Stopped
-failed_stage Written = Stopped
-failed_stage BodySynced = Unsure
-failed_stage GateWritten = Unsure
-failed_stage stage = stage
+-- a checkpoint of which this many device calls are left
+abbrev pub with_calls_left : ℕ → Checkpoint
+with_calls_left zero = NotUnderWay
+with_calls_left n = CallsLeft n
 
--- it was one of the oldest batch
-abbrev pub with_oldest_stage : (Stage → Stage) → List Flight → List Flight
-with_oldest_stage move [] = []
-with_oldest_stage move (flight ∷ flights) = record flight { stage = move flight.stage } ∷ flights
-
--- one device call of a checkpoint succeeded
-abbrev pub with_call_less : ℕ → Checkpoint
-with_call_less (suc (suc n)) = CallsLeft (suc n)
-with_call_less n = NotUnderWay
-
+-- one of them succeeded
 abbrev pub checkpoint_after_call : Checkpoint → Checkpoint
-checkpoint_after_call (CallsLeft n) = with_call_less n
+checkpoint_after_call (CallsLeft n) = with_calls_left (n - 1)
 checkpoint_after_call checkpoint = checkpoint
 
 -- or failed
@@ -279,25 +241,25 @@ checkpoint_after_failure checkpoint = checkpoint
 abbrev pub after_call : Course → Course
 after_call c =
     record c {
-      flights = with_oldest_stage next_stage c.flights;
+      flights = all_succeeded c.flights;
       checkpoint = checkpoint_after_call c.checkpoint;
     }
 
 abbrev pub after_failed_call : Course → Course
 after_failed_call c =
     record c {
-      flights = with_oldest_stage failed_stage c.flights;
+      flights = all_failed c.flights;
       checkpoint = checkpoint_after_failure c.checkpoint;
     }
 
 -- the oldest batch is released: its effects leave
-abbrev pub after_release : Origin → Course → List Flight → Course
+abbrev pub after_release : Origin → Course → List (Flight Command) → Course
 after_release origin c [] = c
 after_release origin c (flight ∷ flights) =
     record c {
-      settled = c.settled ++ flight.commands;
+      settled = c.settled ++ flight.batch;
       flights = flights;
-      left = c.left ++ effects_of (table_from origin c.settled) flight.commands;
+      left = c.left ++ effects_of (table_from origin c.settled) flight.batch;
     }
 
 -- the decided list is cut to what was found on the disk, and what was released and not emitted is
@@ -329,9 +291,8 @@ course_after origin c (steps.Event moment event) (answers.Turn turn closings) =
     after_event origin c moment event turn.refused closings
 course_after origin c (steps.Piece link moment bytes) answer =
     after_piece origin c link moment bytes.items answer
-course_after origin c (steps.Take most) (answers.Taken n) = after_take c most
-course_after origin c (steps.Take most) (answers.GivenUp n) = after_give_up c most
-course_after origin c (steps.Take most) (answers.Refused OutOfStep) = after_give_up c most
+course_after origin c (steps.Take most) answer = after_answered_take c most answer
+course_after origin c (steps.Next most) answer = after_answered_take c most answer
 course_after origin c steps.Checkpoint (answers.Begun calls) =
     record c { checkpoint = CallsLeft calls }
 course_after origin c steps.Call answers.Called = after_call c

@@ -1,23 +1,27 @@
 -- What a world is at a place of its course.
-use Rattle.std.specs.Prelude.{◌≡◌, ◌+◌, ◌⊎◌, ℕ, true, false, List, [], ◌∷◌, ◌++◌, length}
+use Rattle.std.specs.Prelude.{◌≡◌, ◌+◌, ◌⊎◌, ℕ, true, false, List, [], ◌∷◌, ◌++◌, Option, None}
 use Rattle.devices.specs.declared.command.Command.{Command}
 use Rattle.dedup.specs.Windows.{StandFor}
 use Rattle.session_core.specs.State.{DecisionsState}
 use Rattle.session_core.specs.Core.{CoreState}
 use Rattle.disk.specs.declared.sim.Image.{Image}
 use Rattle.disk.specs.State.{State, NothingOpen, EveryImage}
+use Rattle.flusher.specs.declared.durable.Durable.{Durable}
 use Rattle.flusher.specs.declared.released.Released.{Released}
 use Rattle.sessions.specs.Table.{TableState}
-use Rattle.sessions.specs.Decision.{FitAll, commands_of}
+use Rattle.sessions.specs.Decision.{commands_of}
 use Rattle.sessions.specs.Marks.{IsSubsequence}
+use Rattle.store.specs.Flights.{Flight, durable_in, in_flight}
+use Rattle.store.specs.Flights.Stage.{Stopped, Unsure}
 use Rattle.store.specs.Image.{HoldsTable}
 use Rattle.store.specs.State.{StoreState, store_state}
 use Rattle.store.specs.declared.store.Store.{Store}
 use Rattle.flusher.specs.Released.{effects_of_all}
 use Rattle.world.specs.Links.{HasSaid, heard_on, stream_on}
 use Rattle.world.specs.declared.links.Links.{Links}
-use Rattle.world.specs.declared.commit.UnderWay.{UnderWay}
-use Rattle.world.specs.declared.commit.UnderWay.TheVariants as commits
+use Rattle.world.specs.declared.commit.LastCommit.{LastCommit}
+use Rattle.world.specs.declared.commit.LastCommit.TheVariants as commits
+use Rattle.world.specs.declared.commit.Pipeline.{Pipeline}
 use Rattle.world.specs.declared.life.Life.{Life}
 use Rattle.world.specs.declared.place.Place.{Place}
 use Rattle.world.specs.declared.place.Place.TheVariants.{Open, Closed, Crashing}
@@ -26,14 +30,14 @@ use Rattle.world.specs.declared.answer.EventTurn.{EventTurn}
 use Rattle.world.specs.declared.step.Step.{Step}
 use Rattle.world.specs.declared.step.Step.TheVariants as steps
 use Rattle.world.specs.declared.answer.Answer.{Answer}
-use Rattle.world.specs.Course.{Checkpoint, Origin, Course, Flight, table_from, number_from}
-use Rattle.world.specs.Course.{effects_from, commands_in_flight, course_after, course_of}
+use Rattle.world.specs.Course.{Checkpoint, Origin, Course, table_from, number_from}
+use Rattle.world.specs.Course.{effects_from, course_after, course_of}
 use Rattle.world.specs.Course.{after_piece, after_events}
 use Rattle.world.specs.Course.Checkpoint.{CallFailed, NotUnderWay}
-use Rattle.world.specs.Course.Stage.{Stopped, Unsure}
 use Rattle.world.specs.Answers.{Leaves, AnswersOpen, AnswersCrash, AnswersPiece, IsRight, AreRight}
 use Rattle.world.specs.Answers.{AreTurns}
-use Rattle.world.specs.Commits.{IsOn, checkpoint_in, flights_in, decisions_in, durable_commands}
+use Rattle.world.specs.Commits.{FitFlights, IsOn, checkpoint_in, flights_ahead, flights_last}
+use Rattle.world.specs.Commits.{flights_of, settled_ahead}
 
 -- whatever a crash leaves of this disk holds the table and the number of commands that a crash may
 -- leave
@@ -44,40 +48,53 @@ Survives origin c state =
 
 -- those that left the log of the core
 abbrev pub taken_commands : Course → List Command
-taken_commands c = c.settled ++ (commands_in_flight c.flights ++ c.given_up)
+taken_commands c = c.settled ++ (in_flight c.flights ++ c.given_up)
 
--- a call of the one batch under way failed, or of the checkpoint
-abbrev pub HasFailed : List Flight → Checkpoint → Type 0
-HasFailed [] checkpoint = checkpoint ≡ CallFailed
-HasFailed (flight ∷ []) checkpoint =
+-- a call of the batches behind the one that is ahead failed, or of the checkpoint
+abbrev pub HasFailed : List (Flight Command) → Option Durable → Checkpoint → Type 0
+HasFailed [] None checkpoint = checkpoint ≡ CallFailed
+HasFailed (flight ∷ []) ahead checkpoint =
     ((flight.stage ≡ Stopped) ⊎ (flight.stage ≡ Unsure)) × (checkpoint ≡ NotUnderWay)
-HasFailed flights checkpoint = ⊥
+HasFailed (first ∷ second ∷ []) None checkpoint =
+    (first.stage ≡ Unsure) × ((second.stage ≡ Stopped) × (checkpoint ≡ NotUnderWay))
+HasFailed flights ahead checkpoint = ⊥
 
--- what is under way is the batch of the course, if there is one, whose decisions were made of this
--- table, or its checkpoint
-abbrev pub IsAt : List Flight → Checkpoint → TableState → StoreState → UnderWay → Type 0
-IsAt flights checkpoint t s commits.Failed = HasFailed flights checkpoint
-IsAt flights checkpoint t s commit =
-    (flights ≡ flights_in commit)
-    × (FitAll t (decisions_in commit) × (IsOn s commit × (checkpoint ≡ checkpoint_in s commit)))
+-- the last commit is of the batches of the course behind the one that is ahead, whose decisions
+-- were made of this table, or it is the course's checkpoint
+abbrev pub IsAt : Option Durable → List (Flight Command) → Checkpoint → TableState → StoreState
+    → LastCommit → Type 0
+IsAt ahead flights checkpoint t s commits.Failed = HasFailed flights ahead checkpoint
+IsAt ahead flights checkpoint t s commit =
+    (flights ≡ flights_of (flights_last commit))
+    × (FitFlights t (flights_last commit)
+    × (IsOn s commit × (checkpoint ≡ checkpoint_in s commit)))
+
+-- the commits are where a course says that has these commands settled
+pub record AreAt (origin : Origin) (settled : List Command) (flights : List (Flight Command))
+    (checkpoint : Checkpoint) (s : StoreState) (begun : Pipeline) : Type 0 where
+  pub behind : List (Flight Command)
+  pub flights_are : flights ≡ flights_of (flights_ahead begun.ahead) ++ behind
+  pub fit : FitFlights (table_from origin settled) (flights_ahead begun.ahead)
+  pub last : IsAt begun.ahead behind checkpoint
+      (table_from origin (settled_ahead settled begun.ahead)) s begun.last
 
 -- no device call of this store failed
-abbrev pub IsHealthy : StoreState → UnderWay → Type 0
+abbrev pub IsHealthy : StoreState → LastCommit → Type 0
 IsHealthy s commits.Failed = Unit {0}
 IsHealthy s commit = s.failed ≡ false
 
 -- The store has the table of what is on the disk, the core that of what was taken and of what
--- waits, and the commit is where the course says.
+-- waits, and the commits are where the course says.
 pub record IsLife (origin : Origin) (c : Course) (s : StoreState) (core : DecisionsState)
-    (commit : UnderWay) : Type 0 where
-  pub table : s.table ≡ table_from origin (durable_commands c.settled c.flights)
-  pub seq : s.seq ≡ number_from origin (durable_commands c.settled c.flights)
+    (begun : Pipeline) : Type 0 where
+  pub table : s.table ≡ table_from origin (durable_in c.settled c.flights)
+  pub seq : s.seq ≡ number_from origin (durable_in c.settled c.flights)
   pub base : core.base ≡ table_from origin (taken_commands c)
   pub number : core.opening + core.taken ≡ number_from origin (taken_commands c)
   pub untaken : commands_of core.log ≡ c.untaken
   pub made : core.made ≡ c.made
-  pub under_way : IsAt c.flights c.checkpoint (table_from origin c.settled) s commit
-  pub healthy : IsHealthy s commit
+  pub under_way : AreAt origin c.settled c.flights c.checkpoint s begun
+  pub healthy : IsHealthy s begun.last
   pub survives : Survives origin c s.log.disk
 
 -- The core has the effective time of the course, and its windows are those of the groups that
@@ -89,7 +106,7 @@ pub record IsListening (c : Course) (core : CoreState) (links : Links) : Type 0 
 
 abbrev pub FollowsLife : {D : Type 0} {g : _} → (D → State) → Origin → Course → Life D g → Type 0
 FollowsLife state origin c life =
-    IsLife origin c (store_state state life.store) life.core.decisions life.commit
+    IsLife origin c (store_state state life.store) life.core.decisions life.commits
     × IsListening c life.core life.links
 
 -- the disk of a store that is closed
@@ -102,13 +119,13 @@ FollowsPlace state origin c (Open life) = (c.is_open ≡ true) × FollowsLife st
 FollowsPlace state origin c (Closed disk) = FollowsClosed state origin c disk
 FollowsPlace state origin c Crashing = ⊥
 
--- The world is where its course is. What has left over all lives is part of what had left before,
--- and of the effects of commands that every crash leaves.
+-- The world is where its course is. What has left over all lives is part of the effects of commands
+-- that every crash leaves.
 pub record Follows {D : Type 0} {g : _} (state : D → State) (origin : Origin) (c : Course)
     (world : World D g) : Type 0 where
   pub place : FollowsPlace state origin c world.place
-  pub left : c.left ≡ origin.left ++ effects_of_all world.released.items
-  pub emitted : c.emitted ≡ length origin.left + world.emitted
+  pub left : c.left ≡ effects_of_all world.released.items
+  pub emitted : c.emitted ≡ world.emitted
   pub once : IsSubsequence c.left (effects_from origin c.settled)
 
 -- a step of a life whose store is open: whatever course it follows, the answer is right, and it
@@ -161,8 +178,7 @@ abbrev pub Lets : {D : Type 0} {g : _} → (D → State) → Life D g → Step �
     → List Released → Type 0
 Lets state life step answer old new =
     (origin : Origin) (c : Course) → FollowsLife state origin c life
-    → c.left ≡ origin.left ++ effects_of_all old
-    → (course_after origin c step answer).left ≡ origin.left ++ effects_of_all new
+    → c.left ≡ effects_of_all old → (course_after origin c step answer).left ≡ effects_of_all new
 
 -- a store with the table and the number of commands that a crash may leave
 abbrev pub IsLeft : Origin → Course → TableState → ℕ → Type 0

@@ -1,7 +1,6 @@
 pub mod Sound
 pub mod Tells
 pub mod Calls
-pub mod Checkpoints
 pub mod Links
 pub mod Course
 pub mod Answers

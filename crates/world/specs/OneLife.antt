@@ -1,5 +1,5 @@
 -- One life: from a new world on, no crash among the steps.
-use Rattle.std.specs.Prelude.{◌≡◌, List, [], ◌∷◌, ◌++◌, length, take, drop, map}
+use Rattle.std.specs.Prelude.{◌≡◌, ◌≤◌, List, [], ◌∷◌, length, take, map}
 use Rattle.devices.specs.declared.effect.Effect.{Effect}
 use Rattle.lw_types.specs.declared.refusal.Refusal.TheVariants.{OutOfStep}
 use Rattle.gateway_wire.specs.declared.emission.Emission.{Emission}
@@ -22,9 +22,10 @@ NoneGivenUp [] = Unit {0}
 NoneGivenUp (answers.GivenUp n ∷ rest) = ⊥
 NoneGivenUp (answer ∷ rest) = NoneGivenUp rest
 
--- no take was answered that its batch is out of step
+-- no take or next was answered that its batch is out of step
 abbrev pub NoneOutOfStep : List Step → List Answer → Type 0
 NoneOutOfStep (steps.Take most ∷ rest) (answers.Refused OutOfStep ∷ others) = ⊥
+NoneOutOfStep (steps.Next most ∷ rest) (answers.Refused OutOfStep ∷ others) = ⊥
 NoneOutOfStep (step ∷ rest) (answer ∷ others) = NoneOutOfStep rest others
 NoneOutOfStep rest others = Unit {0}
 
@@ -35,11 +36,12 @@ emissions (answers.Emitted e ∷ rest) = e ∷ emissions rest
 emissions (answer ∷ rest) = emissions rest
 
 -- What one life gave: these effects left, which are those of the commands whose batches were
--- released, in order and complete; of these a beginning was emitted; and no batch was out of step,
--- unless one before it was lost.
+-- released, in order and complete; of these a beginning was emitted; two batches at most are begun
+-- and not released; and no batch was out of step, unless one before it was lost.
 pub record IsOneLife (origin : Origin) (c : Course) (effects : List Effect) (steps : List Step)
     (told : List Answer) : Type 0 where
-  pub left : c.left ≡ origin.left ++ effects
+  pub left : c.left ≡ effects
   pub released : c.left ≡ effects_from origin c.settled
-  pub emitted : emissions told ≡ map emission (drop (length origin.left) (take c.emitted c.left))
+  pub emitted : emissions told ≡ map emission (take c.emitted c.left)
+  pub few : length c.flights ≤ 2
   pub in_step : NoneGivenUp told → NoneOutOfStep steps told

@@ -6,9 +6,14 @@ use Rattle.lw_types.specs.declared.refusal.Refusal.TheVariants as refusals
 use Rattle.disk.specs.declared.sim.Image.{Image}
 use Rattle.disk.specs.Crash.{IsCrashed}
 use Rattle.disk.specs.State.{State}
+use Rattle.flusher.specs.declared.room.Room.{Room}
+use Rattle.store.specs.Pairing.{IsRoomyBehind}
 use Rattle.store.specs.State.{StoreState, store_state, IsRoomy}
+use Rattle.store.specs.declared.phases.GateWritten.{GateWritten}
 use Rattle.store.specs.declared.areas.TheConstants.{LAST_GENERATION}
+use Rattle.world.specs.Commits.{at_gate}
 use Rattle.world.specs.Sound.{HasDisk}
+use Rattle.world.specs.declared.commit.Pipeline.{Pipeline}
 use Rattle.world.specs.declared.place.Place.{Place}
 use Rattle.world.specs.declared.place.Place.TheVariants.{Open, Closed, Crashing}
 use Rattle.world.specs.declared.answer.Answer.{Answer}
@@ -18,17 +23,23 @@ use Rattle.world.specs.declared.step.Step.TheVariants as steps
 
 -- A batch is taken only where the journal has room for the largest one, and full is answered only
 -- where it hasn't.
-abbrev pub RefusalTellsRoom : StoreState → Refusal → Type 0
-RefusalTellsRoom s refusals.OutOfStep = IsRoomy s
-RefusalTellsRoom s refusals.OutOfMemory = IsRoomy s
-RefusalTellsRoom s e = Unit {0}
+abbrev pub RefusalTells : Type 0 → Refusal → Type 0
+RefusalTells roomy refusals.OutOfStep = roomy
+RefusalTells roomy refusals.OutOfMemory = roomy
+RefusalTells roomy e = Unit {0}
 
-abbrev pub TakeTellsRoom : StoreState → Answer → Type 0
-TakeTellsRoom s answers.Full = ¬ (IsRoomy s)
-TakeTellsRoom s (answers.Taken n) = IsRoomy s
-TakeTellsRoom s (answers.GivenUp n) = IsRoomy s
-TakeTellsRoom s (answers.Refused e) = RefusalTellsRoom s e
-TakeTellsRoom s answer = Unit {0}
+abbrev pub TakeTells : Type 0 → Answer → Type 0
+TakeTells roomy answers.Full = ¬ roomy
+TakeTells roomy (answers.Taken n) = roomy
+TakeTells roomy (answers.GivenUp n) = roomy
+TakeTells roomy (answers.Refused e) = RefusalTells roomy e
+TakeTells roomy answer = Unit {0}
+
+-- behind a batch that is begun, it is the room behind that
+abbrev pub NextTells : StoreState → Pipeline → Answer → Type 0
+NextTells s commits answer =
+    (opened : GateWritten) (room : Room) → commits ≡ at_gate opened room
+    → TakeTells (IsRoomyBehind s opened) answer
 
 -- A checkpoint takes two more calls where the other area's gate is open, and is refused as damaged
 -- exactly where the live area has the last generation.
@@ -39,13 +50,15 @@ CheckpointTells s (answers.Refused refusals.Damaged) = LAST_GENERATION ≤ s.log
 CheckpointTells s (answers.Refused refusals.OutOfMemory) = s.log.generation < LAST_GENERATION
 CheckpointTells s answer = Unit {0}
 
-abbrev pub TellsRoom : StoreState → Step → Answer → Type 0
-TellsRoom s (steps.Take most) answer = TakeTellsRoom s answer
-TellsRoom s steps.Checkpoint answer = CheckpointTells s answer
-TellsRoom s step answer = Unit {0}
+abbrev pub TellsRoom : StoreState → Pipeline → Step → Answer → Type 0
+TellsRoom s commits (steps.Take most) answer = TakeTells (IsRoomy s) answer
+TellsRoom s commits (steps.Next most) answer = NextTells s commits answer
+TellsRoom s commits steps.Checkpoint answer = CheckpointTells s answer
+TellsRoom s commits step answer = Unit {0}
 
 abbrev pub PlaceTellsRoom : {D : Type 0} {g : _} → (D → State) → Place D g → Step → Answer → Type 0
-PlaceTellsRoom state (Open life) step answer = TellsRoom (store_state state life.store) step answer
+PlaceTellsRoom state (Open life) step answer =
+    TellsRoom (store_state state life.store) life.commits step answer
 PlaceTellsRoom state (Closed disk) step answer = Unit {0}
 PlaceTellsRoom state Crashing step answer = Unit {0}
 

@@ -29,17 +29,18 @@ pub enum Answer {
         turns: Vec<EventTurn>,
         fault: Option<Refusal>,
     },
-    /// To a take: how many decisions were taken, and their commit began.
+    /// To a take or a next: how many decisions were taken, and their commit began.
     Taken(usize),
-    /// To a take whose commit was refused for want of memory: how many decisions were taken and are
-    /// lost in this life.
+    /// To a take or a next whose commit was refused for want of memory: how many decisions were
+    /// taken and are lost in this life.
     GivenUp(usize),
-    /// To a take: the area has no room for another batch before a checkpoint.
+    /// To a take or a next: the area has no room for another batch before a checkpoint.
     Full,
     /// To a checkpoint: it began, and how many device calls it takes.
     Begun(u64),
     /// There is nothing to take, call, release or emit; or, to a take or a checkpoint, what is
-    /// under way has to end first; or the store could not be opened. Nothing has changed.
+    /// under way has to end first; or, to a next, no batch may follow what is begun; or the store
+    /// could not be opened. Nothing has changed.
     Idle,
     /// To a call: the device call succeeded.
     Called,

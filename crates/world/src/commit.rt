@@ -1,90 +1,159 @@
-// What is under way.
-use crate::checkpointing::Checkpointing;
-use disk::Sim;
+// The commits of a life.
+ghost use Rattle.std.specs.Prelude.{◌≡◌, None, Some};
+ghost use Rattle.std.specs.Option.{MatchOption};
+ghost use Rattle.world.specs.Commits.{GivesGate, GivesOldest, GoesOn, HasNoGate, Hinders};
+ghost use Rattle.world.specs.Commits.{IsAlone, KeepsAll, at_rest};
+
+use crate::Answer;
 use flusher::{Durable, Room};
 use lw_types::Refusal;
-use store::{Begun, BodySynced, GateWritten, Store, Written};
+use std::mem;
+use store::{Called, GateWritten, UnderWay};
 
-/// How far the commit of the batch that was taken last is, or a checkpoint. A batch on its way has
-/// the room for its effects with it.
-pub(crate) enum UnderWay {
+/// How far the commit of the batch that was taken last is, or a checkpoint.
+pub(crate) enum LastCommit {
     /// Nothing is on its way.
     Idle,
     /// A device call failed: nothing is committed before the store is opened again.
     Failed,
-    Begun(Begun, Room),
-    Written(Written, Room),
-    BodySynced(BodySynced, Room),
-    GateWritten(GateWritten, Room),
+    /// Device calls are to be made. A batch has the room for its effects with it.
+    UnderWay(UnderWay<Room>),
     /// The batch is durable, and its effects may leave.
     Durable(Durable),
-    /// A checkpoint is on its way.
-    Checkpoint(Checkpointing),
 }
 
-impl UnderWay {
-    ghost use Rattle.std.specs.Prelude.{◌≡◌, ℕ, IfOk, MatchResult};
-    ghost use Rattle.store.specs.State.{store_state, IsOneCall};
-    ghost use Rattle.world.specs.Course.{with_oldest_stage, checkpoint_after_call, next_stage};
-    ghost use Rattle.world.specs.Course.{failed_stage};
-    ghost use Rattle.world.specs.Commits.{HasCall, IsOn, GoesTo, checkpoint_in, decisions_in};
-    ghost use Rattle.world.specs.Commits.{flights_in};
-    ghost use Rattle.world.specs.Sound.{IsOnItsWay, HasRoom};
+/// What a life has begun and not released, two batches at most.
+pub(crate) struct Pipeline {
+    /// The batch in front of the last one, which is durable.
+    pub(crate) ahead: Option<Durable>,
+    pub(crate) last: LastCommit,
+}
 
-    /// Makes the device call that is next. Refused with `DeviceFailed` exactly where the device
-    /// failed.
-    pub(crate) fn call<D: Sim>(self, store: &mut Store<D>) -> Result<Self, Refusal>
-        requires call { HasCall self }
-        requires way { IsOnItsWay (store_state D.state store.old) self }
-        ensures way { IfOk result (IsOnItsWay (store_state D.state store.new)) }
-        ensures room { (there fit : ℕ) → HasRoom self there fit
-            → IfOk result (λ next. HasRoom next there fit) }
-        ensures decisions { IfOk result (λ next. decisions_in next ≡ decisions_in self) }
-        ensures flights { IfOk result
-            (λ next. flights_in next ≡ with_oldest_stage next_stage (flights_in self)) }
-        ensures checkpoint { IfOk result (λ next. checkpoint_in (store_state D.state store.new) next
-            ≡ checkpoint_after_call (checkpoint_in (store_state D.state store.old) self)) }
-        ensures on { IsOn (store_state D.state store.old) self
-            → IfOk result (IsOn (store_state D.state store.new)) }
-        ensures goes { IsOn (store_state D.state store.old) self → MatchResult result
-            (λ _. GoesTo (with_oldest_stage next_stage (flights_in self))
-            (store_state D.state store.old) (store_state D.state store.new))
-            (λ _. GoesTo (with_oldest_stage failed_stage (flights_in self))
-            (store_state D.state store.old) (store_state D.state store.new)) }
-        ensures one_call { IsOneCall D.failures D.outlook store.old store.new result }
+impl Pipeline {
+    /// Nothing is begun.
+    pub(crate) fn new() -> Self
+        ensures { result ≡ at_rest }
     {
-        crate::laws::of_runs();
-        match self {
-            UnderWay::Begun(phase, room) => Ok(UnderWay::Written(phase.write(store)?, room)),
-            UnderWay::Written(phase, room) => Ok(UnderWay::BodySynced(phase.sync(store)?, room)),
-            UnderWay::BodySynced(phase, room) => Ok(UnderWay::GateWritten(
-                phase.open_gate(store)?,
-                room,
-            )),
-            UnderWay::GateWritten(phase, room) => {
-                Ok(UnderWay::Durable(Durable::new(phase.sync(store)?, room)))
+        Pipeline {
+            ahead: None,
+            last: LastCommit::Idle,
+        }
+    }
+
+    /// What is answered where no batch is taken and no checkpoint begins, since a device call has
+    /// failed or something is begun and not released.
+    pub(crate) fn hindrance(&self) -> Option<Answer>
+        ensures { MatchOption result (self.now ≡ at_rest) (Hinders self.now) }
+    {
+        match &self.last {
+            LastCommit::Failed => Some(Answer::Refused(Refusal::Failed)),
+            LastCommit::Idle if self.ahead.is_none() => None,
+            _ => Some(Answer::Idle),
+        }
+    }
+
+    /// Goes on with what a device call of the last commit led to: a batch behind which another one
+    /// is under way is ahead of that.
+    pub(crate) fn go_on(&mut self, called: Called<Room>)
+        requires { IsAlone self.old.ahead called }
+        ensures { GoesOn self.old.ahead called self.new }
+    {
+        match called {
+            Called::UnderWay(next) => self.set(LastCommit::UnderWay(next)),
+            Called::Durable(durable, room, behind) => {
+                let durable = Durable::new(durable, room);
+                match behind {
+                    None => self.set(LastCommit::Durable(durable)),
+                    Some(next) => {
+                        self.put_ahead(durable);
+                        self.set(LastCommit::UnderWay(next));
+                    }
+                }
             }
-            UnderWay::Checkpoint(phase) => match phase.call(store)? {
-                Some(next) => Ok(UnderWay::Checkpoint(next)),
-                None => Ok(UnderWay::Idle),
-            },
-            other => {
+            Called::Published => self.set(LastCommit::Idle),
+        }
+    }
+
+    // Puts a batch ahead, where none is.
+    fn put_ahead(&mut self, durable: Durable)
+        requires { self.old.ahead ≡ None }
+        ensures ahead { self.new.ahead ≡ Some durable }
+        ensures last { self.new.last ≡ self.old.last }
+    {
+        match mem::replace(&mut self.ahead, Some(durable)) {
+            None => {}
+            Some(other) => {
                 other.lose();
                 unreachable!()
             }
         }
     }
 
-    /// Lets what is under way go, at a crash.
+    /// Takes a batch out, with its room, whose gate is written and not synced, where no other is
+    /// begun.
+    pub(crate) fn take_gate(&mut self) -> Option<(GateWritten, Room)>
+        ensures { MatchOption result (HasNoGate self.old self.new)
+            (λ gate. GivesGate self.old gate.0 gate.1 self.new) }
+    {
+        if self.ahead.is_some() {
+            return None;
+        }
+        match mem::replace(&mut self.last, LastCommit::Idle) {
+            LastCommit::UnderWay(under_way) => match under_way {
+                UnderWay::GateWritten(opened, room) => Some((opened, room)),
+                other => {
+                    self.set(LastCommit::UnderWay(other));
+                    None
+                }
+            },
+            other => {
+                self.set(other);
+                None
+            }
+        }
+    }
+
+    /// Takes the oldest batch out where it is durable.
+    pub(crate) fn take_oldest(&mut self) -> Option<Durable>
+        ensures { MatchOption result (KeepsAll self.old self.new)
+            (λ durable. GivesOldest self.old durable self.new) }
+    {
+        match mem::replace(&mut self.ahead, None) {
+            Some(durable) => Some(durable),
+            None => match mem::replace(&mut self.last, LastCommit::Idle) {
+                LastCommit::Durable(durable) => Some(durable),
+                other => {
+                    self.set(other);
+                    None
+                }
+            },
+        }
+    }
+
+    /// Replaces the last commit.
+    pub(crate) fn set(&mut self, commit: LastCommit)
+        ensures ahead { self.new.ahead ≡ self.old.ahead }
+        ensures last { self.new.last ≡ commit }
+    {
+        mem::replace(&mut self.last, commit).lose();
+    }
+
+    /// Lets all that is begun go, at a crash.
     pub(crate) fn lose(self) {
+        let Pipeline { ahead, last } = self;
+        if let Some(durable) = ahead {
+            durable.lose();
+        }
+        last.lose();
+    }
+}
+
+impl LastCommit {
+    fn lose(self) {
         match self {
-            UnderWay::Idle | UnderWay::Failed => {}
-            UnderWay::Begun(phase, _) => phase.lose(),
-            UnderWay::Written(phase, _) => phase.lose(),
-            UnderWay::BodySynced(phase, _) => phase.lose(),
-            UnderWay::GateWritten(phase, _) => phase.lose(),
-            UnderWay::Durable(durable) => durable.lose(),
-            UnderWay::Checkpoint(phase) => phase.lose(),
+            LastCommit::Idle | LastCommit::Failed => {}
+            LastCommit::UnderWay(under_way) => under_way.lose(),
+            LastCommit::Durable(durable) => durable.lose(),
         }
     }
 }

@@ -3,7 +3,6 @@
 #![tactic(auto)]
 
 mod answer;
-mod checkpointing;
 mod commit;
 mod event;
 pub mod laws;

@@ -1,37 +1,46 @@
 // One life of a network server: from an opening of its store to the next crash.
-ghost use Rattle.std.specs.Prelude.{◌≡◌, ◌++◌, ◌+◌, ◌≤◌, MatchResult, length, vec_capacity};
+ghost use Rattle.std.specs.Prelude.{◌≡◌, ◌++◌, ◌+◌, ◌*◌, ◌≤◌, IfOk, MatchResult, length, take};
+ghost use Rattle.std.specs.Prelude.{vec_capacity};
+ghost use Rattle.flusher.specs.declared.room.TheConstants.{MOST_EFFECTS};
 ghost use Rattle.lw_types.specs.declared.refusal.Refusal.TheVariants.{OutOfMemory};
+ghost use Rattle.session_core.specs.Core.{IsLawfulCore};
+ghost use Rattle.session_core.specs.Deciding.{after_taking};
 
-use crate::checkpointing::Checkpointing;
-use crate::commit::UnderWay;
+use crate::commit::{LastCommit, Pipeline};
 use crate::links::Links;
 use crate::{Answer, Step, laws};
 use disk::Sim;
-use flusher::{Durable, MOST_EFFECTS, Released, Room};
+use flusher::{MOST_EFFECTS, Released, Room};
 use lw_types::Refusal;
 use session_core::{Core, Most};
+use sessions::Batch;
 use std::alloc::Global;
 use std::mem;
-use store::Store;
+use store::{GateWritten, Publishing, Store, UnderWay};
 
-/// A store that is open, the core that decides on its table, and the commit under way.
+/// A store that is open, the core that decides on its table, and what is begun and not released.
 pub(crate) struct Life<D: Sim> {
     pub(crate) store: Store<D>,
     pub(crate) core: Core,
-    pub(crate) commit: UnderWay,
+    pub(crate) commits: Pipeline,
     pub(crate) links: Links,
 }
 
 impl<D: Sim> Life<D> {
-    ghost use Rattle.std.specs.Prelude.{◌≢◌, ◌<◌, ◌^◌, ◌↔◌, ℕ, [], IfOk, IfErr, IsTrue};
+    ghost use Rattle.std.specs.Prelude.{◌≢◌, ◌<◌, ◌^◌, ◌↔◌, ℕ, [], IfErr, IsTrue};
     ghost use Rattle.link_messages.specs.Feeding.{new_feed};
     ghost use Rattle.session_core.specs.Core.{new_core};
+    ghost use Rattle.store.specs.Commit.{IsUnderWay};
+    ghost use Rattle.store.specs.Pairing.{IsRoomyBehind};
+    ghost use Rattle.store.specs.Phases.{gate_written_sequel, gate_written_size};
     ghost use Rattle.store.specs.State.{store_state, disk_of, IsRoomy};
-    ghost use Rattle.world.specs.declared.commit.UnderWay.TheVariants as commits;
+    ghost use Rattle.store.specs.UnderWay.{IsOnItsWay};
+    ghost use Rattle.world.specs.declared.commit.LastCommit.TheVariants as commits;
     ghost use Rattle.world.specs.declared.step.Step.TheVariants as steps;
     ghost use Rattle.world.specs.declared.answer.Answer.TheVariants as answers;
-    ghost use Rattle.world.specs.Calls.{Foretells};
-    ghost use Rattle.world.specs.Tells.{CheckpointTells, TellsRoom, TakeTellsRoom};
+    ghost use Rattle.world.specs.Calls.{Foretells, IsNoFailure};
+    ghost use Rattle.world.specs.Commits.{alone, at_gate, at_rest};
+    ghost use Rattle.world.specs.Tells.{CheckpointTells, NextTells, TakeTells, TellsRoom};
     ghost use Rattle.world.specs.Links.{heard_on};
     ghost use Rattle.world.specs.Follows.{IsOwn, MovesLife, Lets};
     ghost use Rattle.world.specs.Sound.{IsSoundLife, HasRoom};
@@ -43,7 +52,7 @@ impl<D: Sim> Life<D> {
         ensures disk { IfOk result (λ life. disk_of life.store ≡ disk_of store) }
         ensures core { IfOk result (λ life. life.core
             ≡ new_core (store_state D.state store).table (store_state D.state store).seq) }
-        ensures idle { IfOk result (λ life. life.commit ≡ commits.Idle) }
+        ensures idle { IfOk result (λ life. life.commits ≡ at_rest) }
         ensures silent { IfOk result (λ life. (link : ℕ) → heard_on life.links link ≡ new_feed) }
         ensures refused { IfErr result (λ e. (e.0 ≡ disk_of store) × (e.1 ≡ OutOfMemory)) }
     {
@@ -51,7 +60,7 @@ impl<D: Sim> Life<D> {
             Ok(core) => Ok(Life {
                 store,
                 core,
-                commit: UnderWay::Idle,
+                commits: Pipeline::new(),
                 links: Links::new(alloc),
             }),
             Err(refusal) => Err((store.close(), refusal)),
@@ -67,15 +76,16 @@ impl<D: Sim> Life<D> {
     ) -> Answer
         requires own { IsOwn step.now }
         requires sound { IsSoundLife D.state self.old }
-        requires room { HasRoom self.old.commit (length released.old.items)
+        requires room { HasRoom self.old.commits (length released.old.items)
             (vec_capacity released.old) }
         ensures sound { IsSoundLife D.state self.new }
-        ensures room { HasRoom self.new.commit (length released.new.items)
+        ensures room { HasRoom self.new.commits (length released.new.items)
             (vec_capacity released.new) }
         ensures course { MovesLife D.state self.old step.now result self.new }
         ensures calls { Foretells D.failures D.outlook (disk_of self.old.store) step.now result
             (disk_of self.new.store) }
-        ensures room_told { TellsRoom (store_state D.state self.old.store) step.now result }
+        ensures room_told { TellsRoom (store_state D.state self.old.store) self.old.commits step.now
+            result }
         ensures left { Lets D.state self.old step.now result released.old.items released.new.items }
     {
         match step {
@@ -89,6 +99,7 @@ impl<D: Sim> Life<D> {
                 bytes,
             } => self.piece(*link, *moment, bytes.as_slice()),
             Step::Take(most) => self.take(alloc, *most, released),
+            Step::Next(most) => self.next(alloc, *most, released),
             Step::Checkpoint => self.checkpoint(alloc),
             Step::Call => self.call(),
             Step::Fail => self.fail(),
@@ -102,21 +113,19 @@ impl<D: Sim> Life<D> {
     /// room for the largest batch.
     pub(crate) fn take(&mut self, alloc: Global, most: Most, released: &mut Vec<Released>) -> Answer
         requires sound { IsSoundLife D.state self.old }
-        requires room { HasRoom self.old.commit (length released.old.items)
+        requires room { HasRoom self.old.commits (length released.old.items)
             (vec_capacity released.old) }
         ensures sound { IsSoundLife D.state self.new }
-        ensures room { HasRoom self.new.commit (length released.new.items)
+        ensures room { HasRoom self.new.commits (length released.new.items)
             (vec_capacity released.new) }
         ensures released { released.new.items ≡ released.old.items }
-        ensures room_told { TakeTellsRoom (store_state D.state self.old.store) result }
+        ensures room_told { TakeTells (IsRoomy (store_state D.state self.old.store)) result }
         ensures course { MovesLife D.state self.old (steps.Take most) result self.new }
         ensures calls { Foretells D.failures D.outlook (disk_of self.old.store)
             (steps.Take most) result (disk_of self.new.store) }
     {
-        match &self.commit {
-            UnderWay::Failed => return Answer::Refused(Refusal::Failed),
-            UnderWay::Idle => {}
-            _ => return Answer::Idle,
+        if let Some(answer) = self.commits.hindrance() {
+            return answer;
         }
         if self.core.untaken() == 0 {
             return Answer::Idle;
@@ -137,22 +146,21 @@ impl<D: Sim> Life<D> {
         !self.store.roomy()
     }
 
-    // Takes a batch and begins its commit. The room for its effects is got first, so that nothing
-    // is taken for want of it.
+    // Takes a batch and begins its commit.
     fn begin(
         &mut self,
         alloc: Global,
         most: Most,
         released: &mut Vec<Released>,
     ) -> Result<Answer, Refusal>
-        requires idle { self.old.commit ≡ commits.Idle }
+        requires idle { self.old.commits ≡ at_rest }
         requires some { self.old.core.decisions.log ≢ [] }
         requires roomy { IsRoomy (store_state D.state self.old.store) }
         ensures sound { IsSoundLife D.state self.new }
-        ensures room { HasRoom self.new.commit (length released.new.items)
+        ensures room { HasRoom self.new.commits (length released.new.items)
             (vec_capacity released.new) }
         ensures released { released.new.items ≡ released.old.items }
-        ensures room_told { IfOk result (TakeTellsRoom (store_state D.state self.old.store)) }
+        ensures room_told { IfOk result (TakeTells (IsRoomy (store_state D.state self.old.store))) }
         ensures course { MatchResult result
             (λ answer. MovesLife D.state self.old (steps.Take most) answer self.new)
             (λ e. (e ≡ OutOfMemory) × (self.new ≡ self.old)) }
@@ -161,13 +169,12 @@ impl<D: Sim> Life<D> {
             (disk_of self.new.store)) }
     {
         laws::of_runs();
-        let room = Room::new(alloc)?;
-        released.reserve(MOST_EFFECTS)?;
-        let batch = self.core.take(most)?;
+        let (batch, room) = next_batch(alloc, &mut self.core, most, released)?;
         let count = batch.len();
         match self.store.begin(alloc, batch) {
             Ok(begun) => {
-                self.set(UnderWay::Begun(begun, room));
+                self.commits
+                    .set(LastCommit::UnderWay(UnderWay::Begun(begun, room)));
                 Ok(Answer::Taken(count))
             }
             Err(refusal) => match refusal {
@@ -177,64 +184,143 @@ impl<D: Sim> Life<D> {
         }
     }
 
+    /// The flusher takes a batch and begins its commit behind the one that is begun, alone, while
+    /// its gate is written and not synced; in any other state it is `Idle`. `Full` comes only where
+    /// the journal has no room for the largest batch behind that one.
+    pub(crate) fn next(&mut self, alloc: Global, most: Most, released: &mut Vec<Released>) -> Answer
+        requires sound { IsSoundLife D.state self.old }
+        requires room { HasRoom self.old.commits (length released.old.items)
+            (vec_capacity released.old) }
+        ensures sound { IsSoundLife D.state self.new }
+        ensures room { HasRoom self.new.commits (length released.new.items)
+            (vec_capacity released.new) }
+        ensures released { released.new.items ≡ released.old.items }
+        ensures room_told { NextTells (store_state D.state self.old.store) self.old.commits result }
+        ensures course { MovesLife D.state self.old (steps.Next most) result self.new }
+        ensures calls { Foretells D.failures D.outlook (disk_of self.old.store)
+            (steps.Next most) result (disk_of self.new.store) }
+    {
+        match self.commits.take_gate() {
+            Some((opened, room)) => {
+                let (under_way, answer) = self.follow(alloc, most, released, opened, room);
+                self.commits.set(LastCommit::UnderWay(under_way));
+                answer
+            }
+            None => Answer::Idle,
+        }
+    }
+
+    // Takes a batch and begins its commit behind this one.
+    fn follow(
+        &mut self,
+        alloc: Global,
+        most: Most,
+        released: &mut Vec<Released>,
+        opened: GateWritten,
+        along: Room,
+    ) -> (UnderWay<Room>, Answer)
+        requires way { IsUnderWay (store_state D.state self.old.store) (gate_written_sequel opened)
+            (gate_written_size opened) }
+        requires room { HasRoom (at_gate opened along) (length released.old.items)
+            (vec_capacity released.old) }
+        ensures way { IsOnItsWay (store_state D.state self.new.store) result.0 }
+        ensures room { HasRoom (alone (commits.UnderWay result.0)) (length released.new.items)
+            (vec_capacity released.new) }
+        ensures released { released.new.items ≡ released.old.items }
+        ensures commits { self.new.commits ≡ self.old.commits }
+        ensures disk { disk_of self.new.store ≡ disk_of self.old.store }
+        ensures told { TakeTells (IsRoomyBehind (store_state D.state self.old.store) opened)
+            result.1 }
+        ensures course { MovesLife D.state (record self.old { commits = at_gate opened along })
+            (steps.Next most) result.1
+            (record self.new { commits = alone (commits.UnderWay result.0) }) }
+        ensures calls { IsNoFailure result.1 }
+    {
+        laws::of_runs();
+        if self.core.untaken() == 0 {
+            return (UnderWay::GateWritten(opened, along), Answer::Idle);
+        }
+        if !self.store.roomy_next(&opened) {
+            return (UnderWay::GateWritten(opened, along), Answer::Full);
+        }
+        match next_batch(alloc, &mut self.core, most, released) {
+            Err(refusal) => {
+                let unchanged = UnderWay::GateWritten(opened, along);
+                (unchanged, Answer::Refused(refusal))
+            }
+            Ok((batch, behind)) => {
+                let count = batch.len();
+                match self.store.begin_next(alloc, &opened, batch) {
+                    Ok(following) => {
+                        let both = UnderWay::Following {
+                            opened,
+                            along,
+                            following,
+                            behind,
+                        };
+                        (both, Answer::Taken(count))
+                    }
+                    Err(refusal) => {
+                        let unchanged = UnderWay::GateWritten(opened, along);
+                        match refusal {
+                            Refusal::OutOfStep => (unchanged, Answer::Refused(refusal)),
+                            _ => (unchanged, Answer::GivenUp(count)),
+                        }
+                    }
+                }
+            }
+        }
+    }
+
     /// The flusher begins a checkpoint of the durable table. It makes no device call yet.
     pub(crate) fn checkpoint(&mut self, alloc: Global) -> Answer
         requires sound { IsSoundLife D.state self.old }
         ensures sound { IsSoundLife D.state self.new }
-        ensures room { (there fit : ℕ) → HasRoom self.old.commit there fit
-            → HasRoom self.new.commit there fit }
+        ensures room { (there fit : ℕ) → HasRoom self.old.commits there fit
+            → HasRoom self.new.commits there fit }
         ensures told { CheckpointTells (store_state D.state self.old.store) result }
         ensures course { MovesLife D.state self.old steps.Checkpoint result self.new }
         ensures calls { Foretells D.failures D.outlook
             (disk_of self.old.store) steps.Checkpoint result (disk_of self.new.store) }
     {
-        match &self.commit {
-            UnderWay::Failed => return Answer::Refused(Refusal::Failed),
-            UnderWay::Idle => {}
-            _ => return Answer::Idle,
+        if let Some(answer) = self.commits.hindrance() {
+            return answer;
         }
         match self.store.checkpoint(alloc) {
             Ok(checkpoint) => {
-                let checkpoint = Checkpointing::Begun(checkpoint);
-                let calls = checkpoint.calls_left(&self.store);
-                self.set(UnderWay::Checkpoint(checkpoint));
+                let publishing = Publishing::Begun(checkpoint);
+                let calls = publishing.calls_left(&self.store);
+                self.commits
+                    .set(LastCommit::UnderWay(UnderWay::Checkpoint(publishing)));
                 Answer::Begun(calls)
             }
             Err(refusal) => Answer::Refused(refusal),
         }
     }
 
-    // Replaces the commit.
-    fn set(&mut self, commit: UnderWay)
-        ensures commit { self.new.commit ≡ commit }
-        ensures store { self.new.store ≡ self.old.store }
-        ensures core { self.new.core ≡ self.old.core }
-        ensures links { self.new.links ≡ self.old.links }
-    {
-        mem::replace(&mut self.commit, commit).lose();
-    }
-
     /// One device call of what is under way.
     pub(crate) fn call(&mut self) -> Answer
         requires { IsSoundLife D.state self.old }
         ensures sound { IsSoundLife D.state self.new }
-        ensures room { (there fit : ℕ) → HasRoom self.old.commit there fit
-            → HasRoom self.new.commit there fit }
+        ensures room { (there fit : ℕ) → HasRoom self.old.commits there fit
+            → HasRoom self.new.commits there fit }
         ensures course { MovesLife D.state self.old steps.Call result self.new }
         ensures calls { Foretells D.failures D.outlook (disk_of self.old.store) steps.Call result
             (disk_of self.new.store) }
     {
         laws::of_runs();
-        match &self.commit {
-            UnderWay::Idle | UnderWay::Failed | UnderWay::Durable(_) => return Answer::Idle,
-            _ => {}
-        }
-        match mem::replace(&mut self.commit, UnderWay::Failed).call(&mut self.store) {
-            Ok(next) => {
-                self.set(next);
-                Answer::Called
+        match mem::replace(&mut self.commits.last, LastCommit::Failed) {
+            LastCommit::UnderWay(under_way) => match under_way.call(&mut self.store) {
+                Ok(called) => {
+                    self.commits.go_on(called);
+                    Answer::Called
+                }
+                Err(refusal) => Answer::Refused(refusal),
+            },
+            other => {
+                self.commits.set(other);
+                Answer::Idle
             }
-            Err(refusal) => Answer::Refused(refusal),
         }
     }
 
@@ -242,7 +328,7 @@ impl<D: Sim> Life<D> {
     pub(crate) fn fail(&mut self) -> Answer
         requires { IsSoundLife D.state self.old }
         ensures sound { IsSoundLife D.state self.new }
-        ensures commit { self.new.commit ≡ self.old.commit }
+        ensures commit { self.new.commits ≡ self.old.commits }
         ensures course { MovesLife D.state self.old steps.Fail result self.new }
         ensures calls { Foretells D.failures D.outlook (disk_of self.old.store) steps.Fail result
             (disk_of self.new.store) }
@@ -251,13 +337,13 @@ impl<D: Sim> Life<D> {
         Answer::Armed
     }
 
-    /// The effects of the batch that became durable are released. Takes no memory.
+    /// The effects of the oldest durable batch are released. Takes no memory.
     pub(crate) fn release(&mut self, released: &mut Vec<Released>) -> Answer
         requires sound { IsSoundLife D.state self.old }
-        requires room { HasRoom self.old.commit (length released.old.items)
+        requires room { HasRoom self.old.commits (length released.old.items)
             (vec_capacity released.old) }
         ensures sound { IsSoundLife D.state self.new }
-        ensures room { HasRoom self.new.commit (length released.new.items)
+        ensures room { HasRoom self.new.commits (length released.new.items)
             (vec_capacity released.new) }
         ensures course { MovesLife D.state self.old steps.Release result self.new }
         ensures calls { Foretells D.failures D.outlook (disk_of self.old.store) steps.Release result
@@ -266,17 +352,14 @@ impl<D: Sim> Life<D> {
             released.new.items }
     {
         laws::of_runs();
-        match mem::replace(&mut self.commit, UnderWay::Idle) {
-            UnderWay::Durable(durable) => {
+        match self.commits.take_oldest() {
+            Some(durable) => {
                 let effects = durable.release();
                 let count = effects.len();
                 add(effects, released);
                 Answer::Released(count)
             }
-            other => {
-                self.set(other);
-                Answer::Idle
-            }
+            None => Answer::Idle,
         }
     }
 
@@ -303,18 +386,44 @@ impl<D: Sim> Life<D> {
         let Life {
             store,
             core: _,
-            commit,
+            commits,
             links: _,
         } = self;
-        commit.lose();
+        commits.lose();
         store.close()
     }
+}
+
+// Takes a batch. The room for its effects is got first, beside those of another batch, so that
+// nothing is taken for want of it.
+fn next_batch(
+    alloc: Global,
+    core: &mut Core,
+    most: Most,
+    released: &mut Vec<Released>,
+) -> Result<(Batch, Room), Refusal>
+    ensures asked { IfOk result (λ _. 1 ≤ most) }
+    ensures taken { MatchResult result
+        (λ taken. (taken.0 ≡ take most core.old.decisions.log)
+        × (core.new ≡ record core.old { decisions = after_taking core.old.decisions most }))
+        (λ e. (e ≡ OutOfMemory) × (core.new ≡ core.old)) }
+    ensures lawful { IfOk result (λ _. IsLawfulCore core.old) }
+    ensures room { IfOk result (λ _. length released.new.items + 2 * MOST_EFFECTS
+        ≤ vec_capacity released.new) }
+    ensures released { released.new.items ≡ released.old.items }
+    ensures capacity { vec_capacity released.old ≤ vec_capacity released.new }
+{
+    let room = Room::new(alloc)?;
+    released.reserve(2 * MOST_EFFECTS)?;
+    let batch = core.take(most)?;
+    Ok((batch, room))
 }
 
 // Adds effects behind others.
 fn add(effects: Vec<Released>, released: &mut Vec<Released>)
     requires { length released.old.items + length effects.items ≤ vec_capacity released.old }
     ensures items { released.new.items ≡ released.old.items ++ effects.items }
+    ensures capacity { vec_capacity released.old ≤ vec_capacity released.new }
 {
     for effect in effects {
         let pushed: Result<_, _> = released.push(effect);

@@ -20,13 +20,16 @@ pub enum Step {
     },
     /// The flusher takes the oldest decisions, this many at most, and begins their commit.
     Take(Most),
+    /// The flusher takes the oldest decisions, this many at most, and begins their commit behind
+    /// the batch under way, whose gate is written and not synced, so that both share a sync.
+    Next(Most),
     /// The flusher begins a checkpoint, which makes room in the journal.
     Checkpoint,
     /// One device call of what is under way.
     Call,
     /// The next device call is to fail.
     Fail,
-    /// The effects of the batch that became durable are released.
+    /// The effects of the oldest durable batch are released.
     Release,
     /// The oldest released effect leaves.
     Emit,

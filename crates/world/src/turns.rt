@@ -23,7 +23,7 @@ impl<D: Sim> Life<D> {
     pub(crate) fn event(&mut self, moment: Moment, event: &Event) -> (Turn, usize)
         requires { IsSoundLife D.state self.old }
         ensures sound { IsSoundLife D.state self.new }
-        ensures commit { self.new.commit ≡ self.old.commit }
+        ensures commit { self.new.commits ≡ self.old.commits }
         ensures store { self.new.store ≡ self.old.store }
         ensures course { MovesLife D.state self.old (steps.Event moment event.now)
             (answers.Turn result.0 result.1) self.new }
@@ -39,7 +39,7 @@ impl<D: Sim> Life<D> {
     fn hear(&mut self, moment: Moment, copy: &FrameCopy) -> (Turn, usize)
         requires { IsSoundLife D.state self.old }
         ensures sound { IsSoundLife D.state self.new }
-        ensures commit { self.new.commit ≡ self.old.commit }
+        ensures commit { self.new.commits ≡ self.old.commits }
         ensures store { self.new.store ≡ self.old.store }
         ensures course { MovesLife D.state self.old (steps.Event moment (events.Hear copy.now))
             (answers.Turn result.0 result.1) self.new }
@@ -62,7 +62,7 @@ impl<D: Sim> Life<D> {
     fn tick(&mut self, moment: Moment) -> (Turn, usize)
         requires { IsSoundLife D.state self.old }
         ensures sound { IsSoundLife D.state self.new }
-        ensures commit { self.new.commit ≡ self.old.commit }
+        ensures commit { self.new.commits ≡ self.old.commits }
         ensures store { self.new.store ≡ self.old.store }
         ensures course { MovesLife D.state self.old (steps.Event moment events.Tick)
             (answers.Turn result.0 result.1) self.new }
@@ -77,7 +77,7 @@ impl<D: Sim> Life<D> {
     fn ask(&mut self, moment: Moment, command: &Command) -> (Turn, usize)
         requires { IsSoundLife D.state self.old }
         ensures sound { IsSoundLife D.state self.new }
-        ensures commit { self.new.commit ≡ self.old.commit }
+        ensures commit { self.new.commits ≡ self.old.commits }
         ensures store { self.new.store ≡ self.old.store }
         ensures course { MovesLife D.state self.old (steps.Event moment (events.Ask command.now))
             (answers.Turn result.0 result.1) self.new }
@@ -108,7 +108,7 @@ impl<D: Sim> Life<D> {
     pub(crate) fn piece(&mut self, link: u64, moment: Moment, bytes: &[u8]) -> Answer
         requires { IsSoundLife D.state self.old }
         ensures sound { IsSoundLife D.state self.new }
-        ensures commit { self.new.commit ≡ self.old.commit }
+        ensures commit { self.new.commits ≡ self.old.commits }
         ensures store { self.new.store ≡ self.old.store }
         ensures course { MovesPiece D.state self.old link moment bytes.now result self.new }
         ensures calls { IsNoFailure result }
@@ -140,7 +140,7 @@ impl<D: Sim> Life<D> {
         requires empty { room.items ≡ [] }
         requires enough { length events.items ≤ vec_capacity room }
         ensures sound { IsSoundLife D.state self.new }
-        ensures commit { self.new.commit ≡ self.old.commit }
+        ensures commit { self.new.commits ≡ self.old.commits }
         ensures store { self.new.store ≡ self.old.store }
         ensures course { MovesThrough D.state self.old moment result.items self.new }
         ensures events { map event_of result.items ≡ events.items }

@@ -12,7 +12,7 @@ use std::alloc::Global;
 use std::mem;
 
 /// A simulated network server over all its lives: a store on a disk, the core that decides on its
-/// table, the commit under way, and the effects that were released.
+/// table, what is begun, and the effects that were released.
 pub struct World<D: Sim> {
     pub(crate) place: Place<D>,
     /// The effects released over all lives, in order.

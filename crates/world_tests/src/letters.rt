@@ -14,6 +14,7 @@ b device 1
 t take 1
 s take 2
 T take 64
+N next 64
 p checkpoint
 c call
 f fail

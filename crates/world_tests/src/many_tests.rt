@@ -36,7 +36,7 @@ const MOST: Many = Many {
     batch: "Tccccr",
 };
 
-// The devices are brought, their batches are taken, committed and released, and their effects
+// The devices are provisioned, their batches are taken, committed and released, and their effects
 // leave. Then there is a look at the table, and a crash.
 fn steps_of(alloc: Global, many: &Many) -> Result<Vec<Step>, Refusal> {
     let mut steps = Vec::new(alloc);

@@ -1,6 +1,6 @@
 // The world told plainly: whole lists of commands and of copies, and the table and the windows made
 // anew from all of them each time that they are wanted.
-ghost use Rattle.std.specs.Prelude.{◌≡◌, ◌≢◌, ◌++◌, ℕ, [], true, length, Err, IfOk, IfErr};
+ghost use Rattle.std.specs.Prelude.{◌≡◌, ◌≢◌, ◌++◌, ◌∷◌, ℕ, [], true, length, Err, IfOk, IfErr};
 ghost use Rattle.std.specs.Prelude.{MatchResult};
 ghost use Rattle.lw_types.specs.declared.refusal.Refusal.TheVariants.{OutOfMemory};
 ghost use Rattle.sessions.specs.Decision.{FitsTable, IsDecision};
@@ -8,13 +8,15 @@ ghost use Rattle.disk.specs.Outlook.Outlook.{AllSucceed};
 ghost use Rattle.sessions.specs.Table.{fold_of, effects_of, step, with_step, step_effects};
 ghost use Rattle.world.specs.declared.answer.Answer.TheVariants as answers;
 ghost use Rattle.world.specs.declared.step.Step.TheVariants as steps;
-ghost use Rattle.world.specs.Answers.{Leaves, IsCopyAnswer, IsOwnRight};
+ghost use Rattle.world.specs.Answers.{IsCopyAnswer, IsOwnRight};
 ghost use Rattle.world.specs.Course.{after_commands, at_moment, beginning, decided_commands};
-ghost use Rattle.world.specs.Course.{due_frames, commands_in_flight, new_store, after_copy};
+ghost use Rattle.store.specs.Flights.{in_flight};
+ghost use Rattle.world.specs.Course.{due_frames, new_store, after_copy};
 ghost use Rattle.world.specs.Course.{with_closings, table_from, with_piece, step_if_room};
 ghost use Rattle.world.specs.Course.{after_command, windows_of};
-ghost use Rattle.world_tests.specs.Plain.{Goes, GoesPiece, GoesThrough, IsBusy, IsRefusal};
-ghost use Rattle.world_tests.specs.Plain.{at_course, flights_of, kept_with, own_after};
+ghost use Rattle.world_tests.specs.Plain.{Goes, GoesPiece, GoesThrough, HasCall, IsBusy, IsRefusal};
+ghost use Rattle.world_tests.specs.Plain.{Settles, at_course, flight_of, flights_of, kept_with};
+ghost use Rattle.world_tests.specs.Plain.{left_of, own_after};
 
 use crate::flight::{Flight, Stage, UnderWay};
 use crate::gathering::{PlainArrival, PlainWindow, due_frames, refusal_by, windows_of};
@@ -50,7 +52,7 @@ pub(crate) struct Plain {
     // Whether the next device call fails, and how many have failed.
     armed: bool,
     failures: u64,
-    // Whether the gate of the batch under way is open on the disk, as written and as synced.
+    // Whether the gate that was written last is open on the disk, as written and as synced.
     gate_written: bool,
     gate_synced: bool,
     // The same of the gate of the area that isn't live, after an opening.
@@ -141,6 +143,7 @@ impl Plain {
                 Ok(Answer::Turns { turns, fault })
             }
             Step::Take(most) => self.take(*most),
+            Step::Next(most) => self.next(*most),
             Step::Checkpoint => Ok(self.checkpoint()),
             Step::Call => self.call(),
             Step::Fail => self.fail(),
@@ -339,7 +342,7 @@ impl Plain {
     {
         match &self.under_way {
             UnderWay::Nothing => None,
-            UnderWay::Batch(flight) => Some(match flight.stage {
+            UnderWay::Batch(flight) | UnderWay::Batches(_, flight) => Some(match flight.stage {
                 Stage::Stopped | Stage::Unsure => Answer::Refused(Refusal::Failed),
                 _ => Answer::Idle,
             }),
@@ -382,6 +385,28 @@ impl Plain {
         Ok(Answer::Taken(count))
     }
 
+    // A batch is taken behind one whose gate is written and not synced.
+    fn next(&mut self, most: Most) -> Result<Answer, Refusal>
+        requires { self.old.course.is_open ≡ true }
+        ensures { IfOk result (λ answer. Goes self.old (steps.Next most) answer self.new) }
+    {
+        let UnderWay::Batch(first) = &self.under_way else {
+            return Ok(Answer::Idle);
+        };
+        if first.stage != Stage::GateWritten || self.untaken.is_empty() {
+            return Ok(Answer::Idle);
+        }
+        let count = self.untaken.len().min(most.get() as usize);
+        let rest = self.untaken.split_off(count)?;
+        let second = Flight {
+            commands: mem::replace(&mut self.untaken, rest),
+            stage: Stage::Begun,
+        };
+        let begun = mem::replace(&mut self.under_way, UnderWay::Nothing);
+        self.under_way = begun.followed_by(second);
+        Ok(Answer::Taken(count))
+    }
+
     // The model ends where the disk would count no more failures.
     fn fail(&mut self) -> Result<Answer, Refusal>
         requires { self.old.course.is_open ≡ true }
@@ -398,54 +423,51 @@ impl Plain {
         requires { self.old.course.is_open ≡ true }
         ensures { IfOk result (λ answer. Goes self.old steps.Call answer self.new) }
     {
-        let UnderWay::Batch(flight) = &mut self.under_way else {
-            return self.call_of_checkpoint();
-        };
-        let (succeeded, failed) = match flight.stage {
-            Stage::Begun => (Stage::Written, Stage::Stopped),
-            Stage::Written => (Stage::BodySynced, Stage::Stopped),
-            Stage::BodySynced => (Stage::GateWritten, Stage::Unsure),
-            Stage::GateWritten => (Stage::Durable, Stage::Unsure),
-            _ => return Ok(Answer::Idle),
-        };
+        if !self.has_call() {
+            return Ok(Answer::Idle);
+        }
         if self.armed {
             self.failures = self.failures.checked_add(1).ok_or(Refusal::OutOfMemory)?;
             self.armed = false;
-            flight.stage = failed;
+            let under_way = mem::replace(&mut self.under_way, UnderWay::Nothing);
+            self.under_way = under_way.failed();
             return Ok(Answer::Refused(Refusal::DeviceFailed));
         }
-        flight.stage = succeeded;
-        self.gate_written = succeeded == Stage::GateWritten;
+        self.move_gates();
+        let under_way = mem::replace(&mut self.under_way, UnderWay::Nothing);
+        self.under_way = under_way.called();
         Ok(Answer::Called)
     }
 
-    // Where two calls are left the new area's gate is written, and the old one stays open; where
-    // six are, the other one is closed.
-    fn call_of_checkpoint(&mut self) -> Result<Answer, Refusal>
-        requires open { self.old.course.is_open ≡ true }
-        requires alone { self.old.course.flights ≡ [] }
-        ensures { IfOk result (λ answer. Goes self.old steps.Call answer self.new) }
+    // Whether there is a device call to make.
+    fn has_call(&self) -> bool
+        ensures { HasCall result self.now.course.flights self.now.course.checkpoint }
     {
-        let UnderWay::Checkpoint(left) = self.under_way else {
-            return Ok(Answer::Idle);
-        };
-        if self.armed {
-            self.failures = self.failures.checked_add(1).ok_or(Refusal::OutOfMemory)?;
-            self.armed = false;
-            self.under_way = UnderWay::FailedCheckpoint;
-            return Ok(Answer::Refused(Refusal::DeviceFailed));
+        match &self.under_way {
+            UnderWay::Batch(flight) | UnderWay::Batches(_, flight) => matches!(
+                flight.stage,
+                Stage::Begun | Stage::Written | Stage::BodySynced | Stage::GateWritten
+            ),
+            UnderWay::Checkpoint(_) => true,
+            UnderWay::Nothing | UnderWay::FailedCheckpoint => false,
         }
-        match left {
-            6 => self.other_written = false,
-            2 => self.other_written = true,
-            _ => self.other_synced = self.other_written,
+    }
+
+    // The gates that the next device call writes or syncs. A gate stays as it is while the body
+    // behind it is written. Where two calls of a checkpoint are left the new area's gate is
+    // written, and the old one stays open; where six are, the other one is closed.
+    fn move_gates(&mut self)
+        ensures { self.new ≡ self.old }
+    {
+        match &self.under_way {
+            UnderWay::Batch(flight) => self.gate_written = flight.stage == Stage::BodySynced,
+            UnderWay::Batches(_, flight) if flight.stage == Stage::Begun => {}
+            UnderWay::Batches(_, flight) => self.gate_written = flight.stage == Stage::BodySynced,
+            UnderWay::Checkpoint(6) => self.other_written = false,
+            UnderWay::Checkpoint(2) => self.other_written = true,
+            UnderWay::Checkpoint(_) => self.other_synced = self.other_written,
+            UnderWay::Nothing | UnderWay::FailedCheckpoint => {}
         }
-        self.under_way = if left > 1 {
-            UnderWay::Checkpoint(left - 1)
-        } else {
-            UnderWay::Nothing
-        };
-        Ok(Answer::Called)
     }
 
     fn release(&mut self, alloc: Global) -> Result<Answer, Refusal>
@@ -454,12 +476,11 @@ impl Plain {
     {
         match mem::replace(&mut self.under_way, UnderWay::Nothing) {
             UnderWay::Batch(flight) if flight.stage == Stage::Durable => {
-                let mut table = self.table(alloc, &self.settled)?;
-                let mut effects = fold(alloc, &mut table, &flight.commands)?;
-                let count = effects.len();
-                self.left.append(&mut effects)?;
-                let mut commands = flight.commands;
-                self.settled.append(&mut commands)?;
+                Ok(Answer::Released(self.settle(alloc, flight)?))
+            }
+            UnderWay::Batches(first, second) if first.stage == Stage::Durable => {
+                let count = self.settle(alloc, first)?;
+                self.under_way = UnderWay::Batch(second);
                 Ok(Answer::Released(count))
             }
             other => {
@@ -467,6 +488,19 @@ impl Plain {
                 Ok(Answer::Idle)
             }
         }
+    }
+
+    // The effects of a batch leave, and its commands are settled. Gives how many effects.
+    fn settle(&mut self, alloc: Global, flight: Flight) -> Result<usize, Refusal>
+        ensures { IfOk result (Settles self.old flight.commands.items self.new) }
+    {
+        let mut table = self.table(alloc, &self.settled)?;
+        let mut effects = fold(alloc, &mut table, &flight.commands)?;
+        let count = effects.len();
+        self.left.append(&mut effects)?;
+        let mut commands = flight.commands;
+        self.settled.append(&mut commands)?;
+        Ok(count)
     }
 
     fn emit(&mut self, alloc: Global) -> Result<Answer, Refusal>
@@ -537,31 +571,29 @@ impl Plain {
         }
     }
 
-    // Whether the batch under way is part of what a crash leaves.
-    fn flew(&self, image: &Image) -> bool
-        ensures { Leaves self.now.course (kept_with result self.now.course) }
-    {
-        let UnderWay::Batch(flight) = &self.under_way else {
-            return false;
-        };
-        match flight.stage {
-            Stage::Durable => true,
-            Stage::GateWritten | Stage::Unsure => match image {
-                Image::Old => self.gate_synced,
-                _ => self.gate_written,
-            },
-            _ => false,
+    // Whether a crash leaves the gate open that was written and may not be synced.
+    fn flew(&self, image: &Image) -> bool {
+        match image {
+            Image::Old => self.gate_synced,
+            _ => self.gate_written,
         }
     }
 
-    // The commands that a crash leaves, with the batch under way or without it.
+    // The commands that a crash leaves, with the batch whose gate may be open or without it.
     fn kept(&self, alloc: Global, flew: bool) -> Result<Vec<Command>, Refusal>
         ensures { IfOk result (λ kept. kept.items ≡ kept_with flew self.now.course) }
     {
         let mut kept = Vec::new(alloc);
         add(&mut kept, &self.settled)?;
-        if flew {
-            add_flying(&mut kept, &self.under_way)?;
+        match &self.under_way {
+            UnderWay::Batch(flight) => add_left(&mut kept, flight, flew)?,
+            UnderWay::Batches(first, second) => {
+                add_left(&mut kept, first, flew)?;
+                if first.stage == Stage::Durable {
+                    add_left(&mut kept, second, flew)?;
+                }
+            }
+            UnderWay::Nothing | UnderWay::Checkpoint(_) | UnderWay::FailedCheckpoint => {}
         }
         Ok(kept)
     }
@@ -588,15 +620,35 @@ impl Plain {
     }
 }
 
-// Adds the commands of the batch under way behind others.
+// Adds the commands of the batches that are begun behind others.
 fn add_flying(commands: &mut Vec<Command>, under_way: &UnderWay) -> Result<(), Refusal>
     ensures { IfOk result (λ _. commands.new.items
-        ≡ commands.old.items ++ commands_in_flight (flights_of under_way.now)) }
+        ≡ commands.old.items ++ in_flight (flights_of under_way.now)) }
 {
     match under_way {
         UnderWay::Batch(flight) => add(commands, &flight.commands),
-        _ => Ok(()),
+        UnderWay::Batches(first, second) => {
+            add(commands, &first.commands)?;
+            add(commands, &second.commands)
+        }
+        UnderWay::Nothing | UnderWay::Checkpoint(_) | UnderWay::FailedCheckpoint => Ok(()),
     }
+}
+
+// Adds the commands of a batch behind others, where a crash leaves it.
+fn add_left(commands: &mut Vec<Command>, flight: &Flight, flew: bool) -> Result<(), Refusal>
+    ensures { IfOk result (λ _. commands.new.items
+        ≡ left_of flew commands.old.items (flight_of flight.now ∷ [])) }
+{
+    let is_left = match flight.stage {
+        Stage::Durable => true,
+        Stage::GateWritten | Stage::Unsure => flew,
+        Stage::Begun | Stage::Written | Stage::BodySynced | Stage::Stopped => false,
+    };
+    if is_left {
+        add(commands, &flight.commands)?;
+    }
+    Ok(())
 }
 
 // Adds commands behind others.

@@ -4,12 +4,28 @@ use crate::worlds::{SLOTS, first_difference};
 use lw_types::Refusal;
 use std::alloc::Global;
 
-const LETTERS: &str = "abtTpcfreonl";
+const LETTERS: &str = "abtTNpcfreonl";
 
 // Scripts that lead to a stage: nothing is there, two commands wait, a batch has begun, so many of
 // its four device calls succeeded, and one of them failed.
 const BATCHES: &[&str] = &[
     "", "ab", "abt", "abtc", "abtcc", "abtccc", "abtcccc", "abtfc", "abtcfc", "abtccfc", "abtcccfc",
+];
+
+// The same of a batch that follows one whose gate is written: it has begun, so many of the four
+// device calls left succeeded, one of them failed, and one or both batches were released.
+const PAIRS: &[&str] = &[
+    "abtcccN",
+    "abtcccNc",
+    "abtcccNcc",
+    "abtcccNccc",
+    "abtcccNcccc",
+    "abtcccNfc",
+    "abtcccNcfc",
+    "abtcccNccfc",
+    "abtcccNcccfc",
+    "abtcccNccr",
+    "abtcccNccccr",
 ];
 
 // The same of a checkpoint: it has begun, so many of its four device calls succeeded, and one of
@@ -64,6 +80,17 @@ fn first_that_differs(alloc: Global, opening: &str) -> Result<Option<char>, Refu
 #[test]
 fn batches_answer_as_their_model(rt: HostRuntime) {
     for opening in BATCHES {
+        assert_eq!(rt;
+            first_that_differs(rt.alloc(), opening),
+            Ok(None),
+            "{opening}"
+        );
+    }
+}
+
+#[test]
+fn pairs_answer_as_their_model(rt: HostRuntime) {
+    for opening in PAIRS {
         assert_eq!(rt;
             first_that_differs(rt.alloc(), opening),
             Ok(None),

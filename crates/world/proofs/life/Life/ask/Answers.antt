@@ -18,7 +18,7 @@ returns-in-Ok-clause-course g c origin course f =
     let law = c.windows_stand_for_groups.ensures.asked in
     subst (λ (told : Turn × ℕ). AnswersOpen origin course (steps.Event c.args.moment (events.Ask c.args.command.now)) (answers.Turn told.0 told.1)
     × FollowsLife state origin (course_after origin course (steps.Event c.args.moment (events.Ask c.args.command.now)) (answers.Turn told.0 told.1)) (record life { core = c.decide-turn.new.self })) (sym c.told.ensures)
-    (does-ask c.of_runs.ensures origin (store_state state life.store) life.commit course c.args.moment life.core c.decide-turn.new.self life.links c.decide-turn.result f.0 f.1 c.decide-turn.ensures.lawful c.args.command.now (subst (λ command. IsCoreTurn life.core c.args.moment (Asks command) c.decide-turn.result c.decide-turn.new.self) c.in-Ok.ensures c.decide-turn.ensures.turn) (law c.args.command.now life.core c.decide-turn.new.self c.args.moment course.shut c.decide-turn.result course.arrivals (subst (λ command. IsCoreTurn life.core c.args.moment (Asks command) c.decide-turn.result c.decide-turn.new.self) c.in-Ok.ensures c.decide-turn.ensures.turn)))
+    (does-ask c.of_runs.ensures origin (store_state state life.store) life.commits course c.args.moment life.core c.decide-turn.new.self life.links c.decide-turn.result f.0 f.1 c.decide-turn.ensures.lawful c.args.command.now (subst (λ command. IsCoreTurn life.core c.args.moment (Asks command) c.decide-turn.result c.decide-turn.new.self) c.in-Ok.ensures c.decide-turn.ensures.turn) (law c.args.command.now life.core c.decide-turn.new.self c.args.moment course.shut c.decide-turn.result course.arrivals (subst (λ command. IsCoreTurn life.core c.args.moment (Asks command) c.decide-turn.result c.decide-turn.new.self) c.in-Ok.ensures c.decide-turn.ensures.turn)))
 
 pub returns-in-Err-clause-course : goal.returns-in-Err-clause-course
 returns-in-Err-clause-course g c origin course f =
@@ -27,4 +27,4 @@ returns-in-Err-clause-course g c origin course f =
     let law = c.windows_stand_for_groups.ensures.asked in
     subst (λ (told : Turn × ℕ). AnswersOpen origin course (steps.Event c.args.moment (events.Ask c.args.command.now)) (answers.Turn told.0 told.1)
     × FollowsLife state origin (course_after origin course (steps.Event c.args.moment (events.Ask c.args.command.now)) (answers.Turn told.0 told.1)) (record life { core = c.decide_without_memory-turn.new.self })) (sym c.told-in-Err.ensures)
-    (does-ask c.of_runs.ensures origin (store_state state life.store) life.commit course c.args.moment life.core c.decide_without_memory-turn.new.self life.links c.decide_without_memory-turn.result f.0 f.1 c.decide_without_memory-turn.ensures.lawful c.args.command.now c.decide_without_memory-turn.ensures.turn (law c.args.command.now life.core c.decide_without_memory-turn.new.self c.args.moment course.shut c.decide_without_memory-turn.result course.arrivals c.decide_without_memory-turn.ensures.turn))
+    (does-ask c.of_runs.ensures origin (store_state state life.store) life.commits course c.args.moment life.core c.decide_without_memory-turn.new.self life.links c.decide_without_memory-turn.result f.0 f.1 c.decide_without_memory-turn.ensures.lawful c.args.command.now c.decide_without_memory-turn.ensures.turn (law c.args.command.now life.core c.decide_without_memory-turn.new.self c.args.moment course.shut c.decide_without_memory-turn.result course.arrivals c.decide_without_memory-turn.ensures.turn))

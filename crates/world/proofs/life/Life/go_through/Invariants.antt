@@ -9,7 +9,7 @@ abbrev pub invariant-loop-event : goal.invariant-loop-event
 invariant-loop-event g l =
     let state = g.D.Disk.state in
     IsSoundLife state l.self
-    × ((l.self.commit ≡ l.fn.self.commit)
+    × ((l.self.commits ≡ l.fn.self.commits)
     × ((l.self.store ≡ l.fn.self.store)
     × (MovesThrough state l.fn.self l.moment l.turns.items l.self
     × ((map event_of l.turns.items ++ l.event-iterator.rest.items ≡ l.fn.events.items)

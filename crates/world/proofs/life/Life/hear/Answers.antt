@@ -18,7 +18,7 @@ returns-in-Ok-clause-course g c origin course f =
     let law = c.windows_stand_for_groups.ensures.heard in
     subst (λ (told : Turn × ℕ). AnswersOpen origin course (steps.Event c.args.moment (events.Hear c.args.copy.now)) (answers.Turn told.0 told.1)
     × FollowsLife state origin (course_after origin course (steps.Event c.args.moment (events.Hear c.args.copy.now)) (answers.Turn told.0 told.1)) (record life { core = c.hear-turn.new.self })) (sym c.told.ensures)
-    (does-hear c.of_runs.ensures origin (store_state state life.store) life.commit course c.args.moment life.core c.hear-turn.new.self life.links c.hear-turn.result f.0 f.1 c.hear-turn.ensures.lawful c.args.copy.now (subst (λ copy. IsCoreTurn life.core c.args.moment (Hears copy) c.hear-turn.result c.hear-turn.new.self) c.in-Ok.ensures c.hear-turn.ensures.turn) (law c.args.copy.now life.core c.hear-turn.new.self c.args.moment course.shut c.hear-turn.result course.arrivals (subst (λ copy. IsCoreTurn life.core c.args.moment (Hears copy) c.hear-turn.result c.hear-turn.new.self) c.in-Ok.ensures c.hear-turn.ensures.turn) c.hear-turn.ensures.lawful))
+    (does-hear c.of_runs.ensures origin (store_state state life.store) life.commits course c.args.moment life.core c.hear-turn.new.self life.links c.hear-turn.result f.0 f.1 c.hear-turn.ensures.lawful c.args.copy.now (subst (λ copy. IsCoreTurn life.core c.args.moment (Hears copy) c.hear-turn.result c.hear-turn.new.self) c.in-Ok.ensures c.hear-turn.ensures.turn) (law c.args.copy.now life.core c.hear-turn.new.self c.args.moment course.shut c.hear-turn.result course.arrivals (subst (λ copy. IsCoreTurn life.core c.args.moment (Hears copy) c.hear-turn.result c.hear-turn.new.self) c.in-Ok.ensures c.hear-turn.ensures.turn) c.hear-turn.ensures.lawful))
 
 pub returns-in-Err-clause-course : goal.returns-in-Err-clause-course
 returns-in-Err-clause-course g c origin course f =
@@ -27,4 +27,4 @@ returns-in-Err-clause-course g c origin course f =
     let law = c.windows_stand_for_groups.ensures.missed in
     subst (λ (told : Turn × ℕ). AnswersOpen origin course (steps.Event c.args.moment (events.Hear c.args.copy.now)) (answers.Turn told.0 told.1)
     × FollowsLife state origin (course_after origin course (steps.Event c.args.moment (events.Hear c.args.copy.now)) (answers.Turn told.0 told.1)) (record life { core = c.hear_without_memory-turn.new.self })) (sym c.told-in-Err.ensures)
-    (does-miss c.of_runs.ensures origin (store_state state life.store) life.commit course c.args.moment life.core c.hear_without_memory-turn.new.self life.links c.hear_without_memory-turn.result f.0 f.1 c.hear_without_memory-turn.ensures.lawful c.args.copy.now c.hear_without_memory-turn.ensures.turn (law c.args.copy.now life.core c.hear_without_memory-turn.new.self c.args.moment course.shut c.hear_without_memory-turn.result course.arrivals c.hear_without_memory-turn.ensures.turn))
+    (does-miss c.of_runs.ensures origin (store_state state life.store) life.commits course c.args.moment life.core c.hear_without_memory-turn.new.self life.links c.hear_without_memory-turn.result f.0 f.1 c.hear_without_memory-turn.ensures.lawful c.args.copy.now c.hear_without_memory-turn.ensures.turn (law c.args.copy.now life.core c.hear_without_memory-turn.new.self c.args.moment course.shut c.hear_without_memory-turn.result course.arrivals c.hear_without_memory-turn.ensures.turn))

@@ -17,4 +17,4 @@ returns-clause-course g c origin course f =
     let law = c.windows_stand_for_groups.ensures.ticked in
     subst (λ (told : Turn × ℕ). AnswersOpen origin course (steps.Event c.args.moment (events.Tick)) (answers.Turn told.0 told.1)
     × FollowsLife state origin (course_after origin course (steps.Event c.args.moment (events.Tick)) (answers.Turn told.0 told.1)) (record life { core = c.tick-turn.new.self })) (sym c.told.ensures)
-    (does-tick c.of_runs.ensures origin (store_state state life.store) life.commit course c.args.moment life.core c.tick-turn.new.self life.links c.tick-turn.result f.0 f.1 c.tick-turn.ensures.lawful c.tick-turn.ensures.turn (law life.core c.tick-turn.new.self c.args.moment course.shut c.tick-turn.result course.arrivals c.tick-turn.ensures.turn))
+    (does-tick c.of_runs.ensures origin (store_state state life.store) life.commits course c.args.moment life.core c.tick-turn.new.self life.links c.tick-turn.result f.0 f.1 c.tick-turn.ensures.lawful c.tick-turn.ensures.turn (law life.core c.tick-turn.new.self c.args.moment course.shut c.tick-turn.result course.arrivals c.tick-turn.ensures.turn))

@@ -3,7 +3,7 @@ use Rattle.disk.specs.State.{NothingOpen}
 use Rattle.sessions.specs.Table.{TableState}
 use Rattle.session_core.specs.State.{new_decisions}
 use Rattle.store.specs.State.{store_state}
-use Rattle.world.specs.declared.commit.UnderWay.TheVariants as commits
+use Rattle.world.specs.Commits.{at_rest}
 use Rattle.world.specs.Course.{after_opening}
 use Rattle.world.specs.Follows.{Survives}
 use Rattle.world.proofs.Calling.{held}
@@ -24,7 +24,7 @@ returns-in-Ok-clause-course g c healthy settled origin course left =
       λ image. (
         refl,
         (
-          moved origin (after_opening origin course c.seq-seq.result) s (store_state state life.store) (new_decisions s.table s.seq) life.core.decisions commits.Idle life.commit
+          moved origin (after_opening origin course c.seq-seq.result) s (store_state state life.store) (new_decisions s.table s.seq) life.core.decisions at_rest life.commits
               c.in-Ok.ensures.store (ap (λ (k : CoreState). k.decisions) c.in-Ok.ensures.core) c.in-Ok.ensures.idle
               (life_opened origin course left.0 c.seq-seq.result s left.1 seq settled healthy left.2 left.3 (c.a_settled_store_is_on_its_disk.ensures s settled)),
           listens-first (after_opening origin course c.seq-seq.result) life.core life.links s.table s.seq c.in-Ok.ensures.core c.in-Ok.ensures.silent (c.no_copies_no_windows.ensures 0) refl refl refl refl,

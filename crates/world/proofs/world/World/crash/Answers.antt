@@ -1,5 +1,6 @@
-use Rattle.std.proofs.Common.{◌∙◌, ◌++◌, length, ap, subst, sym, arith, length-append}
+use Rattle.std.proofs.Common.{◌∙◌, length, ap, subst, sym, arith}
 use Rattle.std.proofs.lemmas.List.{length-map}
+use Rattle.disk.specs.Crash.{IsCrashed}
 use Rattle.flusher.specs.Released.{effect_of, effects_of_all}
 use Rattle.world.specs.declared.step.Step.TheVariants as steps
 use Rattle.world.specs.Answers.{AnswersCrash}
@@ -9,6 +10,7 @@ use Rattle.world.specs.Follows.{FollowsPlace}
 use Rattle.world.specs.Sound.{HasDisk}
 use Rattle.world.proofs.Known.{unseen}
 use Rattle.world.proofs.Opening.{disk_survives, crashed_survives, both_ways, crash_keeps}
+use Rattle.world.proofs.Telling.{one_disk}
 use Rattle.world.proofs.world.World.crash.Goals as goal
 
 pub returns-clause-course : goal.returns-clause-course
@@ -29,12 +31,12 @@ returns-clause-course g c origin course f =
       both_ways course.is_open (AnswersCrash origin course answer) opened.0,
       record {
         place = subst (FollowsPlace state origin next) (sym c.put.ensures.place) (opened.1 image);
-        left = kept.left ∙ (f.left ∙ ap (λ r. origin.left ++ effects_of_all r.items) (sym c.put.ensures.released));
+        left = kept.left ∙ (f.left ∙ ap (λ r. effects_of_all r.items) (sym c.put.ensures.released));
         emitted =
             let put = c.put.ensures.emitted in
             let there = c.len-self.ensures in
             let effects = length-map world.released.items effect_of in
-            let left = ap length f.left ∙ length-append origin.left (effects_of_all world.released.items) in
+            let left = ap length f.left in
             let wanted = kept.emitted in
             omega (arith, put, there, effects, left, wanted, world.released.ok.0);
         once = kept.once f.once;
@@ -52,3 +54,14 @@ returns-clause-calls g c calls are =
     let crashed = unseen calls (failures old) (failures disk) (outlook old) (outlook disk) (are old came) c.crash.ensures.failures c.crash.ensures.outlook in
     let found = c.reopen-place.ensures.calls image calls crashed in
     (found.0, subst (AreCallsAt failures outlook (calls_after calls (steps.Crash image) c.reopen-place.result.1)) (sym c.put.ensures.place) found.1)
+
+pub returns-clause-crashed : goal.returns-clause-crashed
+returns-clause-crashed g c before now at there =
+    let state = g.D.Disk.state in
+    let image = c.args.image.now in
+    let old = c.end-disk.result in
+    let disk = c.crash.new.self in
+    let came = subst (λ p. HasDisk p old) c.replace.ensures.value c.end-disk.ensures in
+    let same = c.reopen-place.ensures.same now (subst (λ p. HasDisk p now) c.put.ensures.place there) in
+    subst (IsCrashed image (state before)) (sym same)
+    (subst (λ d. IsCrashed image (state d) (state disk).content) (one_disk c.args.self.now.place old before came at) c.crash.ensures.image)

@@ -2,7 +2,7 @@ use Rattle.std.proofs.Common.{◌∙◌, refl, [], ap, subst, sym}
 use Rattle.flusher.specs.Released.{effects_of_all}
 use Rattle.session_core.specs.State.{new_decisions}
 use Rattle.store.specs.State.{store_state, disk_of}
-use Rattle.world.specs.declared.commit.UnderWay.TheVariants as commits
+use Rattle.world.specs.Commits.{at_rest}
 use Rattle.world.specs.Calls.{AreRecordedCalls, outlook_after_opening}
 use Rattle.world.specs.Course.{beginning, new_store}
 use Rattle.world.proofs.Known.{formatted_known}
@@ -25,7 +25,7 @@ returns-in-Ok-clause-course g c =
       place = (
         refl,
         (
-          moved origin first s (store_state state life.store) (new_decisions s.table s.seq) life.core.decisions commits.Idle life.commit
+          moved origin first s (store_state state life.store) (new_decisions s.table s.seq) life.core.decisions at_rest life.commits
               c.in-Ok.ensures.store (ap (λ (k : CoreState). k.decisions) c.in-Ok.ensures.core) c.in-Ok.ensures.idle
               (life_opened origin first [] 0 s refl refl settled made.healthy.0 made.empty.0 made.empty.1 (c.a_settled_store_is_on_its_disk.ensures s settled)),
           listens-first first life.core life.links s.table s.seq c.in-Ok.ensures.core c.in-Ok.ensures.silent (c.no_copies_no_windows.ensures 0) refl refl refl refl,

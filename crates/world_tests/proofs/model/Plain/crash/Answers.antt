@@ -1,4 +1,4 @@
-use Rattle.std.proofs.Common.{◌≡◌, ◌∙◌, ◌+◌, ◌-◌, ℕ, Bool, true, false, MatchBool, List, [], length, take, cond, sym, ap, subst, refl, rules, arith}
+use Rattle.std.proofs.Common.{◌≡◌, ◌⊎◌, ◌∷◌, ◌++◌, inl, inr, ◌∙◌, ◌+◌, ◌-◌, ℕ, Bool, true, false, MatchBool, List, [], length, take, cond, sym, ap, subst, refl, rules, arith}
 use Rattle.devices.specs.declared.command.Command.{Command}
 use Rattle.disk.specs.declared.sim.Image.{Image}
 use Rattle.disk.specs.Outlook.Outlook.{AllSucceed, FailsAfter}
@@ -11,7 +11,9 @@ use Rattle.world.specs.Answers.{Leaves}
 use Rattle.world.specs.Calls.{CallRecord, MaySucceed, outlook_after_opening}
 use Rattle.world.specs.Course.Checkpoint.{NotUnderWay}
 use Rattle.world.specs.Course.{Course, decided_commands, new_store, table_from}
-use Rattle.world_tests.specs.Plain.{PlainState, Goes, kept_with}
+use Rattle.store.specs.Flights.{Flight, MayLeave, Stage}
+use Rattle.store.specs.Flights.Stage.{Durable, GateWritten, Unsure}
+use Rattle.world_tests.specs.Plain.{PlainState, Goes, flights_of, kept_with, left_of}
 use Rattle.world_tests.proofs.model.Plain.crash.Goals as goal
 
 -- the model after an opening that found these commands
@@ -36,6 +38,22 @@ landed old calls settled untaken emitted arrivals pieces =
         pieces = pieces;
       };
     }
+
+-- the durable batches are left, and the one behind them is there or not
+doubt : (flew : Bool) (with_it without : List Command) → (cond flew with_it without ≡ without) ⊎ (cond flew with_it without ≡ with_it)
+doubt true with_it without = inr refl
+doubt false with_it without = inl refl
+
+left_by : (flew : Bool) (stage : Stage) (settled batch : List Command) (flights : List (Flight Command)) → MayLeave (settled ++ batch) flights (left_of flew (settled ++ batch) flights)
+    → MayLeave settled (record { batch = batch; stage = stage } ∷ flights) (left_of flew settled (record { batch = batch; stage = stage } ∷ flights))
+left_by flew Durable settled batch flights behind = behind
+left_by flew GateWritten settled batch flights behind = doubt flew (settled ++ batch) settled
+left_by flew Unsure settled batch flights behind = doubt flew (settled ++ batch) settled
+left_by flew stage settled batch flights behind = refl
+
+leaves_left : (flew : Bool) (settled : List Command) (flights : List (Flight Command)) → MayLeave settled flights (left_of flew settled flights)
+leaves_left flew settled [] = refl
+leaves_left flew settled (flight ∷ flights) = left_by flew flight.stage settled flight.batch flights (leaves_left flew (settled ++ flight.batch) flights)
 
 both_ways : (b : Bool) (X : Type 0) → X → MatchBool b X X
 both_ways true X x = x
@@ -76,5 +94,5 @@ returns c =
     ∙ ap (λ (t : TableState). length t.devices)
     (c.in_ok-table.ensures ∙ ap (table_from (new_store c.self.inside.net_id c.self.inside.slots)) c.deref.ensures.value) in
     crashed c.what_a_crash_leaves.ensures.beginning _ _ c.self.view_is c.args.image.now c.flew-flew.result c.in_ok-kept.kept.items c.clear.new.self.items
-    (length c.devices.result.now) c.len.result c.len-self-inside.result c.clear-2.new.self.items c.clear-3.new.self.items refl c.flew-flew.ensures c.in_ok-kept.ensures number count c.clear.ensures.items lost
+    (length c.devices.result.now) c.len.result c.len-self-inside.result c.clear-2.new.self.items c.clear-3.new.self.items refl (leaves_left c.flew-flew.result c.self.inside.settled.items (flights_of c.self.inside.under_way)) c.in_ok-kept.ensures number count c.clear.ensures.items lost
     (ap (λ b. cond b (FailsAfter 0) AllSucceed) c.if-self.false) c.clear-2.ensures.items c.clear-3.ensures.items
