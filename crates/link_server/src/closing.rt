@@ -1,7 +1,7 @@
 // The closer closes the windows that are due.
 use crate::context::Context;
 use crate::gate::Gate;
-use crate::moments::{LifeClock, later};
+use crate::moments::{LifeClock, later, moment_of};
 use crate::server::LiveServer;
 use dedup::WAIT;
 use session_core::{Books, Moment, Seat, Sessions};
@@ -9,6 +9,10 @@ use std::sync::Wait;
 
 // How long until memory is asked for again, in milliseconds.
 const PAUSE: u64 = 10;
+
+// How long lies between two looks at least, in milliseconds. While many frames come, those that are
+// decided meanwhile are committed and sent together.
+const GATHER: u64 = 2;
 
 /// The closer.
 #[derive(Drop)]
@@ -23,12 +27,14 @@ impl<'x, B: Books, R: Wait, G: Gate, C: LifeClock> Closer<'x, B, R, G, C> {
     /// back.
     pub(crate) fn run(self) -> Seat<B> {
         let mut closer = self;
+        let mut next = moment_of(0);
         for _ in closer.context.rt.forever() {
             if closer.server.signals.is_over() {
                 break;
             }
-            closer.wait_for_window();
+            closer.wait_for_window(next);
             let now = closer.context.clock.now();
+            next = later(now, GATHER);
             if !closer.tick(now) {
                 let until = later(now, PAUSE);
                 closer
@@ -45,20 +51,21 @@ impl<'x, B: Books, R: Wait, G: Gate, C: LifeClock> Closer<'x, B, R, G, C> {
         closer.seat
     }
 
-    // Until the oldest window is due; where there is none, until one opens. The flag is set before
-    // the look, so that a window which opens behind the look finds it set, and rings.
-    fn wait_for_window(&self) {
+    // Until the oldest window is due, and `next` is there; where there is none, until one opens, or
+    // a frame is decided by another thread. The flag is set before the looks, so that whoever opens
+    // or decides behind a look finds it set, and rings.
+    fn wait_for_window(&self, next: Moment) {
         let signals = &self.server.signals;
         signals.set_idle();
         let due = self.server.sessions.next_due(self.context.rt);
-        if due.is_none() {
+        if due.is_none() && !signals.has_frames() {
             signals.opened.park(self.context.rt);
         }
         signals.clear_idle();
         if let Some(due) = due {
             self.context
                 .clock
-                .wait(self.context.rt, &signals.opened, due);
+                .wait(self.context.rt, &signals.opened, due.max(next));
         }
     }
 
@@ -69,8 +76,9 @@ impl<'x, B: Books, R: Wait, G: Gate, C: LifeClock> Closer<'x, B, R, G, C> {
             .sessions
             .tick(self.context.rt, &mut self.seat, moment);
         if turn.from < turn.to {
-            self.server.signals.ring_flusher();
+            self.server.signals.tell_frames();
         }
+        self.server.signals.ring_for_frames();
         turn.refused.is_none()
     }
 }

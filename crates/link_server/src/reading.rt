@@ -58,6 +58,11 @@ fn asking(peer: Option<Peer>) -> Option<Application> {
     }
 }
 
+// Whether a turn has decisions.
+fn has_decided(turn: &Turn) -> bool {
+    turn.from < turn.to
+}
+
 // As whom a peer is told of effects.
 fn name_of(peer: &Peer) -> Recipient {
     match peer {
@@ -152,8 +157,10 @@ impl<'x, B: Books, R: Wait, G: Gate, C: LifeClock> Worker<'x, B, R, G, C> {
             .server
             .sessions
             .hear(self.context.rt, &mut self.seat, moment, copy);
+        if has_decided(&turn) {
+            self.server.signals.tell_frames();
+        }
         self.server.signals.tell_opened();
-        self.tell_flusher(&turn);
     }
 
     // An application asks, and is told a refusal.
@@ -182,7 +189,9 @@ impl<'x, B: Books, R: Wait, G: Gate, C: LifeClock> Worker<'x, B, R, G, C> {
             Command::Heard(_) => unreachable!(),
             Command::QueueMac(value) => sessions.queue_mac(self.context.rt, seat, moment, value),
         };
-        self.tell_flusher(&turn);
+        if has_decided(&turn) {
+            self.server.signals.ring_flusher();
+        }
         turn.refused
     }
 
@@ -191,11 +200,5 @@ impl<'x, B: Books, R: Wait, G: Gate, C: LifeClock> Worker<'x, B, R, G, C> {
         self.context
             .gate
             .pass(self.number.saturating_add(1), self.calls);
-    }
-
-    fn tell_flusher(&self, turn: &Turn) {
-        if turn.from < turn.to {
-            self.server.signals.ring_flusher();
-        }
     }
 }

@@ -41,8 +41,10 @@ use store::Store;
 /// case.
 ///
 /// A worker waits in its read, a sender and the flusher for a bell, and the closer until the oldest
-/// window is due. None of them polls, but a sender whose peer takes nothing, which tries again each
-/// second, and the closer where there is no memory. It need not return: an input may never end.
+/// window is due, and for 2 ms at least: frames that come close together are committed together,
+/// and requests at once. None of them polls, but a sender whose peer takes nothing, which tries
+/// again each second, and the closer where there is no memory. It need not return: an input may
+/// never end.
 ///
 /// Of all this the contract says that the shares sum to the decisions; what it calls is proved for
 /// itself, and the rest is shown by tests on sockets.

@@ -17,6 +17,8 @@ pub(crate) struct Signals {
     ticked: AtomicBool,
     // The closer waits for a window to open.
     closer_idle: AtomicBool,
+    // Frames were decided, and the flusher wasn't rung for them.
+    frames_decided: AtomicBool,
     // Rings for the flusher: something was decided, or the last tick was made.
     decided: Parker,
     // Rings for the closer: a window is open, or all inputs have ended, or the life is stopped.
@@ -32,6 +34,7 @@ impl Signals {
             stopped: AtomicBool::new(false),
             ticked: AtomicBool::new(false),
             closer_idle: AtomicBool::new(false),
+            frames_decided: AtomicBool::new(false),
             decided: Parker::new(),
             opened: Parker::new(),
         }
@@ -76,9 +79,26 @@ impl Signals {
         self.stopped.load(SeqCst)
     }
 
-    /// Something was decided.
+    /// What an application asked was decided.
     pub(crate) fn ring_flusher(&self) {
         self.decided.unpark();
+    }
+
+    /// Frames were decided. The closer rings the flusher for them when it looks next.
+    pub(crate) fn tell_frames(&self) {
+        self.frames_decided.store(true, SeqCst);
+    }
+
+    /// Whether frames were decided for which the flusher wasn't rung.
+    pub(crate) fn has_frames(&self) -> bool {
+        self.frames_decided.load(SeqCst)
+    }
+
+    /// Rings the flusher, where frames were decided since the last call.
+    pub(crate) fn ring_for_frames(&self) {
+        if self.frames_decided.swap(false, SeqCst) {
+            self.decided.unpark();
+        }
     }
 
     /// Waits until something was decided.

@@ -20,7 +20,8 @@ const SAID: &str = "0002 0203 0051 03 |provision 1112131415161718 01020304050607
      000807060504030201181716151413121101009E7419CE;";
 
 const HEARD: &str = "001F 13 |provisioned 1112131415161718 0|;\
-     0025 11 00000000000000B1 0000C350 33BE27A0 05 05 06 20 40A8AE29D75BA396C02EF9C963CAD8BE;";
+     0035 11 00000000000000B1 0000C350 33BE27A0 05 05 06 \
+     20 964FABE971240AB8E37F72AEFDC360B6FD3C4BE3FB883149AF03F6CC89235E53;";
 
 // The nth call of a disk fails, and the links stay open until the life closes them: how it ends,
 // how many bytes are heard, and the number that the disk holds afterwards.

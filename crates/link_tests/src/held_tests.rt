@@ -22,7 +22,8 @@ const HELD: &str = "0002 0201 \
 
 // The first sync is held until each of two workers has made a second decision, and come to its
 // third call: how many decisions are made, and how many syncs. All that was decided meanwhile is
-// one batch, so there are two of them, with two syncs each, and one more is of the opening.
+// one batch behind the first, with which it shares a sync: they have three, and one more is of the
+// opening.
 fn hold_sync<R: Net<Listener = TcpListener, Stream = TcpStream> + Threads + Wait + Sync>(
     rt: &R,
     alloc: Global,
@@ -38,7 +39,7 @@ fn hold_sync<R: Net<Listener = TcpListener, Stream = TcpStream> + Threads + Wait
 
 #[test]
 fn workers_decide_while_a_sync_is_held(rt: HostRuntime) {
-    assert!(rt; hold_sync(&rt, rt.alloc()) == Ok((4, 5)));
+    assert!(rt; hold_sync(&rt, rt.alloc()) == Ok((4, 4)));
 }
 
 // Two applications have a device each, and queue an item for it. The second one asks once more.
