@@ -6,7 +6,7 @@ use crate::network::{Comes, FRESH, State, told};
 use crate::tables::{alone, batch, filled, new_table};
 use join_server::{JoinAsk, JoinRequestBytes};
 use lw_types::{DevAddr, Eui, FromText, Refusal};
-use sessions::{Batch, Records, Table};
+use sessions::{Batch, PlacedBatch, Table};
 use std::alloc::Global;
 
 // What comes to a table of 2 slots without devices, and what leaves then or as what it is refused.
@@ -118,17 +118,9 @@ fn a_table_admits_what_was_made_of_it(rt: HostRuntime) {
     assert!(rt; admits_its_own(rt.alloc()) == Ok(true));
 }
 
-// The records of a batch are taken one by one.
-fn add_records(alloc: Global, batch: &Batch) -> Result<(), Refusal> {
-    let mut records = Records::new(alloc);
-    for decision in batch.as_slice() {
-        records.add(decision)?;
-    }
-    Ok(())
-}
-
-// An empty table with the records of a batch whose last number is this.
-fn restored(alloc: Global, batch: &Batch, end: u64) -> Result<Table, Refusal> {
+// An empty table with the records of a batch whose last number is this, and how many effects are
+// left of its decisions.
+fn restored(alloc: Global, batch: Batch, end: u64) -> Result<(Table, usize), Refusal> {
     let mut table = new_table(alloc, 64)?;
     let Some(last) = table.continuation_end(0, batch.as_slice()) else {
         return Err(Refusal::OutOfStep);
@@ -136,16 +128,20 @@ fn restored(alloc: Global, batch: &Batch, end: u64) -> Result<Table, Refusal> {
     if last != end {
         return Err(Refusal::Damaged);
     }
-    table.place_all(batch, batch.records(alloc)?);
-    Ok(table)
+    let placed = table.place_all(batch, PlacedBatch::new(alloc)?);
+    let mut effects: usize = 0;
+    for decision in placed.into_vec() {
+        effects = effects.saturating_add(decision.into_effects().as_slice().len());
+    }
+    Ok((table, effects))
 }
 
+// Each decision of the batch has one effect: it reports the slot of a new device.
 fn gives_records(alloc: Global, count: u64) -> Result<bool, Refusal> {
     let mut table = new_table(alloc, 64)?;
     let batch = batch(alloc, &mut table, count)?;
-    add_records(alloc, &batch)?;
-    let is_same = restored(alloc, &batch, count)?.devices() == table.devices();
-    Ok(is_same && batch.into_vec().len() as u64 == count)
+    let (found, effects) = restored(alloc, batch, count)?;
+    Ok(found.devices() == table.devices() && effects as u64 == count)
 }
 
 fn begins_empty(alloc: Global) -> Result<bool, Refusal> {

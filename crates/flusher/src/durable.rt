@@ -7,12 +7,12 @@ ghost use Rattle.flusher.specs.Released.{decisions_of, effects_of_all};
 
 use crate::{MOST_EFFECTS, Released, Room};
 use devices::Effects;
-use sessions::{Batch, Decision};
+use sessions::{Placed, PlacedBatch};
 
 /// A batch that every crash leaves, and room for its effects. It must be spent: its effects leave
 /// by `release`, and at a crash they are lost.
 pub struct Durable {
-    batch: Batch,
+    batch: PlacedBatch,
     room: Room,
 }
 
@@ -56,7 +56,7 @@ impl Durable {
 }
 
 // Adds the effects of one decision.
-fn release_one(decision: Decision, out: &mut Vec<Released>)
+fn release_one(decision: Placed, out: &mut Vec<Released>)
     requires { length out.old.items + Effects.MOST ≤ vec_capacity out.old }
     ensures effects { effects_of_all out.new.items
         ≡ effects_of_all out.old.items ++ decision.effects }

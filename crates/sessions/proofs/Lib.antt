@@ -14,3 +14,4 @@ pub mod Once
 pub mod Subsequences
 pub mod Becoming
 pub mod Exact
+pub mod Wholes

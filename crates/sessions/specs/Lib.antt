@@ -6,3 +6,5 @@ pub mod Table
 pub mod Index
 pub mod Decision
 pub mod Marks
+pub mod Leaving
+pub mod Placed

@@ -3,6 +3,7 @@ ghost use Rattle.std.specs.Prelude.{◌≡◌, Ok};
 ghost use Rattle.devices.specs.DeviceStep.{device_step};
 ghost use Rattle.sessions.specs.Step.{step1};
 
+use crate::Placed;
 use devices::{Command, Device, Effects};
 use lw_types::NetId;
 
@@ -50,5 +51,30 @@ impl Decision {
             effects,
         } = self;
         effects
+    }
+
+    /// The record that it leaves, and what is left of it behind that.
+    pub fn into_placed(self) -> (Device, Placed)
+        ensures record { result.0 ≡ self.after }
+        ensures rest { result.1 ≡ self }
+    {
+        let Self {
+            net_id,
+            seq,
+            slot,
+            before,
+            command,
+            after,
+            effects,
+        } = self;
+        let placed = Placed {
+            net_id,
+            seq,
+            slot,
+            before,
+            command,
+            effects,
+        };
+        (after, placed)
     }
 }

@@ -8,11 +8,13 @@ mod batch;
 mod decision;
 mod join;
 pub mod laws;
-mod records;
+mod placed;
+mod placed_batch;
 mod served;
 mod table;
 
 pub use batch::{Batch, Most};
 pub use decision::Decision;
-pub use records::Records;
+pub use placed::Placed;
+pub use placed_batch::PlacedBatch;
 pub use table::{MOST_SLOTS, Question, Slots, Table};

@@ -10,3 +10,4 @@ pub mod Checkpointing
 pub mod Flights
 pub mod Publishing
 pub mod UnderWay
+pub mod Made

@@ -12,7 +12,7 @@ use crate::commit::Commit;
 use crate::{Begun, LARGEST_BATCH, Store};
 use disk::Disk;
 use lw_types::Refusal;
-use sessions::{Batch, Decision};
+use sessions::{Batch, Decision, PlacedBatch};
 use std::alloc::Global;
 use store_layout::{batch_entries, laws};
 
@@ -23,8 +23,8 @@ impl<D: Disk> Store<D> {
     /// with `Failed` exactly where an earlier call of the disk failed, else with `OutOfStep`
     /// exactly where the batch is no legal continuation of the durable table, and with
     /// `OutOfMemory` for want of memory, where it is one. A refusal gives the batch up and leaves
-    /// the store and the disk. All the memory that the commit needs is taken here. The cost doesn't
-    /// grow with the number of devices.
+    /// the store and the disk. All the memory that the commit needs is taken here. No record is
+    /// copied, and the cost doesn't grow with the number of devices.
     pub fn begin(&mut self, alloc: Global, batch: Batch) -> Result<Begun, Refusal>
         requires roomy { IsRoomy (store_state D.state self.old) }
         ensures same { store_state D.state self.new ≡ store_state D.state self.old }
@@ -55,7 +55,7 @@ impl<D: Disk> Store<D> {
     }
 
     // The batch with its last number, behind `earlier` decisions that end with the number `seq`,
-    // and copies of its records.
+    // and room for it behind its records.
     pub(crate) fn commit_of(
         &self,
         alloc: Global,
@@ -80,12 +80,8 @@ impl<D: Disk> Store<D> {
         let Some(last) = self.table.continuation_end_behind(earlier, seq, decisions) else {
             return Err(Refusal::OutOfStep);
         };
-        let records = batch.records(alloc)?;
-        Ok(Commit {
-            batch,
-            records,
-            last,
-        })
+        let room = PlacedBatch::new(alloc)?;
+        Ok(Commit { batch, room, last })
     }
 
     // The first phase of a commit: the bytes of its batch.

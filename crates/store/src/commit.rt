@@ -1,15 +1,14 @@
 // A batch on its way.
-ghost use Rattle.std.specs.Prelude.{◌≡◌};
-ghost use Rattle.sessions.specs.Decision.{afters_of};
+ghost use Rattle.std.specs.Prelude.{◌≡◌, []};
 
-use sessions::{Batch, Records};
+use sessions::{Batch, PlacedBatch};
 
-/// A batch on its way, the number of its last decision, and copies of its records, with which it is
-/// put on the table without memory.
+/// A batch on its way, the number of its last decision, and the room for its decisions behind their
+/// records, with which these are moved onto the table without memory.
 #[derive(Drop)]
 pub(crate) struct Commit {
     pub(crate) batch: Batch,
-    pub(crate) records: Records,
+    pub(crate) room: PlacedBatch,
     pub(crate) last: u64,
-    pub ghost copies: { records ≡ afters_of batch },
+    pub ghost empty: { room ≡ [] },
 }

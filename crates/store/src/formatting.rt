@@ -11,9 +11,9 @@ ghost use Rattle.gate_log.specs.Layout.{checkpoint, fresh_header};
 ghost use Rattle.sessions.specs.Table.{IsSlots, empty_table};
 ghost use Rattle.store_layout.specs.Superblock.{disk_len, superblock as superblock_bytes};
 ghost use Rattle.store_layout.specs.Superblock.{superblock_body};
-ghost use Rattle.store.specs.Faults.{IsFormatRefusal};
 ghost use Rattle.store.specs.Formatting.{IsFormatImage, IsShut};
 ghost use Rattle.store.specs.Image.{area_a, area_b};
+ghost use Rattle.store.specs.Made.{AnswersFormat};
 ghost use Rattle.store.specs.State.{store_state, disk_of, IsSettled};
 
 use crate::Store;
@@ -40,21 +40,7 @@ pub fn format<D: Disk + Drop>(
     net_id: NetId,
     slots: u64,
 ) -> Result<Store<D>, Refusal>
-    ensures empty { IfOk result (λ store.
-        ((store_state D.state store).table ≡ empty_table net_id slots)
-        × ((store_state D.state store).seq ≡ 0)) }
-    ensures healthy { IfOk result (λ store. ((store_state D.state store).failed ≡ false)
-        × (D.failures (disk_of store) ≡ D.failures disk)) }
-    ensures settled { D.honest → IfOk result (λ store. IsSettled (store_state D.state store)) }
-    ensures other_area { D.honest → IfOk result
-        (λ store. IsClosedArea (area_b slots) (D.state (disk_of store)).content) }
-    ensures fits { IfOk result (λ _. IsSlots slots
-        × (length (D.state disk).content ≡ disk_len slots)) }
-    ensures generation { IfOk result (λ store. (store_state D.state store).log.generation ≡ 1) }
-    ensures refused { IfErr result (IsFormatRefusal slots (length (D.state disk).content)) }
-    ensures unarmed { D.outlook disk ≡ AllSucceed → MatchResult result
-        (λ store. D.outlook (disk_of store) ≡ AllSucceed)
-        (λ e. e ≢ DeviceFailed) }
+    ensures { AnswersFormat D.Disk disk net_id slots (λ refusal. refusal) result }
 {
     match format_back(alloc, disk, net_id, slots) {
         Ok(store) => Ok(store),
@@ -76,24 +62,9 @@ pub fn format_back<D: Disk>(
     net_id: NetId,
     slots: u64,
 ) -> Result<Store<D>, (D, Refusal)>
-    ensures empty { IfOk result (λ store.
-        ((store_state D.state store).table ≡ empty_table net_id slots)
-        × ((store_state D.state store).seq ≡ 0)) }
-    ensures healthy { IfOk result (λ store. ((store_state D.state store).failed ≡ false)
-        × (D.failures (disk_of store) ≡ D.failures disk)) }
-    ensures settled { D.honest → IfOk result (λ store. IsSettled (store_state D.state store)) }
-    ensures other_area { D.honest → IfOk result
-        (λ store. IsClosedArea (area_b slots) (D.state (disk_of store)).content) }
-    ensures fits { IfOk result (λ _. IsSlots slots
-        × (length (D.state disk).content ≡ disk_len slots)) }
-    ensures generation { IfOk result (λ store. (store_state D.state store).log.generation ≡ 1) }
-    ensures refused { IfErr result
-        (λ e. IsFormatRefusal slots (length (D.state disk).content) e.1) }
+    ensures made { AnswersFormat D.Disk disk net_id slots (λ error. error.1) result }
     ensures device { IfErr result (λ e. (e.1 ≡ DeviceFailed → D.failures e.0 ≡ D.failures disk + 1)
         × (e.1 ≢ DeviceFailed → e.0 ≡ disk)) }
-    ensures unarmed { D.outlook disk ≡ AllSucceed → MatchResult result
-        (λ store. D.outlook (disk_of store) ≡ AllSucceed)
-        (λ e. e.1 ≢ DeviceFailed) }
     ensures images { D.honest → NothingOpen (D.state disk) → IfErr result
         (λ e. EveryImage (D.state e.0) (IsFormatImage net_id slots (D.state disk).content)) }
 {

@@ -9,6 +9,7 @@ ghost use Rattle.gate_log.specs.Areas.{AreLaidOut};
 ghost use Rattle.gate_log.specs.Opening.{disk_in_opening};
 ghost use Rattle.store.specs.Faults.{HasGoodFront, IsFault};
 ghost use Rattle.store.specs.Found.{IsFound};
+ghost use Rattle.store.specs.Made.{AnswersOpen};
 ghost use Rattle.store.specs.State.{store_state, disk_of, IsOpened};
 
 use crate::Store;
@@ -21,17 +22,7 @@ use std::alloc::Global;
 
 /// Opens the store on a disk, as [`open_back`] does.
 pub fn open<D: Disk + Drop>(alloc: Global, disk: D) -> Result<Store<D>, Refusal>
-    ensures opened { D.honest → IfOk result
-        (λ store. IsOpened (D.state disk).content (store_state D.state store)) }
-    ensures healthy { IfOk result (λ store. ((store_state D.state store).failed ≡ false)
-        × (D.failures (disk_of store) ≡ D.failures disk)) }
-    ensures refused { D.honest → IfErr result (λ e. e ≢ DeviceFailed → e ≢ OutOfMemory
-        → IsFault (D.state disk).content e) }
-    ensures memory { D.honest → result ≡ Err OutOfMemory → HasGoodFront (D.state disk).content }
-    ensures unarmed { D.outlook disk ≡ AllSucceed → MatchResult result
-        (λ store. D.outlook (disk_of store) ≡ AllSucceed)
-        (λ e. e ≢ DeviceFailed) }
-    ensures fails { D.outlook disk ≡ FailsAfter 0 → result ≡ Err DeviceFailed }
+    ensures { AnswersOpen D.Disk disk (λ refusal. refusal) result }
 {
     match open_back(alloc, disk) {
         Ok(store) => Ok(store),
@@ -51,23 +42,17 @@ pub fn open<D: Disk + Drop>(alloc: Global, disk: D) -> Result<Store<D>, Refusal>
 /// for want of memory, and only where the superblock and the live area's header are in order. With
 /// a refusal the disk comes back. The cost grows with the bytes of the live area's journal.
 pub fn open_back<D: Disk>(alloc: Global, disk: D) -> Result<Store<D>, (D, Refusal)>
-    ensures opened { D.honest → IfOk result
-        (λ store. IsOpened (D.state disk).content (store_state D.state store)) }
-    ensures healthy { IfOk result (λ store. ((store_state D.state store).failed ≡ false)
-        × (D.failures (disk_of store) ≡ D.failures disk)) }
+    ensures made { AnswersOpen D.Disk disk (λ error. error.1) result }
+
+    // What the disk that comes back is like.
     ensures device { IfErr result (λ e. (e.1 ≡ DeviceFailed → D.failures e.0 ≡ D.failures disk + 1)
         × (e.1 ≢ DeviceFailed → D.failures e.0 ≡ D.failures disk)) }
-    ensures refused { D.honest → IfErr result (λ e. e.1 ≢ DeviceFailed → e.1 ≢ OutOfMemory
-        → IsFault (D.state disk).content e.1) }
-    ensures memory { D.honest → IfErr result (λ e. e.1 ≡ OutOfMemory
-        → HasGoodFront (D.state disk).content) }
-    ensures unarmed { D.outlook disk ≡ AllSucceed → MatchResult result
-        (λ store. D.outlook (disk_of store) ≡ AllSucceed)
-        (λ e. (e.1 ≢ DeviceFailed) × (D.outlook e.0 ≡ AllSucceed)) }
+    ensures unarmed { D.outlook disk ≡ AllSucceed
+        → IfErr result (λ e. D.outlook e.0 ≡ AllSucceed) }
 
-    // The sync comes first, and one failure is one failure.
+    // One failure is one failure.
     ensures fails { D.outlook disk ≡ FailsAfter 0
-        → IsErrAnd result (λ e. (e.1 ≡ DeviceFailed) × (D.outlook e.0 ≡ AllSucceed)) }
+        → IfErr result (λ e. D.outlook e.0 ≡ AllSucceed) }
     ensures armed { IsArmed (D.outlook disk) → MatchResult result
         (λ store. IsArmed (D.outlook (disk_of store)))
         (λ e. (e.1 ≡ DeviceFailed → D.outlook e.0 ≡ AllSucceed)

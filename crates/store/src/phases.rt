@@ -14,7 +14,7 @@ use crate::Store;
 use crate::commit::Commit;
 use disk::Disk;
 use lw_types::Refusal;
-use sessions::Batch;
+use sessions::PlacedBatch;
 
 /// A batch of which nothing is written yet.
 pub struct Begun {
@@ -42,7 +42,7 @@ pub struct GateWritten {
 
 /// A batch that every crash leaves. Its effects may leave.
 pub struct Durable {
-    batch: Batch,
+    batch: PlacedBatch,
 }
 
 impl Begun {
@@ -213,7 +213,7 @@ impl GateWritten {
 
 impl Durable {
     /// The decisions, which are on the disk.
-    pub fn into_batch(self) -> Batch
+    pub fn into_batch(self) -> PlacedBatch
         ensures { result ≡ durable_decisions self }
     {
         let Durable { batch } = self;
@@ -238,7 +238,7 @@ impl<D: Disk> Store<D> {
         Refusal::DeviceFailed
     }
 
-    // Puts the records of a batch that is on the disk on the table, and takes over its number.
+    // Moves the records of a batch that is on the disk onto the table, and takes over its number.
     pub(crate) fn take_over(&mut self, commit: Commit) -> Durable
         requires fit { FitAll (store_state D.state self.old).table commit.batch }
         ensures store { store_state D.state self.new ≡ record (store_state D.state self.old) {
@@ -248,12 +248,8 @@ impl<D: Disk> Store<D> {
         ensures disk { disk_of self.new ≡ disk_of self.old }
         ensures batch { durable_decisions result ≡ (sequel_of commit).decisions }
     {
-        let Commit {
-            batch,
-            records,
-            last,
-        } = commit;
-        self.table.place_all(&batch, records);
+        let Commit { batch, room, last } = commit;
+        let batch = self.table.place_all(batch, room);
         self.seq = last;
         Durable { batch }
     }

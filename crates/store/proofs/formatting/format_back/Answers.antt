@@ -1,4 +1,4 @@
-use Rattle.std.proofs.Common.{◌+◌, ◌∙◌, List, ℕ, false, drop, inr, sym, ap, subst}
+use Rattle.std.proofs.Common.{rules, ◌+◌, ◌∙◌, List, ℕ, false, drop, inr, sym, ap, subst}
 use Rattle.gate_log.specs.declared.layout.Areas.{Areas}
 use Rattle.gate_log.specs.Log.{LogState}
 use Rattle.sessions.specs.Table.{TableState}
@@ -9,17 +9,27 @@ use Rattle.record_codec.specs.declared.version.RecordVersion.TheVariants.{V1}
 use Rattle.store.proofs.EmptyStore.{settled_empty}
 use Rattle.store.proofs.formatting.format_back.Goals as goal
 
-pub returns-in-Ok-write_empty-clause-settled : goal.returns-in-Ok-write_empty-clause-settled
-returns-in-Ok-write_empty-clause-settled g c honest =
+pub returns-in-Ok-write_empty-clause-made : goal.returns-in-Ok-write_empty-clause-made
+returns-in-Ok-write_empty-clause-made g c =
     let net_id = c.args.net_id in
     let slots = c.in-Some.slots in
     let state = g.D.Disk.state c.write_empty.new.disk in
     let store_at : TableState → LogState → StoreState = λ t l. record { log = l; table = t; seq = 0; version = V1; failed = false } in
     let log_at : Areas → ℕ → LogState = λ a n. record { disk = state; areas = a; next = n; generation = 1; other_open = false } in
     let e = c.in-Ok-write_empty.ensures in
-    let settled = settled_empty c.a_closed_area_is_older.ensures net_id slots state e.in_range.0 e.in_range.1 (e.settled honest) (e.same_length ∙ (sym c.len.ensures ∙ (c.if-len-disk_len.false ∙ c.disk_len.ensures))) (e.area honest) (e.other_area honest) (e.front honest) in
     let log = c.new-in-Ok-write_empty.ensures.log ∙ (ap (λ (a : Areas). log_at a c.in-Ok-write_empty.next) c.both_areas.ensures ∙ ap (log_at (record { live = area_a slots; other = area_b slots })) e.next) in
-    subst IsSettled (sym (c.new-in-Ok-write_empty-2.ensures.store ∙ (ap (store_at c.in-Ok.table) log ∙ ap (λ (t : TableState). store_at t (log_at (record { live = area_a slots; other = area_b slots }) ((area_a slots).start + 30))) c.in-Ok.ensures))) settled
+    let is = c.new-in-Ok-write_empty-2.ensures.store ∙ (ap (store_at c.in-Ok.table) log ∙ ap (λ (t : TableState). store_at t (log_at (record { live = area_a slots; other = area_b slots }) ((area_a slots).start + 30))) c.in-Ok.ensures) in
+    record {
+      empty = search rules;
+      healthy = search rules;
+      settled = λ honest. subst IsSettled (sym is)
+          (settled_empty c.a_closed_area_is_older.ensures net_id slots state e.in_range.0 e.in_range.1 (e.settled honest) (e.same_length ∙ (sym c.len.ensures ∙ (c.if-len-disk_len.false ∙ c.disk_len.ensures))) (e.area honest) (e.other_area honest) (e.front honest));
+      other_area = search rules;
+      fits = search rules;
+      generation = search rules;
+      refused = search rules;
+      unarmed = search rules;
+    }
 
 pub returns-in-Err-write_empty-clause-images : goal.returns-in-Err-write_empty-clause-images
 returns-in-Err-write_empty-clause-images g c honest nothing image permitted =

@@ -1,8 +1,10 @@
--- the records so far are placed, and the others wait
-use Rattle.std.proofs.Common.{◌≡◌, take, drop}
-use Rattle.sessions.specs.Decision.{with_decisions, afters_of}
+-- the records so far are placed, and the other decisions wait
+use Rattle.std.proofs.Common.{◌≡◌, ◌++◌}
+use Rattle.sessions.specs.Decision.{FitAll, with_decisions}
 use Rattle.sessions.proofs.table.Table.place_all.Given as goal
 
 abbrev pub invariant-loop-decision : goal.invariant-loop-decision
 invariant-loop-decision l =
-    (l.self ≡ with_decisions l.fn.self (take l.decision-index l.decision-items)) × (l.records.items ≡ afters_of (drop l.decision-index l.decision-items))
+    (with_decisions l.self l.decision-iterator.rest.items ≡ with_decisions l.fn.self l.fn.batch)
+    × FitAll l.self l.decision-iterator.rest.items
+    × (l.placed ++ l.decision-iterator.rest.items ≡ l.fn.batch)
