@@ -15,10 +15,10 @@ use Rattle.world.proofs.place.Place.reopen.Goals as goal
 pub returns-in-Ok-clause-course : goal.returns-in-Ok-clause-course
 returns-in-Ok-clause-course g c origin course nothing_open survives =
     let disk = g.D.Disk.state c.args.disk in
-    let opened = c.in-Ok.ensures.opened g.met.D.Sim.is_honest in
+    let opened = c.in-Ok.ensures.made.opened g.met.D.Sim.is_honest in
     let found = survives disk.content (content_permitted disk) in
     let only = opened.only (table_from origin found.0) (number_from origin found.0) found.2 in
-    c.begin.ensures.course c.in-Ok.ensures.healthy.0 opened.settled origin course (found.0, found.1, sym only.0, sym only.1)
+    c.begin.ensures.course c.in-Ok.ensures.made.healthy.0 opened.settled origin course (found.0, found.1, sym only.0, sym only.1)
 
 pub returns-in-Err-clause-course : goal.returns-in-Err-clause-course
 returns-in-Err-clause-course g c origin course nothing_open survives =
@@ -33,7 +33,7 @@ returns-in-Err-clause-course g c origin course nothing_open survives =
     subst (λ bytes. (kept : List Command) × Leaves course kept × HoldsTable (table_from origin kept) (number_from origin kept) bytes)
     (sym (c.settled_disk_keeps_its_content.ensures (state after) still image p ∙ e.same honest)) found in (
       two_reasons c.in-Err.refusal
-          (λ device memory. (e.refused honest device memory).none (table_from origin found.0) (number_from origin found.0) found.2),
+          (λ device memory. (e.made.refused honest device memory).none (table_from origin found.0) (number_from origin found.0) found.2),
       λ image. (refl, (still, kept)),
     )
 
@@ -44,8 +44,8 @@ returns-in-Ok-clause-calls g c image calls are =
     let before = c.args.disk in
     let after = disk_of c.in-Ok.store in
     let found =
-    opening_passed calls (failures before) (failures after) (outlook before) (outlook after) are c.in-Ok.ensures.healthy.1 c.in-Ok.ensures.unarmed
-    c.in-Ok.ensures.fails in
+    opening_passed calls (failures before) (failures after) (outlook before) (outlook after) are c.in-Ok.ensures.made.healthy.1 c.in-Ok.ensures.made.unarmed
+    c.in-Ok.ensures.made.fails in
     let told = none_failed calls image c.begin.result.1 c.begin.ensures.calls in (
       told.1 found.0,
       λ disk there.
@@ -62,9 +62,9 @@ returns-in-Err-clause-calls g c image calls are =
     let e = c.in-Err.ensures in
     let found =
     opening_told calls (failures before) (failures after) (outlook before) (outlook after) image c.in-Err.refusal are (g.met.D.Sim.is_foreseen before)
-    e.device e.unarmed e.fails (λ armed. (e.armed armed).0) in
+    e.device (λ all. (e.made.unarmed all, e.unarmed all)) (λ first. (e.made.fails first, e.fails first)) (λ armed. (e.armed armed).0) in
     (found.0, λ disk there. subst (λ d. AreRecordedCalls (calls_after calls (steps.Crash image) (answers.Refused c.in-Err.refusal)) (failures d) (outlook d)) (sym there) found.1)
 
 pub returns-in-Ok-clause-same : goal.returns-in-Ok-clause-same
 returns-in-Ok-clause-same g c now there =
-    ap (λ d. (g.D.Disk.state d).content) (c.begin.ensures.same now there) ∙ (c.in-Ok.ensures.opened g.met.D.Sim.is_honest).same
+    ap (λ d. (g.D.Disk.state d).content) (c.begin.ensures.same now there) ∙ (c.in-Ok.ensures.made.opened g.met.D.Sim.is_honest).same
