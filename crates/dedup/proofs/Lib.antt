@@ -1,4 +1,6 @@
 pub mod GroupLemmas
 pub mod Standing
+pub mod Places
+pub mod Gathered
 pub mod Keeping
 pub mod Refusing

@@ -1,17 +1,21 @@
--- How the windows are kept: in a map from a frame's bytes, in the order of opening.
+-- How the windows are kept: in two maps from a frame's bytes.
 use Rattle.std.specs.Prelude.{ℕ, zero, suc, ◌≤◌, nat_le, if◌then◌else◌, List, [], ◌∷◌, ◌++◌, Result}
-use Rattle.std.specs.Prelude.{Ok, Err, length, map, AllPairs}
+use Rattle.std.specs.Prelude.{Ok, Err, length, map, reverse, AllPairs}
 use Rattle.lw_types.specs.declared.refusal.Refusal.{Refusal}
 use Rattle.lw_types.specs.declared.refusal.Refusal.TheVariants.{WindowsFull}
 use Rattle.devices.specs.declared.heard.Hearing.{Hearing}
 use Rattle.devices.specs.Heard.{with_hearing}
 use Rattle.dedup.specs.declared.TheConstants.{MOST_WINDOWS}
-use Rattle.dedup.specs.declared.windows.Gathering.{Gathering}
+use Rattle.dedup.specs.declared.gatherings.Gathering.{Gathering}
 use Rattle.dedup.specs.Windows.{Window, with_hearings, result_map}
 
 abbrev pub window_of : List ℕ × Gathering → Window
 window_of entry =
     record { opened = entry.1.opened; phy_payload = entry.0; hearings = entry.1.hearings }
+
+-- the windows in the order of opening: those of the older map from its end, then the newer ones
+abbrev pub windows_of : List (List ℕ × Gathering) → List (List ℕ × Gathering) → List Window
+windows_of older newer = map window_of (reverse older) ++ map window_of newer
 
 -- at most 1,024, in the order of opening
 pub record AreKept (ws : List Window) : Type 0 where

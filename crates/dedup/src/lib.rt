@@ -4,6 +4,7 @@
 //! is due. Moments are milliseconds.
 #![tactic(auto)]
 
+mod gatherings;
 pub mod laws;
 mod windows;
 

@@ -1,31 +1,24 @@
 // The windows that are open, the oldest first.
-ghost use Rattle.std.specs.Prelude.{◌≡◌, ◌<◌, ◌↔◌, [], drop, false, length, IsTrue, MatchOption};
+ghost use Rattle.std.specs.Prelude.{◌≡◌, ◌↔◌, [], drop, false, length, IsTrue, MatchOption};
 ghost use Rattle.std.specs.Prelude.{OnErr};
 ghost use Rattle.std.specs.List.{list_any};
 ghost use Rattle.lw_types.specs.Answer.{Answers};
 ghost use Rattle.devices.specs.Heard.{IsReceivable};
 ghost use Rattle.dedup.specs.Windows.{windows_with, heard_now, is_of, IsCurrent, IsOldestDue};
 ghost use Rattle.dedup.specs.Windows.{NoneDue, next_due};
-ghost use Rattle.dedup.specs.Kept.{joined_at, opened_too};
+ghost use Rattle.dedup.specs.Kept.{opened_too};
 
+use crate::gatherings::{Gathering, Gatherings};
 use crate::{MOST_WINDOWS, WAIT};
 use devices::{Heard, Hearing, Hearings};
-use indexmap::IndexMap;
 use lw_types::{FrameCopy, PhyPayload, Refusal};
 use std::alloc::Global;
 use std::marker::Model;
 
-// The copies of a frame so far, and when the first came.
-#[derive(Drop)]
-struct Gathering {
-    opened: u64,
-    hearings: Hearings,
-}
-
 /// The windows that are open: at most 1,024, each of another frame. In contracts it is the list of
 /// them, in the order in which they opened.
 pub struct Windows {
-    gatherings: IndexMap<PhyPayload, Gathering>,
+    gatherings: Gatherings,
 }
 
 // By hand, so that its proof is done once: a derived drop is proved anew wherever a value goes.
@@ -36,15 +29,15 @@ impl Drop for Windows {
 }
 
 impl Model for Windows {
-    ghost use Rattle.std.specs.Prelude.{List, map};
+    ghost use Rattle.std.specs.Prelude.{List};
     ghost use Rattle.dedup.specs.Windows.{Window};
-    ghost use Rattle.dedup.specs.Kept.{window_of, AreKept};
+    ghost use Rattle.dedup.specs.Kept.{AreKept};
 
     ghost Value = { List Window };
 
-    ghost view = { λ w. map window_of w.gatherings.entries };
+    ghost view = { λ w. w.gatherings };
 
-    ghost invariant = { λ w. AreKept (map window_of w.gatherings.entries) };
+    ghost invariant = { λ w. AreKept w.gatherings };
 }
 
 impl Windows {
@@ -53,7 +46,7 @@ impl Windows {
         ensures { result ≡ [] }
     {
         Windows {
-            gatherings: IndexMap::new(alloc),
+            gatherings: Gatherings::new(alloc),
         }
     }
 
@@ -74,8 +67,8 @@ impl Windows {
             phy_payload,
         } = copy;
         let hearing = Hearing { reception, stamp };
-        match self.gatherings.get_index_of(&phy_payload) {
-            Some(index) => self.join(index, hearing),
+        match self.gatherings.position(&phy_payload) {
+            Some(index) => self.gatherings.join(index, hearing),
             None => self.open_window(now, phy_payload, hearing),
         }
     }
@@ -94,7 +87,7 @@ impl Windows {
     }
 
     /// Takes the oldest window out where it is due, and gives what was heard in it. `None`, and
-    /// nothing is changed, where no window is due. Takes no memory.
+    /// nothing is changed, where no window is due. Takes no memory, and constant time on average.
     pub fn close(&mut self, now: u64) -> Option<Heard>
         ensures { MatchOption result ((self.new ≡ self.old) × NoneDue now self.old)
             (λ heard. IsOldestDue now self.old heard self.new) }
@@ -102,7 +95,7 @@ impl Windows {
         if self.due(now).is_none() {
             return None;
         }
-        let (phy_payload, gathering) = self.gatherings.shift_remove_index(0)?;
+        let (phy_payload, gathering) = self.gatherings.pop_first()?;
         let Gathering {
             opened: _,
             hearings,
@@ -136,16 +129,6 @@ impl Windows {
         self.gatherings.is_empty()
     }
 
-    // The window at this place takes the copy, or refuses it.
-    fn join(&mut self, index: usize, hearing: Hearing) -> Result<(), Refusal>
-        requires there { index < length self.old }
-        requires receivable { IsReceivable hearing.reception }
-        ensures joined { Answers (joined_at self.old index hearing) (λ ws _. self.new ≡ ws) result }
-        ensures same { OnErr result (self.new ≡ self.old) }
-    {
-        self.gatherings[index].hearings.add(hearing)
-    }
-
     // A window of these bytes, which have none, opens at the end.
     fn open_window(
         &mut self,
@@ -163,12 +146,12 @@ impl Windows {
         if self.gatherings.len() >= MOST_WINDOWS {
             return Err(Refusal::WindowsFull);
         }
-        let hearings = Hearings::of(*self.gatherings.allocator(), hearing)?;
+        let hearings = Hearings::of(self.gatherings.allocator(), hearing)?;
         let gathering = Gathering {
             opened: now,
             hearings,
         };
-        self.gatherings.insert(phy_payload, gathering)?;
+        self.gatherings.push(phy_payload, gathering)?;
         Ok(())
     }
 }
