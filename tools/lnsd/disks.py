@@ -1,50 +1,21 @@
 """Trials of lnsd on a disk whose syncs fail or are slow. The C library's fdatasync is replaced in
 the program's process, so a C compiler is needed; where there is none, nothing is tried."""
-import os
-import shutil
-import subprocess
 import time
 
+import preloads
 from . import floods, load
 from .trials import EUI, OWNER, Pair, end_all, records
 from server import wire
 from server.links import Application, Ended, Gateway
 
-SOURCE = r"""
-#define _GNU_SOURCE
-#include <dlfcn.h>
-#include <errno.h>
-#include <stdlib.h>
-#include <unistd.h>
-
-static long number(const char *name) { const char *it = getenv(name); return it ? atol(it) : 0; }
-
-/* only one thread of the program syncs */
-int fdatasync(int file) {
-    static long calls;
-    calls += 1;
-    if (calls <= number("SLOW_SYNCS")) usleep(1000 * number("SLOW_MS"));
-    if (calls == number("FAILING_SYNC")) { errno = EIO; return -1; }
-    int (*real)(int) = (int (*)(int))dlsym(RTLD_NEXT, "fdatasync");
-    return real(file);
-}
-"""
 # of a run of `Pair.play` and two more uplinks: one for the opening, and two a commit
 SYNCS, WAITING, ASKED = 11, 4096, 5000
 
 
 def with_disk(program, **settings):
     """The environment in which the program's syncs are so, or None without a compiler."""
-    compiler = shutil.which("cc")
-    if not compiler:
-        print("  there is no C compiler, so this isn't tried: apt-get install gcc")
-        return None
-    source = os.path.join(program.folder, "syncs.c")
-    with open(source, "w", encoding="utf-8") as file:
-        file.write(SOURCE)
-    made = f"{source}.so"
-    subprocess.run([compiler, "-shared", "-fPIC", "-o", made, source, "-ldl"], check=True)
-    return {**os.environ, "LD_PRELOAD": made, **{it: str(to) for it, to in settings.items()}}
+    made = preloads.made(preloads.SYNCS, program.folder)
+    return made and preloads.environment(made, **settings)
 
 
 def failing(trials):

@@ -3,8 +3,9 @@
 //! copies of their frames to the release of their effects, committed to a disk in memory; and how
 //! long a checkpoint of the largest store takes, and opening it; how many bytes of the journal a
 //! decision takes, and how long it takes to open a full one; and how many decisions a second become
-//! durable on a file with real syncs, each batch alone and in chains. What was measured goes to
-//! standard error, since it is never the same twice; standard output stays empty.
+//! durable on a file with real syncs, each batch alone and in chains. The word `chains` asks for
+//! that last one alone. What was measured goes to standard error, since it is never the same twice;
+//! standard output stays empty. The status is 2 for other words, and 1 where a write failed.
 #![tactic(auto)]
 
 mod chains;
@@ -21,8 +22,10 @@ mod whole;
 
 use decided::Workload;
 use std::alloc::Global;
-use std::io;
-use std::rt::Clock;
+use std::fs::File;
+use std::process::ExitCode;
+use std::rt::{Clock, Env, Files};
+use std::{env, io};
 use timing::Unmeasured;
 use told::{Told, tell};
 
@@ -95,12 +98,41 @@ fn compare(
     tell_ratio(rt, name, few.unwrap_or(0), most)
 }
 
-fn main(rt: HostRuntime) -> io::Result<()> {
-    for (name, what) in MEASURED {
-        compare(&rt, rt.alloc(), name, what)?;
+/// What the words of a run ask for.
+enum Asked {
+    All,
+    Chains,
+    Unknown,
+}
+
+fn read_words<R: Env + AllocGlobal>(rt: &R) -> io::Result<Asked> {
+    let mut words = env::args(rt)?.skip(1);
+    match words.next() {
+        None => Ok(Asked::All),
+        Some(word) if word.as_str() == "chains" && words.next().is_none() => Ok(Asked::Chains),
+        Some(_) => Ok(Asked::Unknown),
     }
-    checkpoints::tell_checkpoint(&rt, rt.alloc())?;
-    entries::tell_entries(&rt, rt.alloc())?;
-    journals::tell_journal(&rt, rt.alloc())?;
-    chains::tell_chains(&rt, rt.alloc())
+}
+
+/// Measures and tells all.
+fn tell_all<R: Clock + Eprint + Files<File = File>>(rt: &R, alloc: Global) -> io::Result<()> {
+    for (name, what) in MEASURED {
+        compare(rt, alloc, name, what)?;
+    }
+    checkpoints::tell_checkpoint(rt, alloc)?;
+    entries::tell_entries(rt, alloc)?;
+    journals::tell_journal(rt, alloc)?;
+    chains::tell_chains(rt, alloc)
+}
+
+fn main(rt: HostRuntime) -> io::Result<ExitCode> {
+    match read_words(&rt)? {
+        Asked::All => tell_all(&rt, rt.alloc())?,
+        Asked::Chains => chains::tell_chains(&rt, rt.alloc())?,
+        Asked::Unknown => {
+            eprintln!(rt; "lns-speed: it takes no word, or the word chains")?;
+            return Ok(ExitCode::from(2));
+        }
+    }
+    Ok(ExitCode::SUCCESS)
 }

@@ -4,10 +4,10 @@ ghost use Rattle.store.specs.State.{store_state};
 
 use crate::network::{copy_of, join_request, longest_item, provisioning};
 use disk::{Disk, MemDisk};
-use flusher::{ChainLength, StoredBatches, chain};
+use flusher::{ChainLength, Feed, Most, chain};
 use lw_types::{FrameCopy, NetId, Refusal};
-use session_core::{Core, Moment, Most, Turn};
-use sessions::Slots;
+use session_core::{Core, Moment, Turn};
+use sessions::{Batch, Slots};
 use std::alloc::Global;
 use store::{Checkpoint, Publishing, Store, disk_len};
 
@@ -23,12 +23,24 @@ const ITEMS: u32 = 16;
 /// The gateway that hears a device join.
 const GATEWAY: u64 = 1;
 
+/// A core, in which decisions wait.
+#[derive(Drop)]
+struct Waiting(Core);
+
+impl Feed for Waiting {
+    ghost gives = { λ _ _ _ _. Unit {0} };
+
+    fn next(&mut self, most: Most) -> Result<Batch, Refusal> {
+        self.0.take(most)
+    }
+}
+
 /// A core over a store.
 #[derive(Drop)]
 pub struct Server<D: Disk> {
     pub alloc: Global,
     store: Store<D>,
-    core: Core,
+    core: Waiting,
     now: Moment,
 }
 
@@ -48,7 +60,7 @@ impl<D: Disk + Drop> Server<D> {
         let store = store::format(alloc, disk, NetId::zero(), u64::from(slots))?;
         Ok(Server {
             alloc,
-            core: Core::new(alloc, store.table(), store.seq())?,
+            core: Waiting(Core::new(alloc, store.table(), store.seq())?),
             store,
             now,
         })
@@ -78,13 +90,14 @@ impl<D: Disk + Drop> Server<D> {
     }
 
     fn bring(&mut self, slot: u16) -> Result<(), Refusal> {
-        is_done(self.core.provision(self.now, provisioning(slot)))
+        is_done(self.core.0.provision(self.now, provisioning(slot)))
     }
 
     fn load(&mut self, slot: u16) -> Result<(), Refusal> {
         for tag in 0..ITEMS {
             is_done(
                 self.core
+                    .0
                     .queue(self.now, longest_item(self.alloc, slot, tag)?),
             )?;
         }
@@ -108,18 +121,18 @@ impl<D: Disk + Drop> Server<D> {
     }
 
     fn hear(&mut self, copy: FrameCopy) -> Result<(), Refusal> {
-        is_done(self.core.hear(self.now, copy))
+        is_done(self.core.0.hear(self.now, copy))
     }
 
     fn close_windows(&mut self) -> Result<(), Refusal> {
         self.now = Moment::new(self.now.get().saturating_add(WAIT)).ok_or(Refusal::Damaged)?;
-        is_done(self.core.tick(self.now))
+        is_done(self.core.0.tick(self.now))
     }
 
     // All windows are closed, and what was decided is committed and released.
     fn settle(&mut self) -> Result<(), Refusal> {
         self.close_windows()?;
-        for _ in 0..self.core.untaken().div_ceil(usize::from(BATCH)) {
+        for _ in 0..self.core.0.untaken().div_ceil(usize::from(BATCH)) {
             let _ = self.commit()?;
         }
         Ok(())
@@ -150,16 +163,13 @@ impl<D: Disk + Drop> Server<D> {
 
     /// The same of so many batches at most, in a chain: how many decisions they had.
     pub fn commit_chain(&mut self, most: ChainLength) -> Result<usize, Refusal> {
-        let size = Most::new(u64::from(BATCH)).ok_or(Refusal::Damaged)?;
-        let mut batches = Vec::new(self.alloc);
-        for _ in 0..most.get() {
-            if self.core.untaken() == 0 {
-                break;
-            }
-            batches.push(self.core.take(size)?)?;
-        }
-        let mut feed = StoredBatches::new(self.alloc, batches);
-        chain(&mut self.store, &mut feed, self.alloc, most, &mut |_| {})
+        chain(
+            &mut self.store,
+            &mut self.core,
+            self.alloc,
+            most,
+            &mut |_| {},
+        )
     }
 }
 

@@ -30,12 +30,24 @@ const SECOND: Leg = (
     "taken 64\ncalled\ncalled\ncalled\ncalled\nreleased 64\n",
 );
 
-// The devices whose batches fill the journal.
-const FILLING: u16 = 327;
+// The devices whose batches stand in the journal before the last three come.
+const FILLING: u16 = 326;
 
-// The journal has no room for the last batch, but behind a checkpoint it has.
+// Behind a device's items the journal has room for its commands, and no more behind those, neither
+// while they are under way nor once they are durable. Behind a checkpoint it has.
 const LAST: &[Leg] = &[
-    ("take 64\n", "full\n"),
+    (
+        "take 17\ncall\ncall\ncall\nnext 64\n",
+        "taken 17\ncalled\ncalled\ncalled\ntaken 64\n",
+    ),
+    (
+        "call\ncall\nrelease\ncall\nnext 64\n",
+        "called\ncalled\nreleased 17\ncalled\nfull\n",
+    ),
+    (
+        "call\nrelease\ntake 64\n",
+        "called\nreleased 64\nfull\n",
+    ),
     ("checkpoint\n", "begun\n"),
     (
         "call\ncall\ncall\ncall\n",
@@ -90,6 +102,8 @@ fn add_all(input: &mut Vec<u8>, wanted: &mut Vec<u8>) -> io::Result<()> {
         add(input, wanted, &SECOND)?;
     }
     add_items(input, wanted, FILLING)?;
+    add_commands(input, wanted, FILLING)?;
+    add_items(input, wanted, FILLING + 1)?;
     for leg in LAST {
         add(input, wanted, leg)?;
     }
@@ -110,7 +124,7 @@ fn goes_on(alloc: Global) -> bool {
 }
 
 // In a store with 330 slots the batches of 327 devices go into an area of 2,469,256 bytes, of 4,166
-// and 2,543 bytes each; then less than 275,536 are left.
+// and 2,543 bytes each; then 275,383 are left, and 277,926 before the last one. 275,536 are wanted.
 #[test]
 fn a_full_journal_goes_on_behind_a_checkpoint(rt: HostRuntime) {
     assert!(rt; goes_on(rt.alloc()));
