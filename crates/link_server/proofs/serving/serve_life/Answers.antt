@@ -1,0 +1,18 @@
+use Rattle.std.proofs.Common.{◌≡◌, Result, IfOk, sum, sym, subst}
+use Rattle.link_server.specs.declared.report.LifeReport.{LifeReport}
+use Rattle.link_server.specs.declared.report.ServeFault.{ServeFault}
+use Rattle.link_server.proofs.serving.serve_life.Goals.{in-Ok-result, in-Err-result}
+use Rattle.link_server.proofs.serving.serve_life.Goals as goal
+
+-- what is known of a report
+abbrev HasSum : Result LifeReport ServeFault → Type 0
+HasSum r = IfOk r (λ report. sum report.shares.items ≡ report.made)
+
+pub returns : goal.returns
+returns g c =
+    record {
+      shares = elim c.match-result.branch [
+        | in-Ok-result w ↦ subst HasSum (sym w.result-is) w.report-result.ensures
+        | in-Err-result w ↦ subst HasSum (sym w.result-is) (tt {0})
+      ];
+    }
