@@ -56,9 +56,11 @@ stop() {
     exit "$status"
 }
 
-# measure NAME: runs a program that measures, if it was proved and built.
+# measure NAME [WORD]..: runs a program that measures, if it was proved and built.
 measure() {
-    is_built "$1" || stop 1 "it measures the proved program alone, which isn't built of these" \
+    name=$1
+    shift
+    is_built "$name" || stop 1 "it measures the proved program alone, which isn't built of these" \
         "sources: run bin/build $command"
-    exec "$root/crates/$1/out/$1"
+    exec "$root/crates/$name/out/$name" "$@"
 }
