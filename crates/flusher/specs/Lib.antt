@@ -5,3 +5,4 @@ pub mod Feed
 pub mod Lived
 pub mod Lives
 pub mod Released
+pub mod Serving

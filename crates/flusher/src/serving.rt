@@ -1,8 +1,10 @@
 // A flusher's cycles, one after another.
 ghost use Rattle.std.specs.Global.{Global};
-ghost use Rattle.std.specs.Prelude.{Vec};
+ghost use Rattle.std.specs.Prelude.{true, ◌≡◌, OnOk, Vec};
+ghost use Rattle.flusher.specs.Chain.{IsChain};
 ghost use Rattle.flusher.specs.Lived.{LeadOn};
 ghost use Rattle.flusher.specs.Released.{effects_of_all};
+ghost use Rattle.flusher.specs.Serving.{last_answer};
 ghost use Rattle.store.specs.State.{store_state};
 
 use crate::{ChainLength, Feed, Released, chain};
@@ -31,6 +33,14 @@ pub fn serve<R: Wait, D: Disk, F: Feed, C: FnMut(Vec<Released>), S: FnMut() -> b
     ensures lives { D.honest → LeadOn (λ (released : Vec Released Global).
         effects_of_all released.items) (λ before released after. C.step before released tt after)
         (store_state D.state store.old) (store_state D.state store.new) out.old out.new }
+
+    // It ends with the refusal of its last chain, or behind one without a batch, where `done` says
+    // so.
+    ensures last { (before : _) × ((asked : F) × ((given : C) × IsChain D.Disk F.gives
+        (λ (released : Vec Released Global). effects_of_all released.items)
+        (λ before released after. C.step before released tt after) 64
+        before store.new asked feed.new given out.new (last_answer result))) }
+    ensures done { OnOk result ((before : S) × S.step before true done.new) }
 {
     for _ in rt.forever() {
         if chain(store, feed, alloc, served(), out)? == 0 && done() {
@@ -41,6 +51,8 @@ pub fn serve<R: Wait, D: Disk, F: Feed, C: FnMut(Vec<Released>), S: FnMut() -> b
 }
 
 // How many batches a chain has at most.
-fn served() -> ChainLength {
+fn served() -> ChainLength
+    ensures { result ≡ 64 }
+{
     ChainLength::new(64).unwrap()
 }

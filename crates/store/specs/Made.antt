@@ -15,7 +15,7 @@ use Rattle.store.specs.State.{IsOpened, IsSettled, disk_of, store_state}
 use Rattle.store.specs.declared.store.Store.{Store}
 
 -- a store without devices was made on the disk, or not, and why
-pub record AnswersFormat {D E : Type 0} (disk : Ghosts D) (at : D) (net_id slots : ℕ)
+pub record IsFormatAnswer {D E : Type 0} (disk : Ghosts D) (at : D) (net_id slots : ℕ)
     (refusal_of : E → Refusal) (result : Result (Store D disk) E) : Type 0 where
   pub empty : IfOk result (λ store.
       ((store_state disk.state store).table ≡ empty_table net_id slots)
@@ -36,7 +36,7 @@ pub record AnswersFormat {D E : Type 0} (disk : Ghosts D) (at : D) (net_id slots
       (λ e. refusal_of e ≢ DeviceFailed)
 
 -- the store that the disk holds was opened, or not, and why
-pub record AnswersOpen {D E : Type 0} (disk : Ghosts D) (at : D) (refusal_of : E → Refusal)
+pub record IsOpenAnswer {D E : Type 0} (disk : Ghosts D) (at : D) (refusal_of : E → Refusal)
     (result : Result (Store D disk) E) : Type 0 where
   pub opened : disk.honest → IfOk result
       (λ store. IsOpened (disk.state at).content (store_state disk.state store))

@@ -13,7 +13,7 @@ ghost use Rattle.store_layout.specs.Superblock.{disk_len, superblock as superblo
 ghost use Rattle.store_layout.specs.Superblock.{superblock_body};
 ghost use Rattle.store.specs.Formatting.{IsFormatImage, IsShut};
 ghost use Rattle.store.specs.Image.{area_a, area_b};
-ghost use Rattle.store.specs.Made.{AnswersFormat};
+ghost use Rattle.store.specs.Made.{IsFormatAnswer};
 ghost use Rattle.store.specs.State.{store_state, disk_of, IsSettled};
 
 use crate::Store;
@@ -40,7 +40,7 @@ pub fn format<D: Disk + Drop>(
     net_id: NetId,
     slots: u64,
 ) -> Result<Store<D>, Refusal>
-    ensures { AnswersFormat D.Disk disk net_id slots (λ refusal. refusal) result }
+    ensures { IsFormatAnswer D.Disk disk net_id slots (λ refusal. refusal) result }
 {
     match format_back(alloc, disk, net_id, slots) {
         Ok(store) => Ok(store),
@@ -62,7 +62,7 @@ pub fn format_back<D: Disk>(
     net_id: NetId,
     slots: u64,
 ) -> Result<Store<D>, (D, Refusal)>
-    ensures made { AnswersFormat D.Disk disk net_id slots (λ error. error.1) result }
+    ensures made { IsFormatAnswer D.Disk disk net_id slots (λ error. error.1) result }
     ensures device { IfErr result (λ e. (e.1 ≡ DeviceFailed → D.failures e.0 ≡ D.failures disk + 1)
         × (e.1 ≢ DeviceFailed → e.0 ≡ disk)) }
     ensures images { D.honest → NothingOpen (D.state disk) → IfErr result

@@ -9,7 +9,7 @@ ghost use Rattle.gate_log.specs.Areas.{AreLaidOut};
 ghost use Rattle.gate_log.specs.Opening.{disk_in_opening};
 ghost use Rattle.store.specs.Faults.{HasGoodFront, IsFault};
 ghost use Rattle.store.specs.Found.{IsFound};
-ghost use Rattle.store.specs.Made.{AnswersOpen};
+ghost use Rattle.store.specs.Made.{IsOpenAnswer};
 ghost use Rattle.store.specs.State.{store_state, disk_of, IsOpened};
 
 use crate::Store;
@@ -22,7 +22,7 @@ use std::alloc::Global;
 
 /// Opens the store on a disk, as [`open_back`] does.
 pub fn open<D: Disk + Drop>(alloc: Global, disk: D) -> Result<Store<D>, Refusal>
-    ensures { AnswersOpen D.Disk disk (λ refusal. refusal) result }
+    ensures { IsOpenAnswer D.Disk disk (λ refusal. refusal) result }
 {
     match open_back(alloc, disk) {
         Ok(store) => Ok(store),
@@ -42,7 +42,7 @@ pub fn open<D: Disk + Drop>(alloc: Global, disk: D) -> Result<Store<D>, Refusal>
 /// for want of memory, and only where the superblock and the live area's header are in order. With
 /// a refusal the disk comes back. The cost grows with the bytes of the live area's journal.
 pub fn open_back<D: Disk>(alloc: Global, disk: D) -> Result<Store<D>, (D, Refusal)>
-    ensures made { AnswersOpen D.Disk disk (λ error. error.1) result }
+    ensures made { IsOpenAnswer D.Disk disk (λ error. error.1) result }
 
     // What the disk that comes back is like.
     ensures device { IfErr result (λ e. (e.1 ≡ DeviceFailed → D.failures e.0 ≡ D.failures disk + 1)

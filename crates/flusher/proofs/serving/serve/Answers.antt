@@ -1,13 +1,31 @@
 use denote.Param.Always.{always_mut, mut_next}
 use denote.Param.Members.{Called}
-use Rattle.std.proofs.Common.{Vec, subst, sym}
+use Rattle.std.proofs.Common.{Vec, ℕ, ◌≡◌, List, rules, Result, subst, sym}
+use Rattle.devices.specs.declared.effect.Effect.{Effect}
+use Rattle.disk.specs.declared.disk.Disk.{Ghosts}
+use Rattle.lw_types.specs.declared.refusal.Refusal.{Refusal}
 use Rattle.std.specs.Global.{Global}
 use Rattle.store.specs.State.{store_state}
+use Rattle.store.specs.declared.store.Store.{Store}
 use Rattle.flusher.specs.Released.{effects_of_all}
 use Rattle.flusher.specs.declared.released.Released.{Released}
+use Rattle.flusher.specs.Chain.{FeedGives, IsChain}
 use Rattle.flusher.proofs.Leading.{nothing_yet, leaves_callable, lead_then}
 use Rattle.flusher.proofs.serving.serve.Goals as goal
 use Rattle.flusher.proofs.serving.serve.Goals.{else-branch-eq0-via-then-branch-eq0+else-done, else-branch-eq0-via-else-branch-eq0}
+
+-- a chain's answer and its bound, by other names
+last_as : {D F C V : Type 0} {disk : Ghosts D} {gives : FeedGives F} {effects : V → List Effect}
+    {call : C → V → C → Type 0} {most bound : ℕ} {old new : Store D disk} {old_feed new_feed : F}
+    {old_out new_out : C} {result answer : Result ℕ Refusal} → bound ≡ most → result ≡ answer
+    → IsChain disk gives effects call bound old new old_feed new_feed old_out new_out result
+    → IsChain disk gives effects call most old new old_feed new_feed old_out new_out answer
+last_as {D} {F} {C} {V} {disk} {gives} {effects} {call} {most} {bound} {old} {new} {old_feed}
+    {new_feed} {old_out} {new_out} {result} {answer} is_most is_answer chain =
+    subst (λ m. IsChain disk gives effects call m old new old_feed new_feed old_out new_out answer)
+    is_most
+    (subst (λ r. IsChain disk gives effects call bound old new old_feed new_feed old_out new_out r)
+    is_answer chain)
 
 pub loop-init : goal.loop-init
 loop-init g c = (
@@ -20,21 +38,17 @@ loop-init g c = (
   ),
 )
 
-pub returns-in_err-chain : goal.returns-in_err-chain
-returns-in_err-chain g c = record {
-  lives = λ honest.
-      lead_then (λ (released : Vec Released Global). effects_of_all released.items) (λ before released after. Called g.C.FnMut before (released, tt) tt after)
-      (store_state g.D.Disk.state c.args.store.now) (store_state g.D.Disk.state c.loop.store) (store_state g.D.Disk.state c.chain.new.store)
-      c.args.out.now c.loop.out c.chain.new.out (c.loop.invariant.1.1 honest) (c.chain.ensures.lives honest);
-}
+pub returns-in_err-chain-clause-lives : goal.returns-in_err-chain-clause-lives
+returns-in_err-chain-clause-lives g c = λ honest.
+    lead_then (λ (released : Vec Released Global). effects_of_all released.items) (λ before released after. Called g.C.FnMut before (released, tt) tt after)
+    (store_state g.D.Disk.state c.args.store.now) (store_state g.D.Disk.state c.loop.store) (store_state g.D.Disk.state c.chain.new.store)
+    c.args.out.now c.loop.out c.chain.new.out (c.loop.invariant.1.1 honest) (c.chain.ensures.lives honest)
 
-pub returns-then-done : goal.returns-then-done
-returns-then-done g c = record {
-  lives = λ honest.
-      lead_then (λ (released : Vec Released Global). effects_of_all released.items) (λ before released after. Called g.C.FnMut before (released, tt) tt after)
-      (store_state g.D.Disk.state c.args.store.now) (store_state g.D.Disk.state c.loop.store) (store_state g.D.Disk.state c.chain.new.store)
-      c.args.out.now c.loop.out c.chain.new.out (c.loop.invariant.1.1 honest) (c.chain.ensures.lives honest);
-}
+pub returns-then-done-clause-lives : goal.returns-then-done-clause-lives
+returns-then-done-clause-lives g c = λ honest.
+    lead_then (λ (released : Vec Released Global). effects_of_all released.items) (λ before released after. Called g.C.FnMut before (released, tt) tt after)
+    (store_state g.D.Disk.state c.args.store.now) (store_state g.D.Disk.state c.loop.store) (store_state g.D.Disk.state c.chain.new.store)
+    c.args.out.now c.loop.out c.chain.new.out (c.loop.invariant.1.1 honest) (c.chain.ensures.lives honest)
 
 pub loop-preserved : goal.loop-preserved
 loop-preserved g c = (
@@ -48,5 +62,23 @@ loop-preserved g c = (
         lead_then (λ (released : Vec Released Global). effects_of_all released.items) (λ before released after. Called g.C.FnMut before (released, tt) tt after)
         (store_state g.D.Disk.state c.args.store.now) (store_state g.D.Disk.state c.loop.store) (store_state g.D.Disk.state c.chain.new.store)
         c.args.out.now c.loop.out c.chain.new.out (c.loop.invariant.1.1 honest) (c.chain.ensures.lives honest),
+  ),
+)
+
+pub returns-in_err-chain-clause-last : goal.returns-in_err-chain-clause-last
+returns-in_err-chain-clause-last g c = (
+  c.loop.store,
+  (
+    c.loop.feed,
+    (c.loop.out, last_as c.served.ensures (search rules) c.in_err-chain.ensures.chain),
+  ),
+)
+
+pub returns-then-done-clause-last : goal.returns-then-done-clause-last
+returns-then-done-clause-last g c = (
+  c.loop.store,
+  (
+    c.loop.feed,
+    (c.loop.out, last_as c.served.ensures (search rules) c.in_ok-chain.ensures.chain),
   ),
 )
