@@ -39,10 +39,11 @@ impl<'x, B: Books, S: Sessions<B>, R: Wait> Drawn<'x, B, S, R> {
 
 impl<'x, B: Books, S: Sessions<B>, R: Wait> Feed for Drawn<'x, B, S, R> {
     ghost use Rattle.std.specs.Prelude.{◌≡◌, ◌+◌, length, MatchResult};
+    ghost use Rattle.lw_types.specs.declared.refusal.Refusal.TheVariants.{OutOfMemory};
 
     ghost gives = { λ old _ answer new. MatchResult answer
         (λ batch. new.taker ≡ old.taker + length batch)
-        (λ _. new.taker ≡ old.taker) };
+        (λ e. (e ≡ OutOfMemory) × (new.taker ≡ old.taker)) };
 
     fn next(&mut self, most: Most) -> Result<Batch, Refusal> {
         self.sessions.take(self.rt, &mut self.taker, most)

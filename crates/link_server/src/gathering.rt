@@ -1,5 +1,6 @@
 // Effects and refusals are put together as frames of the wire.
-ghost use Rattle.std.specs.Prelude.{◌≡◌, ◌++◌, ℕ, List, length, MatchBool, MatchResult};
+ghost use Rattle.std.specs.Prelude.{◌≡◌, ◌++◌, ℕ, List, length, IsTrue, MatchBool, MatchResult};
+ghost use Rattle.std.specs.Prelude.{false};
 ghost use Rattle.devices.specs.declared.effect.Effect.{Effect};
 ghost use Rattle.gateway_wire.specs.Answer.{answer_frame, refused_line};
 ghost use Rattle.link_server.specs.Sending.{frame_of, AreTogether};
@@ -24,17 +25,18 @@ pub(crate) struct Gathered {
 
 /// Takes effects from a ring, and puts their frames behind those that are to be sent, until there
 /// are enough or no more. An effect for whose frame there is no memory is lost, and on a broken
-/// link each one is; that no other one is, no clause says.
+/// link each one is (`broken`); that no other one is, no clause says.
 pub(crate) fn gather(
     alloc: Global,
     inlet: &mut Inlet,
     outgoing: &mut Outgoing,
     is_broken: bool,
 ) -> Gathered
-    ensures { (effects : List Effect) × ((bytes : List ℕ)
+    ensures together { (effects : List Effect) × ((bytes : List ℕ)
         × ((taken_from inlet.new ≡ taken_from inlet.old ++ effects)
         × ((result.taken ≡ length effects) × ((outgoing.new ≡ outgoing.old ++ bytes)
         × AreTogether effects result.lost bytes)))) }
+    ensures broken { IsTrue is_broken → result.lost ≡ result.taken }
 {
     let mut taken: u64 = 0;
     let mut lost: u64 = 0;
@@ -53,11 +55,12 @@ pub(crate) fn gather(
     Gathered { taken, lost }
 }
 
-// Whether the frame of an effect is put behind the others. It isn't without memory, or on a broken
+// Whether the frame of an effect is put behind the others. It isn't without memory, nor on a broken
 // link.
 fn is_put(alloc: Global, effect: Effect, outgoing: &mut Outgoing, is_broken: bool) -> bool
-    ensures { MatchBool result (outgoing.new ≡ outgoing.old ++ frame_of effect)
+    ensures framed { MatchBool result (outgoing.new ≡ outgoing.old ++ frame_of effect)
         (outgoing.new ≡ outgoing.old) }
+    ensures broken { IsTrue is_broken → result ≡ false }
 {
     !is_broken && add_effect(alloc, &effect, outgoing).is_ok()
 }

@@ -159,7 +159,8 @@ fn report<B: Books>(
     seats: Vec<Seat<B>>,
 ) -> Result<LifeReport, ServeFault>
     requires { all ≡ B.made_parts }
-    ensures { IfOk result (λ report. sum report.shares.items ≡ report.made) }
+    ensures sum { IfOk result (λ report. sum report.shares.items ≡ report.made) }
+    ensures shares { IfOk result (λ report. report.shares.items ≡ seats.items) }
 {
     let Ok(shares) = shares_of(alloc, &seats) else {
         return Err(ServeFault::Refused(Refusal::OutOfMemory));

@@ -111,8 +111,8 @@ impl Inlet {
         self.consumer.slots_after(&mut ended.finished) == 0
     }
 
-    /// Whether the other end is finished or gone; then nothing more is put. That it says so in time
-    /// is in no contract.
+    /// Whether the other end is finished or gone; then nothing more is put. What it answers, and
+    /// when, is in no contract.
     pub fn is_finished(&mut self) -> bool
         ensures ring { SameInlet self.old self.new }
         ensures same { taken_from self.new ≡ taken_from self.old }

@@ -1,5 +1,6 @@
 // A core that several threads share, behind a lock.
 ghost use Rattle.std.specs.Prelude.{◌≡◌, ◌+◌, length, MatchResult};
+ghost use Rattle.lw_types.specs.declared.refusal.Refusal.TheVariants.{OutOfMemory};
 ghost use Rattle.session_core.specs.Seats.{HasMade};
 
 use crate::{Books, Moment, Most, Outcome, Seat, Shared, Taker, Turn};
@@ -49,7 +50,7 @@ pub trait Sessions<B: Books> {
     fn take<R: Wait>(&self, rt: &R, taker: &mut Taker<B>, max: Most) -> Result<Batch, Refusal>
         ensures share { MatchResult result
             (λ batch. taker.new ≡ taker.old + length batch)
-            (λ _. taker.new ≡ taker.old) };
+            (λ e. (e ≡ OutOfMemory) × (taker.new ≡ taker.old)) };
 
     /// What came of the last commands that were handed in to be decided.
     fn outcomes<R: Wait>(&self, rt: &R, alloc: Global) -> Result<Vec<Outcome>, Refusal>;

@@ -1,4 +1,5 @@
-use Rattle.std.proofs.Common.{◌≡◌, ◌+◌, ◌++◌, ◌∷◌, ◌∙◌, List, [], ap, arith, length, length-append, append_assoc, ℕ}
+use Rattle.std.proofs.Common.{◌≡◌, ◌+◌, ◌++◌, ◌∷◌, ◌∙◌, List, [], ap, arith, length, length-append, append_assoc, sym, ℕ}
+use Rattle.std.proofs.lemmas.Bool.{false≢true}
 use Rattle.devices.specs.declared.effect.Effect.{Effect}
 use Rattle.link_server.specs.Sending.{frame_of}
 use Rattle.link_server.proofs.Together.{added_one, lost_one}
@@ -17,11 +18,13 @@ loop-turn-preserved c =
     let count' : c.loop-turn.taken + 1 ≡ length (effects ++ effect ∷ []) = omega (arith, count, length-append effects (effect ∷ [])) in
     elim c.if-not-is_put.branch [
       | then-not-is_put w ↦ (
-        (effects ++ effect ∷ [], (bytes, (taken', (count', ((rw w.if-not-is_put.true at c.is_put.ensures) ∙ out, rw w.lost-is (lost_one effects effect c.loop-turn.lost bytes together)))))),
+        (effects ++ effect ∷ [], (bytes, (taken', (count', ((rw w.if-not-is_put.true at c.is_put.ensures.framed) ∙ out, rw w.lost-is (lost_one effects effect c.loop-turn.lost bytes together)))))),
         (omega (arith, c.loop-turn.invariant.1), omega (arith, w.lost-is, c.loop-turn.invariant.1)),
+        λ broken. omega (arith, w.lost-is, c.loop-turn.invariant.2 broken),
       )
       | else-not-is_put w ↦ (
-        (effects ++ effect ∷ [], (bytes ++ frame_of effect, (taken', (count', ((rw w.if-not-is_put.false at c.is_put.ensures) ∙ (ap framed out ∙ append_assoc _ bytes (frame_of effect)), rw w.lost-is (added_one effects effect c.loop-turn.lost bytes together)))))),
+        (effects ++ effect ∷ [], (bytes ++ frame_of effect, (taken', (count', ((rw w.if-not-is_put.false at c.is_put.ensures.framed) ∙ (ap framed out ∙ append_assoc _ bytes (frame_of effect)), rw w.lost-is (added_one effects effect c.loop-turn.lost bytes together)))))),
         (omega (arith, c.loop-turn.invariant.1), omega (arith, w.lost-is, c.loop-turn.invariant.1)),
+        λ broken. absurd (false≢true (sym (c.is_put.ensures.broken broken) ∙ w.if-not-is_put.false)),
       )
     ]

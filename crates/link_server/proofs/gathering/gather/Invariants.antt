@@ -1,4 +1,5 @@
 use Rattle.std.proofs.Common.{◌≡◌, ◌≤◌, ◌++◌, ℕ, List, length}
+use Rattle.std.specs.Prelude.{IsTrue}
 use Rattle.devices.specs.declared.effect.Effect.{Effect}
 use Rattle.link_server.specs.Sending.{AreTogether}
 use Rattle.outbox.specs.Ring.{taken_from}
@@ -11,3 +12,4 @@ invariant-loop-turn l =
     × ((l.taken ≡ length effects) × ((l.outgoing ≡ l.initial.outgoing ++ bytes)
     × AreTogether effects l.lost bytes)))))
     × ((l.taken ≤ l._turn) × (l.lost ≤ l._turn))
+    × (IsTrue l.fn.is_broken → l.lost ≡ l.taken)

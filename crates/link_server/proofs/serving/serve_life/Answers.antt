@@ -12,7 +12,7 @@ pub returns : goal.returns
 returns g c =
     record {
       shares = elim c.match-result.branch [
-        | in-Ok-result w ↦ subst HasSum (sym w.result-is) w.report-result.ensures
+        | in-Ok-result w ↦ subst HasSum (sym w.result-is) w.report-result.ensures.sum
         | in-Err-result w ↦ subst HasSum (sym w.result-is) (tt {0})
       ];
     }
