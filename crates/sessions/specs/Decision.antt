@@ -78,10 +78,6 @@ pub record IsLegalContinuation (t : TableState) (seq : ℕ) (ds : List Decision)
 abbrev pub commands_of : List Decision → List Command
 commands_of ds = map (λ d. d.command) ds
 
--- the records that the decisions leave
-abbrev pub afters_of : List Decision → List Device
-afters_of ds = map (λ d. d.after) ds
-
 abbrev pub effects_in : List Decision → List Effect
 effects_in ds = flat_map (λ d. d.effects) ds
 

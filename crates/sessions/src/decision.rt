@@ -37,22 +37,6 @@ impl Drop for Decision {
 }
 
 impl Decision {
-    /// Its effects, and nothing else of it.
-    pub fn into_effects(self) -> Effects
-        ensures { result ≡ self.effects }
-    {
-        let Self {
-            net_id: _,
-            seq: _,
-            slot: _,
-            before: _,
-            command: _,
-            after: _,
-            effects,
-        } = self;
-        effects
-    }
-
     /// The record that it leaves, and what is left of it behind that.
     pub fn into_placed(self) -> (Device, Placed)
         ensures record { result.0 ≡ self.after }

@@ -704,7 +704,8 @@ fn decide(alloc: Global, table: &mut Table, command: &Command) -> Result<Vec<Eff
     match decision_of(alloc, table, command) {
         Ok(decision) => {
             table.apply(&decision)?;
-            Ok(decision.into_effects().into_vec())
+            let (_, rest) = decision.into_placed();
+            Ok(rest.into_effects().into_vec())
         }
         Err(refusal) if refusal == Refusal::OutOfMemory => Err(refusal),
         Err(_) => Ok(Vec::new(alloc)),

@@ -1,5 +1,6 @@
-use Rattle.std.proofs.Common.{◌∙◌}
+use Rattle.std.proofs.Common.{◌∙◌, ap}
 use Rattle.sessions.specs.Table.{step}
+use Rattle.sessions.specs.declared.decision.Decision.{Decision}
 use Rattle.world_tests.proofs.Turning.{taken}
 use Rattle.world_tests.proofs.model.decide.Goals as goal
 
@@ -13,4 +14,5 @@ pub returns-in_ok-apply-in-Ok-clause-effects : goal.returns-in_ok-apply-in-Ok-cl
 returns-in_ok-apply-in-Ok-clause-effects c =
     let t = c.args.table.now in
     let k = c.args.command.now in
-    c.into_vec.ensures.effects ∙ c.into_effects.ensures ∙ (taken t k c.in-Ok.decision (step t k) c.in-Ok.ensures.decided).1
+    let whole = ap (λ (d : Decision). d.effects) c.into_placed-rest.ensures.rest in
+    c.into_vec.ensures.effects ∙ (c.into_effects.ensures ∙ (whole ∙ (taken t k c.in-Ok.decision (step t k) c.in-Ok.ensures.decided).1))
