@@ -44,10 +44,7 @@ const LAST: &[Leg] = &[
         "call\ncall\nrelease\ncall\nnext 64\n",
         "called\ncalled\nreleased 17\ncalled\nfull\n",
     ),
-    (
-        "call\nrelease\ntake 64\n",
-        "called\nreleased 64\nfull\n",
-    ),
+    ("call\nrelease\ntake 64\n", "called\nreleased 64\nfull\n"),
     ("checkpoint\n", "begun\n"),
     (
         "call\ncall\ncall\ncall\n",
