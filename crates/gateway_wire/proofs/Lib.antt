@@ -1,3 +1,4 @@
+mod LineLengths
 pub mod RequestFinding
 pub mod RequestLines
 pub mod DeviceLines

@@ -1,7 +1,9 @@
 -- What leaves the network by an effect, and on whose link.
-use Rattle.std.specs.Prelude.{ℕ, List, Option, Some, None}
+use Rattle.std.specs.Prelude.{ℕ, ◌≤◌, List, Option, Some, None, length}
 use Rattle.devices.specs.declared.effect.Effect.{Effect}
 use Rattle.devices.specs.declared.effect.Effect.TheVariants.{Forward, Accept, Down, Report}
+use Rattle.gateway_wire.specs.declared.answer.TheConstants.{LONGEST_ANSWER}
+use Rattle.gateway_wire.specs.declared.downlink.TheConstants.{LONGEST_WIRE_FRAME}
 use Rattle.gateway_wire.specs.declared.emission.Emission.{Emission}
 use Rattle.gateway_wire.specs.declared.emission.Emission.TheVariants.{Gateway, Application}
 use Rattle.gateway_wire.specs.declared.recipient.Recipient.{Recipient}
@@ -17,6 +19,11 @@ emission (Forward application session counter port payload copies best) =
 emission (Report application dev_eui report) = Application application (report_line dev_eui report)
 emission (Accept session downlink) = Gateway downlink.gateway (downlink_frame downlink)
 emission (Down session counter downlink) = Gateway downlink.gateway (downlink_frame downlink)
+
+-- it fits a frame of the wire
+abbrev pub FitsFrame : Emission → Type 0
+FitsFrame (Application application line) = length line ≤ LONGEST_ANSWER
+FitsFrame (Gateway gateway frame) = length frame ≤ LONGEST_WIRE_FRAME
 
 -- on whose link that is
 abbrev pub recipient_in : Emission → Recipient

@@ -1,12 +1,14 @@
 // What an application is told, as a frame of the wire.
-ghost use Rattle.std.specs.Prelude.{◌≡◌, MatchResult};
+ghost use Rattle.std.specs.Prelude.{◌≡◌, ◌≤◌, ◌∷◌, [], codes, length, IfOk, MatchResult};
+ghost use Rattle.std.specs.Fmt.{decimal};
+ghost use Rattle.lw_types.specs.Words.{line_of};
 ghost use Rattle.lw_types.specs.Answer.{Answers};
 ghost use Rattle.lw_types.specs.declared.refusal.Refusal.TheVariants.{OutOfMemory};
 ghost use Rattle.gateway_wire.specs.Answer.{refused_line, short_answer_frame};
 
 use link_messages::Line;
 use lw_types::{Bytes, Refusal};
-use std::alloc::Global;
+use std::alloc::{AllocError, Global};
 
 /// The kind of content that an answer to an application is.
 pub const ANSWER: u8 = 0x13;
@@ -40,11 +42,20 @@ pub fn answer_frame(alloc: Global, line: &Line) -> Result<AnswerFrame, Refusal>
 
 /// The line that answers a request which was refused. Refused with `OutOfMemory` for want of
 /// memory.
-#[tactic(auto, unfolding(lw_types::specs::Words::line_of))]
 pub fn refused_line(alloc: Global, refusal: Refusal) -> Result<Line, Refusal>
-    ensures { MatchResult result (λ line. line ≡ refused_line refusal) (λ e. e ≡ OutOfMemory) }
+    ensures line { MatchResult result (λ line. line ≡ refused_line refusal)
+        (λ e. e ≡ OutOfMemory) }
+    ensures short { IfOk result (λ line. length line ≤ LONGEST_ANSWER) }
 {
-    let number = refusal.number();
+    Ok(line_of_number(alloc, refusal.number())?)
+}
+
+// The line of a refusal's number.
+#[tactic(auto, unfolding(lw_types::specs::Words::line_of))]
+fn line_of_number(alloc: Global, number: u8) -> Result<Line, AllocError>
+    ensures line { IfOk result (λ line. line ≡ line_of (codes "refused" ∷ decimal number ∷ [])) }
+    ensures short { IfOk result (λ line. length line ≤ LONGEST_ANSWER) }
+{
     let text = format!(in alloc; "refused {number}")?;
     Ok(Line::new(text))
 }

@@ -27,12 +27,15 @@ pub enum Emission {
 }
 
 impl Emission {
-    ghost use Rattle.gateway_wire.specs.Emission.{emission};
+    ghost use Rattle.std.specs.Prelude.{IfOk};
+    ghost use Rattle.gateway_wire.specs.Emission.{emission, FitsFrame};
 
     /// What leaves by this effect: payloads and reports go to the device's application, frames for
-    /// the device to the gateway that heard it best.
+    /// the device to the gateway that heard it best. Each is short enough for a frame of the wire.
     pub fn of(alloc: Global, effect: &Effect) -> Result<Emission, Refusal>
-        ensures { MatchResult result (λ e. e ≡ emission effect.now) (λ e. e ≡ OutOfMemory) }
+        ensures emission { MatchResult result (λ e. e ≡ emission effect.now)
+            (λ e. e ≡ OutOfMemory) }
+        ensures short { IfOk result FitsFrame }
     {
         match effect {
             Effect::Forward {

@@ -1,11 +1,13 @@
 // What is reported to applications of their devices.
-ghost use Rattle.std.specs.Prelude.{◌≡◌, ◌∷◌, [], IfOk};
+ghost use Rattle.std.specs.Prelude.{◌≡◌, ◌≤◌, ◌<◌, ◌+◌, ◌^◌, ◌∷◌, [], length, FitsSigned, IfOk};
+ghost use Rattle.std.specs.Int.{w16};
 ghost use Rattle.std.specs.Fmt.{decimal};
 ghost use Rattle.lw_types.specs.Hex.{eui_text};
 ghost use Rattle.lw_types.specs.Words.{line_of};
 ghost use Rattle.devices.specs.declared.effect.Report.TheVariants.{Mac, MacQueued};
 ghost use Rattle.gateway_wire.specs.AppLine.{report_line, up_line};
 
+use crate::answer::LONGEST_ANSWER;
 use devices::{Copies, Payload, Port, Report, SessionName};
 use link_messages::Line;
 use lw_types::{ByteField, Eui, JoinNonce, Reception};
@@ -14,7 +16,8 @@ use std::fmt;
 
 /// The line of a report on a device.
 pub(crate) fn report_line(alloc: Global, dev_eui: Eui, report: &Report) -> Result<Line, AllocError>
-    ensures { IfOk result (λ line. line ≡ report_line dev_eui report.now) }
+    ensures line { IfOk result (λ line. line ≡ report_line dev_eui report.now) }
+    ensures short { IfOk result (λ line. length line ≤ LONGEST_ANSWER) }
 {
     match report {
         Report::Provisioned { slot } => number_line(
@@ -38,8 +41,9 @@ pub(crate) fn report_line(alloc: Global, dev_eui: Eui, report: &Report) -> Resul
 // The line of a report that tells a number.
 #[tactic(auto, unfolding(lw_types::specs::Words::line_of))]
 fn number_line(alloc: Global, name: &str, dev_eui: Eui, number: u32) -> Result<Line, AllocError>
-    ensures { IfOk result (λ line. line
+    ensures line { IfOk result (λ line. line
         ≡ line_of (name.now ∷ eui_text dev_eui ∷ decimal number ∷ [])) }
+    ensures short { IfOk result (λ line. length line ≤ length name.now + 28) }
 {
     let text = format!(in alloc; "{name} {dev_eui} {number}")?;
     Ok(Line::new(text))
@@ -48,7 +52,8 @@ fn number_line(alloc: Global, name: &str, dev_eui: Eui, number: u32) -> Result<L
 // The line of MAC commands that wait.
 #[tactic(auto, unfolding(lw_types::specs::Words::line_of))]
 fn waiting_line(alloc: Global, dev_eui: Eui, commands: &Payload) -> Result<Line, AllocError>
-    ensures { IfOk result (λ line. line ≡ report_line dev_eui (MacQueued commands.now)) }
+    ensures line { IfOk result (λ line. line ≡ report_line dev_eui (MacQueued commands.now)) }
+    ensures short { IfOk result (λ line. length line ≤ LONGEST_ANSWER) }
 {
     let hex = ByteField(commands.as_slice());
     let text = format!(in alloc; "macqueued {dev_eui} {hex}")?;
@@ -63,7 +68,8 @@ fn sent_line(
     join_nonce: JoinNonce,
     commands: &Payload,
 ) -> Result<Line, AllocError>
-    ensures { IfOk result (λ line. line ≡ report_line dev_eui (Mac join_nonce commands.now)) }
+    ensures line { IfOk result (λ line. line ≡ report_line dev_eui (Mac join_nonce commands.now)) }
+    ensures short { IfOk result (λ line. length line ≤ LONGEST_ANSWER) }
 {
     let nonce = join_nonce.get();
     let hex = ByteField(commands.as_slice());
@@ -106,18 +112,39 @@ impl fmt::Display for HeardFields<'_> {
     }
 }
 
+// The ranges of an uplink's numbers, which are those of their types.
+fn numbers_are_in_range(counter: u32, best: Reception)
+    ensures counter { counter < 2 ^ 32 }
+    ensures frequency { best.frequency < 2 ^ 32 }
+    ensures data_rate { best.data_rate < 2 ^ 8 }
+    ensures snr { FitsSigned w16 best.snr }
+    ensures rssi { FitsSigned w16 best.rssi }
+{
+    let Reception {
+        gateway: _,
+        frequency: _,
+        data_rate: _,
+        snr: _,
+        rssi: _,
+    } = best;
+}
+
 // The bytes that the line of a payload mostly fits into.
 const USUAL_LINE: usize = 160;
 
 /// The line of a payload, under its session and counter, and of who heard it.
 #[tactic(auto, unfolding(lw_types::specs::Words::line_of))]
 pub(crate) fn up_line(alloc: Global, up: &UpFields<'_>) -> Result<Line, AllocError>
-    ensures { IfOk result (λ line. line
+    ensures line { IfOk result (λ line. line
         ≡ up_line up.now.session.now up.now.counter up.now.port up.now.payload.now
         up.now.copies up.now.best.now) }
+    ensures short { IfOk result (λ line. length line ≤ LONGEST_ANSWER) }
 {
     let (dev_eui, nonce) = (up.session.dev_eui, up.session.join_nonce.get());
     let (counter, port) = (up.counter, up.port.get());
+    // that the line fits a frame stands on the ranges of its numbers
+    let _copies = up.copies.get();
+    numbers_are_in_range(counter, *up.best);
     let hex = ByteField(up.payload.as_slice());
     let heard = HeardFields {
         copies: up.copies,

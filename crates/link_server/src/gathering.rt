@@ -1,12 +1,13 @@
 // Effects and refusals are put together as frames of the wire.
-ghost use Rattle.std.specs.Prelude.{◌≡◌, ◌++◌, ℕ, List, length, IsTrue, MatchBool, MatchResult};
-ghost use Rattle.std.specs.Prelude.{false};
+ghost use Rattle.std.specs.Prelude.{◌≡◌, ◌≤◌, ◌++◌, ◌⊎◌, ℕ, List, [], length, IsTrue, MatchBool};
+ghost use Rattle.std.specs.Prelude.{false, MatchResult};
+ghost use Rattle.lw_types.specs.declared.refusal.Refusal.TheVariants.{OutOfMemory};
 ghost use Rattle.devices.specs.declared.effect.Effect.{Effect};
 ghost use Rattle.gateway_wire.specs.Answer.{answer_frame, refused_line};
 ghost use Rattle.link_server.specs.Sending.{frame_of, AreTogether};
-ghost use Rattle.outbox.specs.Ring.{taken_from};
+ghost use Rattle.outbox.specs.Ring.{seen_by, taken_from};
 
-use crate::outgoing::Outgoing;
+use crate::outgoing::{MUCH, Outgoing};
 use devices::Effect;
 use gateway_wire::{Emission, answer_frame, refused_line};
 use lw_types::Refusal;
@@ -24,8 +25,8 @@ pub(crate) struct Gathered {
 }
 
 /// Takes effects from a ring, and puts their frames behind those that are to be sent, until there
-/// are enough or no more. An effect for whose frame there is no memory is lost, and on a broken
-/// link each one is (`broken`); that no other one is, no clause says.
+/// are enough of either or no more is seen (`enough`). An effect for whose frame there is no memory
+/// is lost, and on a broken link each one is (`broken`); that no other one is, no clause says.
 pub(crate) fn gather(
     alloc: Global,
     inlet: &mut Inlet,
@@ -37,6 +38,8 @@ pub(crate) fn gather(
         × ((result.taken ≡ length effects) × ((outgoing.new ≡ outgoing.old ++ bytes)
         × AreTogether effects result.lost bytes)))) }
     ensures broken { IsTrue is_broken → result.lost ≡ result.taken }
+    ensures enough { (result.taken ≡ SOME) ⊎ ((MUCH ≤ length outgoing.new)
+        ⊎ (seen_by inlet.new ≡ [])) }
 {
     let mut taken: u64 = 0;
     let mut lost: u64 = 0;
@@ -65,10 +68,11 @@ fn is_put(alloc: Global, effect: Effect, outgoing: &mut Outgoing, is_broken: boo
     !is_broken && add_effect(alloc, &effect, outgoing).is_ok()
 }
 
-// Puts the frame of an effect behind the others; after an `Err` nothing is changed.
+// Puts the frame of an effect behind the others. Refused with `OutOfMemory` for want of memory, and
+// then nothing is changed.
 fn add_effect(alloc: Global, effect: &Effect, outgoing: &mut Outgoing) -> Result<(), Refusal>
     ensures { MatchResult result (λ _. outgoing.new ≡ outgoing.old ++ frame_of effect.now)
-        (λ _. outgoing.new ≡ outgoing.old) }
+        (λ e. (e ≡ OutOfMemory) × (outgoing.new ≡ outgoing.old)) }
 {
     match Emission::of(alloc, effect)? {
         Emission::Gateway { frame, .. } => outgoing.add(frame.as_slice()),
@@ -79,8 +83,8 @@ fn add_effect(alloc: Global, effect: &Effect, outgoing: &mut Outgoing) -> Result
     }
 }
 
-/// Puts the answer to a request that was refused behind the other frames; after an `Err` nothing is
-/// changed.
+/// Puts the answer to a request that was refused behind the other frames. Refused with
+/// `OutOfMemory` for want of memory, and then nothing is changed.
 pub(crate) fn add_refusal(
     alloc: Global,
     refusal: Refusal,
@@ -88,7 +92,7 @@ pub(crate) fn add_refusal(
 ) -> Result<(), Refusal>
     ensures { MatchResult result
         (λ _. outgoing.new ≡ outgoing.old ++ answer_frame (refused_line refusal))
-        (λ _. outgoing.new ≡ outgoing.old) }
+        (λ e. (e ≡ OutOfMemory) × (outgoing.new ≡ outgoing.old)) }
 {
     let line = refused_line(alloc, refusal)?;
     let frame = answer_frame(alloc, &line)?;

@@ -1,5 +1,5 @@
 // What is sent together.
-ghost use Rattle.std.specs.Prelude.{◌≡◌, ◌++◌, ◌↔◌, [], IsTrue, MatchResult};
+ghost use Rattle.std.specs.Prelude.{◌≡◌, ◌++◌, ◌≤◌, ◌↔◌, [], length, IsTrue, MatchResult};
 ghost use Rattle.lw_types.specs.declared.refusal.Refusal.TheVariants.{OutOfMemory};
 
 use lw_types::Refusal;
@@ -7,7 +7,7 @@ use std::alloc::{AllocError, Global};
 use std::marker::Model;
 
 // How much is put together before it is sent, in bytes.
-const MUCH: usize = 16 * 1024;
+pub(crate) const MUCH: usize = 16 * 1024;
 
 /// Frames that are sent together. In contracts it is the list of their bytes.
 #[derive(Drop)]
@@ -51,7 +51,9 @@ impl Outgoing {
     }
 
     /// Whether it is time to send.
-    pub(crate) fn is_much(&self) -> bool {
+    pub(crate) fn is_much(&self) -> bool
+        ensures { IsTrue result ↔ (MUCH ≤ length self.now) }
+    {
         self.bytes.len() >= MUCH
     }
 

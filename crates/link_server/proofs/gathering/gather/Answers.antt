@@ -1,4 +1,4 @@
-use Rattle.std.proofs.Common.{◌≡◌, ◌+◌, ◌++◌, ◌∷◌, ◌∙◌, List, [], ap, arith, length, length-append, append_assoc, sym, ℕ}
+use Rattle.std.proofs.Common.{◌≡◌, ◌+◌, ◌++◌, ◌∷◌, ◌∙◌, List, [], ap, arith, inl, length, length-append, append_assoc, sym, ℕ}
 use Rattle.std.proofs.lemmas.Bool.{false≢true}
 use Rattle.devices.specs.declared.effect.Effect.{Effect}
 use Rattle.link_server.specs.Sending.{frame_of}
@@ -28,3 +28,7 @@ loop-turn-preserved c =
         λ broken. absurd (false≢true (sym (c.is_put.ensures.broken broken) ∙ w.if-not-is_put.false)),
       )
     ]
+
+pub returns-after-loop-turn-clause-enough : goal.returns-after-loop-turn-clause-enough
+returns-after-loop-turn-clause-enough c =
+    inl (omega (arith, c.loop-turn.invariant.1, c.loop-turn-test.false, c.loop-turn.auto._turn-end))

@@ -11,5 +11,5 @@ invariant-loop-turn l =
     × ((taken_from l.inlet ≡ taken_from l.initial.inlet ++ effects)
     × ((l.taken ≡ length effects) × ((l.outgoing ≡ l.initial.outgoing ++ bytes)
     × AreTogether effects l.lost bytes)))))
-    × ((l.taken ≤ l._turn) × (l.lost ≤ l._turn))
+    × ((l.taken ≡ l._turn) × (l.lost ≤ l._turn))
     × (IsTrue l.fn.is_broken → l.lost ≡ l.taken)
