@@ -519,7 +519,11 @@ fn is_listed(alloc: Global, table: &Table, seq: u64, text: &str) -> bool {
 const LISTS: [&str; 3] = [
     "devices 0 seq 0\n",
     "0 1112131415161718 0 - - - 0\ndevices 1 seq 1\n",
-    "0 1112131415161718 0 - - - 0\n1 00000000000000AB 5 3 70 4294967296 1\ndevices 2 seq 18446744073709551615\n",
+    concat!(
+        "0 1112131415161718 0 - - - 0\n",
+        "1 00000000000000AB 5 3 70 4294967296 1\n",
+        "devices 2 seq 18446744073709551615\n",
+    ),
 ];
 
 fn are_listed(alloc: Global, table: &mut Table) -> Option<bool> {

@@ -5,24 +5,45 @@ use join_server::{JoinAsk, JoinRequestBytes, JoinState, RxDelay};
 use lw_types::{DevAddr, Eui, JoinNonce, Key, NetId, Refusal};
 use std::alloc::{AllocError, Global};
 
-const REQUEST: [u8; 23] =
-    *b"\x00\x08\x07\x06\x05\x04\x03\x02\x01\x18\x17\x16\x15\x14\x13\x12\x11\x01\x00\xAA\xBB\xCC\xDD";
+const REQUEST: [u8; 23] = *b"\x00\x08\x07\x06\x05\x04\x03\x02\x01\x18\x17\x16\x15\x14\x13\
+       \x12\x11\x01\x00\xAA\xBB\xCC\xDD";
 
-const QUESTION: &str =
-    r#"{"CFList":"184F84E85684B85E84886684586E8400","DLSettings":"00","DevAddr":"54000001","DevEUI":"1112131415161718","MACVersion":"1.0.4","MessageType":"JoinReq","PHYPayload":"00080706050403020118171615141312110100AABBCCDD","ProtocolVersion":"1.0","ReceiverID":"0102030405060708","RxDelay":1,"SenderID":"00002A","TransactionID":2}"#;
+const QUESTION: &str = concat!(
+    r#"{"CFList":"184F84E85684B85E84886684586E8400","DLSettings":"00","DevAddr":"54000001","#,
+    r#""DevEUI":"1112131415161718","MACVersion":"1.0.4","MessageType":"JoinReq","#,
+    r#""PHYPayload":"00080706050403020118171615141312110100AABBCCDD","ProtocolVersion":"1.0","#,
+    r#""ReceiverID":"0102030405060708","RxDelay":1,"SenderID":"00002A","TransactionID":2}"#,
+);
 
 // The same question, with the MIC of its Join-Request.
-const SIGNED: &str =
-    r#"{"CFList":"184F84E85684B85E84886684586E8400","DLSettings":"00","DevAddr":"54000001","DevEUI":"1112131415161718","MACVersion":"1.0.4","MessageType":"JoinReq","PHYPayload":"000807060504030201181716151413121101009E7419CE","ProtocolVersion":"1.0","ReceiverID":"0102030405060708","RxDelay":1,"SenderID":"00002A","TransactionID":2}"#;
+const SIGNED: &str = concat!(
+    r#"{"CFList":"184F84E85684B85E84886684586E8400","DLSettings":"00","DevAddr":"54000001","#,
+    r#""DevEUI":"1112131415161718","MACVersion":"1.0.4","MessageType":"JoinReq","#,
+    r#""PHYPayload":"000807060504030201181716151413121101009E7419CE","ProtocolVersion":"1.0","#,
+    r#""ReceiverID":"0102030405060708","RxDelay":1,"SenderID":"00002A","TransactionID":2}"#,
+);
 
-const GRANTED: &str =
-    r#"{"AppSKey":{"AESKey":"65A2E3FC3F681266CA0F9088A6AD5FE4"},"MessageType":"JoinAns","NwkSKey":{"AESKey":"38F19F1F7C923B7B392DFDBECE201B6B"},"PHYPayload":"20964FABE971240AB8E37F72AEFDC360B6FD3C4BE3FB883149AF03F6CC89235E53","ProtocolVersion":"1.0","ReceiverID":"00002A","Result":{"Description":"","ResultCode":"Success"},"SenderID":"0102030405060708","TransactionID":2}"#;
+const GRANTED: &str = concat!(
+    r#"{"AppSKey":{"AESKey":"65A2E3FC3F681266CA0F9088A6AD5FE4"},"MessageType":"JoinAns","#,
+    r#""NwkSKey":{"AESKey":"38F19F1F7C923B7B392DFDBECE201B6B"},"#,
+    r#""PHYPayload":"20964FABE971240AB8E37F72AEFDC360B6FD3C4BE3FB883149AF03F6CC89235E53","#,
+    r#""ProtocolVersion":"1.0","ReceiverID":"00002A","Result":{"Description":"","#,
+    r#""ResultCode":"Success"},"SenderID":"0102030405060708","TransactionID":2}"#,
+);
 
-const NO_QUESTION: &str =
-    r#"{"MessageType":"JoinAns","ProtocolVersion":"1.0","ReceiverID":"000000","Result":{"Description":"bad message","ResultCode":"Other"},"SenderID":"0102030405060708","TransactionID":0}"#;
+const NO_QUESTION: &str = concat!(
+    r#"{"MessageType":"JoinAns","ProtocolVersion":"1.0","ReceiverID":"000000","#,
+    r#""Result":{"Description":"bad message","ResultCode":"Other"},"#,
+    r#""SenderID":"0102030405060708","TransactionID":0}"#,
+);
 
-const NESTED: &str =
-    "[[[[[[[[[[[[[[[[[[[[[[[[[[[[[[[[[[[[[[[[[[[[[[[[[[[[[[[[[[[[[[[[[[[[[[[[[[[[[[[[[[[[[[[[[[[[[[[[[[[[[[[[[[[[[[[[[[[[[[[[[[[[[[[[[[[[[[[[[[[[[[[[[[[[[[[[[[[[[[[[[[[[[[[[[[[[[[[[[[[[[[[[[[[[[[[[[[[[[[[[]]]]]]]]]]]]]]]]]]]]]]]]]]]]]]]]]]]]]]]]]]]]]]]]]]]]]]]]]]]]]]]]]]]]]]]]]]]]]]]]]]]]]]]]]]]]]]]]]]]]]]]]]]]]]]]]]]]]]]]]]]]]]]]]]]]]]]]]]]]]]]]]]]]]]]]]]]]]]]]]]]]]]]]]]]]]]]]]]]]]]]]]]]]]]]]]]]]]]]]]";
+const NESTED: &str = concat!(
+    "[[[[[[[[[[[[[[[[[[[[[[[[[[[[[[[[[[[[[[[[[[[[[[[[[[[[[[[[[[[[[[[[[[[[[[[[[[[[[[[[[[[[[[[[",
+    "[[[[[[[[[[[[[[[[[[[[[[[[[[[[[[[[[[[[[[[[[[[[[[[[[[[[[[[[[[[[[[[[[[[[[[[[[[[[[[[[[[[[[[[[",
+    "[[[[[[[[[[[[[[[[[[[[[[[[]]]]]]]]]]]]]]]]]]]]]]]]]]]]]]]]]]]]]]]]]]]]]]]]]]]]]]]]]]]]]]]]",
+    "]]]]]]]]]]]]]]]]]]]]]]]]]]]]]]]]]]]]]]]]]]]]]]]]]]]]]]]]]]]]]]]]]]]]]]]]]]]]]]]]]]]]]]]]",
+    "]]]]]]]]]]]]]]]]]]]]]]]]]]]]]]]]]]]]]]]]]]]]]]]]",
+);
 
 fn state(dev_eui: u64, join_eui: u64, dev_nonce: Option<u16>) -> JoinState {
     JoinState {
@@ -95,20 +116,35 @@ fn a_join_is_granted(rt: HostRuntime) {
     assert!(rt; answers(rt.alloc(), &known_state(), SIGNED, GRANTED));
 }
 
-const UNKNOWN_DEVICE: &str =
-    r#"{"MessageType":"JoinAns","ProtocolVersion":"1.0","ReceiverID":"00002A","Result":{"Description":"unknown device","ResultCode":"UnknownDevEUI"},"SenderID":"0102030405060708","TransactionID":2}"#;
+const UNKNOWN_DEVICE: &str = concat!(
+    r#"{"MessageType":"JoinAns","ProtocolVersion":"1.0","ReceiverID":"00002A","#,
+    r#""Result":{"Description":"unknown device","ResultCode":"UnknownDevEUI"},"#,
+    r#""SenderID":"0102030405060708","TransactionID":2}"#,
+);
 
-const WRONG_JOIN_EUI: &str =
-    r#"{"MessageType":"JoinAns","ProtocolVersion":"1.0","ReceiverID":"00002A","Result":{"Description":"wrong join eui","ResultCode":"JoinReqFailed"},"SenderID":"0102030405060708","TransactionID":2}"#;
+const WRONG_JOIN_EUI: &str = concat!(
+    r#"{"MessageType":"JoinAns","ProtocolVersion":"1.0","ReceiverID":"00002A","#,
+    r#""Result":{"Description":"wrong join eui","ResultCode":"JoinReqFailed"},"#,
+    r#""SenderID":"0102030405060708","TransactionID":2}"#,
+);
 
-const BAD_MIC: &str =
-    r#"{"MessageType":"JoinAns","ProtocolVersion":"1.0","ReceiverID":"00002A","Result":{"Description":"bad mic","ResultCode":"MICFailed"},"SenderID":"0102030405060708","TransactionID":2}"#;
+const BAD_MIC: &str = concat!(
+    r#"{"MessageType":"JoinAns","ProtocolVersion":"1.0","ReceiverID":"00002A","#,
+    r#""Result":{"Description":"bad mic","ResultCode":"MICFailed"},"#,
+    r#""SenderID":"0102030405060708","TransactionID":2}"#,
+);
 
-const DEV_NONCE_USED: &str =
-    r#"{"MessageType":"JoinAns","ProtocolVersion":"1.0","ReceiverID":"00002A","Result":{"Description":"dev nonce used","ResultCode":"JoinReqFailed"},"SenderID":"0102030405060708","TransactionID":2}"#;
+const DEV_NONCE_USED: &str = concat!(
+    r#"{"MessageType":"JoinAns","ProtocolVersion":"1.0","ReceiverID":"00002A","#,
+    r#""Result":{"Description":"dev nonce used","ResultCode":"JoinReqFailed"},"#,
+    r#""SenderID":"0102030405060708","TransactionID":2}"#,
+);
 
-const JOIN_NONCE_SPENT: &str =
-    r#"{"MessageType":"JoinAns","ProtocolVersion":"1.0","ReceiverID":"00002A","Result":{"Description":"join nonce spent","ResultCode":"JoinReqFailed"},"SenderID":"0102030405060708","TransactionID":2}"#;
+const JOIN_NONCE_SPENT: &str = concat!(
+    r#"{"MessageType":"JoinAns","ProtocolVersion":"1.0","ReceiverID":"00002A","#,
+    r#""Result":{"Description":"join nonce spent","ResultCode":"JoinReqFailed"},"#,
+    r#""SenderID":"0102030405060708","TransactionID":2}"#,
+);
 
 const DEVICE: u64 = 0x1112_1314_1516_1718;
 
@@ -148,8 +184,12 @@ fn is_no_question(alloc: Global, text: &str) -> bool {
 const NO_QUESTIONS: &[&str] = &["", "{}", "no JSON", "[1]", r#"{"DLSettings":"00"}"#, NESTED];
 
 // The signed question without its list of channels, which comes first.
-const WITHOUT_LIST: &str =
-    r#""DLSettings":"00","DevAddr":"54000001","DevEUI":"1112131415161718","MACVersion":"1.0.4","MessageType":"JoinReq","PHYPayload":"000807060504030201181716151413121101009E7419CE","ProtocolVersion":"1.0","ReceiverID":"0102030405060708","RxDelay":1,"SenderID":"00002A","TransactionID":2}"#;
+const WITHOUT_LIST: &str = concat!(
+    r#""DLSettings":"00","DevAddr":"54000001","DevEUI":"1112131415161718","#,
+    r#""MACVersion":"1.0.4","MessageType":"JoinReq","#,
+    r#""PHYPayload":"000807060504030201181716151413121101009E7419CE","ProtocolVersion":"1.0","#,
+    r#""ReceiverID":"0102030405060708","RxDelay":1,"SenderID":"00002A","TransactionID":2}"#,
+);
 
 // Beginnings without the list or with another one, and with it.
 const OTHER_LISTS: &[&str] = &[
@@ -194,8 +234,13 @@ fn a_question_names_the_channels_exactly(rt: HostRuntime) {
 }
 
 // The same answer with an accept that names no channels.
-const SHORT_ACCEPT: &str =
-    r#"{"AppSKey":{"AESKey":"65A2E3FC3F681266CA0F9088A6AD5FE4"},"MessageType":"JoinAns","NwkSKey":{"AESKey":"38F19F1F7C923B7B392DFDBECE201B6B"},"PHYPayload":"2040A8AE29D75BA396C02EF9C963CAD8BE","ProtocolVersion":"1.0","ReceiverID":"00002A","Result":{"Description":"","ResultCode":"Success"},"SenderID":"0102030405060708","TransactionID":2}"#;
+const SHORT_ACCEPT: &str = concat!(
+    r#"{"AppSKey":{"AESKey":"65A2E3FC3F681266CA0F9088A6AD5FE4"},"MessageType":"JoinAns","#,
+    r#""NwkSKey":{"AESKey":"38F19F1F7C923B7B392DFDBECE201B6B"},"#,
+    r#""PHYPayload":"2040A8AE29D75BA396C02EF9C963CAD8BE","ProtocolVersion":"1.0","#,
+    r#""ReceiverID":"00002A","Result":{"Description":"","ResultCode":"Success"},"#,
+    r#""SenderID":"0102030405060708","TransactionID":2}"#,
+);
 
 #[test]
 fn an_accept_has_33_bytes(rt: HostRuntime) {
@@ -212,8 +257,12 @@ fn a_text_that_is_no_question_is_answered(rt: HostRuntime) {
 }
 
 // A question up to its last members.
-const FRONT: &str =
-    r#"{"CFList":"184F84E85684B85E84886684586E8400","DLSettings":"00","DevAddr":"54000001","DevEUI":"1112131415161718","MACVersion":"1.0.4","MessageType":"JoinReq","PHYPayload":"00080706050403020118171615141312110100AABBCCDD","ProtocolVersion":"1.0","ReceiverID":"0102030405060708","#;
+const FRONT: &str = concat!(
+    r#"{"CFList":"184F84E85684B85E84886684586E8400","DLSettings":"00","DevAddr":"54000001","#,
+    r#""DevEUI":"1112131415161718","MACVersion":"1.0.4","MessageType":"JoinReq","#,
+    r#""PHYPayload":"00080706050403020118171615141312110100AABBCCDD","ProtocolVersion":"1.0","#,
+    r#""ReceiverID":"0102030405060708","#,
+);
 
 // A question whose last members are these.
 fn question_with(alloc: Global, last: &str) -> Result<String, AllocError> {

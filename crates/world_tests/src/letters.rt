@@ -24,8 +24,8 @@ e emit
 o crash old
 n crash new
 l list
-# Copies of the Join-Request of the device of the DevEUI 0, of which the second joins the first and the third doesn't;
-# one on no channel; and a moment.
+# Copies of the Join-Request of the device of the DevEUI 0, of which the second joins the first
+# and the third doesn't; one on no channel; and a moment.
 h hear 0 00000000000000B1 868100000 5 -20 -95 50000 00010000000000000000000000000000000100D684CEBF
 g hear 199 00000000000000B2 868100000 5 -20 -95 50000 00010000000000000000000000000000000100D684CEBF
 G hear 200 00000000000000B2 868100000 5 -20 -95 50000 00010000000000000000000000000000000100D684CEBF
@@ -37,7 +37,8 @@ W piece 7 150 FFECFFA10000C35000010000000000000000000000000000000100D684CEBF
 # An item and a MAC command for that device.
 q queue 200 3 0000000000000000 9 7 u 06
 m mac 200 3 0000000000000000 06
-# A device that joins is brought; its Join-Requests of the DevNonces 1, 2 and 3; and a frame of no device.
+# A device that joins is brought; its Join-Requests of the DevNonces 1, 2 and 3; and a frame of no
+# device.
 J provision 0 3 1112131415161718 0102030405060708 2B7E151628AED2A6ABF7158809CF4F3C 0 1
 1 frame 0 000807060504030201181716151413121101009E7419CE
 2 frame 0 00080706050403020118171615141312110200C13BE455

@@ -87,7 +87,10 @@ pub(super) const COUNTERS: &[Row] = &[
             ..IN_USE
         },
         comes: Comes::Frame("8001000054000100012375FB0C64"),
-        wanted: "up 1112131415161718 1 1 1 AB 1 00000000000000B1 868100000 5 -20 -95\nspent 1112131415161718 1",
+        wanted: concat!(
+            "up 1112131415161718 1 1 1 AB 1 00000000000000B1 868100000 5 -20 -95\n",
+            "spent 1112131415161718 1",
+        ),
         after: State {
             next_down: 4_294_967_296,
             mac_queue: Some("06"),

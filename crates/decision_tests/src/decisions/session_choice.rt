@@ -23,7 +23,10 @@ pub(super) const SESSIONS: &[Row] = &[
             ..WAITING
         },
         comes: Comes::Frame("400100005420FF3F01A320B6031B"),
-        wanted: "lost 1112131415161718 6\nup 1112131415161718 8193 16383 1 AB 1 00000000000000B1 868100000 5 -20 -95",
+        wanted: concat!(
+            "lost 1112131415161718 6\n",
+            "up 1112131415161718 8193 16383 1 AB 1 00000000000000B1 868100000 5 -20 -95",
+        ),
         after: State {
             last_up: 16_383,
             ..SWITCHED

@@ -62,7 +62,10 @@ pub(super) const STORIES: &[Row] = &[
             ..ANSWERED
         },
         comes: Comes::Frame("80010000542002000DA24BCD"),
-        wanted: "acked 1112131415161718 9\n00201100000000000000B10000C35033BE27A005010260010000542001005452B65D",
+        wanted: concat!(
+            "acked 1112131415161718 9\n",
+            "00201100000000000000B10000C35033BE27A005010260010000542001005452B65D",
+        ),
         after: State {
             last_up: 2,
             next_down: 2,
