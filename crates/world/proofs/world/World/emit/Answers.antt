@@ -14,7 +14,7 @@ returns-in-Ok-clause-course g c origin course f =
     let answer = answers.Emitted c.in-Ok.emission in
     let right =
     emits origin course world.released.items world.emitted c.in-Some.released.now answer f.left f.emitted there
-    (inl (ap answers.Emitted (c.in-Ok.ensures ∙ ap emission c.effect.ensures))) in (
+    (inl (ap answers.Emitted (c.in-Ok.ensures.emission ∙ ap emission c.effect.ensures))) in (
       both_ways course.is_open (AnswersEmit course answer) right,
       record {
         place = same_place g.D.Disk.state origin course (course.emitted + 1) world.place f.place;
@@ -31,5 +31,5 @@ returns-in-Err-clause-course g c origin course f =
     let there = found_at _ world.released.items world.emitted c.in-Some.released.now c.deref.ensures.value lookup.3.0 lookup.1 in
     let answer = answers.Refused c.in-Err.refusal in
     let right =
-    emits origin course world.released.items world.emitted c.in-Some.released.now answer f.left f.emitted there (inr (ap answers.Refused c.in-Err.ensures)) in
+    emits origin course world.released.items world.emitted c.in-Some.released.now answer f.left f.emitted there (inr (ap answers.Refused c.in-Err.ensures.emission)) in
     (both_ways course.is_open (AnswersEmit course answer) right, f)
