@@ -19,7 +19,8 @@ use Rattle.world.specs.Course.{Checkpoint, Origin, Course, after_commands}
 use Rattle.world.specs.Course.{course_after, after_copy, own_count, with_piece, after_events}
 use Rattle.world.specs.Course.{table_from}
 use Rattle.world.specs.Course.Checkpoint.{NotUnderWay, CallsLeft, CallFailed}
-use Rattle.world.specs.Answers.{AnswersCall, AreTurns, Behind, Beside, IsRight, event_of, last_stage}
+use Rattle.world.specs.Answers.{AnswersCall, AreTurns, Behind, Beside, IsRight}
+use Rattle.world.specs.Answers.{event_of, last_stage}
 use Rattle.world.specs.Links.{Completes, stream_on}
 use Rattle.world_tests.specs.declared.flight.Flight.{Flight as PlainFlight}
 use Rattle.world_tests.specs.declared.flight.Stage.{Stage as PlainStage}
