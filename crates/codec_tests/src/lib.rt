@@ -14,3 +14,5 @@ mod fixtures;
 mod gateway_wire_tests;
 #[cfg(test)]
 mod record_codec_tests;
+#[cfg(test)]
+mod store_layout_tests;

@@ -1,8 +1,19 @@
-use crate::devices_under_test::{idle_device, net_id, new_table, provisionings, slots};
-use lw_types::{Eui, Refusal};
-use sessions::Table;
+ghost use Rattle.std.specs.Prelude.{◌<◌, length};
+
+use crate::fixtures::{new_device, provisioning};
+use devices::Command;
+use lw_types::{Eui, NetId, Refusal};
+use sessions::{Batch, Decision, Slots, Table};
 use std::alloc::Global;
 use store_layout::{RecordVersion, Superblock, batch_entries, put_entry, replay};
+
+fn net_id() -> Result<NetId, Refusal> {
+    NetId::new(0x2A).ok_or(Refusal::Damaged)
+}
+
+fn slots(most: u64) -> Result<Slots, Refusal> {
+    Slots::new(most).ok_or(Refusal::Damaged)
+}
 
 // The superblock of network 00002A with 8 slots, as the format spells it.
 const SUPERBLOCK: [u8; 32] = [
@@ -60,7 +71,7 @@ const FRONT_OF_ENTRY: [u8; 14] = [
 // Whether the entry of a device stands behind a byte.
 fn has_entry(alloc: Global) -> Result<bool, Refusal> {
     let mut bytes = [7].to_vec(alloc)?;
-    let device = idle_device(alloc, 0x1112131415161718)?;
+    let device = new_device(alloc, Eui(0x1112131415161718)).ok_or(Refusal::Damaged)?;
     put_entry(alloc, RecordVersion::V1, 0x0102, &device, &mut bytes)?;
     Ok(bytes.len() == 1 + 5 + 50 && bytes.starts_with(&FRONT_OF_ENTRY))
 }
@@ -70,9 +81,52 @@ fn an_entry_has_its_layout(rt: HostRuntime) {
     assert!(rt; has_entry(rt.alloc()) == Ok(true));
 }
 
+// A table of network 00002A without devices.
+fn new_table(alloc: Global, most: u64) -> Result<Table, Refusal> {
+    Table::new(alloc, net_id()?, slots(most)?)
+}
+
+// Puts the record of a decision on the table, where that admits it.
+fn apply(table: &mut Table, seq: u64, decision: &Decision) -> Result<(), Refusal> {
+    if table.admits(seq, decision) {
+        table.apply(decision)
+    } else {
+        Err(Refusal::OutOfStep)
+    }
+}
+
+// Adds the provisioning of the device whose DevEUI is the number of its decision.
+fn add(alloc: Global, table: &mut Table, seq: u64, batch: &mut Batch) -> Result<(), Refusal>
+    requires { length batch.old < 64 }
+{
+    let seq_after = seq.saturating_add(1);
+    let Some(provisioning) = provisioning(Eui(seq_after)) else {
+        return Err(Refusal::Damaged);
+    };
+    match table.decide(alloc, seq_after, Command::Provision(provisioning)) {
+        Ok(decision) => {
+            let applied = apply(table, seq, &decision);
+            batch.push(decision);
+            applied
+        }
+        Err(refusal) => Err(refusal),
+    }
+}
+
+fn add_all(alloc: Global, table: &mut Table, batch: &mut Batch, count: u64) -> Result<(), Refusal> {
+    for last in 0..count {
+        if batch.len() >= Batch::MOST {
+            return Err(Refusal::OutOfStep);
+        }
+        add(alloc, table, last, batch)?;
+    }
+    Ok(())
+}
+
 // The entries of a batch of so many provisionings.
 fn entries(alloc: Global, count: u64) -> Result<Vec<u8>, Refusal> {
-    let batch = provisionings(alloc, &new_table(alloc, 64)?, 0, count)?;
+    let mut batch = Batch::new(alloc)?;
+    add_all(alloc, &mut new_table(alloc, 64)?, &mut batch, count)?;
     batch_entries(alloc, RecordVersion::V1, &batch)
 }
 

@@ -1,5 +1,5 @@
-//! Tests of the public calls of the store's layout, the store and the flusher. They stand above
-//! those crates, so that each of these is proved once.
+//! Tests of the public calls of the store and the flusher. They stand above those crates, so that
+//! each of these is proved once.
 #![tactic(auto)]
 
 #[cfg(test)]
@@ -20,8 +20,6 @@ mod store_faults_tests;
 mod store_images_tests;
 #[cfg(test)]
 mod store_joins_tests;
-#[cfg(test)]
-mod store_layout_tests;
 #[cfg(test)]
 mod store_pairs_tests;
 #[cfg(test)]
