@@ -14,6 +14,7 @@ ghost use Rattle.store.specs.Commit.{IsUnderWay};
 ghost use Rattle.store.specs.Phases.{IsBegunOn, begun_sequel, begun_size, gate_written_sequel};
 ghost use Rattle.store.specs.Phases.{durable_decisions, gate_written_size};
 ghost use Rattle.store.specs.State.{store_state, IsRoomy, IsSettled};
+ghost use Rattle.store.specs.declared.under_way.UnderWay.TheVariants.{Following};
 
 use crate::checkpointing::make_room;
 use crate::{Durable, Feed, Most, Released, Room};
@@ -123,12 +124,7 @@ fn follow<D: Disk, F: Feed, C: FnMut(Vec<Released>)>(
                     match begin_following(&opened, store, feed, alloc, more) {
                         Ok(Some((following, behind))) => {
                             more -= 1;
-                            under_way = UnderWay::Following {
-                                opened,
-                                along: room,
-                                following,
-                                behind,
-                            };
+                            under_way = followed(opened, room, following, behind);
                         }
                         Ok(None) => under_way = UnderWay::GateWritten(opened, room),
                         Err(refusal) => {
@@ -184,6 +180,18 @@ fn begin_following<D: Disk, F: Feed>(
     }
     let begun = store.begin_next(alloc, under_way, batch)?;
     Ok(Some((begun, room)))
+}
+
+// What writes the batch that is begun behind one whose gate is written.
+fn followed(opened: GateWritten, along: Room, following: Begun, behind: Room) -> UnderWay<Room>
+    ensures { result ≡ Following opened along following behind }
+{
+    UnderWay::Following {
+        opened,
+        along,
+        following,
+        behind,
+    }
 }
 
 // The feed's next batch, asked for as many decisions as the largest one has.

@@ -1,6 +1,6 @@
 use denote.Param.Always.{mut_next}
 use denote.Param.Members.{Called}
-use Rattle.std.proofs.Common.{◌<◌, ◌+◌, ◌*◌, ◌∙◌, List, [], Vec, Global, Ok, Err, MatchOption, MatchResult, ap, subst, sym, refl, arith}
+use Rattle.std.proofs.Common.{◌<◌, ◌+◌, ◌-◌, ◌*◌, ◌∙◌, List, [], Vec, Global, Ok, Err, MatchOption, MatchResult, ap, subst, sym, refl, arith}
 use Rattle.std.proofs.lemmas.Result.{err_from_is_err_and}
 use Rattle.devices.specs.declared.effect.Effect.{Effect}
 use Rattle.store.specs.State.{IsOneCall, store_state}
@@ -15,7 +15,7 @@ use Rattle.flusher.specs.declared.room.Room.{Room}
 use Rattle.flusher.proofs.Calling.{none_yet}
 use Rattle.flusher.proofs.Chains.{FoldLaws, commits_none, rank_of}
 use Rattle.flusher.proofs.Ends.{breaks, ends_refused, ends_well}
-use Rattle.flusher.proofs.Links.{flying_durable, flying_follows, flying_next, none_behind, not_alone, pair_behind, rank_durable, rank_less, some_behind, up_to_asked, up_to_durable, up_to_follows}
+use Rattle.flusher.proofs.Links.{IsFlying, IsUpTo, flying_durable, flying_follows, flying_next, none_behind, not_alone, pair_behind, rank_durable, rank_less, some_behind, up_to_asked, up_to_durable, up_to_follows}
 use Rattle.flusher.proofs.chaining.follow.Goals as goal
 
 pub calls-init : goal.calls-init
@@ -77,16 +77,20 @@ calls-preserved-in-Ok-Some g c =
     let follows : FollowsOpened g.F.Feed.gives c.calls.more (store_state g.D.Disk.state c.call.new.store) opened c.calls.feed c.begin_following.new.feed c.in-Ok-Some.following =
     subst (λ o. MatchOption o (NoneFollows g.F.Feed.gives c.calls.more (store_state g.D.Disk.state c.call.new.store) opened c.calls.feed c.begin_following.new.feed)
     (λ both. FollowsOpened g.F.Feed.gives c.calls.more (store_state g.D.Disk.state c.call.new.store) opened c.calls.feed c.begin_following.new.feed both.0)) c.in-Ok-Some.field-0-is
-    c.in-Ok-Some.ensures in (
+    c.in-Ok-Some.ensures in
+    let is_followed = sym c.followed-under_way.ensures in (
       c.calls.invariant.0,
       (
-        flying_follows g.D.Disk c.args.store.now c.calls.store c.call.new.store c.calls.under_way c.calls.more c.calls.count c.calls.invariant.1.0 opened room e call
+        subst (λ w. IsFlying g.D.Disk c.args.store.now c.call.new.store w (c.calls.more - 1) c.calls.count) is_followed
+            (flying_follows g.D.Disk c.args.store.now c.calls.store c.call.new.store c.calls.under_way c.calls.more c.calls.count c.calls.invariant.1.0 opened room e call
             g.F.Feed.gives effects step (c.args.more + 1) c.args.feed.now c.calls.feed c.begin_following.new.feed c.args.out.now c.calls.out c.calls.end c.in-Ok-Some.following
-            c.in-Ok-Some.behind follows,
+            c.in-Ok-Some.behind follows),
         λ before given.
-            up_to_follows g.D.Disk c.args.store.now c.calls.store c.call.new.store c.calls.under_way c.calls.more c.calls.count c.calls.invariant.1.0 opened room e call
+            subst (λ w. IsUpTo g.D.Disk g.F.Feed.gives effects step (c.args.more + 1) c.args.store.now c.call.new.store before c.begin_following.new.feed c.args.out.now c.calls.out w
+            (c.calls.more - 1) c.calls.count c.calls.end) is_followed
+            (up_to_follows g.D.Disk c.args.store.now c.calls.store c.call.new.store c.calls.under_way c.calls.more c.calls.count c.calls.invariant.1.0 opened room e call
             g.F.Feed.gives effects step (c.args.more + 1) before c.calls.feed c.begin_following.new.feed c.args.out.now c.calls.out c.calls.end c.in-Ok-Some.following
-            c.in-Ok-Some.behind follows (c.calls.invariant.1.1 before given),
+            c.in-Ok-Some.behind follows (c.calls.invariant.1.1 before given)),
       ),
     )
 
