@@ -54,22 +54,31 @@ pub fn next_batch(alloc: Global, now: &mut Table, seq: u64, count: u64) -> Resul
     Ok(batch)
 }
 
-// A batch for each sign: a digit for one of so many provisionings, behind those before it, and any
-// other for one that is out of step.
-fn batches(alloc: Global, signs: &str) -> Result<StoredBatches, Refusal> {
-    let mut now = new_table(alloc, 64)?;
-    let mut batches = Vec::new(alloc);
+// Adds a batch for each sign: a digit for one of so many provisionings, behind those before it, and
+// any other for one that is out of step.
+fn add_batches(
+    alloc: Global,
+    now: &mut Table,
+    batches: &mut Vec<Batch>,
+    signs: &str,
+) -> Result<(), Refusal> {
     let mut seq: u64 = 0;
     for sign in signs.chars() {
         match sign.to_digit(10) {
             Some(count) => {
                 let count = u64::from(count);
-                batches.push(next_batch(alloc, &mut now, seq, count)?)?;
+                batches.push(next_batch(alloc, now, seq, count)?)?;
                 seq = seq.saturating_add(count);
             }
             None => batches.push(stale(alloc)?)?,
         }
     }
+    Ok(())
+}
+
+fn batches(alloc: Global, signs: &str) -> Result<StoredBatches, Refusal> {
+    let mut batches = Vec::new(alloc);
+    add_batches(alloc, &mut new_table(alloc, 64)?, &mut batches, signs)?;
     Ok(StoredBatches::new(alloc, batches))
 }
 
@@ -130,9 +139,9 @@ type Chains = (Chain, Chain, u64);
 
 fn chains(
     alloc: Global,
+    store: &mut Store<MemDisk>,
     (signs, given, most, failing): Case,
-) -> Result<(Chains, Store<MemDisk>), Refusal> {
-    let mut store = new_store(alloc, 64)?;
+) -> Result<Chains, Refusal> {
     let mut feed = Until {
         left: given,
         batches: batches(alloc, signs)?,
@@ -140,15 +149,13 @@ fn chains(
     if failing > 0 {
         store.arm(failing);
     }
-    let first = chained(alloc, &mut store, &mut feed, most)?;
-    let second = chained(alloc, &mut store, &mut feed, most)?;
-    let seq = store.seq();
-    Ok(((first, second, seq), store))
+    let first = chained(alloc, store, &mut feed, most)?;
+    let second = chained(alloc, store, &mut feed, most)?;
+    Ok((first, second, store.seq()))
 }
 
 fn ends(alloc: Global, case: Case) -> Result<Chains, Refusal> {
-    let (chains, _) = chains(alloc, case)?;
-    Ok(chains)
+    chains(alloc, &mut new_store(alloc, 64)?, case)
 }
 
 const STALE: Result<usize, Refusal> = Err(Refusal::OutOfStep);
@@ -211,7 +218,8 @@ const FAILURES: &[(u64, u64, bool, Found)] = &[
 ];
 
 fn left(alloc: Global, failing: u64, image: &Image) -> Result<(Chains, u64), Refusal> {
-    let (chains, store) = chains(alloc, ("111", 9, 64, failing))?;
+    let mut store = new_store(alloc, 64)?;
+    let chains = chains(alloc, &mut store, ("111", 9, 64, failing))?;
     let mut disk = store.close();
     disk.crash(image);
     let (count, seq) = found(alloc, disk)?;
@@ -255,35 +263,57 @@ fn nearly_full_store(alloc: Global) -> Result<Store<MemDisk>, Refusal> {
     open(alloc, disk_of(alloc, bytes)?)
 }
 
-// Joins of the device, one a batch, with each DevNonce up to this one.
-fn joins(alloc: Global, store: &Store<MemDisk>, most: u16) -> Result<StoredBatches, Refusal> {
-    let mut now = store.table().copy()?;
-    let mut seq = store.seq();
-    let mut batches = Vec::new(alloc);
-    for dev_nonce in 1..=most {
-        let mut batch = Batch::new(alloc)?;
-        add(alloc, &mut now, seq, &mut batch, request(alloc, dev_nonce)?)?;
-        batches.push(batch)?;
-        seq = seq.saturating_add(1);
+// A batch of the device's join with this DevNonce.
+fn join(alloc: Global, now: &mut Table, seq: u64, dev_nonce: u16) -> Result<Batch, Refusal> {
+    let request = request(alloc, dev_nonce)?;
+    let mut batch = Batch::new(alloc)?;
+    match add(alloc, now, seq, &mut batch, request) {
+        Ok(()) => Ok(batch),
+        Err(refusal) => Err(refusal),
     }
+}
+
+// Adds joins of the device, one a batch, with each DevNonce up to this one.
+fn add_joins(
+    alloc: Global,
+    now: &mut Table,
+    batches: &mut Vec<Batch>,
+    first: u64,
+    most: u16,
+) -> Result<(), Refusal> {
+    for (seq, dev_nonce) in (first..u64::MAX).zip(1..=most) {
+        batches.push(join(alloc, now, seq, dev_nonce)?)?;
+    }
+    Ok(())
+}
+
+fn joins(alloc: Global, store: &Store<MemDisk>, most: u16) -> Result<StoredBatches, Refusal> {
+    let mut batches = Vec::new(alloc);
+    let seq = store.seq();
+    add_joins(alloc, &mut store.table().copy()?, &mut batches, seq, most)?;
     Ok(StoredBatches::new(alloc, batches))
 }
 
 // What three chains of 64 answer over so many joins, and whether there is room behind each.
 type Rooms = [(Result<usize, Refusal>, bool); 3];
 
-fn rooms(alloc: Global, most: u16) -> Result<(Rooms, u64), Refusal> {
-    let mut store = nearly_full_store(alloc)?;
-    let mut feed = joins(alloc, &store, most)?;
+fn rooms_of(alloc: Global, store: &mut Store<MemDisk>, most: u16) -> Result<Rooms, Refusal> {
+    let Some(length) = ChainLength::new(64) else {
+        return Err(Refusal::Malformed);
+    };
+    let mut feed = joins(alloc, store, most)?;
     let mut rooms = [(Ok(0), false); 3];
     for room in &mut rooms {
-        let Some(length) = ChainLength::new(64) else {
-            return Err(Refusal::Malformed);
-        };
         let mut out = |_: Vec<Released>| {};
-        let answer = chain(&mut store, &mut feed, alloc, length, &mut out);
+        let answer = chain(store, &mut feed, alloc, length, &mut out);
         *room = (answer, store.roomy());
     }
+    Ok(rooms)
+}
+
+fn rooms(alloc: Global, most: u16) -> Result<(Rooms, u64), Refusal> {
+    let mut store = nearly_full_store(alloc)?;
+    let rooms = rooms_of(alloc, &mut store, most)?;
     Ok((rooms, store.seq()))
 }
 

@@ -60,11 +60,13 @@ fn committed(
 
 // A durable batch of so many provisionings.
 fn durable(alloc: Global, count: u64) -> Result<Durable, Refusal> {
-    let room = Room::new(alloc)?;
-    let mut store = new_store(alloc, 64)?;
+    durable_on(alloc, &mut new_store(alloc, 64)?, count)
+}
+
+fn durable_on(alloc: Global, store: &mut Store<MemDisk>, count: u64) -> Result<Durable, Refusal> {
     let batch = batch_of(alloc, store.table(), count)?;
-    let durable = committed(alloc, &mut store, batch)?;
-    Ok(Durable::new(durable, room))
+    let room = Room::new(alloc)?;
+    Ok(Durable::new(committed(alloc, store, batch)?, room))
 }
 
 /// Whether the application 3 is told that the device of this DevEUI has this slot.
@@ -331,8 +333,9 @@ impl Flushed {
         self.carry_out(alloc, request(alloc, dev_nonce)?)
     }
 
-    // The device joins with each DevNonce up to this one.
-    fn join_all(&mut self, alloc: Global, most: u16) -> Result<(), Refusal> {
+    // The queue is filled, and the device joins with each DevNonce up to this one.
+    fn queue_and_join(&mut self, alloc: Global, most: u16) -> Result<(), Refusal> {
+        self.queue(alloc)?;
         for dev_nonce in 1..=most {
             self.join(alloc, dev_nonce)?;
         }
@@ -344,8 +347,7 @@ impl Flushed {
 // device has a full queue and joins so many times.
 fn joins(alloc: Global, most: u16) -> Result<(usize, usize, u64), Refusal> {
     let mut flushed = Flushed::new(new_store(alloc, 8)?)?;
-    flushed.queue(alloc)?;
-    flushed.join_all(alloc, most)?;
+    flushed.queue_and_join(alloc, most)?;
     Ok((flushed.accepts, flushed.checkpoints, flushed.store.seq()))
 }
 

@@ -194,18 +194,25 @@ fn a_decision_that_found_a_record_is_a_change(rt: HostRuntime) {
     assert!(rt; have_their_layout(rt.alloc()) == Ok(true));
 }
 
+// A batch of an item, behind what the store has.
+fn batch_of(alloc: Global, store: &Store<MemDisk>, tag: u32) -> Result<Batch, Refusal> {
+    let command = queueing(alloc, tag)?;
+    let mut table = store.table().copy()?;
+    let mut batch = Batch::new(alloc)?;
+    match add(alloc, &mut table, store.seq(), &mut batch, command) {
+        Ok(()) => Ok(batch),
+        Err(refusal) => Err(refusal),
+    }
+}
+
+fn commit(alloc: Global, store: &mut Store<MemDisk>, tag: u32) -> Result<(), Refusal> {
+    let batch = batch_of(alloc, store, tag)?;
+    begin_commit(alloc, store, batch, ALL)
+}
+
 // Commits an item, and answers what a crash leaves.
 fn queued(alloc: Global, mut store: Store<MemDisk>, tag: u32) -> Result<Store<MemDisk>, Refusal> {
-    let mut batch = Batch::new(alloc)?;
-    let mut table = store.table().copy()?;
-    add(
-        alloc,
-        &mut table,
-        store.seq(),
-        &mut batch,
-        queueing(alloc, tag)?,
-    )?;
-    let committed = begin_commit(alloc, &mut store, batch, ALL);
+    let committed = commit(alloc, &mut store, tag);
     let mut disk = store.close();
     disk.crash(&Image::Fill(0xA5));
     committed?;
@@ -217,8 +224,8 @@ fn goes_on(alloc: Global) -> Result<(Found, Found), Refusal> {
     let store = open(alloc, disk_of(alloc, journal(alloc, WHOLE_RECORDS)?)?)?;
     let before = state_of(&store);
     let store = queued(alloc, store, 10)?;
-    let store = queued(alloc, store, 11)?;
-    Ok((before?, state_of(&store)?))
+    let after = state_of(&queued(alloc, store, 11)?)?;
+    Ok((before?, after))
 }
 
 #[test]
@@ -228,25 +235,33 @@ fn a_store_of_whole_records_goes_on_with_changes(rt: HostRuntime) {
 
 // The first byte of the last batch that is answered in another way than by a store or by a refusal
 // of its bytes, where this byte stands in its place.
-fn first_other(alloc: Global, byte: u8) -> Result<Option<usize>, Refusal> {
-    let mut bytes = journal(alloc, WHOLE_RECORDS)?;
-    add_batch_of(&mut bytes, (7, 3), &read_hex(alloc, THREE_CHANGES)?)?;
-    let image = bytes.as_slice().to_vec(alloc)?;
-    let mut disk = disk_of(alloc, bytes)?;
+fn first_other(
+    alloc: Global,
+    disk: &mut MemDisk,
+    image: &[u8],
+    byte: u8,
+) -> Result<Option<usize>, Refusal> {
     for (place, was) in image.iter().enumerate().skip(LAST_BATCH) {
-        put(&mut disk, place, &[byte])?;
-        match opened(alloc, &mut disk) {
-            Ok(_) | Err(Refusal::Damaged) => put(&mut disk, place, &[*was])?,
+        put(disk, place, &[byte])?;
+        match opened(alloc, disk) {
+            Ok(_) | Err(Refusal::Damaged) => put(disk, place, &[*was])?,
             Err(_) => return Ok(Some(place)),
         }
     }
     Ok(None)
 }
 
+fn first_other_of(alloc: Global, byte: u8) -> Result<Option<usize>, Refusal> {
+    let mut image = journal(alloc, WHOLE_RECORDS)?;
+    add_batch_of(&mut image, (7, 3), &read_hex(alloc, THREE_CHANGES)?)?;
+    let mut disk = disk_of(alloc, image.as_slice().to_vec(alloc)?)?;
+    first_other(alloc, &mut disk, &image, byte)
+}
+
 #[test]
 fn another_byte_is_read_or_damaged(rt: HostRuntime) {
     for byte in [0x00, 0x5A, 0xA5, 0xFF] {
-        let other = first_other(rt.alloc(), byte);
+        let other = first_other_of(rt.alloc(), byte);
         assert!(rt; other == Ok(None), "{byte}: {other:?}");
     }
 }

@@ -29,18 +29,20 @@ fn numbered(alloc: Global, table: &Table, seq: u64) -> Result<Batch, Refusal> {
     Ok(batch)
 }
 
-// The first batch and the second one.
-fn pair(alloc: Global, store: &Store<MemDisk>, other: Other) -> Result<(Batch, Batch), Refusal> {
-    let mut now = store.table().copy()?;
+// The second batch, behind what the first one leaves.
+fn second(
+    alloc: Global,
+    store: &Store<MemDisk>,
+    now: &Table,
+    other: Other,
+) -> Result<Batch, Refusal> {
     let seq = store.seq();
-    let first = next_batch(alloc, &mut now, seq, 2)?;
-    let second = match other {
-        Other::Next(count) => provisionings(alloc, &now, seq.saturating_add(2), count)?,
-        Other::OtherNumber => numbered(alloc, &now, seq)?,
-        Other::OfDurable => provisionings(alloc, store.table(), seq.saturating_add(2), 1)?,
-        Other::OfNone => provisionings(alloc, &new_table(alloc, 8)?, 0, 1)?,
-    };
-    Ok((first, second))
+    match other {
+        Other::Next(count) => provisionings(alloc, now, seq.saturating_add(2), count),
+        Other::OtherNumber => numbered(alloc, now, seq),
+        Other::OfDurable => provisionings(alloc, store.table(), seq.saturating_add(2), 1),
+        Other::OfNone => provisionings(alloc, &new_table(alloc, 8)?, 0, 1),
+    }
 }
 
 // Commits the first batch, with the second one begun behind its open gate, and given up.
@@ -70,16 +72,44 @@ fn begun_behind(
     Ok(refusal)
 }
 
+// Commits one provisioning.
+fn bring_one(alloc: Global, store: &mut Store<MemDisk>) -> Result<(), Refusal> {
+    let one = provisionings(alloc, store.table(), 0, 1)?;
+    let _ = begun_behind(alloc, store, one, Batch::new(alloc)?)?;
+    Ok(())
+}
+
+// What the second batch is refused behind a first one of two provisionings, which are put on the
+// table.
+fn refused(
+    alloc: Global,
+    store: &mut Store<MemDisk>,
+    now: &mut Table,
+    other: Other,
+) -> Result<Option<Refusal>, Refusal> {
+    let first = next_batch(alloc, now, store.seq(), 2)?;
+    let second = second(alloc, store, now, other)?;
+    begun_behind(alloc, store, first, second)
+}
+
+// The same on a new store, which gets its first device before.
+fn refused_on(
+    alloc: Global,
+    store: &mut Store<MemDisk>,
+    other: Other,
+) -> Result<Option<Refusal>, Refusal> {
+    bring_one(alloc, store)?;
+    let mut now = store.table().copy()?;
+    refused(alloc, store, &mut now, other)
+}
+
 // What the second batch is refused, the number of the store behind the first one, and what is found
 // on its disk.
 type Answer = (Option<Refusal>, u64, (usize, u64));
 
 fn answer(alloc: Global, other: Other) -> Result<Answer, Refusal> {
     let mut store = new_store(alloc, 8)?;
-    let one = provisionings(alloc, store.table(), 0, 1)?;
-    let _ = begun_behind(alloc, &mut store, one, Batch::new(alloc)?)?;
-    let (first, second) = pair(alloc, &store, other)?;
-    let refusal = begun_behind(alloc, &mut store, first, second)?;
+    let refusal = refused_on(alloc, &mut store, other)?;
     let seq = store.seq();
     Ok((refusal, seq, found(alloc, store.close())?))
 }
