@@ -78,9 +78,9 @@ def first_uplinks(it, device):
     it.line("list", *listed(1, 0, 0, 0, 3))
     it.say(
         "Two gateways hear the first uplink, counter 0, with a reading on port 7. It is on 867.1 "
-        "MHz, which is one of the channels that the accept has added. Now the session is in use. The application gets the payload in clear, with the number of copies "
-        "and how B1, the best of them, heard it. Nothing is due to the device, so no downlink is "
-        "sent."
+        "MHz, which is one of the channels that the accept has added. Now the session is in use. "
+        "The application gets the payload in clear, with the number of copies and how B1, the best "
+        "of them, heard it. Nothing is due to the device, so no downlink is sent."
     )
     it.hear(12_000, near, frame, "turn 3 3")
     it.line("tick 12200", "turn 3 3")
