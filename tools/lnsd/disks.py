@@ -97,22 +97,26 @@ def slow(trials):
 
 def backlog(trials):
     """The first commit takes a second: of 5,000 requests meanwhile 4,096 wait, and 23 is the
-    answer to the others; each is answered."""
+    answer to each of the others. What was decided is told, or counted as dropped: of what leaves
+    at once behind that commit, 1,024 lines wait for an application."""
     with trials.store(4096, records(4096, OWNER)) as program:
         how = with_disk(program, SLOW_SYNCS=3, SLOW_MS=500)
         if not how:
             return
-        application = Application(program.serve(1, env=how), OWNER, patience=60)
+        application = Application(program.serve(1, env=how), OWNER)
         lines = (f"mac {load.dev_eui(it % 4096)} 06" for it in range(ASKED))
         application.say(b"".join(map(wire.request, lines)))
-        came = [application.hears() for _ in range(ASKED)]
-        made = sum(it.startswith("macqueued ") for it in came)
-        trials.compare("refused 23", came.count("refused 23"), ASKED - made)
+        came = floods.heard_until(application, ASKED, quiet=10)
+        application.end()
+        came += [wire.line_of(it) for it in application.rest()]
+        application.close()
+        end = program.ended()
+        made = int(program.list()[-1].split(" ")[3]) - 4096
+        told = sum(it.startswith("macqueued ") for it in came)
         trials.holds(f"{made} were decided", WAITING < made <= WAITING + 64)
-        end_all(trials, [application])
-        trials.ended(program)
-        seq = int(program.list()[-1].split(" ")[3])
-        trials.compare("decisions in the list", seq, 4096 + made)
+        trials.compare("refused 23", came.count("refused 23"), ASKED - made)
+        trials.compare("all that came", len(came), told + ASKED - made)
+        trials.compare("the server's end", end, (0, "", f"dropped {made - told}\nfaulted 0\n"))
 
 
 TRIALS = {
