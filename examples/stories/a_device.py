@@ -91,8 +91,8 @@ def first_uplinks(it, device):
     )
 
 
-def items(it, device, network):
-    """A confirmed item that is acknowledged, and one that is lost."""
+def acked_item(it, device, network):
+    """A confirmed item that is acknowledged."""
     it.part("A confirmed item is acknowledged")
     it.line(f"queue 20000 3 {METER} 7001 9 c 0102", "turn 3 4")
     it.line(f"queue 20001 3 {METER} 7001 0 c 0102", "turn 4 4 refused 15")
@@ -121,9 +121,12 @@ def items(it, device, network):
     it.commit(1, [told(f"acked {METER} 7001"), up(2, 7, bytes.fromhex("04D4"), 1, copy)])
     it.say("The device's next uplink has the bit ACK: the item of tag 7001 is acknowledged.")
 
+
+def lost_item(it, device, network):
+    """A confirmed item that is lost."""
     it.part("Another one is lost")
     it.line(f"queue 45000 3 {METER} 7002 9 c 0304", "turn 6 7")
-    copy = replace(copy, stamp=50_000_000)
+    copy = Copy(B1, 867_900_000, 4, 0, -90, 50_000_000)
     frame = device.uplink(7, bytes.fromhex("04D5"))
     it.hear(50_000, copy, frame, "turn 7 7")
     it.line("tick 50200", "turn 7 8")
@@ -218,7 +221,8 @@ def story():
     )
     device, network = joins(it)
     first_uplinks(it, device)
-    items(it, device, network)
+    acked_item(it, device, network)
+    lost_item(it, device, network)
     commands(it, device, network)
     repeats(it, device, network)
     return it

@@ -5,16 +5,12 @@ from outside.story import Story
 
 from .people import B1, METER, listed, meter, provision, session, told, up
 
+NEAR = Copy(B1)
+READING = bytes.fromhex("04D2")
 
-def story():
-    """A device joins, and the power is cut while its first uplink is being kept."""
-    it = Story(
-        "first-uplink",
-        "A first uplink, and a power cut",
-        "A device joins and sends its first payload. While the network writes that to its disk, "
-        "the power is cut. The device sends the frame again, and the application is told once.",
-    )
-    device, near = meter(), Copy(B1)
+
+def joins(it):
+    """The device is provisioned and joins."""
     it.part("The device joins")
     it.line("format 00002A 8", "formatted 2166124")
     it.line(provision(0), "turn 0 1")
@@ -22,8 +18,9 @@ def story():
         "A store for network 00002A and 8 devices is made on a disk in memory. Application 3 "
         "brings its device, a meter: decision 1."
     )
+    device = meter()
     request = device.join_request()
-    it.hear(1000, near, request, "turn 1 1")
+    it.hear(1000, NEAR, request, "turn 1 1")
     it.line("tick 1200", "turn 1 2")
     it.say(
         "A gateway heard a Join-Request, on 868.1 MHz at data rate 5. Other gateways may have "
@@ -31,7 +28,7 @@ def story():
         "decision 2."
     )
     granted = session(1, device.dev_nonce)
-    line = granted.accept(near)
+    line = granted.accept(NEAR)
     it.commit(2, [told(f"provisioned {METER} 0"), line])
     it.downlink(line, device.take_accept)
     it.say(
@@ -39,10 +36,13 @@ def story():
         "valid by one byte, the gate, and that byte is synced. Only then their effects leave: "
         "the application is told, and the gateway gets the Join-Accept."
     )
+    return device
+
+
+def cut_off(it, uplink):
+    """Its first uplink is decided, and the power is cut."""
     it.part("The power is cut")
-    reading = bytes.fromhex("04D2")
-    uplink = device.uplink(7, reading)
-    it.hear(9000, near, uplink, "turn 2 2")
+    it.hear(9000, NEAR, uplink, "turn 2 2")
     it.line("tick 9200", "turn 2 3")
     it.say("The device's first uplink, counter 0: its reading 04D2 on port 7. It is decision 3.")
     it.take(1)
@@ -53,10 +53,14 @@ def story():
         "store opens with one device and decision 2: as nothing of decision 3 had left, it never "
         "was."
     )
+
+
+def sends_again(it, uplink):
+    """The same frame again."""
     it.part("The device sends the frame again")
-    it.hear(500, near, uplink, "turn 0 0")
+    it.hear(500, NEAR, uplink, "turn 0 0")
     it.line("tick 700", "turn 0 1")
-    it.commit(1, [up(0, 7, reading, 1, near)])
+    it.commit(1, [up(0, 7, READING, 1, NEAR)])
     it.line("list", *listed(1, 0, 0, 0, 3))
     it.say(
         "Moments and turns begin anew after a crash. The same frame is taken, as its counter is "
@@ -64,4 +68,18 @@ def story():
         "the first and only time. The list has the session of JoinNonce 1, with last uplink "
         "counter 0 and next downlink counter 0, no item that waits, and decision 3."
     )
+
+
+def story():
+    """A device joins, and the power is cut while its first uplink is being kept."""
+    it = Story(
+        "first-uplink",
+        "A first uplink, and a power cut",
+        "A device joins and sends its first payload. While the network writes that to its disk, "
+        "the power is cut. The device sends the frame again, and the application is told once.",
+    )
+    device = joins(it)
+    uplink = device.uplink(7, READING)
+    cut_off(it, uplink)
+    sends_again(it, uplink)
     return it

@@ -37,20 +37,9 @@ def sent(it, frame, moment, made):
     it.line(f"tick {moment + 200}", f"turn {made} {made + 1}")
 
 
-def before_the_gate():
-    """Cuts while the batch is written and synced."""
-    it = Story(
-        "power-cut-before-gate",
-        "The power is cut before a batch's gate is open",
-        "A commit is four device calls: the batch is written behind a closed gate, synced, the "
-        "gate is opened, and that is synced. Whatever the disk keeps of what was written before "
-        "the gate: the batch doesn't count, and nothing of it had left. So the device may send "
-        "its frame again, as if it had never been heard.",
-    )
-    device, network = joined(it)
+def cut_before_the_gate(it, frame):
+    """The power is cut five times, each at another moment before the gate's write."""
     it.part("A confirmed uplink, cut five times")
-    reading = bytes.fromhex("04D3")
-    frame = device.uplink(7, reading, confirmed=True)
     sent(it, frame, 20_000, 3)
     it.take(1)
     it.line("crash new", "opened 1 3")
@@ -73,6 +62,22 @@ def before_the_gate():
         it.call(calls)
         it.line(f"crash {image}", "opened 1 3")
         it.say(f"The device had no answer and sends again. {words} Decision 4 is gone.")
+
+
+def before_the_gate():
+    """Cuts while the batch is written and synced."""
+    it = Story(
+        "power-cut-before-gate",
+        "The power is cut before a batch's gate is open",
+        "A commit is four device calls: the batch is written behind a closed gate, synced, the "
+        "gate is opened, and that is synced. Whatever the disk keeps of what was written before "
+        "the gate: the batch doesn't count, and nothing of it had left. So the device may send "
+        "its frame again, as if it had never been heard.",
+    )
+    device, network = joined(it)
+    reading = bytes.fromhex("04D3")
+    frame = device.uplink(7, reading, confirmed=True)
+    cut_before_the_gate(it, frame)
     it.part("At last the power stays on")
     sent(it, frame, 500, 0)
     line = network.downlink(COPY, 0, ack=True)
@@ -86,19 +91,10 @@ def before_the_gate():
     return it
 
 
-def at_the_gate():
-    """Cuts between the gate's write and its sync."""
-    it = Story(
-        "power-cut-at-gate",
-        "The power is cut between a batch's gate and its sync",
-        "The gate is one byte. If it was written and not synced, the disk may have kept it or "
-        "not: the batch is there, or not. Both are sound, since nothing leaves before the last "
-        "sync.",
-    )
-    device, network = joined(it)
+def gate_lost_or_kept(it, device, network):
+    """The disk lost the gate, and then it kept it."""
     it.part("The disk lost the gate")
-    reading = bytes.fromhex("04D3")
-    frame = device.uplink(7, reading, confirmed=True)
+    frame = device.uplink(7, bytes.fromhex("04D3"), confirmed=True)
     sent(it, frame, 20_000, 3)
     it.take(1)
     it.call(3)
@@ -124,6 +120,19 @@ def at_the_gate():
         "The device sends again. The network knows the frame, so it isn't forwarded; it is "
         "acknowledged, under counter 1."
     )
+
+
+def at_the_gate():
+    """Cuts between the gate's write and its sync."""
+    it = Story(
+        "power-cut-at-gate",
+        "The power is cut between a batch's gate and its sync",
+        "The gate is one byte. If it was written and not synced, the disk may have kept it or "
+        "not: the batch is there, or not. Both are sound, since nothing leaves before the last "
+        "sync.",
+    )
+    device, network = joined(it)
+    gate_lost_or_kept(it, device, network)
     it.part("The disk filled the gate")
     frame = device.uplink(7, bytes.fromhex("04D4"), confirmed=True)
     sent(it, frame, 20_000, 1)
@@ -143,18 +152,8 @@ def at_the_gate():
     return it
 
 
-def after_the_commit():
-    """Cuts once the batch is durable."""
-    it = Story(
-        "power-cut-after-commit",
-        "The power is cut once a batch is durable",
-        "After the fourth device call the batch is durable in every image that a cut may leave. "
-        "Its effects may leave then, and what hasn't left when the power is cut never does.",
-    )
-    device, network = joined(it)
-    it.line(f"queue 10000 3 {METER} 9 9 u 0102", "turn 3 4")
-    it.commit(1, [told(f"queued {METER} 9")])
-    it.say("The application queues an item, unconfirmed, under tag 9. Decision 4.")
+def cut_before_the_release(it, device, network):
+    """The batch is durable, and nothing of it was released."""
     it.part("Before the release")
     frame = device.uplink(7, bytes.fromhex("04D3"), confirmed=True)
     sent(it, frame, 20_000, 4)
@@ -173,6 +172,10 @@ def after_the_commit():
     it.commit(1, [line])
     it.downlink(line, device.take_downlink)
     it.say("The device sends again, and is acknowledged under counter 1.")
+
+
+def cut_after_the_release(it, device, network):
+    """The batch is released, and nothing of it has left."""
     it.part("After the release, before anything has left")
     reading = bytes.fromhex("04D4")
     frame = device.uplink(7, reading, confirmed=True)
@@ -190,6 +193,10 @@ def after_the_commit():
         "What was released and hasn't left when the power is cut doesn't leave afterwards. The "
         "repeat is acknowledged under counter 3; counter 2 was that of the lost answer."
     )
+
+
+def cut_once_told(it, device, network):
+    """One effect of the batch has left, and the other hasn't."""
     it.part("The application was told, the device not yet answered")
     reading = bytes.fromhex("04D5")
     frame = device.uplink(7, reading, confirmed=True)
@@ -208,23 +215,28 @@ def after_the_commit():
         "The application has the reading 04D5, and doesn't get it a second time. The device gets "
         "its acknowledgement, under counter 5."
     )
+
+
+def after_the_commit():
+    """Cuts once the batch is durable."""
+    it = Story(
+        "power-cut-after-commit",
+        "The power is cut once a batch is durable",
+        "After the fourth device call the batch is durable in every image that a cut may leave. "
+        "Its effects may leave then, and what hasn't left when the power is cut never does.",
+    )
+    device, network = joined(it)
+    it.line(f"queue 10000 3 {METER} 9 9 u 0102", "turn 3 4")
+    it.commit(1, [told(f"queued {METER} 9")])
+    it.say("The application queues an item, unconfirmed, under tag 9. Decision 4.")
+    cut_before_the_release(it, device, network)
+    cut_after_the_release(it, device, network)
+    cut_once_told(it, device, network)
     return it
 
 
-def of_a_join():
-    """Cuts while joins are granted."""
-    it = Story(
-        "power-cut-join",
-        "The power is cut while a device joins",
-        "A Join-Accept that left and a JoinNonce that was granted twice would be two sessions "
-        "under one name, with the same keys if the DevNonce were taken twice. Neither can come "
-        "of a power cut.",
-    )
-    device = meter()
-    it.line("format 00002A 8", "formatted 2166124")
-    it.line(provision(0), "turn 0 1")
-    it.commit(1, [told(f"provisioned {METER} 0")])
-    it.say("The meter is provisioned: decision 1.")
+def join_cut_twice(it, device):
+    """Cuts before and after the gate of a join is open; the second request."""
     it.part("Cut before the gate is open")
     request = device.join_request()
     sent(it, request, 1000, 1)
@@ -244,6 +256,11 @@ def of_a_join():
         "The device had no accept, and asks again with DevNonce 2. JoinNonce 1 is granted and "
         "kept; its accept never leaves."
     )
+    return request
+
+
+def join_again(it, device, request):
+    """The request that was granted comes again, and a new one."""
     it.part("The same request again, and a new one")
     it.hear(1000, COPY, request, "turn 0 0")
     it.line("tick 1200", "turn 0 0")
@@ -262,4 +279,22 @@ def of_a_join():
     it.commit(1, [up(0, 7, reading, 1, COPY, 2)])
     it.line("list", *listed(2, 0, 0, 0, 4, 2))
     it.say("Its first uplink in that session: the payload is told under JoinNonce 2.")
+
+
+def of_a_join():
+    """Cuts while joins are granted."""
+    it = Story(
+        "power-cut-join",
+        "The power is cut while a device joins",
+        "A Join-Accept that left and a JoinNonce that was granted twice would be two sessions "
+        "under one name, with the same keys if the DevNonce were taken twice. Neither can come "
+        "of a power cut.",
+    )
+    device = meter()
+    it.line("format 00002A 8", "formatted 2166124")
+    it.line(provision(0), "turn 0 1")
+    it.commit(1, [told(f"provisioned {METER} 0")])
+    it.say("The meter is provisioned: decision 1.")
+    request = join_cut_twice(it, device)
+    join_again(it, device, request)
     return it

@@ -180,6 +180,10 @@ def items(it, device, network):
         "59 bytes; FPending says that more waits. At data rate 0 the item of 51 bytes leaves. No "
         "line tells either."
     )
+
+
+def items_behind_commands(it, device, network):
+    """What leaves in FOpts in front of an item."""
     it.asks("mac", f"{METER} {(LINK_ADR_REQ * 3).hex().upper()}")
     it.asks("queue", f"{METER} 3 9 c CC")
     it.heard(device.uplink(None, b"", f_opts=b"\x02"), 1)
@@ -273,6 +277,7 @@ def story():
     network = session(1, 1)
     ports(it, device, network)
     items(it, device, network)
+    items_behind_commands(it, device, network)
     counters(it, device)
     failing_disk(it)
     return it
