@@ -51,6 +51,12 @@ impl Server<MemDisk> {
         let disk = MemDisk::new(alloc, vec![in alloc; 0; len as usize]?)?;
         Server::on(alloc, disk, slots)
     }
+
+    /// A checkpoint of what is durable.
+    pub fn checkpoint(&mut self) -> Result<(), Refusal> {
+        let checkpoint = self.store.checkpoint_early(self.alloc)?;
+        publish(&mut self.store, checkpoint)
+    }
 }
 
 impl<D: Disk + Drop> Server<D> {
@@ -141,12 +147,6 @@ impl<D: Disk + Drop> Server<D> {
     /// Whether there is room for one batch more.
     pub fn is_roomy(&self) -> bool {
         self.store.roomy()
-    }
-
-    /// A checkpoint of what is durable.
-    pub fn checkpoint(&mut self) -> Result<(), Refusal> {
-        let checkpoint = self.store.checkpoint(self.alloc)?;
-        publish(&mut self.store, checkpoint)
     }
 
     /// Ends the server, and gives its disk back.

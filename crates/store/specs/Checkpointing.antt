@@ -1,6 +1,7 @@
 -- What the disk of a store holds while a checkpoint is under way: the same table and number
 -- throughout.
-use Rattle.std.specs.Prelude.{◌≡◌, ◌≤◌, ℕ, ◌+◌, List, length}
+use Rattle.std.specs.Prelude.{◌≡◌, ◌⊎◌, ◌<◌, ◌≤◌, ℕ, ◌+◌, List, length, MatchBool, MatchResult}
+use Rattle.std.specs.Prelude.{Result, Err}
 use Rattle.gate_log.specs.declared.layout.Header.{Header}
 use Rattle.gate_log.specs.Areas.{LogContents, MayFollowContents, contents_with_checkpoint}
 use Rattle.gate_log.specs.Checkpointing.{IsCheckpoint as IsLogCheckpoint}
@@ -11,6 +12,8 @@ use Rattle.gate_log.specs.Checkpointing.{IsCheckpointOpened as IsLogOpened, chec
 use Rattle.gate_log.specs.Checkpointing.{written_front, synced_front, opened_front}
 use Rattle.gate_log.specs.Log.{IsAtRest}
 use Rattle.sessions.specs.Table.{TableState}
+use Rattle.lw_types.specs.declared.refusal.Refusal.{Refusal}
+use Rattle.lw_types.specs.declared.refusal.Refusal.TheVariants.{Damaged, Failed, OutOfMemory}
 use Rattle.record_codec.specs.declared.version.RecordVersion.{RecordVersion}
 use Rattle.record_codec.specs.Version.{version_byte}
 use Rattle.store.specs.declared.checkpointing.Checkpoint.{Checkpoint}
@@ -18,6 +21,7 @@ use Rattle.store.specs.declared.checkpointing.Retiring.{Retiring}
 use Rattle.store.specs.declared.checkpointing.CheckpointWritten.{CheckpointWritten}
 use Rattle.store.specs.declared.checkpointing.CheckpointSynced.{CheckpointSynced}
 use Rattle.store.specs.declared.checkpointing.CheckpointOpened.{CheckpointOpened}
+use Rattle.store.specs.declared.areas.TheConstants.{LAST_GENERATION}
 use Rattle.store.specs.declared.store.TheConstants.{LARGEST_BATCH}
 use Rattle.store.specs.Image.{Says}
 use Rattle.store.specs.State.{StoreState}
@@ -52,6 +56,17 @@ next_header s records_len = record {
   record_count = length s.table.devices;
   records_len = records_len;
 }
+
+-- Why no checkpoint is begun: a call of the disk has failed, or else the live area has the last
+-- generation, each of them exactly; or memory is wanted.
+abbrev pub IsCheckpointAnswer : StoreState → Result Checkpoint Refusal → Type 0
+IsCheckpointAnswer s result =
+    MatchBool s.failed
+    (result ≡ Err Failed)
+    (MatchResult result
+    (λ _. s.log.generation < LAST_GENERATION)
+    (λ e. ((e ≡ Damaged) × (LAST_GENERATION ≤ s.log.generation))
+    ⊎ ((e ≡ OutOfMemory) × (s.log.generation < LAST_GENERATION))))
 
 -- the contents say a table and a number, and so does the checkpoint that may follow them, of the
 -- next generation

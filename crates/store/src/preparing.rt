@@ -1,40 +1,45 @@
 // Begins a checkpoint.
-ghost use Rattle.std.specs.Prelude.{◌≡◌, ◌⊎◌, ◌<◌, ◌≤◌, ◌+◌, Err, IfOk, MatchBool, MatchResult};
-ghost use Rattle.std.specs.Prelude.{drop, length};
+ghost use Rattle.std.specs.Prelude.{◌≡◌, ◌<◌, ◌≤◌, ◌+◌, IfOk, MatchResult, drop, length};
 ghost use Rattle.gate_log.specs.Layout.{IsHeader};
-ghost use Rattle.lw_types.specs.declared.refusal.Refusal.TheVariants.{Damaged, Failed, OutOfMemory};
-ghost use Rattle.store.specs.Checkpointing.{FitsOther, IsCheckpointOn, checkpoint_size};
-ghost use Rattle.store.specs.Checkpointing.{next_header};
+ghost use Rattle.lw_types.specs.declared.refusal.Refusal.TheVariants.{OutOfMemory};
+ghost use Rattle.store.specs.Checkpointing.{FitsOther, IsCheckpointAnswer, IsCheckpointOn};
+ghost use Rattle.store.specs.Checkpointing.{checkpoint_size, next_header};
 ghost use Rattle.store_layout.specs.Entries.{AreEntries, entries, entries_of_table};
 
 use crate::areas::LAST_GENERATION;
 use crate::{Checkpoint, Store};
-use disk::Disk;
+use disk::{Disk, Sim};
 use gate_log::Header;
 use lw_types::Refusal;
 use std::alloc::Global;
 use store_layout::{LONGEST_ENTRY, laws, put_table};
 
 impl<D: Disk> Store<D> {
-    ghost use Rattle.store.specs.State.{store_state, IsSettled};
+    ghost use Rattle.store.specs.State.{store_state, IsRoomy, IsSettled};
 
-    /// Begins a checkpoint of the durable table, on a store with nothing under way. The other area
-    /// then gets the table's records alone, and the batches so far no longer count; the table and
-    /// its number stay the same. It takes four calls of the disk, or six where
+    /// Begins a checkpoint of the durable table, on a store with nothing under way, where the
+    /// journal lacks room for the largest batch: no other store of a real disk begins one. The
+    /// other area then gets the table's records alone, and the batches so far no longer count; the
+    /// table and its number stay the same. It takes four calls of the disk, or six where
     /// [`Store::must_retire`]. Refused with `Failed` exactly where an earlier call of the disk
     /// failed, else with `Damaged` exactly where the live area has the last generation, and with
     /// `OutOfMemory` for want of memory, before any call. All the memory that the checkpoint needs
     /// is taken here, at most an area's length beside the table. The cost grows with the table's
     /// records.
     pub fn checkpoint(&self, alloc: Global) -> Result<Checkpoint, Refusal>
-        ensures answer { MatchBool (store_state D.state self.now).failed
-            (result ≡ Err Failed)
-            (MatchResult result
-            (λ _. (store_state D.state self.now).log.generation < LAST_GENERATION)
-            (λ e. ((e ≡ Damaged) × (LAST_GENERATION
-            ≤ (store_state D.state self.now).log.generation))
-            ⊎ ((e ≡ OutOfMemory) × ((store_state D.state self.now).log.generation
-            < LAST_GENERATION)))) }
+        requires full { ¬ (IsRoomy (store_state D.state self.now)) }
+        ensures answer { IsCheckpointAnswer (store_state D.state self.now) result }
+        ensures fits { IfOk result (λ begun. FitsOther (store_state D.state self.now)
+            (checkpoint_size begun)) }
+        ensures begun { IsSettled (store_state D.state self.now)
+            → IfOk result (IsCheckpointOn (store_state D.state self.now)) }
+    {
+        self.begin_checkpoint(alloc)
+    }
+
+    // The same where the journal may have room.
+    fn begin_checkpoint(&self, alloc: Global) -> Result<Checkpoint, Refusal>
+        ensures answer { IsCheckpointAnswer (store_state D.state self.now) result }
         ensures fits { IfOk result (λ begun. FitsOther (store_state D.state self.now)
             (checkpoint_size begun)) }
         ensures begun { IsSettled (store_state D.state self.now)
@@ -100,5 +105,21 @@ impl<D: Disk> Store<D> {
             record_count: self.table.devices().len() as u32,
             records_len,
         }
+    }
+}
+
+impl<D: Sim> Store<D> {
+    ghost use Rattle.store.specs.State.{store_state, IsSettled};
+
+    /// Begins a checkpoint as [`Store::checkpoint`] does, and also where the journal has room: on a
+    /// simulated disk a script says when.
+    pub fn checkpoint_early(&self, alloc: Global) -> Result<Checkpoint, Refusal>
+        ensures answer { IsCheckpointAnswer (store_state D.state self.now) result }
+        ensures fits { IfOk result (λ begun. FitsOther (store_state D.state self.now)
+            (checkpoint_size begun)) }
+        ensures begun { IsSettled (store_state D.state self.now)
+            → IfOk result (IsCheckpointOn (store_state D.state self.now)) }
+    {
+        self.begin_checkpoint(alloc)
     }
 }

@@ -135,7 +135,7 @@ pub fn begin_checkpoint(
     store: &mut Store<MemDisk>,
     calls: u64,
 ) -> Result<(), Refusal> {
-    let checkpoint = store.checkpoint(alloc)?;
+    let checkpoint = store.checkpoint_early(alloc)?;
     if store.must_retire() {
         retire(checkpoint, store, calls)
     } else {

@@ -286,7 +286,7 @@ impl<D: Sim> Life<D> {
         if let Some(answer) = self.commits.hindrance() {
             return answer;
         }
-        match self.store.checkpoint(alloc) {
+        match self.store.checkpoint_early(alloc) {
             Ok(checkpoint) => {
                 let publishing = Publishing::Begun(checkpoint);
                 let calls = publishing.calls_left(&self.store);

@@ -5,7 +5,7 @@ use Rattle.gate_log.specs.Layout.{IsHeader}
 use Rattle.store.specs.Checkpointing.{next_header}
 use Rattle.store.specs.State.{store_state}
 use Rattle.store.proofs.Republishing.{republishes}
-use Rattle.store.proofs.store.Store.checkpoint.Goals as goal
+use Rattle.store.proofs.store.Store.begin_checkpoint.Goals as goal
 
 pub returns-clause-begun : goal.returns-clause-begun
 returns-clause-begun g c settled =
