@@ -1,12 +1,19 @@
 //! What follows from the definitions of several lives alone. The functions do nothing: their
 //! contracts are the laws.
-ghost use Rattle.std.specs.Prelude.{ℕ, Bool, List};
+ghost use Rattle.std.specs.Prelude.{◌≡◌, ℕ, Bool, List};
 ghost use Rattle.disk.specs.State.{IsPermitted};
 ghost use Rattle.flusher.specs.Lived.{HaveLed};
 ghost use Rattle.flusher.specs.Lives.{LifeEvent, Lives, beginning, lives_after, lives_of};
 ghost use Rattle.sessions.specs.Marks.{AreOnce, IsSound, IsSubsequence};
 ghost use Rattle.sessions.specs.Table.{TableState, effects_of, empty_table};
 ghost use Rattle.store.specs.State.{StoreState, IsOpened, IsSettled};
+
+use crate::MOST_EFFECTS;
+
+/// How many effects the largest batch has.
+pub fn limits_are_these()
+    ensures { MOST_EFFECTS ≡ 256 }
+{}
 
 /// Lives begin with a store on which nothing is under way, as one that was formatted or opened, and
 /// go on where an image is opened that a crash may have left of its disk ([`store::open`]).

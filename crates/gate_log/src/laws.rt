@@ -7,7 +7,8 @@ ghost use Rattle.gate_log.specs.Areas.{AreOf, LogContents, Holds, HoldsIn, IsClo
 ghost use Rattle.gate_log.specs.Areas.{IsLiveArea, IsOlder, NoLiveArea, bytes_in};
 ghost use Rattle.gate_log.specs.Layout.{HasRoomFor, Journal};
 
-use crate::{CLOSED, ENTRIES_AT, OPEN, RECORDS_AT};
+use crate::layout::BatchHead;
+use crate::{CLOSED, EMPTY_AREA_LEN, ENTRIES_AT, Header, OPEN, RECORDS_AT};
 
 /// A disk holds one contents in two areas, if any.
 pub fn a_disk_holds_one_contents()
@@ -51,10 +52,14 @@ pub fn a_closed_area_is_older()
         → IsOlder generation area disk }
 {}
 
-/// The bytes that gates are, and where the records of an area and the entries of a batch begin.
+/// The bytes that gates are, where the records of an area and the entries of a batch begin, and the
+/// lengths of an area's header, of a batch's head and of an empty area.
 pub fn limits_are_these()
     ensures open { OPEN ≡ 165 }
     ensures closed { CLOSED ≡ 0 }
     ensures records { RECORDS_AT ≡ 30 }
     ensures entries { ENTRIES_AT ≡ 15 }
+    ensures header { Header.LEN ≡ 29 }
+    ensures head { BatchHead.LEN ≡ 14 }
+    ensures empty { EMPTY_AREA_LEN ≡ 31 }
 {}

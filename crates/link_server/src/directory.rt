@@ -7,7 +7,7 @@ use lw_types::Eui;
 use std::alloc::{AllocError, Global};
 
 /// The most gateways that are linked.
-const MOST_GATEWAYS: usize = 64;
+pub(crate) const MOST_GATEWAYS: usize = 64;
 
 /// A gateway, and the number of its link.
 #[derive(Clone, Copy)]

@@ -10,6 +10,7 @@ mod directory;
 mod flushing;
 mod gate;
 mod gathering;
+pub mod laws;
 mod link;
 mod moments;
 mod outgoing;

@@ -11,7 +11,7 @@ ghost use Rattle.lw_types.specs.Hex.{dev_addr_text, eui_text, field_text, hex_te
 ghost use Rattle.lw_types.specs.Hex.{net_id_text};
 ghost use Rattle.lw_types.specs.Words.{line_of, words_of, AreWords, IsWord};
 
-use crate::payload::{Payload, PhyPayload};
+use crate::payload::{LONGEST_FRAME, LONGEST_PAYLOAD, Payload, PhyPayload};
 
 /// No two values share a text.
 pub fn each_text_is_of_one_value()
@@ -62,3 +62,9 @@ pub fn payloads_have_at_most_242_bytes(bytes: Vec<u8>) -> Result<Payload, Vec<u8
 {
     Payload::new(bytes)
 }
+
+/// The most bytes of a frame, and of its payload.
+pub fn limits_are_these()
+    ensures frame { LONGEST_FRAME ≡ 255 }
+    ensures payload { LONGEST_PAYLOAD ≡ 242 }
+{}

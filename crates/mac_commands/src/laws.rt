@@ -6,6 +6,8 @@ ghost use Rattle.mac_commands.specs.Commands.{AreCommands, IsLongestFit, Spells,
 ghost use Rattle.mac_commands.specs.Queueable.{AreQueueable};
 ghost use Rattle.mac_commands.specs.Reading.{commands_in, fitting_len, is_queue, reported_bytes};
 
+use crate::LONGEST_COMMAND_PAYLOAD;
+
 /// Bytes are read in one way: as one list of commands, up to one place.
 pub fn bytes_are_read_in_one_way()
     ensures commands { (direction : Direction) (bytes : List ℕ) (a : List MacCommand)
@@ -62,4 +64,9 @@ pub fn what_fits_is_the_longest()
 pub fn what_fits_leaves_a_queue()
     ensures { (queue : List ℕ) (room n : ℕ) → AreQueueable queue → IsLongestFit queue room n
         → AreQueueable (take n queue) × AreQueueable (drop n queue) }
+{}
+
+/// The most bytes of a MAC command behind its identifier.
+pub fn limits_are_these()
+    ensures { LONGEST_COMMAND_PAYLOAD ≡ 5 }
 {}

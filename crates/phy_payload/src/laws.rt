@@ -11,7 +11,6 @@ ghost use Rattle.phy_payload.specs.Reading.{phy_at};
 
 use crate::contents::LONGEST_F_OPTS;
 use crate::{DataFrame, DataFrameRef};
-use lw_types::LONGEST_PAYLOAD;
 
 /// No frame has two spellings.
 pub fn each_frame_has_one_spelling()
@@ -77,8 +76,7 @@ pub fn a_join_request_has_23_bytes()
         → (r : JoinRequest) × IsPhy bytes (Phy.JoinRequest r) }
 {}
 
-/// The most bytes of FOpts, and of a payload.
+/// The most bytes of FOpts.
 pub fn limits_are_these()
-    ensures f_opts { LONGEST_F_OPTS ≡ 15 }
-    ensures payload { LONGEST_PAYLOAD ≡ 242 }
+    ensures { LONGEST_F_OPTS ≡ 15 }
 {}

@@ -11,7 +11,7 @@ ghost use Rattle.session_core.specs.Handling.{IsWholeTurn};
 ghost use Rattle.session_core.specs.Standing.{with_copy};
 ghost use Rattle.session_core.specs.declared.turn.Turn.{Turn};
 
-use crate::{LAST_NUMBER, MOST_OUTCOMES, MOST_UNTAKEN, Moment, Most};
+use crate::{LAST_MOMENT, LAST_NUMBER, MOST_OUTCOMES, MOST_UNTAKEN, Moment, Most};
 
 /// A take asks for 1 to 64 decisions.
 pub fn most_of(number: u64) -> Option<Most>
@@ -59,12 +59,13 @@ pub fn windows_stand_for_groups()
     dedup::laws::a_copy_goes_into_its_group();
 }
 
-/// How many decisions wait untaken at most, the number after which none is made, and how many
-/// outcomes are kept.
+/// How many decisions wait untaken at most, the number after which none is made, how many outcomes
+/// are kept, and the last moment.
 pub fn limits_are_these()
     ensures untaken { MOST_UNTAKEN ≡ 4096 }
     ensures number { LAST_NUMBER + 1 ≡ 2 ^ 63 }
     ensures outcomes { MOST_OUTCOMES ≡ 64 }
+    ensures moment { LAST_MOMENT + 1 ≡ 2 ^ 63 }
 {}
 
 /// A turn in whole lists: the log grew by just the decisions of the commands that were handed in,

@@ -9,7 +9,8 @@ ghost use Rattle.store_layout.specs.Entries.{AreEntries, AreEntriesOf, EntriesLe
 ghost use Rattle.store_layout.specs.Entries.{Replay};
 ghost use Rattle.store_layout.specs.Entries.{entries, entries_of_table};
 
-use crate::{JOURNAL_ROOM, LONGEST_ENTRY, RESERVED_ENTRY};
+use crate::superblock::RESERVED_RECORD;
+use crate::{JOURNAL_ROOM, LONGEST_ENTRY, RESERVED_ENTRY, Superblock};
 use record_codec::laws;
 
 /// The entries of decisions that were made of a table replay on it, and lead to the table that the
@@ -67,8 +68,10 @@ pub fn entries_keep_the_network()
         → EntriesLead version t es u → u.slots ≡ t.slots }
 {}
 
-/// The room of an area, and the most bytes of an entry.
+/// The bytes of a superblock, the room of an area, and the most bytes of an entry and of a record.
 pub fn limits_are_these()
+    ensures superblock { Superblock.LEN ≡ 32 }
+    ensures record { RESERVED_RECORD ≡ 4300 }
     ensures reserved { RESERVED_ENTRY ≡ 4305 }
     ensures journal { JOURNAL_ROOM ≡ 1048576 }
     ensures entry { LONGEST_ENTRY ≡ 4305 }
