@@ -1,15 +1,18 @@
 -- What links say, piece by piece.
-use Rattle.std.proofs.Common.{◌≡◌, ◌∙◌, ℕ, Bool, true, false, nat_eq, cond, List, [], ◌∷◌, ◌++◌, Option, Some, None, append_assoc, refl, sym, ap, subst}
+use Rattle.std.proofs.Common.{◌≡◌, ◌∙◌, ℕ, Bool, true, false, nat_eq, cond, List, [], ◌∷◌, ◌++◌, Option, Some, None, Result, Ok, Err, OnErr, append_assoc, refl, sym, ap, subst}
 use Rattle.std.proofs.lemmas.Bool.{eqb-true, eqb-false}
 use Rattle.std.proofs.lemmas.List.{append-nil}
 use Rattle.lw_types.specs.declared.refusal.Refusal.{Refusal}
 use Rattle.link_messages.specs.declared.message.Peer.{Peer}
+use Rattle.link_messages.specs.declared.message.Peer.TheVariants.{Application, Gateway}
 use Rattle.link_messages.specs.declared.message.Message.{Message}
+use Rattle.link_messages.specs.declared.message.Message.TheVariants.{Copy, Greeting, Line}
 use Rattle.link_messages.specs.Stream.{End, Rest, Fault, IsSaid, peer_after, peer_after_one}
 use Rattle.link_messages.specs.Feeding.{Adds, FeedState}
 use Rattle.world.specs.declared.event.Event.{Event}
+use Rattle.world.specs.declared.event.Event.TheVariants as events
 use Rattle.world.specs.declared.links.Links.{Links}
-use Rattle.world.specs.Links.{before_others, AreHandedIn, Completes, HasSaid, Piece, SaysMore, heard_on, stream_on}
+use Rattle.world.specs.Links.{before_others, AreHandedIn, HandsIn, Completes, HasSaid, Piece, SaysMore, heard_on, stream_on}
 
 after_append : (peer : Option Peer) (xs ys : List Message) → peer_after peer (xs ++ ys) ≡ peer_after (peer_after peer xs) ys
 after_append peer [] ys = refl
@@ -31,6 +34,26 @@ stream_more l link bytes (piece ∷ pieces) = by (nat_eq piece.link l) (nat_eq l
     by true false behind longer is = ap (λ k. piece.bytes ++ k) is
     by false true behind longer is = is
     by false false behind longer is = is
+
+-- where messages hand in nothing, neither the first does nor the others
+pub nothing_in_each : (peer : Option Peer) (message : Message) (messages : List Message) → AreHandedIn peer (message ∷ messages) []
+    → HandsIn peer message None × AreHandedIn (peer_after_one peer message) messages []
+nothing_in_each peer message messages (None, others, first, rest, is) = (first, subst (AreHandedIn (peer_after_one peer message) messages) (sym is) rest)
+nothing_in_each peer message messages (Some event, others, first, rest, is) = let no : [] ≡ event ∷ others = is in cc
+
+-- and a message that hands in nothing hands in no event
+pub hands_nothing : (peer : Option Peer) (message : Message) (event : Option Event) → HandsIn peer message None → HandsIn peer message event → event ≡ None
+hands_nothing peer message None nothing is = refl
+hands_nothing peer (Greeting greeted) (Some event) nothing is = is
+hands_nothing peer (Copy copy) (Some event) nothing is = let no : None ≡ Some (events.Hear copy) = nothing in cc
+hands_nothing None (Line line) (Some event) nothing is = is
+hands_nothing (Some (Gateway name)) (Line line) (Some event) nothing is = is
+hands_nothing (Some (Application name)) (Line line) (Some event) nothing (request, in_range, says, asks) = absurd (nothing (request, in_range, says))
+
+-- what holds holds of an error
+pub of_error : {A E : Type 0} (r : Result A E) (P : Type 0) → P → OnErr r P
+of_error (Ok x) P p = tt
+of_error (Err e) P p = p
 
 pub before_append : (event : Option Event) (others : List Event) → before_others event [] ++ others ≡ before_others event others
 before_append None others = refl

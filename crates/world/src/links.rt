@@ -1,6 +1,6 @@
 // The links of a life, and the events that what is said on them hands in.
-ghost use Rattle.std.specs.Prelude.{◌≡◌, ◌≤◌, ◌++◌, ℕ, Some, [], length, vec_capacity, IfOk, IfErr};
-ghost use Rattle.std.specs.Prelude.{MatchResult};
+ghost use Rattle.std.specs.Prelude.{◌≡◌, ◌≢◌, ◌≤◌, ◌++◌, ℕ, Some, None, [], length, vec_capacity};
+ghost use Rattle.std.specs.Prelude.{IfOk, IfErr, OnErr, MatchResult};
 ghost use Rattle.lw_types.specs.declared.refusal.Refusal.TheVariants.{OutOfMemory};
 ghost use Rattle.link_messages.specs.Feeding.{new_feed};
 ghost use Rattle.link_messages.specs.Stream.{peer_after_one};
@@ -75,16 +75,18 @@ impl Links {
 }
 
 /// The events that messages of a link hand in, whose peer this is before them: each copy, and the
-/// command of each line that is a request of an application. Refused with `OutOfMemory` alone.
+/// command of each line that is a request of an application. Refused with `OutOfMemory` alone, and
+/// only where a copy or a request is among them.
 pub fn events_of(
     alloc: Global,
     peer: Option<Peer>,
     messages: Vec<Message>,
 ) -> Result<Vec<Event>, Refusal>
-    ensures { MatchResult result (λ events. AreHandedIn peer messages.items events.items)
+    ensures events { MatchResult result (λ events. AreHandedIn peer messages.items events.items)
         (λ e. e ≡ OutOfMemory) }
+    ensures wanted { OnErr result (¬ (AreHandedIn peer messages.items [])) }
 {
-    let mut events = Vec::with_capacity(alloc, messages.len())?;
+    let mut events = Vec::new(alloc);
     let mut speaker = peer;
     for message in messages {
         let event = event_of(alloc, &mut speaker, message)?;
@@ -95,9 +97,10 @@ pub fn events_of(
 
 // Adds an event, if there is one.
 fn add(events: &mut Vec<Event>, event: Option<Event>) -> Result<(), Refusal>
-    ensures { MatchResult result
+    ensures added { MatchResult result
         (λ _. events.new.items ≡ events.old.items ++ before_others event [])
         (λ e. e ≡ OutOfMemory) }
+    ensures wanted { OnErr result (event ≢ None) }
 {
     if let Some(event) = event {
         events.push(event)?;
@@ -106,13 +109,14 @@ fn add(events: &mut Vec<Event>, event: Option<Event>) -> Result<(), Refusal>
 }
 
 // The event that a message hands in, where it does: a greeting doesn't, but tells who speaks; nor
-// does a line that is no request.
+// does a line that is no request. For neither memory is wanted.
 fn event_of(
     alloc: Global,
     speaker: &mut Option<Peer>,
     message: Message,
 ) -> Result<Option<Event>, Refusal>
     ensures event { MatchResult result (HandsIn speaker.old message) (λ e. e ≡ OutOfMemory) }
+    ensures wanted { OnErr result (¬ (HandsIn speaker.old message None)) }
     ensures speaker { speaker.new ≡ peer_after_one speaker.old message }
 {
     match message {
@@ -126,7 +130,8 @@ fn event_of(
 }
 
 fn asked(alloc: Global, speaker: &Option<Peer>, line: &Line) -> Result<Option<Event>, Refusal>
-    ensures { MatchResult result (AsksFor speaker.now line.now) (λ e. e ≡ OutOfMemory) }
+    ensures event { MatchResult result (AsksFor speaker.now line.now) (λ e. e ≡ OutOfMemory) }
+    ensures wanted { OnErr result (¬ (AsksFor speaker.now line.now None)) }
 {
     match speaker {
         Some(Peer::Application(application)) => request_of(alloc, *application, line),
@@ -140,8 +145,9 @@ fn request_of(
     application: Application,
     line: &Line,
 ) -> Result<Option<Event>, Refusal>
-    ensures { MatchResult result (AsksFor (Some (Asking application)) line.now)
+    ensures event { MatchResult result (AsksFor (Some (Asking application)) line.now)
         (λ e. e ≡ OutOfMemory) }
+    ensures wanted { OnErr result (¬ (AsksFor (Some (Asking application)) line.now None)) }
 {
     match read_line(alloc, line.as_str()) {
         Ok(request) => Ok(Some(Event::Ask(request.into_command(application)))),

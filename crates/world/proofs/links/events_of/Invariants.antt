@@ -1,10 +1,13 @@
--- what the messages that are left hand in comes behind what was handed in so far
-use Rattle.std.proofs.Common.{◌++◌, List}
+-- what the messages that are left hand in comes behind what was handed in so far; where all of them
+-- hand in nothing, so do those that are left
+use Rattle.std.proofs.Common.{◌++◌, [], List}
 use Rattle.world.specs.declared.event.Event.{Event}
 use Rattle.world.specs.Links.{AreHandedIn}
 use Rattle.world.proofs.links.events_of.Given as goal
 
 abbrev pub invariant-loop-message : goal.invariant-loop-message
 invariant-loop-message l =
-    (others : List Event) → AreHandedIn l.speaker l.message-iterator.rest.items others
-    → AreHandedIn l.fn.peer l.fn.messages.items (l.events.items ++ others)
+    ((others : List Event) → AreHandedIn l.speaker l.message-iterator.rest.items others
+    → AreHandedIn l.fn.peer l.fn.messages.items (l.events.items ++ others))
+    × (AreHandedIn l.fn.peer l.fn.messages.items []
+    → AreHandedIn l.speaker l.message-iterator.rest.items [])
