@@ -1,5 +1,6 @@
 // One life of a server.
-ghost use Rattle.std.specs.Prelude.{◌≡◌, ◌≤◌, ◌+◌, length, sum, Err, IfOk};
+ghost use Rattle.std.specs.Prelude.{◌≡◌, ◌≤◌, ◌+◌, length, sum, Err, IfOk, MatchResult};
+ghost use Rattle.lw_types.specs.declared.refusal.Refusal.TheVariants.{OutOfMemory};
 
 use crate::context::Context;
 use crate::directory::Directory;
@@ -177,7 +178,8 @@ fn report<B: Books>(
 }
 
 fn shares_of<B: Books>(alloc: Global, seats: &Vec<Seat<B>>) -> Result<Vec<u64>, Refusal>
-    ensures { IfOk result (λ shares. shares.items ≡ seats.now.items) }
+    ensures { MatchResult result (λ shares. shares.items ≡ seats.now.items)
+        (λ e. e ≡ OutOfMemory) }
 {
     let mut shares = Vec::new(alloc);
     for seat in seats {
