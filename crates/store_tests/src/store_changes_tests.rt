@@ -1,10 +1,6 @@
 // Journals with changes, behind whole records as every entry was before changes came. The bytes
 // were laid out by hand, from the format.
-use crate::devices_under_test::{JOINER, add, heard, joining, new_table};
-use crate::store_images_tests::{add_batch_of, checkpoint_of, disk_of};
 use crate::store_joins_tests::JOIN_1;
-use crate::store_tests::FRONT;
-use crate::stores_under_test::{ALL, begin_commit, opened, put};
 use devices::{Application, AskedBytes, Command, Queueing, Tag};
 use disk::{Image, MemDisk, Sim};
 use lw_types::{Eui, Refusal, read_hex};
@@ -12,6 +8,9 @@ use sessions::{Batch, Table};
 use std::alloc::Global;
 use store::{Store, open};
 use store_layout::{RecordVersion, batch_entries};
+use test_stores::devices_under_test::{JOINER, add, heard, joining, new_table};
+use test_stores::images_under_test::{FRONT, add_batch_of, checkpoint_of, disk_of};
+use test_stores::stores_under_test::{ALL, begin_commit, opened, put};
 
 // The entry of the device that joins, as it was provisioned.
 const PROVISIONED: &str = concat!(

@@ -1,15 +1,14 @@
 // A store that was written before devices had eight channels. Its bytes were laid out by hand, from
 // the format as it was; the frames were made by Python's `cryptography`.
-use crate::devices_under_test::{add, heard_on};
-use crate::store_images_tests::{add_batch_of, disk_of};
-use crate::store_tests::FRONT;
-use crate::stores_under_test::{ALL, begin_commit};
 use devices::Channels;
 use disk::{Image, MemDisk, Sim};
 use lw_types::{Refusal, read_hex};
 use sessions::Batch;
 use std::alloc::Global;
 use store::{Store, open};
+use test_stores::devices_under_test::{add, heard_on};
+use test_stores::images_under_test::{FRONT, add_batch_of, disk_of};
+use test_stores::stores_under_test::{ALL, begin_commit};
 
 // The entry of the device that joins, behind its first join and the uplink 0 of its session. The
 // byte in front of that is 01.

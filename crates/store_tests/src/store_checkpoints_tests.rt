@@ -1,13 +1,13 @@
 // Checkpoints of stores, and openings over two areas.
 use crate::store_tests::{Answers, answers};
-use crate::stores_under_test::{
-    ALL, GATE_A, GATE_B, HIGH_A, HIGH_B, LEN, LEN_A, LEN_B, LOW_A, SECOND_AREA, VERSION_A,
-    VERSION_B, begin_checkpoint, crashed, cut, opened, put, store_after, take,
-};
 use disk::{Image, MemDisk, Sim};
 use lw_types::Refusal;
 use std::alloc::Global;
 use store::{Store, open};
+use test_stores::stores_under_test::{
+    ALL, GATE_A, GATE_B, HIGH_A, HIGH_B, LEN, LEN_A, LEN_B, LOW_A, SECOND_AREA, VERSION_A,
+    VERSION_B, begin_checkpoint, crashed, cut, opened, put, store_after, take,
+};
 
 // The front of the second area after a checkpoint of one device: its gate, version, generation,
 // sequence number, number of records and their length.

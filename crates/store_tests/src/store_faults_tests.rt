@@ -1,10 +1,10 @@
 // Faults of an image with two open areas, each alone and any two together: the first one counts.
-use crate::stores_under_test::{
-    ALL, GATE_A, GATE_B, HIGH_B, LEN_B, LOW_A, SECOND_AREA, VERSION_B, cut, opened, put,
-};
 use disk::{MemDisk, Sim};
 use lw_types::Refusal;
 use std::alloc::Global;
+use test_stores::stores_under_test::{
+    ALL, GATE_A, GATE_B, HIGH_B, LEN_B, LOW_A, SECOND_AREA, VERSION_B, cut, opened, put,
+};
 
 // The batch of the live area.
 const BATCH: usize = SECOND_AREA + 85;

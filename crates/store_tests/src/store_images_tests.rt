@@ -1,13 +1,13 @@
 // Images of stores, opened.
-use crate::devices_under_test::{busy_device, idle_device};
-use crate::store_tests::FRONT;
-use crate::stores_under_test::{ALL, LEN, SECOND_AREA, found, opened, store_after, take};
 use devices::Device;
 use disk::{MemDisk, Sim};
 use lw_types::{Eui, Refusal};
 use std::alloc::Global;
 use store::{Store, open};
 use store_layout::{RecordVersion, put_entry};
+use test_stores::devices_under_test::{busy_device, idle_device};
+use test_stores::images_under_test::{add_batch_of, checkpoint_of, disk_of};
+use test_stores::stores_under_test::{ALL, LEN, found, opened, store_after, take};
 
 // The bytes of a store with one device.
 fn image(alloc: Global) -> Result<Vec<u8>, Refusal> {
@@ -125,32 +125,9 @@ fn are_devices(alloc: Global, devices: &[Device], entries: &[Entry]) -> Result<b
     Ok(are_same)
 }
 
-// Adds these parts, and whether there was memory for them.
-fn add_parts(bytes: &mut Vec<u8>, parts: &[&[u8]]) -> bool {
-    for part in parts {
-        if bytes.extend_from_slice(part).is_err() {
-            return false;
-        }
-    }
-    true
-}
-
 // An image whose checkpoint at number 7 has these records, and says that they are so many.
 fn checkpoint(alloc: Global, count: u8, entries: &[Entry]) -> Result<Vec<u8>, Refusal> {
     checkpoint_of(alloc, count, &entries_of(alloc, entries)?)
-}
-
-/// An image whose checkpoint at number 7 has the records of these bytes, and says that they are so
-/// many.
-pub fn checkpoint_of(alloc: Global, count: u8, records: &[u8]) -> Result<Vec<u8>, Refusal> {
-    let mut bytes = FRONT[..42].to_vec(alloc)?;
-    let len = (records.len() as u64).to_be_bytes();
-    let numbers = &[0, 0, 0, 0, 0, 0, 0, 7, 0, 0, 0, count];
-    if add_parts(&mut bytes, &[numbers, &len, records]) {
-        Ok(bytes)
-    } else {
-        Err(Refusal::OutOfMemory)
-    }
 }
 
 // Adds a batch of these entries behind its open gate.
@@ -161,30 +138,6 @@ fn add_batch(
     entries: &[Entry],
 ) -> Result<(), Refusal> {
     add_batch_of(bytes, (last, count), &entries_of(alloc, entries)?)
-}
-
-/// Adds a batch of entries of these bytes behind its open gate.
-pub fn add_batch_of(
-    bytes: &mut Vec<u8>,
-    (last, count): (u8, u8),
-    entries: &[u8],
-) -> Result<(), Refusal> {
-    let len = (entries.len() as u64).to_be_bytes();
-    let numbers = &[0, 0, 0, 0, 0, 0, 0, last, 0, count];
-    if add_parts(bytes, &[&[0xA5], &len[4..], numbers, entries]) {
-        Ok(())
-    } else {
-        Err(Refusal::OutOfMemory)
-    }
-}
-
-/// A disk with these bytes in front, then a closed gate, and open gates behind it up to the second
-/// area, which is closed.
-pub fn disk_of(alloc: Global, mut bytes: Vec<u8>) -> Result<MemDisk, Refusal> {
-    bytes.push(0x00)?;
-    bytes.resize(SECOND_AREA, 0xA5)?;
-    bytes.resize(LEN, 0x00)?;
-    Ok(MemDisk::new(alloc, bytes)?)
 }
 
 const BUSY_AND_IDLE: &[Entry] = &[(0, 1, true), (1, 2, false)];

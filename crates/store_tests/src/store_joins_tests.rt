@@ -1,13 +1,13 @@
 // Batches that replace the record of a slot in use. The frames were made by Python's
 // `cryptography`.
-use crate::devices_under_test::{add, heard, joining};
-use crate::stores_under_test::{ALL, begin_commit, new_store};
 use devices::Command;
 use disk::{Image, MemDisk, Sim};
 use lw_types::Refusal;
 use sessions::{Batch, Table};
 use std::alloc::Global;
 use store::{Store, open};
+use test_stores::devices_under_test::{add, heard, joining};
+use test_stores::stores_under_test::{ALL, begin_commit, new_store};
 
 /// Join-Requests of the device that joins, with the DevNonces 1 to 3.
 pub const JOIN_1: &str = "000807060504030201181716151413121101009E7419CE";

@@ -1,24 +1,15 @@
 // New stores, commits, crashes in the midst of commits and checkpoints, and failing disks.
-use crate::devices_under_test::{net_id, new_table, provisionings};
-use crate::stores_under_test::{
-    ALL, LEN, SECOND_AREA, begin_commit, blank, crashed, cut, found, new_store, state_of,
-    store_after, take, take_all,
-};
 use disk::{Image, MemDisk, Sim};
 use lw_types::Refusal;
 use sessions::{Batch, Table};
 use std::alloc::Global;
 use store::{Store, format, format_back, open};
-
-// The front of a new store of network 00002A with 8 slots, as the format spells it.
-pub const FRONT: [u8; 62] = [
-    // The superblock.
-    0xA5, 0x4C, 0x4E, 0x53, 0x54, 0x4F, 0x52, 0x45, 1, 0, 0, 0x2A, 0, 0, 0, 8, 0, 0, 0, 0, 0, 0x10,
-    0x86, 0xA6, 0, 0, 0, 0, 0, 0, 0, 0,
-    // The first area: its gate, version, generation, sequence number, number of records and their
-    // length.
-    0xA5, 1, 0, 0, 0, 0, 0, 0, 0, 1, 0, 0, 0, 0, 0, 0, 0, 0, 0, 0, 0, 0, 0, 0, 0, 0, 0, 0, 0, 0,
-];
+use test_stores::devices_under_test::{net_id, new_table, provisionings};
+use test_stores::images_under_test::FRONT;
+use test_stores::stores_under_test::{
+    ALL, LEN, SECOND_AREA, begin_commit, blank, crashed, cut, found, new_store, state_of,
+    store_after, take, take_all,
+};
 
 // What a format is refused, of so many slots on a disk of this length.
 fn refused(alloc: Global, slots: u64, len: usize) -> Result<Option<Refusal>, Refusal> {

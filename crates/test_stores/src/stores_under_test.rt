@@ -1,4 +1,4 @@
-// The stores of these tests, steps on them, and what is found on their disks.
+// The stores of tests, steps on them, and what is found on their disks.
 ghost use Rattle.std.specs.Prelude.{◌≡◌, true, false};
 ghost use Rattle.store.specs.Checkpointing.{FitsOther, checkpoint_size, checkpoint_synced_size};
 ghost use Rattle.store.specs.Checkpointing.{checkpoint_written_size};

@@ -1,4 +1,4 @@
-// The devices that these tests bring, and batches of their provisionings.
+// The devices that tests bring, and batches of their provisionings.
 ghost use Rattle.std.specs.Prelude.{◌<◌, length};
 
 use devices::{
@@ -9,10 +9,12 @@ use lw_types::{Eui, Key, NetId, PhyPayload, Reception, Refusal, read_hex};
 use sessions::{Batch, Decision, Slots, Table};
 use std::alloc::Global;
 
+/// The network of these tests, 00002A.
 pub fn net_id() -> Result<NetId, Refusal> {
     NetId::new(0x2A).ok_or(Refusal::Damaged)
 }
 
+/// So many slots, from 1 to 4,096.
 pub fn slots(slots: u64) -> Result<Slots, Refusal> {
     Slots::new(slots).ok_or(Refusal::Damaged)
 }
@@ -154,6 +156,7 @@ pub fn apply(table: &mut Table, seq: u64, decision: &Decision) -> Result<(), Ref
     }
 }
 
+/// A device that was provisioned, and no more.
 pub fn idle_device(alloc: Global, dev_eui: u64) -> Result<Device, Refusal> {
     match provisioning(dev_eui, PLAIN_KEY) {
         Some(provisioning) => Ok(Device::provisioned(alloc, &provisioning)),

@@ -1,12 +1,12 @@
 // A second batch behind one whose gate is open.
 use crate::chains_tests::next_batch;
-use crate::devices_under_test::{bringing, new_table, provisionings};
-use crate::stores_under_test::{found, new_store};
 use disk::MemDisk;
 use lw_types::Refusal;
 use sessions::{Batch, Table};
 use std::alloc::Global;
 use store::Store;
+use test_stores::devices_under_test::{bringing, new_table, provisionings};
+use test_stores::stores_under_test::{found, new_store};
 
 // A batch behind one of two provisionings, on a store that has one.
 #[derive(Clone, Copy)]

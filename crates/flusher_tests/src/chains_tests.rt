@@ -1,15 +1,14 @@
 // What leaves by chains of commits, and what is found of them.
-use crate::devices_under_test::{add, apply, bringing, new_table, provisionings};
 use crate::flusher_tests::{is_provisioned, records, request};
-use crate::store_images_tests::{add_batch_of, disk_of};
-use crate::store_tests::FRONT;
-use crate::stores_under_test::{found, new_store};
 use disk::{Image, MemDisk, Sim};
 use flusher::{ChainLength, Feed, Most, Released, StoredBatches, chain};
 use lw_types::Refusal;
 use sessions::{Batch, Table};
 use std::alloc::Global;
 use store::{Store, open};
+use test_stores::devices_under_test::{add, apply, bringing, new_table, provisionings};
+use test_stores::images_under_test::{FRONT, add_batch_of, disk_of};
+use test_stores::stores_under_test::{found, new_store};
 
 // Stored batches, of which a feed gives so many, and then refuses.
 #[derive(Drop)]

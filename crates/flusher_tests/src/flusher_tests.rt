@@ -1,10 +1,4 @@
 // What a flusher releases.
-use crate::devices_under_test::{
-    JOINER, JOINER_KEY, add, bringing, busy_joiner, heard_frame, joining,
-};
-use crate::store_images_tests::{add_batch_of, disk_of};
-use crate::store_tests::FRONT;
-use crate::stores_under_test::new_store;
 use devices::{Application, AskedBytes, Command, Effect, Queueing, Report, Tag};
 use disk::MemDisk;
 use flusher::{Durable, Feed, Most, Released, Room, StoredBatches, cycle};
@@ -14,6 +8,11 @@ use sessions::{Batch, Table};
 use std::alloc::Global;
 use store::{Store, open};
 use store_layout::{RecordVersion, put_entry};
+use test_stores::devices_under_test::{
+    JOINER, JOINER_KEY, add, bringing, busy_joiner, heard_frame, joining,
+};
+use test_stores::images_under_test::{FRONT, add_batch_of, disk_of};
+use test_stores::stores_under_test::new_store;
 
 // Provisionings of so many devices, made of a table without devices, which stays as it is. The
 // DevEUIs are counted down from 2000.

@@ -1,0 +1,10 @@
+//! Tests of the flusher's public calls, and of two batches under way. They stand above those crates,
+//! so that each of these is proved once.
+#![tactic(auto)]
+
+#[cfg(test)]
+mod chains_tests;
+#[cfg(test)]
+mod flusher_tests;
+#[cfg(test)]
+mod store_pairs_tests;
