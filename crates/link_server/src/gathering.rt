@@ -15,7 +15,7 @@ use outbox::Inlet;
 use std::alloc::Global;
 
 // How many effects are put together before they are sent.
-const SOME: u64 = 64;
+pub(crate) const SOME: u64 = 64;
 
 /// How many effects were taken, and how many of them were lost.
 #[derive(Clone, Copy)]

@@ -2,10 +2,15 @@
 ghost use Rattle.std.specs.Prelude.{◌≡◌};
 
 use crate::directory::MOST_GATEWAYS;
+use crate::gathering::SOME;
 use crate::link::MOST_LINKS;
+use crate::outgoing::MUCH;
 
-/// How many gateways are linked at most, and how many links a life has.
+/// How many gateways are linked at most, how many links a life has, and how many effects and bytes
+/// are put together before they are sent.
 pub fn limits_are_these()
     ensures gateways { MOST_GATEWAYS ≡ 64 }
     ensures links { MOST_LINKS ≡ 80 }
+    ensures effects { SOME ≡ 64 }
+    ensures bytes { MUCH ≡ 16384 }
 {}
