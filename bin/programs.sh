@@ -48,6 +48,27 @@ take_words() {
     [ $# -eq 0 ] || stop 2 "it takes no word, and not $1; $command --help tells more"
 }
 
+# run_unproved [WORD]..: runs this command's program, compiled of the sources with no proof.
+run_unproved() {
+    unproved=$("$root/tools/unproved" "$command") || exit $?
+    echo "$command: this run is of unproved sources; bin/build $command proves and builds them" >&2
+    # shellcheck disable=SC3045 # dash has it too
+    ulimit -c 0
+    exec "$unproved" "$@"
+}
+
+# Of which commit the sources of a crate are, and those that it stands on.
+commit_of() {
+    commit=$(git -C "$root" rev-parse --verify HEAD 2>/dev/null) || commit=
+    if [ -z "$commit" ]; then
+        echo "a commit that isn't known"
+        return
+    fi
+    # shellcheck disable=SC2046 # one word a folder
+    changed=$(git -C "$root" status --porcelain -- crates.txt $(crates_of "$1" | sed 's|^|crates/|'))
+    echo "commit $commit${changed:+, with changes}"
+}
+
 # stop STATUS TEXT..
 stop() {
     status=$1
