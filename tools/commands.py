@@ -83,10 +83,19 @@ def below(crate, named):
     return found
 
 
+# Calls a function of bin/programs.sh; the words behind are its own.
+BY_SHELL = ["sh", "-c", 'root=$1; shift; . "$root/bin/programs.sh"; "$@"', "sh", ROOT]
+
+
 def by_shell(words):
     """Whether a call of bin/programs.sh succeeds."""
-    script = 'root=$1; shift; . "$root/bin/programs.sh"; "$@"'
-    return subprocess.run(["sh", "-c", script, "sh", ROOT, *words], check=False).returncode == 0
+    return subprocess.run([*BY_SHELL, *words], check=False).returncode == 0
+
+
+def told_by_shell(words):
+    """What a call of bin/programs.sh prints."""
+    how = {"stdout": subprocess.PIPE, "text": True, "check": True}
+    return subprocess.run([*BY_SHELL, *words], **how).stdout.strip()
 
 
 def number_in(file, pattern):
