@@ -10,7 +10,9 @@ from outside.device import Device
 from outside.frames import DOWN, crypted, data_mic, opened_accept, session_keys
 
 JOIN_EUI = "0102030405060708"
-REST = 0.45
+# how long a device rests behind a frame, and how long it waits for an accept, in seconds: an accept
+# doesn't say of which Join-Request it is
+REST, JOIN_REST = 0.45, 60
 
 
 class Meter(Device):
@@ -24,7 +26,8 @@ class Meter(Device):
         self.keeps = number % 3 > 0
         self.rests_until, self.sent = 0.0, []
         self.owes_ack, self.next_tag = False, 1
-        self.is_joining = False
+        # of its last frame: whether it was a Join-Request, and whether it was sent for the first time
+        self.is_joining, self.is_new = False, False
 
     def words(self):
         key = self.app_key.hex().upper()
@@ -43,9 +46,12 @@ class Meter(Device):
         """What it sends: a Join-Request, something new, or what it sent before."""
         self.rests_until = time.monotonic() + REST
         self.is_joining = not self.keys or not self.keeps and chance.random() < 0.2
+        self.is_new = True
         if self.is_joining:
+            self.rests_until = time.monotonic() + JOIN_REST
             return self.join_request()
         if self.sent and chance.random() < 0.15:
+            self.is_new = False
             return chance.choice(self.sent)
         how = {"confirmed": chance.random() < 0.3, "ack": self.owes_ack}
         how["f_opts"] = chance.choice((b"", b"", b"\x02", b"\x06\xff\x14"))
@@ -62,7 +68,9 @@ class Seen:
         self.ups, self.accepts, self.downlinks = {}, {}, {}
         self.items, self.answers = Counter(), 0
         self.queued, self.keys, self.meters = {}, {}, {}
-        self.last, self.seq = {}, 0
+        # the greatest marks: all, those of earlier lives, and those of each link of this life
+        self.last, self.before, self.by_link = {}, {}, {}
+        self.seq = 0
         self.passed, self.faults = 0, []
 
     def wrong(self, words):
@@ -82,19 +90,22 @@ class Seen:
 
     def begin(self):
         """A new life: what is under way at the devices is given up."""
+        self.before, self.by_link = dict(self.last), {}
         for it in self.meters.values():
             it.rests_until = 0.0
 
     def counts(self):
         return len(self.ups), len(self.accepts), len(self.downlinks), self.answers
 
-    def mark(self, of, name, number, what):
-        """A mark that may come once, and not behind a greater one."""
+    def mark(self, of, name, number, what, link):
+        """A mark that may come once, and not behind a greater one of an earlier life or of the same
+        link. Between the links of one life no order holds."""
         of[name, number] = of.get((name, number), 0) + 1
         self.holds(of[name, number] == 1, f"{what} {number} of {name} came twice")
-        last = self.last.get((what, name), -1)
-        self.holds(number > last, f"{what} {number} of {name} came behind {last}")
-        self.last[what, name] = max(number, last)
+        last = max(self.before.get((what, name), -1), self.by_link.get((what, name, link), -1))
+        self.holds(number > last, f"{what} {number} of {name} came over {link} behind {last}")
+        self.by_link[what, name, link] = max(number, last)
+        self.last[what, name] = max(number, self.last.get((what, name), -1))
 
     def line(self, application, line):
         """A line that an application heard."""
@@ -106,7 +117,7 @@ class Seen:
         self.holds(meter.application == application, f"{line} came to application {application}")
         if kind == "up":
             name, counter = (words[0], int(words[1])), int(words[2])
-            self.mark(self.ups, name, counter, "uplink counter")
+            self.mark(self.ups, name, counter, "uplink counter", application)
             self.expect(f"the payload of {line}", words[4], f"{counter:08X}")
             return
         self.answers += 1
@@ -115,10 +126,10 @@ class Seen:
         if kind == "queued":
             self.queued.setdefault(words[0], []).append(int(words[1]))
 
-    def frame(self, frame):
+    def frame(self, gateway, frame):
         """A frame that a gateway is to send."""
         if frame[0] == 0x20:
-            self.accept(frame)
+            self.accept(gateway, frame)
             return
         address = int.from_bytes(frame[1:5], "little")
         name, keys = self.keys.get(address, (None, None))
@@ -126,14 +137,14 @@ class Seen:
         if not name or data_mic(keys[0], DOWN, address, counter, frame[:-4]) != frame[-4:]:
             self.wrong(f"a downlink that no session opens: {frame.hex().upper()}")
             return
-        self.mark(self.downlinks, name, counter, "downlink counter")
+        self.mark(self.downlinks, name, counter, "downlink counter", gateway)
         meter, end = self.meters[name[0]], 8 + (frame[5] & 15)
         meter.owes_ack = frame[0] == 0xA0
         if len(frame) - 4 > end:
             clear = crypted(keys[1], DOWN, address, counter, frame[end + 1 : -4])
-            self.mark(self.items, name[0], int.from_bytes(clear[:4], "big"), "item")
+            self.mark(self.items, name[0], int.from_bytes(clear[:4], "big"), "item", gateway)
 
-    def accept(self, frame):
+    def accept(self, gateway, frame):
         """A Join-Accept: only the device that it is for can open it."""
         # those that asked for one are tried first
         for it in sorted(self.meters.values(), key=lambda it: not it.is_joining):
@@ -141,9 +152,9 @@ class Seen:
             if not is_right:
                 continue
             join_nonce = int.from_bytes(fields[:3], "little")
-            self.mark(self.accepts, it.dev_eui, join_nonce, "JoinNonce")
+            self.mark(self.accepts, it.dev_eui, join_nonce, "JoinNonce", gateway)
             it.take_accept(frame)
-            it.sent = []
+            it.sent, it.rests_until = [], time.monotonic() + REST
             keys = session_keys(it.app_key, join_nonce, network.NET_ID, it.dev_nonce)
             self.keys[network.address(it.slot, join_nonce)] = ((it.dev_eui, join_nonce), keys)
             return
