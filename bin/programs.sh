@@ -65,7 +65,8 @@ commit_of() {
         return
     fi
     # shellcheck disable=SC2046 # one word a folder
-    changed=$(git -C "$root" status --porcelain -- crates.txt $(crates_of "$1" | sed 's|^|crates/|'))
+    changed=$(cd "$root" && git status --porcelain -- crates.txt \
+        $(crates_of "$1" | sed 's|^|crates/|'))
     echo "commit $commit${changed:+, with changes}"
 }
 
