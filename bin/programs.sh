@@ -50,7 +50,7 @@ take_words() {
 
 # run_unproved [WORD]..: runs this command's program, compiled of the sources with no proof.
 run_unproved() {
-    unproved=$("$root/tools/unproved" "$command") || exit $?
+    unproved=$("$root/bin/unproved" "$command") || exit $?
     echo "$command: this run is of unproved sources; bin/build $command proves and builds them" >&2
     # shellcheck disable=SC3045 # dash has it too
     ulimit -c 0
