@@ -8,8 +8,9 @@ from outside.gateway import order_of
 
 from . import wire
 
-# how long a client tries to be linked, and waits for an answer, in seconds
-PATIENCE = 10
+# how long a client tries to be linked, and waits for an answer, in seconds: a machine that does
+# much else may take long
+PATIENCE = 30
 
 
 class Ended(Exception):

@@ -43,7 +43,7 @@ class Program:
         """Whether the program is built."""
         return os.path.isfile(self.path) and os.access(self.path, os.X_OK)
 
-    def run(self, *words, seconds=30, **how):
+    def run(self, *words, seconds=60, **how):
         """Runs a command of the program; its status, standard output and standard error."""
         try:
             it = subprocess.run(
@@ -82,7 +82,7 @@ class Program:
         )
         return self.address
 
-    def ended(self, seconds=15):
+    def ended(self, seconds=60):
         """Waits for the server's end; its status, standard output and standard error."""
         try:
             out, said = self.server.communicate(timeout=seconds)

@@ -1,12 +1,9 @@
 """A trial of lnsd with one exchange over links whose bytes come in pieces. What leaves has to be
 the same bytes whatever the pieces are, as docs/FORMATS.md says of the wire."""
-import socket
-import sys
-import time
 from concurrent.futures import ThreadPoolExecutor
 from dataclasses import dataclass
 
-from .trials import APP_KEY, DEV_EUI, EUI, HEARD, JOIN_EUI, OWNER, PROVISION
+from .trials import APP_KEY, DEV_EUI, EUI, HEARD, JOIN_EUI, OWNER, PROVISION, await_read
 from outside import network
 from outside.device import Device
 from outside.gateway import Copy
@@ -14,8 +11,6 @@ from server import wire
 from server.links import Ended, Link, Silent
 from server.program import Failed, Program, free_port
 
-# before each look whether the server has read a piece, in seconds
-PAUSE = 0.001
 # how many servers run at once: most of the time each of them waits for its windows
 AT_ONCE = 16
 # more bytes than come
@@ -80,30 +75,6 @@ def parted(said):
     for at in range(1, len(said)):
         made.append((f"in two pieces, parted behind byte {at}", [said[:at], said[at:]]))
     return made
-
-
-def name_of(address):
-    """An address as Linux tells it in /proc/net/tcp."""
-    host = int.from_bytes(socket.inet_aton(address[0]), sys.byteorder)
-    return f"{host:08X}:{address[1]:04X}"
-
-
-def is_read(link):
-    """Whether the server has read all that was said."""
-    ends = [name_of(link.socket.getpeername()), name_of(link.socket.getsockname())]
-    with open("/proc/net/tcp", encoding="ascii") as file:
-        unread = [it[4] for it in map(str.split, file) if it[1:3] == ends]
-    return all(it.endswith(":00000000") for it in unread)
-
-
-def await_read(link):
-    """Waits until the server has read all that was said."""
-    last = time.monotonic() + link.patience
-    time.sleep(PAUSE)
-    while not is_read(link):
-        if time.monotonic() > last:
-            raise Silent("the server doesn't read")
-        time.sleep(PAUSE)
 
 
 def say(link, pieces):

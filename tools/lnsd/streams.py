@@ -204,8 +204,8 @@ def silent(trials):
         resets.append(Link(address, wire.gateway_greeting(own_eui(3)) + b"\x00\x27\x01"))
         pair = Pair(address)
         pair.greet()
-        time.sleep(0.2)
-        for it in resets:
+        # what the server hasn't read is lost by a reset
+        for it in await_links(resets):
             it.reset()
         pair.play(trials)
         for it in (pair.application, pair.gateway):

@@ -1,7 +1,10 @@
 """What trials of lnsd share: comparisons that are counted, a healthy gateway with an application
-beside others, and devices that are there from the beginning."""
+beside others, devices that are there from the beginning, and what a pause of the machine spoils."""
 import os
 import shutil
+import socket
+import sys
+import threading
 import time
 from contextlib import contextmanager
 
@@ -18,6 +21,41 @@ APP_KEY = "2B7E151628AED2A6ABF7158809CF4F3C"
 OWNER, EUI = 3, "00000000000000B1"
 PROVISION = f"provision {DEV_EUI} {JOIN_EUI} {APP_KEY} 0 1"
 HEARD = Copy(EUI)
+# before each look whether the server has read what was said, in seconds
+STEP = 0.001
+# how long the machine may pause in a trial, in seconds; and how often one is done that failed then
+PAUSE, TIMES = 0.1, 4
+
+
+class Pauses:
+    """How long this process was kept from running at most. A pause is as long as a window, or
+    longer: copies of one frame may come too late for each other then, and a time that is compared
+    says nothing of the server. So a trial that failed while the machine paused says nothing."""
+
+    def __init__(self):
+        self.longest, self.is_over = 0.0, threading.Event()
+        self.thread = threading.Thread(target=self.look, daemon=True)
+
+    def look(self):
+        while True:
+            begun = time.monotonic()
+            if self.is_over.wait(0.01):
+                return
+            self.longest = max(self.longest, time.monotonic() - begun - 0.01)
+
+    def __enter__(self):
+        self.thread.start()
+        return self
+
+    def __exit__(self, *_):
+        self.is_over.set()
+        self.thread.join()
+
+    def spoil(self):
+        """Whether the machine paused; tells it."""
+        if self.longest >= PAUSE:
+            print(f"  the machine paused for {self.longest:.2f} s, so this says nothing")
+        return self.longest >= PAUSE
 
 
 class Trials:
@@ -25,7 +63,7 @@ class Trials:
 
     def __init__(self, path):
         self.path = path
-        self.passed, self.faults = 0, []
+        self.passed, self.faults, self.spoilt = 0, [], []
         self.topic = ""
 
     def compare(self, what, came, due):
@@ -60,14 +98,26 @@ class Trials:
                 store.put(program.store, records)
             yield program
 
+    def once(self, trial):
+        """Does a trial; whether it went well, or the machine didn't pause."""
+        before, passed = len(self.faults), self.passed
+        with Pauses() as pauses:
+            try:
+                trial(self)
+            except (Failed, Ended, Silent, ValueError, OSError) as why:
+                self.wrong(f"{type(why).__name__}: {why}")
+        if len(self.faults) == before or not pauses.spoil():
+            return True
+        self.spoilt = self.faults[before:]
+        self.passed, self.faults = passed, self.faults[:before]
+        return False
+
     def run(self, topic, trial):
-        """Does one trial, and says how it went."""
+        """Does one trial, again where the machine paused, and says how it went."""
         self.topic = topic
         before, begun = len(self.faults), time.monotonic()
-        try:
-            trial(self)
-        except (Failed, Ended, Silent, ValueError, OSError) as why:
-            self.wrong(f"{type(why).__name__}: {why}")
+        if not any(self.once(trial) for _ in range(TIMES)):
+            self.faults += self.spoilt
         how = "as it should be" if len(self.faults) == before else "WRONG"
         print(f"{topic:<66} {how}, {time.monotonic() - begun:.1f} s", flush=True)
 
@@ -137,8 +187,34 @@ def records(count, application=None):
     return made
 
 
+def name_of(address):
+    """An address as Linux tells it in /proc/net/tcp."""
+    host = int.from_bytes(socket.inet_aton(address[0]), sys.byteorder)
+    return f"{host:08X}:{address[1]:04X}"
+
+
+def is_read(link):
+    """Whether the server's end of a link has no unread bytes; also where it has closed it."""
+    ends = [name_of(it) for it in (link.socket.getpeername(), link.socket.getsockname())]
+    with open("/proc/net/tcp", encoding="ascii") as file:
+        unread = [it[4] for it in map(str.split, file) if it[1:3] == ends]
+    return all(it.endswith(":00000000") for it in unread)
+
+
+def await_read(link):
+    """Waits until the server has read all that was said."""
+    last = time.monotonic() + link.patience
+    time.sleep(STEP)
+    while not is_read(link):
+        if time.monotonic() > last:
+            raise Silent("the server doesn't read")
+        time.sleep(STEP)
+
+
 def await_links(links, seconds=0.3):
-    """Gives the server time to read the greetings: nothing answers these."""
+    """Gives the server time to take the greetings that it has read: nothing answers these."""
+    for it in links if isinstance(links, list) else [links]:
+        await_read(it)
     time.sleep(seconds)
     return links
 
