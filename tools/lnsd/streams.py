@@ -181,7 +181,7 @@ def names(trials):
         address = program.serve(4)
         pair, second, third = Pair(address), Link(address), Link(address)
         pair.greet()
-        await_links(pair)
+        await_links(pair.links())
         second.say(wire.application_greeting(OWNER) + wire.request(PROVISION))
         third.say(wire.gateway_greeting(EUI))
         await_links(second)
