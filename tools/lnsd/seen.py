@@ -26,7 +26,7 @@ class Meter(Device):
         self.keeps = number % 3 > 0
         self.rests_until, self.sent = 0.0, []
         self.owes_ack, self.next_tag = False, 1
-        # of its last frame: whether it was a Join-Request, and whether it was sent for the first time
+        # of its last frame: whether it was a Join-Request, and whether it was a new one
         self.is_joining, self.is_new = False, False
 
     def words(self):
