@@ -11,7 +11,7 @@ use Rattle.aes128.proofs.LawLemmas.{block_byte, column_bytes, word_bytes, four_w
 use Rattle.aes128.proofs.SBoxLemmas.{inverse-table, unaffine, unaffine-lt, inverse-lt, s_box-inverse}
 use Rattle.aes128.proofs.StateLemmas.{mix_columns-joined, shift_rows-joined}
 use Rattle.aes128.proofs.WordLemmas.{AreBytes, mixed-unmixed, unmixing}
-use Rattle.aes128.specs.XorLemmas.{xor-twice}
+use Rattle.aes128.proofs.XorLemmas.{xor-twice}
 
 pub table-inv_s_box : (byte : ℕ) → byte < 256 → get_or INVERSE_S_BOX byte 0 ≡ inv_s_box byte
 unfolding all_below inv_s_box unaffine

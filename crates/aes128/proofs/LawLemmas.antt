@@ -12,7 +12,7 @@ use Rattle.aes128.proofs.SBoxLemmas.{any_s_box-lt, s_box-lt, inverse-s_box}
 use Rattle.aes128.proofs.WordLemmas.{AreBytes, entry-lt, state_columns, unmixing, unmixed-mixed}
 use Rattle.aes128.proofs.StateLemmas.{joined, joined-same, unshifted}
 use Rattle.lw_types.specs.Values.{IsByte}
-use Rattle.aes128.specs.XorLemmas.{length-xor, xor-twice}
+use Rattle.aes128.proofs.XorLemmas.{length-xor, xor-twice}
 
 pub block_byte : (s : List ℕ) → IsBlock s → (k : ℕ) → get_or s k 0 < 256
 block_byte s block k =

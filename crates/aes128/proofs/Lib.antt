@@ -1,9 +1,10 @@
 pub mod Below
-pub mod FieldLemmas
-pub mod SBoxLemmas
-pub mod WordLemmas
-pub mod StateLemmas
-pub mod RoundLemmas
-pub mod LawLemmas
-pub mod InverseLemmas
 pub mod ColumnLemmas
+pub mod FieldLemmas
+pub mod InverseLemmas
+pub mod LawLemmas
+pub mod RoundLemmas
+pub mod SBoxLemmas
+pub mod StateLemmas
+pub mod WordLemmas
+pub mod XorLemmas

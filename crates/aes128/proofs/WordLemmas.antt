@@ -6,7 +6,7 @@ use Rattle.std.specs.Int.Bits.{bit_xor, xor_assoc, xor_zero_r, xor_self}
 use Rattle.aes128.specs.Field.{◌⊕◌, ◌•◌, terms_times, word_product}
 use Rattle.aes128.specs.Cipher.{xor, column, state_of, mixed_column}
 use Rattle.aes128.proofs.FieldLemmas.{weights, at_weights, at_bytes, interchange, product-lt, product-xor, xor_byte, nine_times, eleven_times, thirteen_times, fourteen_times}
-use Rattle.aes128.specs.XorLemmas.{length-xor, xor-twice}
+use Rattle.aes128.proofs.XorLemmas.{length-xor, xor-twice}
 
 pub get_or-xor : (xs ys : List ℕ) (k : ℕ) → k < length xs → k < length ys → get_or (xor xs ys) k 0 ≡ get_or xs k 0 ⊕ get_or ys k 0
 get_or-xor [] ys k in_xs in_ys = absurd (omega arith)

@@ -1,4 +1,3 @@
 pub mod Cipher
 pub mod Field
 pub mod InverseCipher
-pub mod XorLemmas

@@ -1,5 +1,3 @@
 pub mod Reading
 pub mod Spelling
 pub mod Field
-pub mod FieldLemmas
-pub mod NumberLemmas

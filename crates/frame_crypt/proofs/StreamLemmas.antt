@@ -14,7 +14,7 @@ use Rattle.aes128.specs.Cipher.{IsBlock, xor, ciphertext, rounds, round_key, nex
 use Rattle.lw_types.specs.declared.direction.Direction.{Direction}
 use Rattle.frame_crypt.specs.Frames.{frame_block, keystream, crypted_payload}
 use Rattle.lw_types.specs.Values.{IsByte}
-use Rattle.aes128.specs.XorLemmas.{length-xor, xor-twice}
+use Rattle.aes128.proofs.XorLemmas.{length-xor, xor-twice}
 
 pub xor-append : (as' bs ks s : List ℕ) → length as' ≡ length ks → xor (as' ++ bs) (ks ++ s) ≡ xor as' ks ++ xor bs s
 xor-append [] bs [] s same = refl

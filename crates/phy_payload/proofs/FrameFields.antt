@@ -17,8 +17,8 @@ use Rattle.phy_payload.specs.Contents.{payload_len}
 use Rattle.phy_payload.specs.Frame.{bit, data_type, f_ctrl, port_and_payload, IsJoinRequest, IsPortPayload, IsMic}
 use Rattle.byte_fields.specs.Field.{IsField, AreBytes}
 use Rattle.byte_fields.specs.Reading.{both, byte_at, front_at, le_at, le_eui_at}
-use Rattle.byte_fields.specs.FieldLemmas.{IsBytes-after, IsBytes-take, both_field, byte_field, front_field, other_some, seen_field}
-use Rattle.byte_fields.specs.NumberLemmas.{Below, IsEui, le_eui_field, u16_le_field, u32_le_field}
+use Rattle.byte_fields.proofs.FieldLemmas.{IsBytes-after, IsBytes-take, both_field, byte_field, front_field, other_some, seen_field}
+use Rattle.byte_fields.proofs.NumberLemmas.{Below, IsEui, le_eui_field, u16_le_field, u32_le_field}
 use Rattle.phy_payload.specs.Reading.{control_of, head_at, is_set, message_of, mic_at, mic_off, request_at, request_of}
 
 -- ---- Join-Requests

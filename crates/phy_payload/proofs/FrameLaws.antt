@@ -19,7 +19,7 @@ use Rattle.phy_payload.specs.Contents.{carried_contents}
 use Rattle.phy_payload.specs.Frame.{data_type, f_ctrl, mhdr, port_and_payload, refusal_of, sealed_bytes, spelling, FitsPhy, IsDataFrame, IsJoinAccept, IsJoinRequest, IsPhy, IsSomePhyInMemory, TakesMemory}
 use Rattle.phy_payload.specs.Reading.{accept_at, body_at, contents_at, control_of, data_at, head_at, message_of, mic_off, or_malformed, phy_at, request_at, ReadsFrame}
 use Rattle.byte_fields.specs.Reading.{◌>>=◌, front_at, whole}
-use Rattle.byte_fields.specs.FieldLemmas.{IsBytes-after, bind_some, chosen_some, front_field, guard_some, some_is, whole_again, whole_takes}
+use Rattle.byte_fields.proofs.FieldLemmas.{IsBytes-after, bind_some, chosen_some, front_field, guard_some, some_is, whole_again, whole_takes}
 use Rattle.phy_payload.proofs.FrameFields.{control_again, control_byte, control_takes, dir_of, head_field, head_text, message_again, message_takes, mic_again, mic_takes, request_field, request_text, same_type, type_of}
 use Rattle.phy_payload.proofs.Lengths.{has_spelling}
 

@@ -5,7 +5,7 @@ use Rattle.aes128.specs.Cipher.{xor}
 use Rattle.frame_crypt.specs.Frames.{keystream, crypted_payload}
 use Rattle.frame_crypt.proofs.StreamLemmas.{crypted_step, left_step, crypted_end, keystream-more, length-keystream}
 use Rattle.frame_crypt.proofs.data.crypt_payload.Goals as goal
-use Rattle.aes128.specs.XorLemmas.{length-xor}
+use Rattle.aes128.proofs.XorLemmas.{length-xor}
 
 pub loop-i-preserved : goal.loop-i-preserved
 loop-i-preserved c =

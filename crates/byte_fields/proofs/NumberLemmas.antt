@@ -16,8 +16,8 @@ use Rattle.byte_fields.specs.Spelling.{three_be_bytes}
 use Rattle.byte_fields.specs.Reading.{that, front_at, le_at, be_at, three_be_bytes_at, byte_at}
 use Rattle.byte_fields.specs.Reading.{ranged_at, le_eui_at, be_eui_at, key_at}
 use Rattle.byte_fields.specs.Field.{IsField, AreBytes}
-use Rattle.byte_fields.specs.FieldLemmas.{same_field, seen_field, that_field, front_field}
-use Rattle.byte_fields.specs.FieldLemmas.{byte_field}
+use Rattle.byte_fields.proofs.FieldLemmas.{same_field, seen_field, that_field, front_field}
+use Rattle.byte_fields.proofs.FieldLemmas.{byte_field}
 
 byte_small : (place n : ℕ) → int_byte_at place n < 256
 byte_small zero n = omega arith
