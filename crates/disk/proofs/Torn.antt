@@ -1,5 +1,5 @@
 -- What a write leaves of the images from before it.
-use Rattle.std.proofs.Common.{◌≡◌, ◌⊎◌, inl, inr, ◌<◌, ◌≤◌, ℕ, ◌+◌, ◌-◌, false, List, ◌++◌, length, get_or, take, drop, sym, ◌∙◌, ap, arith, length-append, length-take, length-drop}
+use Rattle.std.proofs.Common.{◌≡◌, ◌⊎◌, Bool, true, inl, inr, ◌<◌, ◌≤◌, ℕ, ◌+◌, ◌-◌, false, List, ◌++◌, length, get_or, take, drop, sym, ◌∙◌, ap, arith, length-append, length-take, length-drop}
 use Rattle.std.proofs.lemmas.List.{get_or-take, get_or-drop, take_at, drop_at, drop-drop}
 use Rattle.std.proofs.lemmas.Grind.{common_steps}
 use Rattle.disk.specs.State.{State, IsPermitted, IsWrite, IsTorn}
@@ -16,6 +16,39 @@ later xs ys at i same above =
     ∙ ap (λ (l : List ℕ). get_or l (i - at) 0) same
     ∙ get_or-drop at ys (i - at) 0
     ∙ ap (λ (k : ℕ). get_or ys k 0) is
+
+not_both : (b : Bool) → b ≡ true → b ≡ false → ⊥
+not_both b set clear = cc (set, clear)
+
+-- an image of a disk is one of it after a write that failed
+place_of : (at n i : ℕ) → ((i < at) ⊎ (at + n ≤ i)) ⊎ ((at ≤ i) × (i < at + n))
+place_of at n i = grind arith
+
+kept_over : (at n : ℕ) (before failed : State) → IsWrite at n before failed → (i : ℕ) → (i < at) ⊎ (at + n ≤ i)
+    → get_or before.content i 0 ≡ get_or failed.content i 0
+kept_over at n before failed is i (inl below) = sym (earlier failed.content before.content at i is.torn.before below)
+kept_over at n before failed is i (inr above) = sym (later failed.content before.content (at + n) i is.torn.after above)
+
+pub still_permitted : (at n : ℕ) (before failed : State) → IsWrite at n before failed → (image : List ℕ) → IsPermitted before image
+    → IsPermitted failed image
+still_permitted at n before failed is image permitted = record { same_length = permitted.same_length ∙ sym is.torn.same_length; kept = kept }
+  where
+    kept : (i : ℕ) → failed.is_open i ≡ false → get_or image i 0 ≡ get_or failed.content i 0
+    kept i shut = elim (place_of at n i) [
+      | inl out ↦ permitted.kept i (sym (is.others i out) ∙ shut) ∙ kept_over at n before failed is i out
+      | inr w ↦ absurd (not_both (failed.is_open i) (is.opened i w.0 w.1) shut)
+    ]
+
+pub permitted_there : (at n : ℕ) (before after failed : State) → IsWrite at n before after → IsWrite at n before failed → (image : List ℕ)
+    → IsPermitted after image → IsPermitted failed image
+permitted_there at n before after failed was is image permitted =
+    record { same_length = permitted.same_length ∙ (was.torn.same_length ∙ sym is.torn.same_length); kept = kept }
+  where
+    kept : (i : ℕ) → failed.is_open i ≡ false → get_or image i 0 ≡ get_or failed.content i 0
+    kept i shut = elim (place_of at n i) [
+      | inl out ↦ permitted.kept i (was.others i out ∙ (sym (is.others i out) ∙ shut)) ∙ (sym (kept_over at n before after was i out) ∙ kept_over at n before failed is i out)
+      | inr w ↦ absurd (not_both (failed.is_open i) (is.opened i w.0 w.1) shut)
+    ]
 
 module _ (at n : ℕ) (before after : State) (within : at + n ≤ length before.content) (opens : IsWrite at n before after) (image : List ℕ) (permitted : IsPermitted after image) where
   abbrev middle : List ℕ

@@ -1,5 +1,5 @@
 // A disk in a file.
-ghost use Rattle.std.specs.Prelude.{◌≡◌, ◌+◌, false, replicate, length};
+ghost use Rattle.std.specs.Prelude.{◌≡◌, ◌<◌, ◌+◌, ◌^◌, false, is_ok, replicate, length};
 ghost use Rattle.disk.specs.Outlook.{HasCause};
 
 use crate::{DeviceFailed, Disk};
@@ -69,6 +69,7 @@ impl FileDisk {
     // first one.
     fn counted(&mut self, outcome: io::Result<()>) -> Result<(), DeviceFailed>
         ensures cause { HasCause self.old.failures self.new.failures result }
+        ensures told { self.old.failures + 1 < 2 ^ 64 → is_ok result ≡ is_ok outcome }
         ensures len { self.new.len ≡ self.old.len }
     {
         match outcome {

@@ -1,7 +1,8 @@
 //! What follows from a disk's definitions alone. The functions do nothing: their contracts are the
 //! laws.
 ghost use Rattle.std.specs.Prelude.{◌≡◌, ◌≤◌, ◌+◌, ℕ, List, length};
-ghost use Rattle.disk.specs.State.{State, NothingOpen, EveryImage, IsPermitted, IsWrite, IsTorn};
+ghost use Rattle.disk.specs.State.{State, NothingOpen, EveryImage, IsPermitted, IsSettledAt};
+ghost use Rattle.disk.specs.State.{IsTorn, IsWrite};
 
 /// Where nothing is open, a crash leaves the content.
 pub fn settled_disk_keeps_its_content()
@@ -24,4 +25,16 @@ pub fn a_write_tears_an_image()
         → IsWrite at n before after
         → EveryImage after (λ image. (was : List ℕ) × IsPermitted before was
         × IsTorn at n was image) }
+{}
+
+/// A cut in the midst of a call leaves what a crash may leave where that call failed: before a
+/// write or behind it, or before a sync. So what holds of every image after a failed call holds of
+/// what is left at any moment in it.
+pub fn a_cut_is_a_failed_call()
+    ensures before { (at n : ℕ) (before failed : State) → IsWrite at n before failed
+        → EveryImage before (IsPermitted failed) }
+    ensures behind { (at n : ℕ) (before after failed : State) → IsWrite at n before after
+        → IsWrite at n before failed → EveryImage after (IsPermitted failed) }
+    ensures synced { (before after : State) → IsSettledAt before.content after
+        → EveryImage after (IsPermitted before) }
 {}
