@@ -9,7 +9,7 @@ use devices::{
     Port, Tag,
 };
 use lw_types::{JoinNonce, Refusal, read_hex};
-use record_codec::{LONGEST_CHANGE, RecordVersion, read_change, write_change};
+use record_codec::{LONGEST_CHANGE, read_change, read_change_v1, write_change, write_change_v1};
 use std::alloc::Global;
 
 // What a record has besides its items and what its device was provisioned with.
@@ -233,7 +233,8 @@ fn commands(alloc: Global, bytes: &[u8]) -> Option<MacQueue> {
 // The record with other numbers.
 fn with_numbers(alloc: Global, device: Device, numbers: &Numbers) -> Option<Device>
     ensures { IfSome result
-        (λ after. AreProvisionedAlike device after × (after.items ≡ device.items)) }
+        (λ after. AreProvisionedAlike device after × (after.items ≡ device.items)
+        × (after.heard ≡ device.heard)) }
 {
     let mut after = device;
     after.last_dev_nonce = numbers.dev_nonce;
@@ -427,16 +428,33 @@ const STEPS: &[Step] = &[
     ),
 ];
 
-// Whether the change is written so behind 9, and read back.
+// What is there when the change is written behind 9 in version 1, and behind that in version 2.
+fn written(alloc: Global, before: &Device, after: &Device) -> Option<(Vec<u8>, Vec<u8>)>
+    requires { MayBecome before.now after.now }
+{
+    let mut first = [9].to_vec(alloc).ok()?;
+    write_change_v1(alloc, before, after, &mut first).ok()?;
+    let mut second = [9].to_vec(alloc).ok()?;
+    write_change(alloc, before, after, &mut second).ok()?;
+    Some((first, second))
+}
+
+// Whether the bytes are read as the change to this record in both versions.
+fn is_read(alloc: Global, before: &Device, after: &Device, bytes: &[u8]) -> Option<bool> {
+    let first = read_change_v1(alloc, before, bytes).ok()?;
+    let second = read_change(alloc, before, bytes).ok()?;
+    Some(first == *after && second == *after)
+}
+
+// Whether the change is written so behind 9, and read back, in both versions.
 fn is_change(alloc: Global, step: &Step) -> Option<bool> {
     let (numbers, waiting, others, items, words) = step;
     let before = found(alloc, numbers, *waiting)?;
     let after = with_change(alloc, &before, others, items)?;
     let wanted = spelled(alloc, words)?;
-    let mut out = [9].to_vec(alloc).ok()?;
-    write_change(alloc, &before, &after, &mut out).ok()?;
-    let read = read_change(alloc, &before, wanted.as_slice()).ok()?;
-    Some(out.as_slice().strip_prefix(&[9]) == Some(wanted.as_slice()) && read == after)
+    let (first, second) = written(alloc, &before, &after)?;
+    let is_written = first.as_slice().strip_prefix(&[9]) == Some(wanted.as_slice());
+    Some(is_written && second == first && is_read(alloc, &before, &after, &wanted)?)
 }
 
 #[test]
@@ -451,24 +469,27 @@ const LONGEST: Numbers = Numbers {
     ..ALL
 };
 
-// How long the longest change is, in the one version that there is.
-fn longest(alloc: Global) -> Option<usize> {
+// How long the longest change is behind 9 in each version.
+fn longest(alloc: Global) -> Option<(usize, usize)> {
     let before = found(alloc, &IN_USE, 0)?;
     let after = with_change(alloc, &before, &LONGEST, &AddedLong)?;
-    let mut out = Vec::new(alloc);
-    let version = RecordVersion::V1;
-    version.write_change(alloc, &before, &after, &mut out).ok()?;
-    let read = version.read_change(alloc, &before, out.as_slice()).ok()?;
-    if read == after { Some(out.len()) } else { None }
+    let (first, second) = written(alloc, &before, &after)?;
+    let (_, bytes) = second.split_first()?;
+    if is_read(alloc, &before, &after, bytes)? {
+        Some((first.len(), second.len()))
+    } else {
+        None
+    }
 }
 
 #[test]
 fn a_change_has_at_most_411_bytes(rt: HostRuntime) {
     assert!(rt; LONGEST_CHANGE == 411);
-    assert!(rt; longest(rt.alloc()) == Some(411));
+    assert!(rt; longest(rt.alloc()) == Some((1 + 411, 1 + 411)));
 }
 
-// A record with so many items, and bytes that are no change of it.
+// A record with so many items, and bytes that are no change of it in either version. The count of
+// uplinks is at its end, so that bit 7 is none in version 2 either.
 type Fault = (Numbers, u32, &'static str, &'static str);
 
 const FAULTS: &[Fault] = &[
@@ -640,18 +661,24 @@ const FAULTS: &[Fault] = &[
     (IN_USE, 1, "50 01 00000009", "no byte of the items"),
 ];
 
-// What such bytes are refused.
-fn refused(alloc: Global, fault: &Fault) -> Option<Refusal> {
+// What such bytes are refused in version 1, and in version 2.
+fn refused(alloc: Global, fault: &Fault) -> Option<(Refusal, Refusal)> {
     let (numbers, waiting, words, _) = fault;
     let before = found(alloc, numbers, *waiting)?;
     let bytes = spelled(alloc, words)?;
-    read_change(alloc, &before, bytes.as_slice()).err()
+    let first = read_change_v1(alloc, &before, bytes.as_slice()).err()?;
+    let second = read_change(alloc, &before, bytes.as_slice()).err()?;
+    Some((first, second))
 }
 
 #[test]
 fn what_is_no_change_of_the_record_is_damaged(rt: HostRuntime) {
     for fault in FAULTS {
         let refused = refused(rt.alloc(), fault);
-        assert!(rt; refused == Some(Refusal::Damaged), "{}", fault.3);
+        assert!(rt;
+            refused == Some((Refusal::Damaged, Refusal::Damaged)),
+            "{}",
+            fault.3
+        );
     }
 }

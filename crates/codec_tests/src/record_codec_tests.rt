@@ -1,11 +1,14 @@
 use crate::fixtures::{DEVICE, current, items, new_device, session};
+use RecordVersion::{V1, V2};
 use devices::{Activation, Channels, Device, ItemQueue, MacQueue, Tag};
 use lw_types::{JoinNonce, Refusal, read_hex};
-use record_codec::{read_device, write_device};
+use record_codec::{
+    NEWEST, RecordVersion, read_device, read_device_v1, write_device, write_device_v1,
+};
 use std::alloc::Global;
 
-// The record of a device that was just provisioned.
-const PROVISIONED: [u8; 50] = [
+// The record of a device that was just provisioned: 50 bytes in version 1, and all 58 in version 2.
+const PROVISIONED: [u8; 58] = [
     0x11, 0x12, 0x13, 0x14, 0x15, 0x16, 0x17, 0x18, // DevEUI
     1, 2, 3, 4, 5, 6, 7, 8, // JoinEUI
     0x2B, 0x7E, 0x15, 0x16, 0x28, 0xAE, 0xD2, 0xA6, 0xAB, 0xF7, 0x15, 0x88, 0x09, 0xCF, 0x4F, 0x3C,
@@ -15,6 +18,7 @@ const PROVISIONED: [u8; 50] = [
     0, 0, // no session
     0, 0, 0, 0, 0, // no tag awaited
     0, 0, // empty queues
+    0, 0, 0, 0, 0, 0, 0, 0, // no uplink
 ];
 
 // Both sessions, the second one pending, of eight channels.
@@ -68,97 +72,186 @@ fn full_device(alloc: Global, mac_commands: &[u8], count: u32, len: usize) -> Op
     }
 }
 
-fn is_read(alloc: Global, record: &[u8], device: &Device) -> bool {
-    match read_device(alloc, record) {
+fn read(alloc: Global, version: RecordVersion, record: &[u8]) -> Result<Device, Refusal> {
+    match version {
+        V1 => read_device_v1(alloc, record),
+        V2 => read_device(alloc, record),
+    }
+}
+
+fn is_read(alloc: Global, version: RecordVersion, record: &[u8], device: &Device) -> bool {
+    match read(alloc, version, record) {
         Ok(found) => found == *device,
         Err(_) => false,
     }
 }
 
 // What is there when the device's record is written behind these bytes.
-fn written(alloc: Global, front: &[u8], device: &Device) -> Option<Vec<u8>> {
+fn written(
+    alloc: Global,
+    version: RecordVersion,
+    front: &[u8],
+    device: &Device,
+) -> Option<Vec<u8>> {
     let Ok(mut out) = Vec::from_slice(alloc, front) else {
         return None;
     };
-    match write_device(alloc, device, &mut out) {
+    let answer = match version {
+        V1 => write_device_v1(alloc, device, &mut out),
+        V2 => write_device(alloc, device, &mut out),
+    };
+    match answer {
         Ok(()) => Some(out),
         Err(_) => None,
     }
 }
 
 // The record of the device, which is read as the device, and written behind 9 too.
-fn record_of(alloc: Global, device: &Device) -> Option<Vec<u8>> {
-    let (out, behind) = (written(alloc, &[], device)?, written(alloc, &[9], device)?);
+fn record_of(alloc: Global, version: RecordVersion, device: &Device) -> Option<Vec<u8>> {
+    let out = written(alloc, version, &[], device)?;
+    let behind = written(alloc, version, &[9], device)?;
     let is_behind = behind.as_slice().strip_prefix(&[9]) == Some(out.as_slice());
-    if is_behind && is_read(alloc, &out, device) {
+    if is_behind && is_read(alloc, version, &out, device) {
         Some(out)
     } else {
         None
     }
 }
 
+// Whether the record has these bytes in each version.
 fn is_brought(alloc: Global) -> Option<bool> {
-    let record = record_of(alloc, &new_device(alloc, DEVICE)?)?;
-    Some(record.as_slice() == PROVISIONED.as_slice())
+    let device = new_device(alloc, DEVICE)?;
+    let first = record_of(alloc, V1, &device)?;
+    let second = record_of(alloc, V2, &device)?;
+    Some(first.as_slice() == &PROVISIONED[..50] && second.as_slice() == PROVISIONED.as_slice())
 }
 
 #[test]
-fn a_new_device_has_50_bytes(rt: HostRuntime) {
+fn a_new_device_has_50_or_58_bytes(rt: HostRuntime) {
     assert!(rt; is_brought(rt.alloc()) == Some(true));
 }
 
-fn len_of(alloc: Global, has: &Has) -> Option<usize> {
-    Some(record_of(alloc, &device(alloc, has)?)?.len())
+// How many bytes the device's record has in version 1 and in version 2.
+fn lens_of(alloc: Global, has: &Has) -> Option<(usize, usize)> {
+    let device = device(alloc, has)?;
+    let first = record_of(alloc, V1, &device)?;
+    let second = record_of(alloc, V2, &device)?;
+    Some((first.len(), second.len()))
 }
 
 // A pending session takes 35 bytes more; the last record is the largest.
-const LENGTHS: &[(Has, usize)] = &[
-    (Has::Pending, 85),
-    (Has::All(&[6, 4, 0], 1, 2), 50 + 47 + 35 + 3 + 9),
-    (Has::All(&[6; 64], 16, 242), 4180),
+const LENGTHS: &[(Has, (usize, usize))] = &[
+    (Has::Pending, (85, 93)),
+    (Has::All(&[6, 4, 0], 1, 2), (144, 152)),
+    (Has::All(&[6; 64], 16, 242), (4180, 4188)),
 ];
 
 #[test]
 fn devices_are_read_back(rt: HostRuntime) {
     for (has, wanted) in LENGTHS {
-        assert!(rt; len_of(rt.alloc(), has) == Some(*wanted), "{wanted}");
+        assert!(rt; lens_of(rt.alloc(), has) == Some(*wanted), "{wanted:?}");
     }
 }
 
+// The byte of a version, and which it is.
+const VERSIONS: &[(u8, Option<RecordVersion>)] = &[
+    (0, None),
+    (1, Some(V1)),
+    (2, Some(V2)),
+    (3, None),
+    (255, None),
+];
+
+#[test]
+fn there_are_two_versions_and_the_second_is_written(rt: HostRuntime) {
+    for (byte, version) in VERSIONS {
+        assert!(rt; RecordVersion::of(*byte) == *version, "{byte}");
+    }
+    assert!(rt; (V1.byte(), V2.byte(), NEWEST.byte()) == (1, 2, 2));
+}
+
 // A place of a new device's record behind which a 0 stands, another byte there, and how many bytes
-// are read.
-const FAULTS: &[(usize, u8, usize, &str)] = &[
-    (32, 16, 50, "application"),
-    (33, 6, 50, "RX1DROffset"),
-    (34, 0, 50, "delay"),
-    (34, 16, 50, "delay"),
-    (35, 2, 50, "flag of the DevNonce"),
-    (37, 1, 50, "a DevNonce that is not there"),
-    (41, 1, 50, "a current session that is cut short"),
-    (41, 3, 50, "channels of the current session"),
-    (42, 3, 50, "channels of the pending session"),
-    (43, 3, 50, "flag of the tag"),
-    (47, 1, 50, "a tag that is not there"),
-    (48, 1, 50, "a MAC queue of no command"),
-    (49, 1, 50, "an item that is cut short"),
-    (50, 0, 51, "a byte more"),
-    (50, 0, 49, "a byte less"),
-    (50, 0, 0, "no byte"),
+// are read, as a record of either version.
+const FAULTS: &[(RecordVersion, usize, u8, usize, &str)] = &[
+    (V1, 32, 16, 50, "application"),
+    (V1, 33, 6, 50, "RX1DROffset"),
+    (V1, 34, 0, 50, "delay"),
+    (V1, 34, 16, 50, "delay"),
+    (V1, 35, 2, 50, "flag of the DevNonce"),
+    (V1, 37, 1, 50, "a DevNonce that is not there"),
+    (V1, 41, 1, 50, "a current session that is cut short"),
+    (V1, 41, 3, 50, "channels of the current session"),
+    (V1, 42, 3, 50, "channels of the pending session"),
+    (V1, 43, 3, 50, "flag of the tag"),
+    (V1, 47, 1, 50, "a tag that is not there"),
+    (V1, 48, 1, 50, "a MAC queue of no command"),
+    (V1, 49, 1, 50, "an item that is cut short"),
+    (V1, 50, 0, 51, "a byte more"),
+    (V1, 50, 0, 58, "a record of version 2"),
+    (V1, 50, 0, 49, "a byte less"),
+    (V1, 50, 0, 0, "no byte"),
+    (V2, 34, 16, 58, "delay in version 2"),
+    (V2, 43, 3, 58, "flag of the tag in version 2"),
+    (V2, 48, 1, 58, "a MAC queue of no command in version 2"),
+    (V2, 49, 1, 58, "an item that is cut short in version 2"),
+    (V2, 57, 1, 58, "a count above the last"),
+    (V2, 50, 0x80, 58, "a count of 2^63"),
+    (V2, 58, 0, 59, "a byte more in version 2"),
+    (V2, 57, 0, 57, "a byte less in version 2"),
+    (V2, 50, 0, 50, "a record of version 1"),
+    (V2, 50, 0, 0, "no byte in version 2"),
 ];
 
 // What such bytes are refused.
-fn refused(alloc: Global, place: usize, byte: u8, len: usize) -> Option<Refusal> {
-    let mut bytes = [0; 51];
-    bytes[..50].copy_from_slice(&PROVISIONED);
+fn refused(
+    alloc: Global,
+    version: RecordVersion,
+    place: usize,
+    byte: u8,
+    len: usize,
+) -> Option<Refusal> {
+    let mut bytes = [0; 59];
+    bytes[..58].copy_from_slice(&PROVISIONED);
     *bytes.get_mut(place)? = byte;
-    read_device(alloc, bytes.get(..len)?).err()
+    read(alloc, version, bytes.get(..len)?).err()
 }
 
 #[test]
 fn a_field_out_of_range_or_another_length_is_damaged(rt: HostRuntime) {
-    for (place, byte, len, fault) in FAULTS {
-        let refused = refused(rt.alloc(), *place, *byte, *len);
+    for (version, place, byte, len, fault) in FAULTS {
+        let refused = refused(rt.alloc(), *version, *place, *byte, *len);
         assert!(rt; refused == Some(Refusal::Damaged), "{fault}");
+    }
+}
+
+// What a new device's record is refused where so many commands 06 wait in it, if it is.
+fn queue_refused(alloc: Global, version: RecordVersion, waiting: u8) -> Option<Refusal> {
+    let mut record = PROVISIONED[..48].to_vec(alloc).ok()?;
+    record.push(waiting).ok()?;
+    let len = record.len().saturating_add(usize::from(waiting));
+    record.resize(len, 6).ok()?;
+    match version {
+        V1 => record.extend_from_slice(&PROVISIONED[49..50]).ok()?,
+        V2 => record.extend_from_slice(&PROVISIONED[49..]).ok()?,
+    }
+    read(alloc, version, record.as_slice()).err()
+}
+
+// How many commands wait, and whether a record of either version has so many.
+const QUEUES: &[(u8, bool)] = &[(1, true), (64, true), (65, false), (255, false)];
+
+#[test]
+fn a_mac_queue_has_at_most_64_bytes(rt: HostRuntime) {
+    for (waiting, has) in QUEUES {
+        let wanted = if *has { None } else { Some(Refusal::Damaged) };
+        assert!(rt;
+            queue_refused(rt.alloc(), V1, *waiting) == wanted,
+            "{waiting}"
+        );
+        assert!(rt;
+            queue_refused(rt.alloc(), V2, *waiting) == wanted,
+            "{waiting}"
+        );
     }
 }
 
@@ -181,8 +274,8 @@ fn channels_read(alloc: Global, current: u8, pending: u8) -> Option<(Channels, C
     let mut record = read_hex(alloc, OF_AN_EARLIER_STORE).ok()?;
     *record.get_mut(CURRENT)? = current;
     *record.get_mut(PENDING)? = pending;
-    let device = read_device(alloc, record.as_slice()).ok()?;
-    if written(alloc, &[], &device)? != record {
+    let device = read_device_v1(alloc, record.as_slice()).ok()?;
+    if written(alloc, V1, &[], &device)? != record {
         return None;
     }
     let in_use = device.activation.current()?.session;

@@ -1,6 +1,7 @@
 ghost use Rattle.std.specs.Prelude.{◌<◌, length};
 
 use crate::fixtures::{new_device, provisioning};
+use RecordVersion::{V1, V2};
 use devices::Command;
 use lw_types::{Eui, NetId, Refusal};
 use sessions::{Batch, Decision, Slots, Table};
@@ -64,21 +65,21 @@ fn another_superblock_is_refused(rt: HostRuntime) {
     }
 }
 
-const FRONT_OF_ENTRY: [u8; 14] = [
-    7, 1, 1, 2, 0, 50, 0x11, 0x12, 0x13, 0x14, 0x15, 0x16, 0x17, 0x18,
-];
-
-// Whether the entry of a device stands behind a byte.
-fn has_entry(alloc: Global) -> Result<bool, Refusal> {
+// Whether the entry of a device, with a record of so many bytes, stands behind a byte.
+fn has_entry(alloc: Global, version: RecordVersion, len: u8) -> Result<bool, Refusal> {
     let mut bytes = [7].to_vec(alloc)?;
     let device = new_device(alloc, Eui(0x1112131415161718)).ok_or(Refusal::Damaged)?;
-    put_entry(alloc, RecordVersion::V1, 0x0102, &device, &mut bytes)?;
-    Ok(bytes.len() == 1 + 5 + 50 && bytes.starts_with(&FRONT_OF_ENTRY))
+    put_entry(alloc, version, 0x0102, &device, &mut bytes)?;
+    let front = [
+        7, 1, 1, 2, 0, len, 0x11, 0x12, 0x13, 0x14, 0x15, 0x16, 0x17, 0x18,
+    ];
+    Ok(bytes.len() == 1 + 5 + usize::from(len) && bytes.starts_with(&front))
 }
 
 #[test]
 fn an_entry_has_its_layout(rt: HostRuntime) {
-    assert!(rt; has_entry(rt.alloc()) == Ok(true));
+    assert!(rt; has_entry(rt.alloc(), V1, 50) == Ok(true));
+    assert!(rt; has_entry(rt.alloc(), V2, 58) == Ok(true));
 }
 
 // A table of network 00002A without devices.
@@ -124,10 +125,10 @@ fn add_all(alloc: Global, table: &mut Table, batch: &mut Batch, count: u64) -> R
 }
 
 // The entries of a batch of so many provisionings.
-fn entries(alloc: Global, count: u64) -> Result<Vec<u8>, Refusal> {
+fn entries(alloc: Global, version: RecordVersion, count: u64) -> Result<Vec<u8>, Refusal> {
     let mut batch = Batch::new(alloc)?;
     add_all(alloc, &mut new_table(alloc, 64)?, &mut batch, count)?;
-    batch_entries(alloc, RecordVersion::V1, &batch)
+    batch_entries(alloc, version, &batch)
 }
 
 // How many devices a table has, and in which slot that of a DevEUI is.
@@ -137,6 +138,7 @@ type Replayed = (usize, Option<u16>);
 // DevEUI.
 fn replayed(
     alloc: Global,
+    version: RecordVersion,
     table: &mut Table,
     entries: &[u8],
     len: usize,
@@ -145,31 +147,42 @@ fn replayed(
     let Some(front) = entries.get(..len) else {
         return Err(Refusal::CutShort);
     };
-    replay(alloc, RecordVersion::V1, table, front, count)?;
+    replay(alloc, version, table, front, count)?;
     Ok((table.devices().len(), table.slot_of(Eui(u64::from(count)))))
 }
 
-// How many provisionings a batch has, and the length of their entries; how many bytes of them are
-// read as how many entries, on a table of how many slots; and what that leads to.
-type Replay = (u64, usize, usize, u32, u64, Result<Replayed, Refusal>);
+// In which version how many provisionings of a batch are written, and the length of their entries;
+// in which one how many bytes of them are read as how many entries, on a table of how many slots;
+// and what that leads to.
+type Replay = (
+    (RecordVersion, u64, usize),
+    (RecordVersion, usize, u32, u64),
+    Result<Replayed, Refusal>,
+);
 
 fn replays(alloc: Global, row: &Replay) -> Result<bool, Refusal> {
-    let (made, whole, len, count, most, wanted) = *row;
-    let entries = entries(alloc, made)?;
+    let ((written, made, whole), (read, len, count, most), wanted) = *row;
+    let entries = entries(alloc, written, made)?;
     let mut table = new_table(alloc, most)?;
-    let answer = replayed(alloc, &mut table, &entries, len, count);
+    let answer = replayed(alloc, read, &mut table, &entries, len, count);
     Ok(entries.len() == whole && answer == wanted)
 }
 
 const REPLAYS: &[Replay] = &[
-    (1, 55, 55, 1, 64, Ok((1, Some(0)))),
-    (5, 275, 275, 5, 64, Ok((5, Some(4)))),
-    (64, 3520, 3520, 64, 64, Ok((64, Some(63)))),
-    (5, 275, 274, 5, 8, Err(Refusal::Damaged)),
-    (5, 275, 275, 4, 8, Err(Refusal::Damaged)),
-    (5, 275, 275, 6, 8, Err(Refusal::Damaged)),
-    (5, 275, 0, 1, 8, Err(Refusal::Damaged)),
-    (5, 275, 275, 5, 4, Err(Refusal::Damaged)),
+    ((V1, 1, 55), (V1, 55, 1, 64), Ok((1, Some(0)))),
+    ((V1, 5, 275), (V1, 275, 5, 64), Ok((5, Some(4)))),
+    ((V1, 64, 3520), (V1, 3520, 64, 64), Ok((64, Some(63)))),
+    ((V1, 5, 275), (V1, 274, 5, 8), Err(Refusal::Damaged)),
+    ((V1, 5, 275), (V1, 275, 4, 8), Err(Refusal::Damaged)),
+    ((V1, 5, 275), (V1, 275, 6, 8), Err(Refusal::Damaged)),
+    ((V1, 5, 275), (V1, 0, 1, 8), Err(Refusal::Damaged)),
+    ((V1, 5, 275), (V1, 275, 5, 4), Err(Refusal::Damaged)),
+    ((V2, 5, 315), (V2, 315, 5, 64), Ok((5, Some(4)))),
+    ((V2, 64, 4032), (V2, 4032, 64, 64), Ok((64, Some(63)))),
+    ((V2, 5, 315), (V2, 315, 4, 8), Err(Refusal::Damaged)),
+    ((V2, 5, 315), (V2, 314, 5, 8), Err(Refusal::Damaged)),
+    ((V2, 5, 315), (V1, 315, 5, 8), Err(Refusal::Damaged)),
+    ((V1, 5, 275), (V2, 275, 5, 8), Err(Refusal::Damaged)),
 ];
 
 #[test]

@@ -70,7 +70,7 @@ device_decides a b =
     (both _ _ (eui_decides a.dev_eui b.dev_eui) (both _ _ (eui_decides a.join_eui b.join_eui) (both _ _ (key_decides a.app_key b.app_key)
     (both _ _ (unsigned_Decides a.application b.application) (both _ _ (unsigned_Decides a.rx1_offset b.rx1_offset) (both _ _ (unsigned_Decides a.rx_delay b.rx_delay)
     (both _ _ (options unsigned_Decides a.last_dev_nonce b.last_dev_nonce) (both _ _ (activation_decides a.activation b.activation)
-    (both _ _ (options tag_decides a.awaited b.awaited) (both _ _ (bytes_eq-Decides a.mac_queue b.mac_queue) (items_decide a.items b.items)))))))))))
+    (both _ _ (options tag_decides a.awaited b.awaited) (both _ _ (bytes_eq-Decides a.mac_queue b.mac_queue) (both _ _ (items_decide a.items b.items) (unsigned_Decides a.heard b.heard))))))))))))
     (λ h i. record {
       dev_eui = h.0 i;
       join_eui = h.1.0 i;
@@ -82,7 +82,8 @@ device_decides a b =
       activation = h.1.1.1.1.1.1.1.0 i;
       awaited = h.1.1.1.1.1.1.1.1.0 i;
       mac_queue = h.1.1.1.1.1.1.1.1.1.0 i;
-      items = h.1.1.1.1.1.1.1.1.1.1 i;
+      items = h.1.1.1.1.1.1.1.1.1.1.0 i;
+      heard = h.1.1.1.1.1.1.1.1.1.1.1 i;
     })
     (λ e. (
       λ i. (e i).dev_eui,
@@ -96,7 +97,7 @@ device_decides a b =
               λ i. (e i).rx1_offset,
               (
                 λ i. (e i).rx_delay,
-                (λ i. (e i).last_dev_nonce, (λ i. (e i).activation, (λ i. (e i).awaited, (λ i. (e i).mac_queue, λ i. (e i).items)))),
+                (λ i. (e i).last_dev_nonce, (λ i. (e i).activation, (λ i. (e i).awaited, (λ i. (e i).mac_queue, (λ i. (e i).items, λ i. (e i).heard))))),
               ),
             ),
           ),

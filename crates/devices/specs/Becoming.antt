@@ -1,7 +1,8 @@
 -- Which records a device may have, one after the other.
-use Rattle.std.specs.Prelude.{◌≡◌, ◌⊎◌, List, [], ◌∷◌, ◌++◌}
+use Rattle.std.specs.Prelude.{◌≡◌, ◌⊎◌, ◌<◌, ◌+◌, ℕ, List, [], ◌∷◌, ◌++◌}
 use Rattle.devices.specs.declared.queue.Item.{Item}
 use Rattle.devices.specs.declared.device.Device.{Device}
+use Rattle.devices.specs.declared.TheConstants.{LAST_HEARD}
 
 -- two records have what a device is provisioned with in common
 pub record AreProvisionedAlike (before after : Device) : Type 0 where
@@ -19,7 +20,13 @@ AreItemsAfter before after =
     ⊎ (((first : Item) × (before ≡ first ∷ after))
     ⊎ ((item : Item) × (after ≡ before ++ item ∷ [])))
 
--- what the device was provisioned with stays, and one item comes or leaves at most
+-- the count of uplinks afterwards: the same, or, before its end, one more
+abbrev pub IsHeardAfter : ℕ → ℕ → Type 0
+IsHeardAfter before after = (after ≡ before) ⊎ ((before < LAST_HEARD) × (after ≡ before + 1))
+
+-- what the device was provisioned with stays; one item comes or leaves, and one uplink is counted,
+-- at most
 pub record MayBecome (before after : Device) : Type 0 where
   pub provisioned : AreProvisionedAlike before after
   pub items : AreItemsAfter before.items after.items
+  pub heard : IsHeardAfter before.heard after.heard

@@ -4,7 +4,7 @@ use Rattle.devices.specs.declared.command.Provisioning.{Provisioning}
 use Rattle.devices.specs.declared.device.Device.{Device}
 use Rattle.devices.specs.Activation.{no_grants}
 
--- the record of a device that was just provisioned: nothing granted, awaited or queued
+-- the record of a device that was just provisioned: nothing granted, awaited, queued or heard
 abbrev pub new_device : Provisioning → Device
 new_device p =
     record {
@@ -19,4 +19,5 @@ new_device p =
       awaited = None;
       mac_queue = [];
       items = [];
+      heard = 0;
     }

@@ -2,7 +2,10 @@
 ghost use Rattle.std.specs.Prelude.{◌≡◌, ◌↔◌, IsTrue, MatchResult};
 ghost use Rattle.lw_types.specs.declared.refusal.Refusal.TheVariants.{OutOfMemory};
 
-use crate::{Activation, Application, ItemQueue, MacQueue, Provisioning, Rx1Offset, RxDelay, Tag};
+use crate::{
+    Activation, Application, ItemQueue, MacQueue, Provisioning, Rx1Offset, RxDelay, Tag,
+    UplinkCount,
+};
 use lw_types::{Eui, Key, Refusal};
 use std::alloc::Global;
 
@@ -23,6 +26,8 @@ pub struct Device {
     pub awaited: Option<Tag>,
     pub mac_queue: MacQueue,
     pub items: ItemQueue,
+    /// The new uplinks accepted over all sessions.
+    pub heard: UplinkCount,
 }
 
 impl Device {
@@ -44,6 +49,7 @@ impl Device {
             awaited: None,
             mac_queue: MacQueue::empty(alloc),
             items: ItemQueue::empty(alloc),
+            heard: UplinkCount::new(0).unwrap(),
         }
     }
 

@@ -7,7 +7,8 @@ ghost use Rattle.devices.specs.Address.{dev_addr, slot_at};
 ghost use Rattle.devices.specs.Heard.{best_of, is_better, AreApart, IsBest, IsBetter};
 
 use crate::{
-    Application, Copies, Effects, Hearings, ItemQueue, MacQueue, NextDown, Port, Rx1Offset, RxDelay,
+    Application, Copies, Effects, Hearings, ItemQueue, LAST_HEARD, MacQueue, NextDown, Port,
+    Rx1Offset, RxDelay, UplinkCount,
 };
 
 /// Applications are numbered from 0 to 15.
@@ -52,12 +53,21 @@ pub fn copies_are_1_to_32(number: u64) -> Option<Copies>
     Copies::new(number)
 }
 
-/// What a device's queues, a decision's effects and a frame's copies have room for.
+/// Uplinks are counted from 0 to [`LAST_HEARD`].
+pub fn uplinks_are_counted_to_the_last(number: u64) -> Option<UplinkCount>
+    ensures { SomeIff result (number ≤ LAST_HEARD) number }
+{
+    UplinkCount::new(number)
+}
+
+/// What a device's queues, a decision's effects and a frame's copies have room for, and where the
+/// count of uplinks ends.
 pub fn limits_are_these()
     ensures mac_queue { MacQueue.MOST ≡ 64 }
     ensures items { ItemQueue.MOST ≡ 16 }
     ensures effects { Effects.MOST ≡ 4 }
     ensures copies { Hearings.MOST ≡ 32 }
+    ensures heard { LAST_HEARD ≡ 0 }
 {}
 
 /// The best of the copies of a frame: one of them, unless there are none, such that no other was

@@ -43,6 +43,12 @@ pub type Port = Ranged<1, 223>;
 /// is left.
 pub type NextDown = Ranged<0, 4_294_967_296>;
 
+/// How many new uplinks of a device were accepted, from 0 to [`LAST_HEARD`].
+pub type UplinkCount = Ranged<0, LAST_HEARD>;
+
+/// Where the count of a device's uplinks ends: it stays there.
+pub const LAST_HEARD: u64 = 0;
+
 /// The bytes that an application hands in, of any number.
 pub type AskedBytes = Bytes<{ usize::MAX }>;
 

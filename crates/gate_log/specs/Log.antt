@@ -1,7 +1,9 @@
 -- A log and its disk.
-use Rattle.std.specs.Prelude.{◌≡◌, ◌+◌, ℕ, Bool, length, MatchBool, Result, is_ok}
+use Rattle.std.specs.Prelude.{◌≡◌, ◌+◌, ℕ, Bool, IsTrue, length, MatchBool, MatchResult, Result}
+use Rattle.std.specs.Prelude.{is_ok}
 use Rattle.disk.specs.declared.DeviceFailed.{DeviceFailed}
-use Rattle.disk.specs.Outlook.{Outlook, HasCause, IsForeseen}
+use Rattle.disk.specs.Outlook.{Outlook, HasCause, IsArmed, IsForeseen}
+use Rattle.disk.specs.Outlook.Outlook.{AllSucceed}
 use Rattle.disk.specs.State.{State, NothingOpen}
 use Rattle.gate_log.specs.declared.layout.Areas.{Areas}
 use Rattle.gate_log.specs.declared.log.Log.{Log}
@@ -49,6 +51,15 @@ pub record IsOneLogCall {D : Type 0} {g : _} {T : Type 0} (failures : D → ℕ)
     (old new : Log D g) (result : Result T DeviceFailed) : Type 0 where
   pub cause : HasCause (failures old.disk) (failures new.disk) result
   pub foreseen : IsForeseen (outlook old.disk) (is_ok result) (outlook new.disk)
+
+-- several calls, of which only the last one may have failed: an error comes exactly where it did
+pub record AreLogCalls {D : Type 0} {g : _} {T : Type 0} (failures : D → ℕ) (outlook : D → Outlook)
+    (old new : Log D g) (result : Result T DeviceFailed) : Type 0 where
+  pub cause : HasCause (failures old.disk) (failures new.disk) result
+  pub unarmed : outlook old.disk ≡ AllSucceed
+      → IsTrue (is_ok result) × (outlook new.disk ≡ AllSucceed)
+  pub armed : IsArmed (outlook old.disk) → MatchResult result
+      (λ _. IsArmed (outlook new.disk)) (λ _. outlook new.disk ≡ AllSucceed)
 
 -- the log knows which area is live, of what generation, and where the next batch's gate stands
 pub record Knows (log : LogState) (c : LogContents) : Type 0 where

@@ -9,7 +9,8 @@ ghost use Rattle.gate_log.specs.Checkpointing.{IsCheckpoint, IsCheckpointOpened}
 ghost use Rattle.gate_log.specs.Checkpointing.{IsCheckpointSynced, IsCheckpointWritten, IsRetiring};
 ghost use Rattle.gate_log.specs.Checkpointing.{checkpoint_bytes, front_of, opened_front};
 ghost use Rattle.gate_log.specs.Checkpointing.{synced_front, written_front};
-ghost use Rattle.gate_log.specs.Log.{log_state, disk_of, IsAtRest, IsOneLogCall, OnlyDiskChanges};
+ghost use Rattle.gate_log.specs.Log.{log_state, disk_of, AreLogCalls, IsAtRest, IsOneLogCall};
+ghost use Rattle.gate_log.specs.Log.{OnlyDiskChanges};
 
 use crate::layout::{Areas, CLOSED, EMPTY_AREA_LEN, Header, OPEN};
 use crate::log::Log;
@@ -59,6 +60,8 @@ impl<D: Disk> Log<D> {
             → (log_state D.state self.old).other_open ≡ true
             → EveryImage (D.state (disk_of self.new)) (Holds c) }
         ensures place { OnlyDiskChanges (log_state D.state self.old) (log_state D.state self.new) }
+        ensures same_length { length (D.state (disk_of self.new)).content
+            ≡ length (D.state (disk_of self.old)).content }
         ensures call { IsOneLogCall D.failures D.outlook self.old self.new result }
     {
         disk::laws::settled_disk_keeps_its_content();
@@ -84,6 +87,8 @@ impl Retiring {
         }) }
         ensures same_place { OnErr result
             (OnlyDiskChanges (log_state D.state log.old) (log_state D.state log.new)) }
+        ensures same_length { length (D.state (disk_of log.new)).content
+            ≡ length (D.state (disk_of log.old)).content }
         ensures call { IsOneLogCall D.failures D.outlook log.old log.new result }
     {
         let Retiring {} = self;
@@ -148,6 +153,8 @@ impl Checkpoint {
             → EveryImage (D.state (disk_of log.new)) (Holds c) }
         ensures front { IfOk result (λ phase. written_front phase ≡ front_of self) }
         ensures place { OnlyDiskChanges (log_state D.state log.old) (log_state D.state log.new) }
+        ensures same_length { length (D.state (disk_of log.new)).content
+            ≡ length (D.state (disk_of log.old)).content }
         ensures call { IsOneLogCall D.failures D.outlook log.old log.new result }
     {
         disk::laws::settled_disk_keeps_its_content();
@@ -169,6 +176,85 @@ impl Checkpoint {
     }
 }
 
+impl<D: Disk> Log<D> {
+    // Closes the other area's gate where it is open, and syncs that.
+    fn shut_other(&mut self) -> Result<(), DeviceFailed>
+        ensures closed { OnOk result ((log_state D.state self.new).other_open ≡ false) }
+        ensures rest { D.honest → (c : LogContents) → IsAtRest (log_state D.state self.old) c
+            → OnOk result (IsAtRest (log_state D.state self.new) c) }
+        ensures images { D.honest → (c : LogContents) → IsAtRest (log_state D.state self.old) c
+            → OnErr result (EveryImage (D.state (disk_of self.new)) (Holds c)) }
+        ensures areas { (log_state D.state self.new).areas ≡ (log_state D.state self.old).areas }
+        ensures same_length { length (D.state (disk_of self.new)).content
+            ≡ length (D.state (disk_of self.old)).content }
+        ensures calls { AreLogCalls D.failures D.outlook self.old self.new result }
+    {
+        if !self.other_open {
+            return Ok(());
+        }
+        self.retire()?.sync(self)
+    }
+}
+
+impl Checkpoint {
+    /// Makes all calls of a checkpoint, one after another, up to the first that fails.
+    pub fn publish<D: Disk>(self, log: &mut Log<D>) -> Result<(), DeviceFailed>
+        requires { (log_state D.state log.old).areas.other.start + length (checkpoint_bytes self)
+            < (log_state D.state log.old).areas.other.end }
+        ensures done { D.honest → (c : LogContents) (header : Header) (records : List ℕ)
+            → IsAtRest (log_state D.state log.old) c
+            → IsCheckpoint self header records → MayFollowContents c header records
+            → OnOk result (IsAtRest (log_state D.state log.new)
+            (contents_with_checkpoint c header records)) }
+        ensures images { D.honest → (c : LogContents) (header : Header) (records : List ℕ)
+            → IsAtRest (log_state D.state log.old) c
+            → IsCheckpoint self header records → MayFollowContents c header records
+            → EveryImage (D.state (disk_of log.new))
+            (HoldsOneOf c (contents_with_checkpoint c header records)) }
+        ensures areas { OnOk result ((log_state D.state log.new).areas
+            ≡ exchanged_areas (log_state D.state log.old).areas) }
+        ensures same_length { length (D.state (disk_of log.new)).content
+            ≡ length (D.state (disk_of log.old)).content }
+        ensures calls { AreLogCalls D.failures D.outlook log.old log.new result }
+    {
+        match log.shut_other() {
+            Ok(()) => self.write_and_open(log),
+            Err(failed) => {
+                self.lose();
+                Err(failed)
+            }
+        }
+    }
+
+    // The four calls, where the other area's gate is closed.
+    fn write_and_open<D: Disk>(self, log: &mut Log<D>) -> Result<(), DeviceFailed>
+        requires { (log_state D.state log.old).areas.other.start + length (checkpoint_bytes self)
+            < (log_state D.state log.old).areas.other.end }
+        ensures done { D.honest → (c : LogContents) (header : Header) (records : List ℕ)
+            → IsAtRest (log_state D.state log.old) c
+            → (log_state D.state log.old).other_open ≡ false
+            → IsCheckpoint self header records → MayFollowContents c header records
+            → OnOk result (IsAtRest (log_state D.state log.new)
+            (contents_with_checkpoint c header records)) }
+        ensures images { D.honest → (c : LogContents) (header : Header) (records : List ℕ)
+            → IsAtRest (log_state D.state log.old) c
+            → (log_state D.state log.old).other_open ≡ false
+            → IsCheckpoint self header records → MayFollowContents c header records
+            → EveryImage (D.state (disk_of log.new))
+            (HoldsOneOf c (contents_with_checkpoint c header records)) }
+        ensures areas { OnOk result ((log_state D.state log.new).areas
+            ≡ exchanged_areas (log_state D.state log.old).areas) }
+        ensures same_length { length (D.state (disk_of log.new)).content
+            ≡ length (D.state (disk_of log.old)).content }
+        ensures calls { AreLogCalls D.failures D.outlook log.old log.new result }
+    {
+        let written = self.write(log)?;
+        let synced = written.sync(log)?;
+        let opened = synced.open_gate(log)?;
+        opened.sync(log)
+    }
+}
+
 impl CheckpointWritten {
     /// Syncs the checkpoint.
     pub fn sync<D: Disk>(self, log: &mut Log<D>) -> Result<CheckpointSynced, DeviceFailed>
@@ -182,6 +268,8 @@ impl CheckpointWritten {
             → EveryImage (D.state (disk_of log.new)) (Holds c) }
         ensures front { IfOk result (λ phase. synced_front phase ≡ written_front self) }
         ensures place { OnlyDiskChanges (log_state D.state log.old) (log_state D.state log.new) }
+        ensures same_length { length (D.state (disk_of log.new)).content
+            ≡ length (D.state (disk_of log.old)).content }
         ensures call { IsOneLogCall D.failures D.outlook log.old log.new result }
     {
         disk::laws::settled_disk_keeps_its_content();
@@ -210,6 +298,8 @@ impl CheckpointSynced {
             (HoldsOneOf c (contents_with_checkpoint c header records)) }
         ensures front { IfOk result (λ phase. opened_front phase ≡ synced_front self) }
         ensures place { OnlyDiskChanges (log_state D.state log.old) (log_state D.state log.new) }
+        ensures same_length { length (D.state (disk_of log.new)).content
+            ≡ length (D.state (disk_of log.old)).content }
         ensures call { IsOneLogCall D.failures D.outlook log.old log.new result }
     {
         disk::laws::settled_disk_keeps_its_content();
@@ -247,6 +337,8 @@ impl CheckpointOpened {
         }) }
         ensures same_place { OnErr result
             (OnlyDiskChanges (log_state D.state log.old) (log_state D.state log.new)) }
+        ensures same_length { length (D.state (disk_of log.new)).content
+            ≡ length (D.state (disk_of log.old)).content }
         ensures call { IsOneLogCall D.failures D.outlook log.old log.new result }
     {
         let CheckpointOpened { front } = self;

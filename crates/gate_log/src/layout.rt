@@ -109,9 +109,29 @@ impl Header {
 
 impl BatchHead {
     /// The length in bytes.
-    pub(crate) const LEN: usize = 14;
+    pub const LEN: usize = 14;
 
     ghost use Rattle.gate_log.specs.Layout.{IsHead, head_bytes};
+
+    /// The bytes of this head.
+    #[tactic(auto, unfolding(crate::specs::Layout::head_bytes))]
+    pub(crate) fn to_bytes(self) -> [u8; Self::LEN]
+        ensures { result ≡ head_bytes self }
+    {
+        let mut bytes = [0; Self::LEN];
+        BigEndian::write_u32(&mut bytes, self.entries_len);
+        BigEndian::write_u64(&mut bytes[4..], self.last_sequence);
+        BigEndian::write_u16(&mut bytes[12..], self.entry_count);
+        bytes
+    }
+
+    /// Puts this head's bytes in place of the first ones.
+    pub(crate) fn put(self, bytes: &mut [u8])
+        requires { BatchHead.LEN ≤ length bytes.old }
+        ensures { bytes.new ≡ head_bytes self ++ drop BatchHead.LEN bytes.old }
+    {
+        bytes[..Self::LEN].copy_from_slice(&self.to_bytes());
+    }
 
     /// The head that these bytes spell.
     pub(crate) fn from_bytes(bytes: &[u8]) -> BatchHead

@@ -22,7 +22,9 @@ pub use batch::Batch;
 pub use checkpoint::{Checkpoint, CheckpointOpened, CheckpointSynced, CheckpointWritten, Retiring};
 pub use error::RecoverError;
 pub use format::{close_area, format_area};
-pub use layout::{Area, Areas, CLOSED, EMPTY_AREA_LEN, ENTRIES_AT, Header, OPEN, RECORDS_AT};
+pub use layout::{
+    Area, Areas, BatchHead, CLOSED, EMPTY_AREA_LEN, ENTRIES_AT, Header, OPEN, RECORDS_AT,
+};
 pub use live::Live;
 pub use log::Log;
 pub use opening::Opening;

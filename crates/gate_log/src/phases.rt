@@ -1,5 +1,6 @@
 // The phases of one batch, each spent by one call of the disk.
-ghost use Rattle.std.specs.Prelude.{◌≡◌, ◌<◌, ◌≤◌, ◌+◌, ◌^◌, length, IfOk, OnOk, OnErr};
+ghost use Rattle.std.specs.Prelude.{◌≡◌, ◌<◌, ◌≤◌, ◌+◌, ◌^◌, drop, length, vec_capacity, IfOk};
+ghost use Rattle.std.specs.Prelude.{IsOk, OnOk, OnErr};
 ghost use Rattle.disk.specs.State.{EveryImage};
 ghost use Rattle.gate_log.specs.Areas.{LogContents, Holds, HoldsOneOf, contents_with_batch};
 ghost use Rattle.gate_log.specs.Layout.{BatchValue};
@@ -8,7 +9,7 @@ ghost use Rattle.gate_log.specs.Phases.{bytes_of, written_size, body_synced_size
 ghost use Rattle.gate_log.specs.Phases.{gate_written_size, IsBegun, IsWritten, IsBodySynced};
 ghost use Rattle.gate_log.specs.Phases.{IsGateWritten};
 
-use crate::layout::{CLOSED, ENTRIES_AT, OPEN};
+use crate::layout::{BatchHead, CLOSED, ENTRIES_AT, OPEN};
 use crate::log::Log;
 use disk::{DeviceFailed, Disk};
 use std::alloc::{AllocError, Global};
@@ -41,29 +42,40 @@ pub struct Durable {
 }
 
 impl Begun {
-    #[tactic(auto, unfolding(crate::specs::Layout::head_bytes))]
-    /// A batch of these entries. All the memory that its phases need is taken here.
-    pub fn new(
-        alloc: Global,
-        last_sequence: u64,
-        entry_count: u16,
-        entries: &[u8],
-    ) -> Result<Begun, AllocError>
-        requires { length entries.now < 2 ^ 32 }
+    /// Room for a batch's head, to which `entries_len` bytes of entries are appended: with them and
+    /// the gate behind them it takes no more memory.
+    pub fn buffer(alloc: Global, entries_len: usize) -> Result<Vec<u8>, AllocError>
+        requires { ENTRIES_AT + entries_len < 2 ^ 64 }
+        ensures len { IfOk result (λ bytes. length bytes.items ≡ BatchHead.LEN) }
+        ensures room { IfOk result (λ bytes. BatchHead.LEN + entries_len < vec_capacity bytes) }
+    {
+        let mut bytes = Vec::with_capacity(alloc, ENTRIES_AT as usize + entries_len)?;
+        bytes.extend_from_slice(&[0; BatchHead::LEN])?;
+        Ok(bytes)
+    }
+
+    /// A batch of the entries that stand behind a buffer's room for its head. All the memory that
+    /// its phases need is taken here, and none where the buffer has room for one byte more.
+    pub fn new(buffer: Vec<u8>, last_sequence: u64, entry_count: u16) -> Result<Begun, AllocError>
+        requires head { BatchHead.LEN ≤ length buffer.items }
+        requires short { length buffer.items < 2 ^ 32 }
         ensures begun { IfOk result
             (λ begun. IsBegun begun (record {
               last_sequence = last_sequence;
               entry_count = entry_count;
-              entries = entries.now;
+              entries = drop BatchHead.LEN buffer.items;
             })) }
         ensures size { IfOk result (λ begun. length (bytes_of begun)
-            ≡ ENTRIES_AT + length entries.now) }
+            ≡ length buffer.items + 1) }
+        ensures memory { length buffer.items < vec_capacity buffer → IsOk result }
     {
-        let mut bytes = Vec::with_capacity(alloc, entries.len() + ENTRIES_AT as usize)?;
-        bytes.extend_from_slice(&(entries.len() as u32).to_be_bytes())?;
-        bytes.extend_from_slice(&last_sequence.to_be_bytes())?;
-        bytes.extend_from_slice(&entry_count.to_be_bytes())?;
-        bytes.extend_from_slice(entries)?;
+        let head = BatchHead {
+            entries_len: (buffer.len() - BatchHead::LEN) as u32,
+            last_sequence,
+            entry_count,
+        };
+        let mut bytes = buffer;
+        head.put(&mut bytes);
         bytes.push(CLOSED)?;
         Ok(Begun { bytes })
     }

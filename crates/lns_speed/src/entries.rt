@@ -49,14 +49,14 @@ fn lengths(alloc: Global, what: Decided) -> Result<(usize, usize), Refusal> {
     let mut whole = Vec::new(alloc);
     put_entry(
         alloc,
-        RecordVersion::V1,
+        RecordVersion::V2,
         decision.slot,
         &decision.after,
         &mut whole,
     )?;
     let mut batch = Batch::new(alloc)?;
     batch.push(decision);
-    let change = batch_entries(alloc, RecordVersion::V1, &batch)?;
+    let change = batch_entries(alloc, RecordVersion::V2, &batch)?;
     Ok((change.len(), whole.len()))
 }
 

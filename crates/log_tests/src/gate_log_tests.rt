@@ -1,6 +1,7 @@
 ghost use Rattle.std.specs.Prelude.{◌≡◌, ◌≤◌, ◌+◌, IfOk, length, true};
 ghost use Rattle.gate_log.specs.Areas.{AreLaidOut};
 ghost use Rattle.gate_log.specs.Checkpointing.{checkpoint_bytes};
+ghost use Rattle.gate_log.specs.Phases.{bytes_of};
 
 use disk::{DeviceFailed, Disk, Image, MemDisk, Sim};
 use gate_log::{
@@ -48,6 +49,18 @@ fn fresh(alloc: Global, areas: Areas, len: usize) -> Result<Log<MemDisk>, Recove
     Ok(Log::new(disk, areas, 1, next, false))
 }
 
+// A batch of these entries.
+fn begun_batch(alloc: Global, last_sequence: u64, entries: &[u8]) -> Result<Begun, RecoverError>
+    ensures size { IfOk result (λ begun. length (bytes_of begun) ≡ 15 + length entries.now) }
+{
+    if entries.len() > 1_000_000 {
+        return Err(RecoverError::Damaged);
+    }
+    let mut buffer = Begun::buffer(alloc, entries.len())?;
+    buffer.extend_from_slice(entries)?;
+    Ok(Begun::new(buffer, last_sequence, 1)?)
+}
+
 // Commits a batch, and whether no call of the disk failed.
 fn commit(
     alloc: Global,
@@ -58,8 +71,7 @@ fn commit(
     if entries.len() > 1_000_000 || log.room() < 16 + entries.len() as u64 {
         return Err(RecoverError::Damaged);
     }
-    let begun = Begun::new(alloc, last_sequence, 1, entries)?;
-    let Ok(written) = begun.write(log) else {
+    let Ok(written) = begun_batch(alloc, last_sequence, entries)?.write(log) else {
         return Ok(false);
     };
     let Ok(synced) = written.sync(log) else {
@@ -331,7 +343,7 @@ fn commit_pair(alloc: Global, log: &mut Log<MemDisk>) -> Result<bool, RecoverErr
     if log.room() < 64 {
         return Err(RecoverError::Damaged);
     }
-    let Ok(written) = Begun::new(alloc, 1, 1, b"first")?.write(log) else {
+    let Ok(written) = begun_batch(alloc, 1, b"first")?.write(log) else {
         return Ok(false);
     };
     let Ok(synced) = written.sync(log) else {
@@ -340,11 +352,11 @@ fn commit_pair(alloc: Global, log: &mut Log<MemDisk>) -> Result<bool, RecoverErr
     let Ok(opened) = synced.open_gate(log) else {
         return Ok(false);
     };
-    let following = match Begun::new(alloc, 2, 1, b"second") {
+    let following = match begun_batch(alloc, 2, b"second") {
         Ok(following) => following,
         Err(error) => {
             opened.lose();
-            return Err(RecoverError::from(error));
+            return Err(error);
         }
     };
     let Ok(paired) = opened.write_next(following, log) else {

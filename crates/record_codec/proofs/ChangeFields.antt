@@ -2,31 +2,27 @@
 use Rattle.std.proofs.Common.{◌≡◌, ℕ, zero, suc, ◌+◌, ◌*◌, ◌/◌, ◌%◌, ◌^◌, ◌<◌, ◌==◌, Bool, true, false, List, [], ◌∷◌, ◌++◌, Option, Some, None, refl, sym, ap, subst, ◌∙◌, arith, nat_le}
 use Rattle.std.specs.Prelude.{IfSome}
 use Rattle.std.specs.Int.{w16, w32, w64, to_be_bytes}
-use Rattle.std.proofs.lemmas.Bool.{eq-eqb, eqb-true}
 use Rattle.std.proofs.lemmas.List.{append-nil}
 use Rattle.lw_types.specs.Hex.{IsBytes}
 use Rattle.byte_fields.specs.Field.{IsField}
 use Rattle.byte_fields.specs.Reading.{Reader, seen_as, that, be_at, byte_at, optional_at}
 use Rattle.byte_fields.specs.Spelling.{counted_bytes, optional}
-use Rattle.byte_fields.specs.FieldLemmas.{IsBytes-after, bind_some, both_field, byte_field, guard_some, optional_field, same_field, seen_field, some_is, whole_again, whole_takes}
-use Rattle.byte_fields.specs.NumberLemmas.{Below, u32_be_field}
+use Rattle.byte_fields.proofs.FieldLemmas.{IsBytes-after, bind_some, both_field, byte_field, optional_field, same_field, seen_field, some_is, whole_again, whole_takes}
+use Rattle.byte_fields.proofs.NumberLemmas.{Below, u32_be_field}
 use Rattle.devices.specs.declared.Tag.{Tag}
 use Rattle.devices.specs.declared.activation.Session.{Session}
 use Rattle.devices.specs.declared.activation.CurrentSession.{CurrentSession}
 use Rattle.devices.specs.declared.queue.Item.{Item}
 use Rattle.record_codec.specs.DeviceRecord.{awaited_bytes, dev_nonce, granted_bytes, item, optional_current, optional_session, IsCurrentSession, IsItem, IsJoinNonce, IsSession}
-use Rattle.record_codec.specs.declared.version.RecordVersion.TheVariants.{V1}
-use Rattle.record_codec.specs.Change.{Added, Groups, ItemChange, Leaves, AreCounters, AreInRange, AreNonces, IsItemChange, change_bytes, counters_bytes, group_bytes, item_change_bytes, mask, nonces_bytes, there}
+use Rattle.record_codec.specs.declared.version.RecordVersion.{RecordVersion}
+use Rattle.record_codec.specs.declared.version.RecordVersion.TheVariants.{V1, V2}
+use Rattle.record_codec.specs.Change.{Added, Groups, ItemChange, Leaves, AreCounters, AreInRange, AreNonces, IsItemChange, MayGrow, bit, change_bytes, counters_bytes, group_bytes, item_change_bytes, mask, nonces_bytes, there}
 use Rattle.record_codec.specs.Reading.{awaited_at, current_at, flagged_at, item_at, mac_queue_at, optional_by, session_at}
-use Rattle.record_codec.specs.ChangeReading.{GroupFields, change_at, groups_of, change_read, counters_at, granted_at, group_at, groups_at, is_odd, item_change_at, item_change_of, next_group_at, none_left, nonces_at}
+use Rattle.record_codec.specs.ChangeReading.{GroupFields, change_at, groups_of, change_read, counters_at, granted_at, group_at, groups_at, is_odd, item_change_at, item_change_of, last_bit_at, next_group_at, nonces_at}
 use Rattle.record_codec.proofs.RecordFields.{IsNextDown, awaited_field, dev_nonce_field, granted_field, next_down_field, optional_current_field, optional_session_field, respelled_field}
 use Rattle.record_codec.proofs.RecordLaws.{IsQueue, item_field, mac_queue_field}
 
 -- ---- a mask, bit by bit
-
-abbrev bit : Bool → ℕ
-bit false = 0
-bit true = 1
 
 is_bit : (t : ℕ) → t < 2 → t ≡ bit (t == 1)
 is_bit zero lt = refl
@@ -85,21 +81,32 @@ next_group_field {X} {Y} In spelled field Others bits others_spelled others firs
     (λ p h. ((h.0.0, h.1.0), joined (there p.0) (bits p.1) n h.0.1 h.1.1))
     (λ p h. let t = parted (there p.0) (bits p.1) n (few_there p.0) h.1 in ((h.0.0, t.0), (h.0.1, t.1)))
 
--- the last group, behind which no bit is left
-none_left_field : (n : ℕ) → IsField (λ (u : Unit {0}). Unit {0} × (0 ≡ n)) (λ u. []) (none_left n)
-none_left_field n = record {
-  takes = λ bytes u rest fits e.
-      let made : Unit {0} × List ℕ = (tt, bytes) in
-      let g = guard_some (n == 0) made (u, rest) e in
-      subst (λ (q : Unit {0} × List ℕ). (Unit {0} × (0 ≡ n)) × (bytes ≡ [] ++ q.1)) g.1 ((tt, sym (eqb-true n 0 g.0)), refl);
-  again = λ u rest h. rw (eq-eqb n 0 (sym h.1)) refl;
+-- the bit that is left behind the last group
+last_bit_takes : (v : RecordVersion) (n : ℕ) (bytes : List ℕ) (grew : Bool) (rest : List ℕ) → last_bit_at v n bytes ≡ Some (grew, rest) → (MayGrow v grew × (bit grew ≡ n)) × (bytes ≡ rest)
+last_bit_takes V1 zero bytes grew rest e = subst (λ (q : Bool × List ℕ). ((q.0 ≡ false) × (bit q.0 ≡ 0)) × (bytes ≡ q.1)) (some_is (false, bytes) (grew, rest) e) ((refl, refl), refl)
+last_bit_takes V1 (suc n) bytes grew rest e = absurd cc
+last_bit_takes V2 zero bytes grew rest e = subst (λ (q : Bool × List ℕ). (Unit {0} × (bit q.0 ≡ 0)) × (bytes ≡ q.1)) (some_is (false, bytes) (grew, rest) e) ((tt, refl), refl)
+last_bit_takes V2 (suc zero) bytes grew rest e = subst (λ (q : Bool × List ℕ). (Unit {0} × (bit q.0 ≡ 1)) × (bytes ≡ q.1)) (some_is (true, bytes) (grew, rest) e) ((tt, refl), refl)
+last_bit_takes V2 (suc (suc n)) bytes grew rest e = absurd cc
+
+last_bit_again : (v : RecordVersion) (grew : Bool) (rest : List ℕ) → MayGrow v grew → last_bit_at v (bit grew) rest ≡ Some (grew, rest)
+last_bit_again V1 false rest h = refl
+last_bit_again V1 true rest h = absurd cc
+last_bit_again V2 false rest h = refl
+last_bit_again V2 true rest h = refl
+
+last_bit_field : (v : RecordVersion) (n : ℕ) → IsField (λ grew. MayGrow v grew × (bit grew ≡ n)) (λ grew. []) (last_bit_at v n)
+last_bit_field v n = record {
+  takes = λ bytes grew rest fits e. last_bit_takes v n bytes grew rest e;
+  again = λ grew rest h. subst (λ (k : ℕ). last_bit_at v k rest ≡ Some (grew, rest)) h.1 (last_bit_again v grew rest h.0);
 }
 
-last_field : {X : Type 0} (In : X → Type 0) (spelled : X → List ℕ) (field : Reader X) → IsField In spelled field → (n : ℕ)
-    → IsField (λ (p : Option X × Unit {0}). (IfSome p.0 In × Unit {0}) × (there p.0 + 2 * 0 ≡ n)) (λ p. group_bytes spelled p.0) (next_group_at field none_left n)
-last_field {X} In spelled field first n =
-    respelled_field (λ (p : Option X × Unit {0}). (IfSome p.0 In × Unit {0}) × (there p.0 + 2 * 0 ≡ n)) (λ p. group_bytes spelled p.0 ++ []) (λ p. group_bytes spelled p.0) (next_group_at field none_left n)
-    (next_group_field In spelled field (λ (u : Unit {0}). Unit {0}) (λ u. 0) (λ u. []) none_left first none_left_field n)
+-- the last group, and the bit behind it
+last_field : {X : Type 0} (In : X → Type 0) (spelled : X → List ℕ) (field : Reader X) → IsField In spelled field → (v : RecordVersion) (n : ℕ)
+    → IsField (λ (p : Option X × Bool). (IfSome p.0 In × MayGrow v p.1) × (there p.0 + 2 * bit p.1 ≡ n)) (λ p. group_bytes spelled p.0) (next_group_at field (last_bit_at v) n)
+last_field {X} In spelled field first v n =
+    respelled_field (λ (p : Option X × Bool). (IfSome p.0 In × MayGrow v p.1) × (there p.0 + 2 * bit p.1 ≡ n)) (λ p. group_bytes spelled p.0 ++ []) (λ p. group_bytes spelled p.0) (next_group_at field (last_bit_at v) n)
+    (next_group_field In spelled field (MayGrow v) bit (λ grew. []) (last_bit_at v) first (last_bit_field v) n)
     (λ p. sym (append-nil (group_bytes spelled p.0)))
 
 -- ---- the groups
@@ -133,7 +140,7 @@ IsTag o = IfSome o (λ tag. tag.0 < 2 ^ 32)
 
 -- from a group on
 abbrev pub From6 : Type 0
-From6 = Option ItemChange × Unit {0}
+From6 = Option ItemChange × Bool
 
 abbrev pub From5 : Type 0
 From5 = Option (List ℕ) × From6
@@ -150,29 +157,29 @@ From2 = Option (ℕ × ℕ) × From3
 abbrev pub From1 : Type 0
 From1 = Option (Option CurrentSession) × From2
 
-abbrev In6 : From6 → Type 0
-In6 p = IfSome p.0 IsItemChange × Unit {0}
+abbrev In6 : RecordVersion → From6 → Type 0
+In6 v p = IfSome p.0 IsItemChange × MayGrow v p.1
 
-abbrev In5 : From5 → Type 0
-In5 p = IfSome p.0 IsQueue × In6 p.1
+abbrev In5 : RecordVersion → From5 → Type 0
+In5 v p = IfSome p.0 (IsQueue v) × In6 v p.1
 
-abbrev In4 : From4 → Type 0
-In4 p = IfSome p.0 IsTag × In5 p.1
+abbrev In4 : RecordVersion → From4 → Type 0
+In4 v p = IfSome p.0 IsTag × In5 v p.1
 
-abbrev In3 : From3 → Type 0
-In3 p = IfSome p.0 IsPending × In4 p.1
+abbrev In3 : RecordVersion → From3 → Type 0
+In3 v p = IfSome p.0 IsPending × In4 v p.1
 
-abbrev In2 : From2 → Type 0
-In2 p = IfSome p.0 AreCounters × In3 p.1
+abbrev In2 : RecordVersion → From2 → Type 0
+In2 v p = IfSome p.0 AreCounters × In3 v p.1
 
-abbrev In1 : From1 → Type 0
-In1 p = IfSome p.0 IsCurrent × In2 p.1
+abbrev In1 : RecordVersion → From1 → Type 0
+In1 v p = IfSome p.0 IsCurrent × In2 v p.1
 
-abbrev In0 : GroupFields → Type 0
-In0 p = IfSome p.0 AreNonces × In1 p.1
+abbrev In0 : RecordVersion → GroupFields → Type 0
+In0 v p = IfSome p.0 AreNonces × In1 v p.1
 
 abbrev bits6 : From6 → ℕ
-bits6 p = there p.0 + 2 * 0
+bits6 p = there p.0 + 2 * bit p.1
 
 abbrev bits5 : From5 → ℕ
 bits5 p = there p.0 + 2 * bits6 p.1
@@ -213,47 +220,47 @@ text1 p = group_bytes optional_current p.0 ++ text2 p.1
 abbrev text0 : GroupFields → List ℕ
 text0 p = group_bytes nonces_bytes p.0 ++ text1 p.1
 
-abbrev pub read6 : ℕ → Reader From6
-read6 = next_group_at item_change_at none_left
+abbrev pub read6 : RecordVersion → ℕ → Reader From6
+read6 v = next_group_at item_change_at (last_bit_at v)
 
-abbrev pub read5 : ℕ → Reader From5
-read5 = next_group_at mac_queue_at read6
+abbrev pub read5 : RecordVersion → ℕ → Reader From5
+read5 v = next_group_at (mac_queue_at v) (read6 v)
 
-abbrev pub read4 : ℕ → Reader From4
-read4 = next_group_at awaited_at read5
+abbrev pub read4 : RecordVersion → ℕ → Reader From4
+read4 v = next_group_at awaited_at (read5 v)
 
-abbrev pub read3 : ℕ → Reader From3
-read3 = next_group_at (optional_by session_at) read4
+abbrev pub read3 : RecordVersion → ℕ → Reader From3
+read3 v = next_group_at (optional_by session_at) (read4 v)
 
-abbrev pub read2 : ℕ → Reader From2
-read2 = next_group_at counters_at read3
+abbrev pub read2 : RecordVersion → ℕ → Reader From2
+read2 v = next_group_at counters_at (read3 v)
 
-abbrev pub read1 : ℕ → Reader From1
-read1 = next_group_at (optional_by current_at) read2
+abbrev pub read1 : RecordVersion → ℕ → Reader From1
+read1 v = next_group_at (optional_by current_at) (read2 v)
 
-abbrev pub read0 : ℕ → Reader GroupFields
-read0 = next_group_at nonces_at read1
+abbrev pub read0 : RecordVersion → ℕ → Reader GroupFields
+read0 v = next_group_at nonces_at (read1 v)
 
-field6 : (n : ℕ) → IsField (λ p. In6 p × (bits6 p ≡ n)) text6 (read6 n)
-field6 = last_field IsItemChange item_change_bytes item_change_at item_change_field
+field6 : (v : RecordVersion) (n : ℕ) → IsField (λ p. In6 v p × (bits6 p ≡ n)) text6 (read6 v n)
+field6 v = last_field IsItemChange item_change_bytes item_change_at item_change_field v
 
-field5 : (n : ℕ) → IsField (λ p. In5 p × (bits5 p ≡ n)) text5 (read5 n)
-field5 = next_group_field IsQueue counted_bytes mac_queue_at In6 bits6 text6 read6 mac_queue_field field6
+field5 : (v : RecordVersion) (n : ℕ) → IsField (λ p. In5 v p × (bits5 p ≡ n)) text5 (read5 v n)
+field5 v = next_group_field (IsQueue v) counted_bytes (mac_queue_at v) (In6 v) bits6 text6 (read6 v) (mac_queue_field v) (field6 v)
 
-field4 : (n : ℕ) → IsField (λ p. In4 p × (bits4 p ≡ n)) text4 (read4 n)
-field4 = next_group_field IsTag awaited_bytes awaited_at In5 bits5 text5 read5 awaited_field field5
+field4 : (v : RecordVersion) (n : ℕ) → IsField (λ p. In4 v p × (bits4 p ≡ n)) text4 (read4 v n)
+field4 v = next_group_field IsTag awaited_bytes awaited_at (In5 v) bits5 text5 (read5 v) awaited_field (field5 v)
 
-field3 : (n : ℕ) → IsField (λ p. In3 p × (bits3 p ≡ n)) text3 (read3 n)
-field3 = next_group_field IsPending optional_session (optional_by session_at) In4 bits4 text4 read4 optional_session_field field4
+field3 : (v : RecordVersion) (n : ℕ) → IsField (λ p. In3 v p × (bits3 p ≡ n)) text3 (read3 v n)
+field3 v = next_group_field IsPending optional_session (optional_by session_at) (In4 v) bits4 text4 (read4 v) optional_session_field (field4 v)
 
-field2 : (n : ℕ) → IsField (λ p. In2 p × (bits2 p ≡ n)) text2 (read2 n)
-field2 = next_group_field AreCounters counters_bytes counters_at In3 bits3 text3 read3 counters_field field3
+field2 : (v : RecordVersion) (n : ℕ) → IsField (λ p. In2 v p × (bits2 p ≡ n)) text2 (read2 v n)
+field2 v = next_group_field AreCounters counters_bytes counters_at (In3 v) bits3 text3 (read3 v) counters_field (field3 v)
 
-field1 : (n : ℕ) → IsField (λ p. In1 p × (bits1 p ≡ n)) text1 (read1 n)
-field1 = next_group_field IsCurrent optional_current (optional_by current_at) In2 bits2 text2 read2 optional_current_field field2
+field1 : (v : RecordVersion) (n : ℕ) → IsField (λ p. In1 v p × (bits1 p ≡ n)) text1 (read1 v n)
+field1 v = next_group_field IsCurrent optional_current (optional_by current_at) (In2 v) bits2 text2 (read2 v) optional_current_field (field2 v)
 
-groups_field : (n : ℕ) → IsField (λ p. In0 p × (bits0 p ≡ n)) text0 (groups_at n)
-groups_field = next_group_field AreNonces nonces_bytes nonces_at In1 bits1 text1 read1 nonces_field field1
+groups_field : (v : RecordVersion) (n : ℕ) → IsField (λ p. In0 v p × (bits0 p ≡ n)) text0 (groups_at v n)
+groups_field v = next_group_field AreNonces nonces_bytes nonces_at (In1 v) bits1 text1 (read1 v) nonces_field (field1 v)
 
 -- ---- the change
 
@@ -267,15 +274,9 @@ group_text c =
     ++ (group_bytes counted_bytes c.mac_queue
     ++ group_bytes item_change_bytes c.items)))))
 
-masks : (a b c d e f g n : ℕ) → a + 2 * (b + 2 * (c + 2 * (d + 2 * (e + 2 * (f + 2 * (g + 2 * 0)))))) ≡ a + 2 * (b + 2 * (c + 2 * (d + 2 * (e + 2 * (f + 2 * g)))))
-masks a b c d e f g n = omega arith
-
-same_mask : (x : GroupFields) → bits0 x ≡ mask (groups_of x)
-same_mask x = masks (there x.0) (there x.1.0) (there x.1.1.0) (there x.1.1.1.0) (there x.1.1.1.1.0) (there x.1.1.1.1.1.0) (there x.1.1.1.1.1.1.0) 0
-
-groups_seen : (n : ℕ) → IsField (λ c. AreInRange V1 c × (mask c ≡ n)) group_text (seen_as groups_of (groups_at n))
-groups_seen n =
-    seen_field (λ p. In0 p × (bits0 p ≡ n)) text0 (groups_at n) (groups_field n) groups_of (λ c. AreInRange V1 c × (mask c ≡ n)) group_text
+groups_seen : (v : RecordVersion) (n : ℕ) → IsField (λ c. AreInRange v c × (mask c ≡ n)) group_text (seen_as groups_of (groups_at v n))
+groups_seen v n =
+    seen_field (λ p. In0 v p × (bits0 p ≡ n)) text0 (groups_at v n) (groups_field v n) groups_of (λ c. AreInRange v c × (mask c ≡ n)) group_text
     (λ x h. (
       (
         record {
@@ -286,39 +287,40 @@ groups_seen n =
           awaited = h.0.1.1.1.1.0;
           mac_queue = h.0.1.1.1.1.1.0;
           items = h.0.1.1.1.1.1.1.0;
+          grew = h.0.1.1.1.1.1.1.1;
         },
-        sym (same_mask x) ∙ h.1,
+        h.1,
       ),
       refl,
     ))
     (λ c h.
-    let x : GroupFields = (c.nonces, (c.current, (c.counters, (c.pending, (c.awaited, (c.mac_queue, (c.items, tt))))))) in (
+    let x : GroupFields = (c.nonces, (c.current, (c.counters, (c.pending, (c.awaited, (c.mac_queue, (c.items, c.grew))))))) in (
       x,
-      ((h.0.nonces, (h.0.current, (h.0.counters, (h.0.pending, (h.0.awaited, (h.0.mac_queue, (h.0.items, tt))))))), same_mask x ∙ h.1),
+      ((h.0.nonces, (h.0.current, (h.0.counters, (h.0.pending, (h.0.awaited, (h.0.mac_queue, (h.0.items, h.0.grew))))))), h.1),
       refl,
       refl,
     ))
 
-pub change_field : IsField (AreInRange V1) (change_bytes V1) change_at
+pub change_field : (v : RecordVersion) → IsField (AreInRange v) change_bytes (change_at v)
 unfolding change_at change_bytes
-change_field = record {
+change_field v = record {
   takes = λ bytes c rest fits e.
-      let s = bind_some (byte_at bytes) (λ bits. seen_as groups_of (groups_at bits.0) bits.1) (c, rest) e in
+      let s = bind_some (byte_at bytes) (λ bits. seen_as groups_of (groups_at v bits.0) bits.1) (c, rest) e in
       let one = byte_field.takes bytes s.0.0 s.0.1 fits s.1 in
       let after : IsBytes s.0.1 = IsBytes-after (s.0.0 ∷ []) s.0.1 (subst IsBytes one.1 fits) in
-      let t = (groups_seen s.0.0).takes s.0.1 c rest after s.2 in
+      let t = (groups_seen v s.0.0).takes s.0.1 c rest after s.2 in
       (t.0.0, one.1 ∙ ap (λ (r : List ℕ). s.0.0 ∷ r) t.1 ∙ ap (λ (n : ℕ). n ∷ (group_text c ++ rest)) (sym t.0.1));
-  again = λ c rest h. (groups_seen (mask c)).again c rest (h, refl);
+  again = λ c rest h. (groups_seen v (mask c)).again c rest (h, refl);
 }
 
-pub change_takes : (bytes : List ℕ) (c : Groups) → IsBytes bytes → change_read bytes ≡ Some c → AreInRange V1 c × (bytes ≡ change_bytes V1 c)
+pub change_takes : (v : RecordVersion) (bytes : List ℕ) (c : Groups) → IsBytes bytes → change_read v bytes ≡ Some c → AreInRange v c × (bytes ≡ change_bytes c)
 unfolding change_read
-change_takes bytes c fits e = whole_takes (AreInRange V1) (change_bytes V1) change_at change_field bytes c fits e
+change_takes v bytes c fits e = whole_takes (AreInRange v) change_bytes (change_at v) (change_field v) bytes c fits e
 
-pub change_again : (c : Groups) → AreInRange V1 c → change_read (change_bytes V1 c) ≡ Some c
+pub change_again : (v : RecordVersion) (c : Groups) → AreInRange v c → change_read v (change_bytes c) ≡ Some c
 unfolding change_read
-change_again c h = whole_again (AreInRange V1) (change_bytes V1) change_at change_field c h
+change_again v c h = whole_again (AreInRange v) change_bytes (change_at v) (change_field v) c h
 
 -- no two changes share their bytes
-pub one_change : (a b : Groups) → AreInRange V1 a → AreInRange V1 b → change_bytes V1 a ≡ change_bytes V1 b → a ≡ b
-one_change a b ha hb e = some_is a b (sym (change_again a ha) ∙ ap change_read e ∙ change_again b hb)
+pub one_change : (v : RecordVersion) (a b : Groups) → AreInRange v a → AreInRange v b → change_bytes a ≡ change_bytes b → a ≡ b
+one_change v a b ha hb e = some_is a b (sym (change_again v a ha) ∙ ap (change_read v) e ∙ change_again v b hb)

@@ -1,11 +1,11 @@
 -- From one record to another there is one change, and a change of a record leads to one record.
-use Rattle.std.proofs.Common.{◌≡◌, ◌≢◌, ℕ, suc, ◌≤◌, List, [], ◌∷◌, ◌++◌, length, drop, Option, Some, None, Result, Ok, Err, refl, sym, ap, subst, ◌∙◌, arith, inl}
+use Rattle.std.proofs.Common.{◌≡◌, ◌≢◌, ℕ, suc, ◌≤◌, Bool, true, false, List, [], ◌∷◌, ◌++◌, length, drop, Option, Some, None, Result, Ok, Err, refl, sym, ap, subst, ◌∙◌, arith, inl, inr}
 use Rattle.std.specs.Prelude.{IfErr, IfOk, IfSome, MatchResult, ◌⊎◌, option_map, unwrap_or}
 use Rattle.std.proofs.lemmas.List.{length-append}
 use Rattle.lw_types.specs.Hex.{IsBytes}
 use Rattle.lw_types.specs.declared.refusal.Refusal.{Refusal}
 use Rattle.lw_types.specs.declared.refusal.Refusal.TheVariants.{OutOfMemory, Damaged}
-use Rattle.byte_fields.specs.FieldLemmas.{some_is}
+use Rattle.byte_fields.proofs.FieldLemmas.{some_is}
 use Rattle.mac_commands.specs.Queueable.{AreQueueable}
 use Rattle.devices.specs.declared.activation.Session.{Session}
 use Rattle.devices.specs.declared.activation.CurrentSession.{CurrentSession}
@@ -15,9 +15,9 @@ use Rattle.devices.specs.declared.queue.TheConstants.ItemQueue.{MOST as MOST_ITE
 use Rattle.devices.specs.Activation.{Grants, AreInOrder}
 use Rattle.devices.specs.Parts.{nonces_of}
 use Rattle.record_codec.specs.declared.version.RecordVersion.{RecordVersion}
-use Rattle.record_codec.specs.declared.version.RecordVersion.TheVariants.{V1}
-use Rattle.record_codec.specs.Change.{Added, Groups, ItemChange, Leaves, IsChange, IsChangeOf, IsCurrentGroup, IsGroup, IsItemGroup, change_bytes}
-use Rattle.record_codec.specs.ChangeReading.{IsNew, IsNewCurrent, IsNewItems, IsNewTo, IsNoChange, change_read, device_after, current_after, items_after}
+use Rattle.record_codec.specs.Answers.{ReadsChange}
+use Rattle.record_codec.specs.Change.{Added, Groups, ItemChange, Leaves, IsChange, IsChangeOf, IsCurrentGroup, IsGroup, IsGrown, IsItemGroup, change_bytes}
+use Rattle.record_codec.specs.ChangeReading.{HasRoomToGrow, IsNew, IsNewCurrent, IsNewItems, IsNewTo, IsNoChange, change_read, device_after, current_after, heard_after, items_after}
 use Rattle.record_codec.proofs.ChangeFields.{change_again, change_takes, one_change}
 
 -- ---- what a change makes of a record
@@ -54,6 +54,10 @@ items_give None b a h = sym h
 items_give (Some Leaves) b a h = ap (drop 1) h.1
 items_give (Some (Added i)) b a h = sym h
 
+heard_gives : (grew : Bool) (b a : ℕ) → IsGrown grew b a → heard_after grew b ≡ a
+heard_gives false b a h = sym h
+heard_gives true b a h = sym h.1
+
 pub device_after_is : (b a : Device) (c : Groups) → IsChange b a c → device_after c b ≡ a
 device_after_is b a c h =
     let p = h.provisioned in
@@ -63,6 +67,7 @@ device_after_is b a c h =
     let awaited = group_gives c.awaited b.awaited a.awaited h.awaited in
     let mac_queue = group_gives c.mac_queue b.mac_queue a.mac_queue h.mac_queue in
     let items = items_give c.items b.items a.items h.items in
+    let heard = heard_gives c.grew b.heard a.heard h.heard in
     λ i. record {
       dev_eui = sym p.dev_eui i;
       join_eui = sym p.join_eui i;
@@ -75,11 +80,12 @@ device_after_is b a c h =
       awaited = awaited i;
       mac_queue = mac_queue i;
       items = items i;
+      heard = heard i;
     }
 
 pub one_record : (version : RecordVersion) (before a b : Device) (bytes : List ℕ) → IsChangeOf version before a bytes → IsChangeOf version before b bytes → a ≡ b
-one_record V1 before a b bytes h k =
-    let same : h.0 ≡ k.0 = one_change h.0 k.0 h.1 k.1 (sym h.3 ∙ k.3) in
+one_record version before a b bytes h k =
+    let same : h.0 ≡ k.0 = one_change version h.0 k.0 h.1 k.1 (sym h.3 ∙ k.3) in
     sym (device_after_is before a h.0 h.2) ∙ ap (λ (c : Groups). device_after c before) same ∙ device_after_is before b k.0 k.2
 
 -- ---- one change of two records
@@ -136,6 +142,12 @@ same_items (Some (Added i)) None b a h k = absurd (no_adding b a i k h)
 same_items (Some (Added i)) (Some Leaves) b a h k = absurd (not_both b a k.0 i k.1 h)
 same_items (Some (Added i)) (Some (Added j)) b a h k = ap (λ (x : Item). Some (Added x)) (same_end b i j (sym h ∙ k))
 
+same_count : (o p : Bool) (b a : ℕ) → IsGrown o b a → IsGrown p b a → o ≡ p
+same_count false false b a h k = refl
+same_count false true b a h k = absurd (let one = h in let two = k.1 in omega arith)
+same_count true false b a h k = absurd (let one = h.1 in let two = k in omega arith)
+same_count true true b a h k = refl
+
 same_change : (b a : Device) (c d : Groups) → IsChange b a c → IsChange b a d → c ≡ d
 same_change b a c d h k =
     let nonces = same_group c.nonces d.nonces (nonces_of b) (nonces_of a) h.nonces k.nonces in
@@ -144,6 +156,7 @@ same_change b a c d h k =
     let awaited = same_group c.awaited d.awaited b.awaited a.awaited h.awaited k.awaited in
     let mac_queue = same_group c.mac_queue d.mac_queue b.mac_queue a.mac_queue h.mac_queue k.mac_queue in
     let items = same_items c.items d.items b.items a.items h.items k.items in
+    let grew = same_count c.grew d.grew b.heard a.heard h.heard k.heard in
     λ i. record {
       nonces = nonces i;
       current = current.0 i;
@@ -152,10 +165,11 @@ same_change b a c d h k =
       awaited = awaited i;
       mac_queue = mac_queue i;
       items = items i;
+      grew = grew i;
     }
 
 pub one_spelling : (version : RecordVersion) (before after : Device) (a b : List ℕ) → IsChangeOf version before after a → IsChangeOf version before after b → a ≡ b
-one_spelling version before after a b h k = h.3 ∙ ap (change_bytes version) (same_change before after h.0 k.0 h.2 k.2) ∙ sym k.3
+one_spelling version before after a b h k = h.3 ∙ ap change_bytes (same_change before after h.0 k.0 h.2 k.2) ∙ sym k.3
 
 -- ---- a change that is new to a record
 
@@ -191,6 +205,10 @@ whole_made : (o : Option (List ℕ)) (b : List ℕ) → IfSome o AreQueueable �
 whole_made None b h whole = whole
 whole_made (Some q) b h whole = h
 
+heard_made : (grew : Bool) (b : ℕ) → HasRoomToGrow grew b → IsGrown grew b (heard_after grew b)
+heard_made false b h = refl
+heard_made true b h = (h, refl)
+
 pub new_change : (b : Device) (c : Groups) → length b.items ≤ MOST_ITEMS → AreQueueable b.mac_queue → IsNewTo b c → IsChange b (device_after c b) c
 new_change b c few whole h =
     record {
@@ -208,6 +226,7 @@ new_change b c few whole h =
       awaited = group_made c.awaited b.awaited h.awaited;
       mac_queue = group_made c.mac_queue b.mac_queue h.mac_queue;
       items = items_made c.items b.items h.items;
+      heard = heard_made c.grew b.heard h.heard;
       in_order = h.in_order;
       whole = whole_made c.mac_queue b.mac_queue h.whole whole;
       few = few_made c.items b.items h.items few;
@@ -239,6 +258,10 @@ whole_new : (o : Option (List ℕ)) (b a : List ℕ) → IsGroup o b a → AreQu
 whole_new None b a h whole = tt
 whole_new (Some q) b a h whole = subst AreQueueable (sym h.1) whole
 
+heard_new : (grew : Bool) (b a : ℕ) → IsGrown grew b a → HasRoomToGrow grew b
+heard_new false b a h = tt
+heard_new true b a h = h.0
+
 pub change_new : (b a : Device) (c : Groups) → IsChange b a c → IsNewTo b c
 change_new b a c h =
     record {
@@ -249,31 +272,51 @@ change_new b a c h =
       mac_queue = group_new c.mac_queue b.mac_queue a.mac_queue h.mac_queue;
       whole = whole_new c.mac_queue b.mac_queue a.mac_queue h.mac_queue h.whole;
       items = items_new c.items b.items a.items h.few h.items;
+      heard = heard_new c.grew b.heard a.heard h.heard;
       in_order = subst (λ (d : Device). AreInOrder d.activation) (sym (device_after_is b a c h)) h.in_order;
     }
 
 -- ---- what reading answers
 
-pub is_change : (before : Device) (bytes : List ℕ) (c : Groups) → IsBytes bytes → change_read bytes ≡ Some c → length before.items ≤ MOST_ITEMS → AreQueueable before.mac_queue → IsNewTo before c
-    → IsChangeOf V1 before (device_after c before) bytes
-is_change before bytes c fits e few whole new = let t = change_takes bytes c fits e in (c, t.0, new_change before c few whole new, t.1)
+is_change : (v : RecordVersion) (before : Device) (bytes : List ℕ) (c : Groups) → IsBytes bytes → change_read v bytes ≡ Some c → length before.items ≤ MOST_ITEMS → AreQueueable before.mac_queue → IsNewTo before c
+    → IsChangeOf v before (device_after c before) bytes
+is_change v before bytes c fits e few whole new = let t = change_takes v bytes c fits e in (c, t.0, new_change before c few whole new, t.1)
 
 -- the record that was made, unless memory ran out
 abbrev pub Makes : Device → Result Device Refusal → Type 0
 Makes d r = MatchResult r (λ made. made ≡ d) (λ e. e ≡ OutOfMemory)
 
-pub is_made : (before after : Device) (bytes : List ℕ) (r : Result Device Refusal) → IsChangeOf V1 before after bytes → Makes after r → IfOk r (λ made. IsChangeOf V1 before made bytes)
-is_made before after bytes (Ok made) h is = subst (λ (d : Device). IsChangeOf V1 before d bytes) (sym is) h
-is_made before after bytes (Err e) h is = tt
+is_made : (v : RecordVersion) (before after : Device) (bytes : List ℕ) (r : Result Device Refusal) → IsChangeOf v before after bytes → Makes after r → IfOk r (λ made. IsChangeOf v before made bytes)
+is_made v before after bytes (Ok made) h is = subst (λ (d : Device). IsChangeOf v before d bytes) (sym is) h
+is_made v before after bytes (Err e) h is = tt
 
-pub is_alone : (before after other : Device) (bytes : List ℕ) (r : Result Device Refusal) → IsChangeOf V1 before after bytes → IsChangeOf V1 before other bytes → Makes after r
+is_alone : (v : RecordVersion) (before after other : Device) (bytes : List ℕ) (r : Result Device Refusal) → IsChangeOf v before after bytes → IsChangeOf v before other bytes → Makes after r
     → MatchResult r (λ made. made ≡ other) (λ e. e ≡ OutOfMemory)
-is_alone before after other bytes (Ok made) h k is = is ∙ one_record V1 before after other bytes h k
-is_alone before after other bytes (Err e) h k is = is
+is_alone v before after other bytes (Ok made) h k is = is ∙ one_record v before after other bytes h k
+is_alone v before after other bytes (Err e) h k is = is
 
-pub is_refused : (after : Device) (r : Result Device Refusal) → Makes after r → IfErr r (λ e. (e ≡ OutOfMemory) ⊎ (e ≡ Damaged))
+is_refused : (after : Device) (r : Result Device Refusal) → Makes after r → IfErr r (λ e. (e ≡ OutOfMemory) ⊎ (e ≡ Damaged))
 is_refused after (Ok made) is = tt
 is_refused after (Err e) is = inl is
 
-pub none_there : (before after : Device) (bytes : List ℕ) → IsNoChange before bytes → IsChangeOf V1 before after bytes → ⊥
-none_there before after bytes none h = none h.0 (ap change_read h.3 ∙ change_again h.0 h.1) (change_new before after h.0 h.2)
+-- what is read of the bytes of a change
+pub reads_change : (v : RecordVersion) (before : Device) (bytes : List ℕ) (c : Groups) (r : Result Device Refusal) → IsBytes bytes → change_read v bytes ≡ Some c → length before.items ≤ MOST_ITEMS → AreQueueable before.mac_queue
+    → IsNewTo before c → Makes (device_after c before) r → ReadsChange v before bytes r
+reads_change v before bytes c r fits e few whole new is =
+    let after : Device = device_after c before in
+    let h : IsChangeOf v before after bytes = is_change v before bytes c fits e few whole new in
+    record {
+      found = is_made v before after bytes r h is;
+      only = λ other k. is_alone v before after other bytes r h k is;
+      refused = is_refused after r is;
+      memory = λ out. (after, h);
+    }
+
+-- no change is read of other bytes
+pub reads_none : (v : RecordVersion) (before : Device) (bytes : List ℕ) → IsNoChange v before bytes → ReadsChange v before bytes (Err Damaged)
+reads_none v before bytes none = record {
+  found = tt;
+  only = λ after h. absurd (none h.0 (ap (change_read v) h.3 ∙ change_again v h.0 h.1) (change_new before after h.0 h.2));
+  refused = inr refl;
+  memory = λ out. absurd cc;
+}

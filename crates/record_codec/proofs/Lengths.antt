@@ -12,7 +12,9 @@ use Rattle.devices.specs.declared.device.Device.{Device}
 use Rattle.devices.specs.declared.queue.Item.{Item}
 use Rattle.devices.specs.Activation.{Grants}
 use Rattle.byte_fields.specs.Spelling.{counted_bytes, flag}
-use Rattle.record_codec.specs.DeviceRecord.{activation, awaited_bytes, current_session, dev_nonce, granted_bytes, head, item, item_queue, optional_current, optional_session, session, spelling, AreGrants, IsCurrentSession, IsDevice, IsItem, IsSession}
+use Rattle.record_codec.specs.declared.version.RecordVersion.{RecordVersion}
+use Rattle.record_codec.specs.declared.version.RecordVersion.TheVariants.{V1, V2}
+use Rattle.record_codec.specs.DeviceRecord.{activation, awaited_bytes, current_session, dev_nonce, granted_bytes, head, heard_bytes, item, item_queue, optional_current, optional_session, session, spelling, AreGrants, IsCurrentSession, IsDevice, IsItem, IsSession}
 
 abbrev pub Has : ℕ → ℕ → List ℕ → Type 0
 Has least most bytes = (least ≤ length bytes) × (length bytes ≤ most)
@@ -86,17 +88,32 @@ items_most (i ∷ items) h =
 has_items : (items : List Item) → length items ≤ 16 → AllByRecursion IsItem items → Has 1 3985 (item_queue items)
 has_items items few h = let most = items_most items h in (omega arith, omega arith)
 
-has_head : (d : Device) → IsDevice d → Has 35 35 (head d)
-has_head d h =
+has_head : (v : RecordVersion) (d : Device) → IsDevice v d → Has 35 35 (head d)
+has_head v d h =
     let len = length-append d.app_key.0 (d.application ∷ d.rx1_offset ∷ d.rx_delay ∷ []) in
     let key = h.head.app_key.1 in
     (omega arith, omega arith)
 
-pub has_spelling : (d : Device) → IsDevice d → Has 50 4180 (spelling d)
+-- a record with a MAC queue and a count that are so long
+has_parts : (v : RecordVersion) (queue count : ℕ) (d : Device) → IsDevice v d → length d.mac_queue ≤ queue → Has count count (heard_bytes v d.heard) → Has (50 + count) (4116 + queue + count) (spelling v d)
 unfolding spelling
-has_spelling d h =
-    has-append 35 35 15 4145 (head d) (dev_nonce d.last_dev_nonce ++ (activation d.activation ++ (awaited_bytes d.awaited ++ (counted_bytes d.mac_queue ++ item_queue d.items)))) (has_head d h)
-    (has-append 3 3 12 4142 (dev_nonce d.last_dev_nonce) (activation d.activation ++ (awaited_bytes d.awaited ++ (counted_bytes d.mac_queue ++ item_queue d.items))) (has_dev_nonce d.last_dev_nonce)
-    (has-append 5 87 7 4055 (activation d.activation) (awaited_bytes d.awaited ++ (counted_bytes d.mac_queue ++ item_queue d.items)) (has_activation d.activation h.activation)
-    (has-append 5 5 2 4050 (awaited_bytes d.awaited) (counted_bytes d.mac_queue ++ item_queue d.items) (has_awaited d.awaited)
-    (has-append 1 65 1 3985 (counted_bytes d.mac_queue) (item_queue d.items) (has_counted d.mac_queue 64 h.mac_queue.1) (has_items d.items h.items.0 h.items.1)))))
+has_parts v queue count d h few heard =
+    let queues = has-append 1 (1 + queue) (1 + count) (3985 + count) (counted_bytes d.mac_queue) (item_queue d.items ++ heard_bytes v d.heard) (has_counted d.mac_queue queue few)
+    (has-append 1 3985 count count (item_queue d.items) (heard_bytes v d.heard) (has_items d.items h.items.0 h.items.1) heard) in
+    let behind = has-append 5 87 _ _ (activation d.activation) (awaited_bytes d.awaited ++ (counted_bytes d.mac_queue ++ (item_queue d.items ++ heard_bytes v d.heard))) (has_activation d.activation h.activation)
+    (has-append 5 5 _ _ (awaited_bytes d.awaited) (counted_bytes d.mac_queue ++ (item_queue d.items ++ heard_bytes v d.heard)) (has_awaited d.awaited) queues) in
+    let whole = has-append 35 35 _ _ (head d) (dev_nonce d.last_dev_nonce ++ (activation d.activation ++ (awaited_bytes d.awaited ++ (counted_bytes d.mac_queue ++ (item_queue d.items ++ heard_bytes v d.heard))))) (has_head v d h)
+    (has-append 3 3 _ _ (dev_nonce d.last_dev_nonce) (activation d.activation ++ (awaited_bytes d.awaited ++ (counted_bytes d.mac_queue ++ (item_queue d.items ++ heard_bytes v d.heard)))) (has_dev_nonce d.last_dev_nonce) behind) in
+    let least = whole.0 in
+    let most = whole.1 in
+    (omega arith, omega arith)
+
+pub has_spelling_v1 : (d : Device) → IsDevice V1 d → Has 50 4180 (spelling V1 d)
+has_spelling_v1 d h = has_parts V1 64 0 d h h.mac_queue.1 (omega arith, omega arith)
+
+pub has_spelling_v2 : (d : Device) → IsDevice V2 d → Has 58 4188 (spelling V2 d)
+has_spelling_v2 d h = has_parts V2 64 8 d h h.mac_queue.1 (omega arith, omega arith)
+
+pub has_spelling : (v : RecordVersion) (d : Device) → IsDevice v d → Has 50 4188 (spelling v d)
+has_spelling V1 d h = let long = has_spelling_v1 d h in let least = long.0 in let most = long.1 in (omega arith, omega arith)
+has_spelling V2 d h = let long = has_spelling_v2 d h in let least = long.0 in let most = long.1 in (omega arith, omega arith)

@@ -9,8 +9,8 @@ use Rattle.lw_types.specs.Hex.{IsBytes}
 use Rattle.byte_fields.specs.Field.{IsField}
 use Rattle.byte_fields.specs.Reading.{Reader, both, seen_as, that, be_at, flag_at, key_at, three_be_bytes_at}
 use Rattle.byte_fields.specs.Spelling.{flag}
-use Rattle.byte_fields.specs.FieldLemmas.{bind_some, same_field, both_field, seen_field, some_is, that_field, flag_field}
-use Rattle.byte_fields.specs.NumberLemmas.{Below, key_field, three_be_bytes_field, u16_be_field, u32_be_field, u64_be_field}
+use Rattle.byte_fields.proofs.FieldLemmas.{bind_some, same_field, both_field, seen_field, some_is, that_field, flag_field}
+use Rattle.byte_fields.proofs.NumberLemmas.{Below, key_field, three_be_bytes_field, u16_be_field, u32_be_field, u64_be_field}
 use Rattle.devices.specs.declared.Tag.{Tag}
 use Rattle.devices.specs.declared.activation.Session.{Session}
 use Rattle.devices.specs.declared.activation.CurrentSession.{CurrentSession}
@@ -123,15 +123,22 @@ session_field channels =
       refl,
     ))
 
+abbrev pub IsAtMost : ℕ → ℕ → Type 0
+IsAtMost most n = n ≤ most
+
+-- a number of eight bytes that has a greatest one
+pub at_most_field : (most : ℕ) → most < 2 ^ 64 → IsField (IsAtMost most) (to_be_bytes w64) (that (λ n. nat_le n most) (be_at w64))
+at_most_field most small =
+    same_field (λ n. Below (2 ^ 64) n × (nat_le n most ≡ true)) (IsAtMost most) (to_be_bytes w64) (that (λ n. nat_le n most) (be_at w64))
+    (that_field (Below (2 ^ 64)) (to_be_bytes w64) (be_at w64) u64_be_field (λ n. nat_le n most))
+    (λ n h. leb-true n most h.1)
+    (λ n h. (omega arith, le-leb n most h))
+
 abbrev pub IsNextDown : ℕ → Type 0
 IsNextDown n = n ≤ 2 ^ 32
 
 pub next_down_field : IsField IsNextDown (to_be_bytes w64) (that (λ n. nat_le n (2 ^ 32)) (be_at w64))
-next_down_field =
-    same_field (λ n. Below (2 ^ 64) n × (nat_le n (2 ^ 32) ≡ true)) IsNextDown (to_be_bytes w64) (that (λ n. nat_le n (2 ^ 32)) (be_at w64))
-    (that_field (Below (2 ^ 64)) (to_be_bytes w64) (be_at w64) u64_be_field (λ n. nat_le n (2 ^ 32)))
-    (λ n h. leb-true n (2 ^ 32) h.1)
-    (λ n h. (omega arith, le-leb n (2 ^ 32) h))
+next_down_field = at_most_field (2 ^ 32) (omega arith)
 
 -- a session in use with these channels
 abbrev IsCurrentOn : Channels → CurrentSession → Type 0

@@ -1,6 +1,6 @@
 -- A change: what one record has that the record before it had not, in groups of fields.
-use Rattle.std.specs.Prelude.{◌≡◌, ◌≢◌, ◌≤◌, ◌<◌, ◌^◌, ◌+◌, ◌*◌, ℕ, List, [], ◌∷◌, ◌++◌, length}
-use Rattle.std.specs.Prelude.{Option, Some, None, IfSome}
+use Rattle.std.specs.Prelude.{◌≡◌, ◌≢◌, ◌≤◌, ◌<◌, ◌^◌, ◌+◌, ◌*◌, ℕ, Bool, false, true, List, []}
+use Rattle.std.specs.Prelude.{◌∷◌, ◌++◌, length, Option, Some, None, IfSome}
 use Rattle.std.specs.Int.{w32, w64, to_be_bytes}
 use Rattle.lw_types.specs.Hex.{IsBytes}
 use Rattle.byte_fields.specs.Spelling.{counted_bytes}
@@ -10,7 +10,7 @@ use Rattle.devices.specs.declared.activation.Session.{Session}
 use Rattle.devices.specs.declared.activation.CurrentSession.{CurrentSession}
 use Rattle.devices.specs.declared.queue.Item.{Item}
 use Rattle.devices.specs.declared.device.Device.{Device}
-use Rattle.devices.specs.declared.mac_queue.TheConstants.MacQueue.{MOST as LONGEST_MAC_QUEUE}
+use Rattle.devices.specs.declared.TheConstants.{LAST_HEARD}
 use Rattle.devices.specs.declared.queue.TheConstants.ItemQueue.{MOST as MOST_ITEMS}
 use Rattle.devices.specs.Activation.{Grants, AreInOrder}
 use Rattle.devices.specs.Becoming.{AreProvisionedAlike}
@@ -18,8 +18,9 @@ use Rattle.devices.specs.Parts.{nonces_of, session_of, counters_of}
 use Rattle.record_codec.specs.DeviceRecord.{awaited_bytes, dev_nonce, granted_bytes, item}
 use Rattle.record_codec.specs.DeviceRecord.{optional_current, optional_session, IsCurrentSession}
 use Rattle.record_codec.specs.DeviceRecord.{IsItem, IsJoinNonce, IsSession}
+use Rattle.record_codec.specs.Version.{longest_mac_queue}
 use Rattle.record_codec.specs.declared.version.RecordVersion.{RecordVersion}
-use Rattle.record_codec.specs.declared.version.RecordVersion.TheVariants.{V1}
+use Rattle.record_codec.specs.declared.version.RecordVersion.TheVariants.{V1, V2}
 
 -- ---- the groups
 
@@ -29,7 +30,7 @@ pub data ItemChange : Type 0 where
   -- this one is added at the end
   Added : Item → ItemChange
 
--- the groups of a change, each there or not
+-- the groups of a change, each there or not, and whether one more uplink is counted
 pub record Groups : Type 0 where
   -- the last DevNonce and the last JoinNonce granted
   pub nonces : Option (Option ℕ × Option ℕ)
@@ -40,6 +41,7 @@ pub record Groups : Type 0 where
   pub awaited : Option (Option Tag)
   pub mac_queue : Option (List ℕ)
   pub items : Option ItemChange
+  pub grew : Bool
 
 -- ---- the bytes
 
@@ -48,7 +50,12 @@ abbrev pub there : {A : Type 0} → Option A → ℕ
 there None = 0
 there (Some x) = 1
 
--- a bit for each group, the lowest for the first
+-- 1 where the count grew
+abbrev pub bit : Bool → ℕ
+bit false = 0
+bit true = 1
+
+-- a bit for each group, the lowest for the first, and bit 7 for the count, which has no bytes
 abbrev pub mask : Groups → ℕ
 mask c =
     there c.nonces
@@ -57,7 +64,8 @@ mask c =
     + 2 * (there c.pending
     + 2 * (there c.awaited
     + 2 * (there c.mac_queue
-    + 2 * there c.items)))))
+    + 2 * (there c.items
+    + 2 * bit c.grew))))))
 
 -- the bytes of a group that is there
 abbrev pub group_bytes : {A : Type 0} → (A → List ℕ) → Option A → List ℕ
@@ -74,9 +82,9 @@ abbrev pub item_change_bytes : ItemChange → List ℕ
 item_change_bytes Leaves = 0 ∷ []
 item_change_bytes (Added i) = 1 ∷ item i
 
--- the one spelling of a change: the mask, and the groups that are there
-unfoldable pub change_bytes : RecordVersion → Groups → List ℕ
-change_bytes V1 c =
+-- the one spelling of a change, in each version: the mask, and the groups that are there
+unfoldable pub change_bytes : Groups → List ℕ
+change_bytes c =
     mask c
     ∷ (group_bytes nonces_bytes c.nonces
     ++ (group_bytes optional_current c.current
@@ -98,11 +106,12 @@ abbrev pub IsItemChange : ItemChange → Type 0
 IsItemChange Leaves = Unit {0}
 IsItemChange (Added i) = IsItem i
 
--- the most bytes of a MAC queue in a version
-abbrev pub longest_mac_queue : RecordVersion → ℕ
-longest_mac_queue V1 = LONGEST_MAC_QUEUE
+-- nothing is counted in version 1
+abbrev pub MayGrow : RecordVersion → Bool → Type 0
+MayGrow V1 grew = grew ≡ false
+MayGrow V2 grew = Unit {0}
 
--- the fields of each group are in their ranges
+-- the fields of each group are in their ranges, and what a version doesn't have isn't there
 pub record AreInRange (version : RecordVersion) (c : Groups) : Type 0 where
   pub nonces : IfSome c.nonces AreNonces
   pub current : IfSome c.current (λ o. IfSome o IsCurrentSession)
@@ -111,6 +120,7 @@ pub record AreInRange (version : RecordVersion) (c : Groups) : Type 0 where
   pub awaited : IfSome c.awaited (λ o. IfSome o (λ tag. tag.0 < 2 ^ 32))
   pub mac_queue : IfSome c.mac_queue (λ q. IsBytes q × (length q ≤ longest_mac_queue version))
   pub items : IfSome c.items IsItemChange
+  pub grew : MayGrow version c.grew
 
 -- ---- from one record to another
 
@@ -136,6 +146,11 @@ IsItemGroup None before after = after ≡ before
 IsItemGroup (Some Leaves) before after = (first : Item) × (before ≡ first ∷ after)
 IsItemGroup (Some (Added i)) before after = after ≡ before ++ i ∷ []
 
+-- the count is the same; or it is one more, where it wasn't at its end
+abbrev pub IsGrown : Bool → ℕ → ℕ → Type 0
+IsGrown false before after = after ≡ before
+IsGrown true before after = (before < LAST_HEARD) × (after ≡ before + 1)
+
 -- the groups are exactly what one record has that the other had not, and the record that they lead
 -- to is one that a device may have
 pub record IsChange (before after : Device) (c : Groups) : Type 0 where
@@ -146,14 +161,15 @@ pub record IsChange (before after : Device) (c : Groups) : Type 0 where
   pub awaited : IsGroup c.awaited before.awaited after.awaited
   pub mac_queue : IsGroup c.mac_queue before.mac_queue after.mac_queue
   pub items : IsItemGroup c.items before.items after.items
+  pub heard : IsGrown c.grew before.heard after.heard
   pub in_order : AreInOrder after.activation
   pub whole : AreQueueable after.mac_queue
   pub few : length after.items ≤ MOST_ITEMS
 
--- these bytes are the change from one record to another
+-- these bytes are the change from one record to another, in a version
 abbrev pub IsChangeOf : RecordVersion → Device → Device → List ℕ → Type 0
 IsChangeOf version before after bytes =
-    (c : Groups) × AreInRange version c × IsChange before after c × (bytes ≡ change_bytes version c)
+    (c : Groups) × AreInRange version c × IsChange before after c × (bytes ≡ change_bytes c)
 
 -- these bytes are a change of this record
 abbrev pub IsSomeChange : RecordVersion → Device → List ℕ → Type 0

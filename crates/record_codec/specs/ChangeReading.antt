@@ -1,7 +1,7 @@
--- Reading a change from left to right: the mask, and each group whose bit is set. What the change
--- makes of a record, and where it is one of that record.
-use Rattle.std.specs.Prelude.{◌≡◌, ◌≢◌, ◌<◌, ◌%◌, ◌/◌, ◌^◌, ◌==◌, ℕ, Bool, true, false, List, []}
-use Rattle.std.specs.Prelude.{◌∷◌, ◌++◌, length, drop, if◌then◌else◌, Option, Some, None, IfSome}
+-- Reading a change of a version from left to right: the mask, and each group whose bit is set. What
+-- the change makes of a record, and where it is one of that record.
+use Rattle.std.specs.Prelude.{◌≡◌, ◌≢◌, ◌<◌, ◌%◌, ◌/◌, ◌^◌, ◌+◌, ◌==◌, ℕ, zero, suc, Bool, true}
+use Rattle.std.specs.Prelude.{false, List, [], ◌∷◌, ◌++◌, length, drop, Option, Some, None, IfSome}
 use Rattle.std.specs.Prelude.{nat_le, option_map, unwrap_or}
 use Rattle.std.specs.Int.{w16, w32, w64}
 use Rattle.byte_fields.specs.Reading.{Reader, ◌>>=◌, both, seen_as, that, be_at, byte_at}
@@ -13,11 +13,14 @@ use Rattle.devices.specs.declared.activation.CurrentSession.{CurrentSession}
 use Rattle.devices.specs.declared.queue.Item.{Item}
 use Rattle.devices.specs.declared.device.Device.{Device}
 use Rattle.devices.specs.declared.queue.TheConstants.ItemQueue.{MOST as MOST_ITEMS}
+use Rattle.devices.specs.declared.TheConstants.{LAST_HEARD}
 use Rattle.devices.specs.Activation.{Grants, AreInOrder}
 use Rattle.devices.specs.Parts.{nonces_of, session_of, counters_of}
 use Rattle.record_codec.specs.Change.{Groups, ItemChange, Leaves, Added}
 use Rattle.record_codec.specs.Reading.{awaited_at, current_at, flagged_at, granted_nonce, item_at}
 use Rattle.record_codec.specs.Reading.{mac_queue_at, optional_by, session_at}
+use Rattle.record_codec.specs.declared.version.RecordVersion.{RecordVersion}
+use Rattle.record_codec.specs.declared.version.RecordVersion.TheVariants.{V1, V2}
 
 -- ---- the groups
 
@@ -52,16 +55,20 @@ group_at field false = λ bytes. Some (None, bytes)
 abbrev pub next_group_at : {X Y : Type 0} → Reader X → (ℕ → Reader Y) → ℕ → Reader (Option X × Y)
 next_group_at field others bits = both (group_at field (is_odd bits)) (others (bits / 2))
 
--- no bit is left
-abbrev pub none_left : ℕ → Reader (Unit {0})
-none_left bits bytes = if bits == 0 then Some (tt, bytes) else None
+-- whether the count grew, by the bit that is left, which has no bytes; in version 1 none is left
+abbrev pub last_bit_at : RecordVersion → ℕ → Reader Bool
+last_bit_at V1 zero bytes = Some (false, bytes)
+last_bit_at V1 (suc bits) bytes = None
+last_bit_at V2 zero bytes = Some (false, bytes)
+last_bit_at V2 (suc zero) bytes = Some (true, bytes)
+last_bit_at V2 (suc (suc bits)) bytes = None
 
 -- the groups in the order of their bits
 abbrev pub GroupFields : Type 0
 GroupFields =
     Option (Option ℕ × Option ℕ) × (Option (Option CurrentSession) × (Option (ℕ × ℕ)
     × (Option (Option Session) × (Option (Option Tag) × (Option (List ℕ)
-    × (Option ItemChange × Unit {0}))))))
+    × (Option ItemChange × Bool))))))
 
 abbrev pub groups_of : GroupFields → Groups
 groups_of x =
@@ -73,21 +80,23 @@ groups_of x =
       awaited = x.1.1.1.1.0;
       mac_queue = x.1.1.1.1.1.0;
       items = x.1.1.1.1.1.1.0;
+      grew = x.1.1.1.1.1.1.1;
     }
 
-abbrev pub groups_at : ℕ → Reader GroupFields
-groups_at =
+abbrev pub groups_at : RecordVersion → ℕ → Reader GroupFields
+groups_at version =
     next_group_at nonces_at (next_group_at (optional_by current_at)
     (next_group_at counters_at (next_group_at (optional_by session_at)
-    (next_group_at awaited_at (next_group_at mac_queue_at
-    (next_group_at item_change_at none_left))))))
+    (next_group_at awaited_at (next_group_at (mac_queue_at version)
+    (next_group_at item_change_at (last_bit_at version)))))))
 
-unfoldable pub change_at : Reader Groups
-change_at bytes = byte_at bytes >>= λ bits. seen_as groups_of (groups_at bits.0) bits.1
+unfoldable pub change_at : RecordVersion → Reader Groups
+change_at version bytes =
+    byte_at bytes >>= λ bits. seen_as groups_of (groups_at version bits.0) bits.1
 
 -- a change that is all of the bytes
-unfoldable pub change_read : List ℕ → Option Groups
-change_read = whole change_at
+unfoldable pub change_read : RecordVersion → List ℕ → Option Groups
+change_read version = whole (change_at version)
 
 -- ---- what it makes of a record
 
@@ -103,6 +112,10 @@ abbrev pub items_after : Option ItemChange → List Item → List Item
 items_after None before = before
 items_after (Some Leaves) before = drop 1 before
 items_after (Some (Added i)) before = before ++ i ∷ []
+
+abbrev pub heard_after : Bool → ℕ → ℕ
+heard_after false before = before
+heard_after true before = before + 1
 
 abbrev pub grants_after : Groups → Device → Grants
 grants_after c before =
@@ -121,6 +134,7 @@ device_after c before =
       awaited = unwrap_or c.awaited before.awaited;
       mac_queue = unwrap_or c.mac_queue before.mac_queue;
       items = items_after c.items before.items;
+      heard = heard_after c.grew before.heard;
     }
 
 -- ---- where it is one of a record
@@ -141,6 +155,11 @@ IsNewItems None before = Unit {0}
 IsNewItems (Some Leaves) before = before ≢ []
 IsNewItems (Some (Added i)) before = length before < MOST_ITEMS
 
+-- the count isn't at its end, where it grows
+abbrev pub HasRoomToGrow : Bool → ℕ → Type 0
+HasRoomToGrow false before = Unit {0}
+HasRoomToGrow true before = before < LAST_HEARD
+
 -- each group differs from what the record has, and the record that they lead to is one that a
 -- device may have
 pub record IsNewTo (before : Device) (c : Groups) : Type 0 where
@@ -151,8 +170,10 @@ pub record IsNewTo (before : Device) (c : Groups) : Type 0 where
   pub mac_queue : IsNew c.mac_queue before.mac_queue
   pub whole : IfSome c.mac_queue AreQueueable
   pub items : IsNewItems c.items before.items
+  pub heard : HasRoomToGrow c.grew before.heard
   pub in_order : AreInOrder (grants_after c before)
 
 -- no change of the record is all of the bytes
-abbrev pub IsNoChange : Device → List ℕ → Type 0
-IsNoChange before bytes = (c : Groups) → change_read bytes ≡ Some c → ¬ IsNewTo before c
+abbrev pub IsNoChange : RecordVersion → Device → List ℕ → Type 0
+IsNoChange version before bytes =
+    (c : Groups) → change_read version bytes ≡ Some c → ¬ IsNewTo before c

@@ -1,4 +1,5 @@
--- The layout of a device record: numbers with the highest byte first, one field after another.
+-- The layout of a device record in each version: numbers with the highest byte first, one field
+-- after another.
 use Rattle.std.specs.Prelude.{◌≡◌, ℕ, ◌^◌, ◌<◌, ◌≤◌, List, [], ◌∷◌, ◌++◌, length}
 use Rattle.std.specs.Prelude.{Option, Some, None, option_map, IfSome}
 use Rattle.std.specs.List.{flat_map, AllByRecursion}
@@ -15,9 +16,12 @@ use Rattle.devices.specs.declared.channels.Channels.TheVariants.{Three, Eight}
 use Rattle.devices.specs.declared.queue.Item.{Item}
 use Rattle.devices.specs.declared.device.Device.{Device}
 use Rattle.devices.specs.Activation.{Grants, AreInOrder}
-use Rattle.devices.specs.declared.mac_queue.TheConstants.MacQueue.{MOST as LONGEST_MAC_QUEUE}
+use Rattle.devices.specs.declared.TheConstants.{LAST_HEARD}
 use Rattle.devices.specs.declared.queue.TheConstants.ItemQueue.{MOST as MOST_ITEMS}
 use Rattle.mac_commands.specs.Queueable.{AreQueueable}
+use Rattle.record_codec.specs.Version.{longest_mac_queue}
+use Rattle.record_codec.specs.declared.version.RecordVersion.{RecordVersion}
+use Rattle.record_codec.specs.declared.version.RecordVersion.TheVariants.{V1, V2}
 
 -- ---- the fields
 
@@ -72,6 +76,11 @@ item i = to_be_bytes w32 i.tag.0 ++ (i.port ∷ [] ++ (flag i.confirmed ++ count
 abbrev pub item_queue : List Item → List ℕ
 item_queue items = length items ∷ flat_map item items
 
+-- the count of uplinks, which version 1 doesn't have
+abbrev pub heard_bytes : RecordVersion → ℕ → List ℕ
+heard_bytes V1 n = []
+heard_bytes V2 n = to_be_bytes w64 n
+
 -- ---- the record
 
 -- what a device was provisioned with
@@ -82,15 +91,16 @@ head d =
     ++ (d.app_key.0
     ++ (d.application ∷ d.rx1_offset ∷ d.rx_delay ∷ [])))
 
--- the one spelling of a device
-unfoldable pub spelling : Device → List ℕ
-spelling d =
+-- the one spelling of a device in a version
+unfoldable pub spelling : RecordVersion → Device → List ℕ
+spelling version d =
     head d
     ++ (dev_nonce d.last_dev_nonce
     ++ (activation d.activation
     ++ (awaited_bytes d.awaited
     ++ (counted_bytes d.mac_queue
-    ++ item_queue d.items))))
+    ++ (item_queue d.items
+    ++ heard_bytes version d.heard)))))
 
 -- ---- which values there are
 
@@ -127,16 +137,24 @@ pub record HeadIsInRange (d : Device) : Type 0 where
   pub rx1_offset : d.rx1_offset ≤ 5
   pub rx_delay : (1 ≤ d.rx_delay) × (d.rx_delay ≤ 15)
 
--- a device whose fields are in their ranges, as each device of a program is
-pub record IsDevice (d : Device) : Type 0 where
+-- no uplink is counted in version 1
+abbrev pub IsHeardIn : RecordVersion → ℕ → Type 0
+IsHeardIn V1 n = n ≡ 0
+IsHeardIn V2 n = n ≤ LAST_HEARD
+
+-- a device that has a record in a version: its fields are in their ranges. In the newest version
+-- each device of a program has one
+pub record IsDevice (version : RecordVersion) (d : Device) : Type 0 where
   pub head : HeadIsInRange d
   pub last_dev_nonce : IfSome d.last_dev_nonce (λ n. n < 2 ^ 16)
   pub activation : AreGrants d.activation
   pub awaited : IfSome d.awaited (λ tag. tag.0 < 2 ^ 32)
-  pub mac_queue : IsBytes d.mac_queue × (length d.mac_queue ≤ LONGEST_MAC_QUEUE)
+  pub mac_queue : IsBytes d.mac_queue × (length d.mac_queue ≤ longest_mac_queue version)
       × AreQueueable d.mac_queue
   pub items : (length d.items ≤ MOST_ITEMS) × AllByRecursion IsItem d.items
+  pub heard : IsHeardIn version d.heard
 
--- the bytes are some device's record
-abbrev pub IsSomeRecord : List ℕ → Type 0
-IsSomeRecord bytes = (device : Device) × IsDevice device × (bytes ≡ spelling device)
+-- the bytes are some device's record in a version
+abbrev pub IsSomeRecord : RecordVersion → List ℕ → Type 0
+IsSomeRecord version bytes =
+    (device : Device) × IsDevice version device × (bytes ≡ spelling version device)

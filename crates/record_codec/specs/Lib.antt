@@ -1,6 +1,7 @@
+pub mod Version
 pub mod DeviceRecord
 pub mod Reading
 pub mod Parts
-pub mod Version
 pub mod Change
 pub mod ChangeReading
+pub mod Answers

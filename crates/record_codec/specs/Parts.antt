@@ -8,8 +8,10 @@ use Rattle.record_codec.specs.declared.parts.ItemPart.{ItemPart}
 use Rattle.record_codec.specs.declared.queues.ItemParts.{ItemParts}
 use Rattle.record_codec.specs.declared.device_record.RecordParts.{RecordParts}
 use Rattle.record_codec.specs.declared.parts.GroupParts.{GroupParts}
-use Rattle.record_codec.specs.Change.{Groups, ItemChange, Leaves, Added}
+use Rattle.record_codec.specs.Change.{Groups, ItemChange, Leaves, Added, MayGrow}
 use Rattle.record_codec.specs.Reading.{items_in}
+use Rattle.record_codec.specs.Version.{longest_mac_queue}
+use Rattle.record_codec.specs.declared.version.RecordVersion.{RecordVersion}
 
 -- the item, with a payload of its own
 abbrev pub item_of_part : ItemPart → Item
@@ -35,6 +37,7 @@ device_of_parts r =
       awaited = r.awaited;
       mac_queue = r.mac_queue.now;
       items = items_of_parts r.items;
+      heard = r.heard;
     }
 
 -- ---- a change
@@ -53,6 +56,7 @@ groups_of_parts g =
       awaited = g.awaited;
       mac_queue = option_map (λ bytes. bytes.now) g.mac_queue;
       items = option_map item_change_of_parts g.items;
+      grew = g.grew;
     }
 
 abbrev pub IsShortChange : Option ItemPart → Type 0
@@ -62,3 +66,8 @@ IsShortChange added = IfSome added (λ i. length i.payload.now ≤ LONGEST_PAYLO
 pub record AreShort (g : GroupParts) : Type 0 where
   pub mac_queue : IfSome g.mac_queue (λ bytes. length bytes.now ≤ LONGEST_MAC_QUEUE)
   pub items : IfSome g.items IsShortChange
+
+-- a version has room for the MAC queue, and bit 7 where it is set
+pub record FitVersion (version : RecordVersion) (g : GroupParts) : Type 0 where
+  pub mac_queue : IfSome g.mac_queue (λ bytes. length bytes.now ≤ longest_mac_queue version)
+  pub grew : MayGrow version g.grew

@@ -1,5 +1,5 @@
--- Reading a device record from left to right, field by field. That it gives back what is spelled,
--- and nothing else, is what `read_device` ensures.
+-- Reading a device record of a version from left to right, field by field. That it gives back what
+-- is spelled, and nothing else, is what `read_device` ensures.
 use Rattle.std.specs.Prelude.{◌≡◌, ℕ, zero, suc, ◌^◌, Bool, true, ◌&&◌, List, [], ◌∷◌, length}
 use Rattle.std.specs.Prelude.{nat_le, nat_lt, ◌==◌, if◌then◌else◌, Option, Some, None, unwrap_or}
 use Rattle.std.specs.Prelude.{option_map}
@@ -20,8 +20,11 @@ use Rattle.devices.specs.declared.channels.Channels.TheVariants.{Three, Eight}
 use Rattle.devices.specs.declared.queue.Item.{Item}
 use Rattle.devices.specs.declared.device.Device.{Device}
 use Rattle.devices.specs.Activation.{Grants, current_nonce}
-use Rattle.devices.specs.declared.mac_queue.TheConstants.MacQueue.{MOST as LONGEST_MAC_QUEUE}
+use Rattle.devices.specs.declared.TheConstants.{LAST_HEARD}
 use Rattle.devices.specs.declared.queue.TheConstants.ItemQueue.{MOST as MOST_ITEMS}
+use Rattle.record_codec.specs.Version.{longest_mac_queue}
+use Rattle.record_codec.specs.declared.version.RecordVersion.{RecordVersion}
+use Rattle.record_codec.specs.declared.version.RecordVersion.TheVariants.{V1, V2}
 
 -- ---- fields
 
@@ -99,8 +102,8 @@ activation_at =
 -- ---- queues
 
 -- whole commands or not, which is tested of all of the queue
-abbrev pub mac_queue_at : Reader (List ℕ)
-mac_queue_at = that (λ bytes. nat_le (length bytes) LONGEST_MAC_QUEUE) counted_at
+abbrev pub mac_queue_at : RecordVersion → Reader (List ℕ)
+mac_queue_at version = that (λ bytes. nat_le (length bytes) (longest_mac_queue version)) counted_at
 
 abbrev pub payload_at : Reader (List ℕ)
 payload_at = that (λ bytes. nat_le (length bytes) LONGEST_PAYLOAD) counted_at
@@ -124,6 +127,13 @@ item_queue_at bytes = ranged_at 0 MOST_ITEMS bytes >>= λ n. items_at n.0 n.1
 abbrev pub items_in : ℕ → List ℕ → List Item
 items_in n bytes = option_map_or (λ x. x.0) (items_at n bytes) []
 
+-- ---- the count of uplinks
+
+-- 0 in version 1, which has no bytes of it
+abbrev pub heard_at : RecordVersion → Reader ℕ
+heard_at V1 bytes = Some (0, bytes)
+heard_at V2 bytes = that (λ n. nat_le n LAST_HEARD) (be_at w64) bytes
+
 -- ---- the record
 
 abbrev pub Head : Type 0
@@ -136,7 +146,7 @@ head_at =
 
 -- the fields in the order of the record
 abbrev pub Fields : Type 0
-Fields = Head × (Option ℕ × (Grants × (Option Tag × (List ℕ × List Item))))
+Fields = Head × (Option ℕ × (Grants × (Option Tag × (List ℕ × (List Item × ℕ)))))
 
 abbrev pub device_of : Fields → Device
 device_of x =
@@ -151,20 +161,22 @@ device_of x =
       activation = x.1.1.0;
       awaited = x.1.1.1.0;
       mac_queue = x.1.1.1.1.0;
-      items = x.1.1.1.1.1;
+      items = x.1.1.1.1.1.0;
+      heard = x.1.1.1.1.1.1;
     }
 
-unfoldable pub device_at : Reader Device
-device_at =
+unfoldable pub device_at : RecordVersion → Reader Device
+device_at version =
     seen_as device_of (both head_at
     (both (flagged_at w16) (both activation_at
-    (both awaited_at (both mac_queue_at item_queue_at)))))
+    (both awaited_at (both (mac_queue_at version)
+    (both item_queue_at (heard_at version)))))))
 
 -- a device that is all of the bytes, whatever commands wait for it
-unfoldable pub record_at : List ℕ → Option Device
-record_at = whole device_at
+unfoldable pub record_at : RecordVersion → List ℕ → Option Device
+record_at version = whole (device_at version)
 
 -- the bytes are no record of a device for which whole commands wait
-abbrev pub IsNoRecord : List ℕ → Type 0
-IsNoRecord bytes =
-    (device : Device) → record_at bytes ≡ Some device → ¬ AreQueueable device.mac_queue
+abbrev pub IsNoRecord : RecordVersion → List ℕ → Type 0
+IsNoRecord version bytes =
+    (device : Device) → record_at version bytes ≡ Some device → ¬ AreQueueable device.mac_queue

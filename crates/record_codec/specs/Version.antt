@@ -1,17 +1,19 @@
 -- The versions that a store has records in.
-use Rattle.std.specs.Prelude.{ℕ, List}
-use Rattle.devices.specs.declared.device.Device.{Device}
-use Rattle.record_codec.specs.DeviceRecord.{spelling, IsDevice}
+use Rattle.std.specs.Prelude.{ℕ}
+use Rattle.devices.specs.declared.mac_queue.TheConstants.MacQueue.{MOST as LONGEST_MAC_QUEUE}
 use Rattle.record_codec.specs.declared.version.RecordVersion.{RecordVersion}
-use Rattle.record_codec.specs.declared.version.RecordVersion.TheVariants.{V1}
+use Rattle.record_codec.specs.declared.version.RecordVersion.TheVariants.{V1, V2}
 
 -- the byte of a version
 abbrev pub version_byte : RecordVersion → ℕ
 version_byte V1 = 1
+version_byte V2 = 2
 
--- a device's record in a version
-abbrev pub record_in : RecordVersion → Device → List ℕ
-record_in V1 device = spelling device
+-- the one that is written
+abbrev pub newest : RecordVersion
+newest = V2
 
-abbrev pub IsRecordIn : RecordVersion → Device → Type 0
-IsRecordIn V1 device = IsDevice device
+-- the most bytes of a MAC queue in a version
+abbrev pub longest_mac_queue : RecordVersion → ℕ
+longest_mac_queue V1 = 64
+longest_mac_queue V2 = LONGEST_MAC_QUEUE

@@ -1,32 +1,37 @@
-// A change of a record: from one record to another, and back from the change to the record.
-ghost use Rattle.std.specs.Prelude.{◌≡◌, ◌≢◌, ◌≤◌, ◌<◌, ◌++◌, ◌⊎◌, ◌↔◌, List, ℕ, Err, IsTrue};
-ghost use Rattle.std.specs.Prelude.{IfErr, IfOk, IfSome, MatchOption, MatchResult, OnErr, OnOk};
-ghost use Rattle.std.specs.Prelude.{Some, SomeIff, length, option_map, unwrap_or};
-ghost use Rattle.lw_types.specs.declared.refusal.Refusal.TheVariants.{OutOfMemory, Damaged};
+// A change of a record, in each version: from one record to another, and back from the change to
+// the record.
+ghost use Rattle.std.specs.Prelude.{◌≡◌, ◌≢◌, ◌≤◌, ◌<◌, ◌++◌, ◌↔◌, List, ℕ, IsTrue, IfOk};
+ghost use Rattle.std.specs.Prelude.{IfSome, MatchOption, MatchResult, Some, SomeIff, length};
+ghost use Rattle.std.specs.Prelude.{option_map, unwrap_or};
+ghost use Rattle.lw_types.specs.declared.refusal.Refusal.TheVariants.{OutOfMemory};
 ghost use Rattle.mac_commands.specs.Queueable.{AreQueueable};
 ghost use Rattle.devices.specs.Activation.{AreInOrder};
-ghost use Rattle.devices.specs.Becoming.{AreItemsAfter, MayBecome};
+ghost use Rattle.devices.specs.Becoming.{AreItemsAfter, IsHeardAfter, MayBecome};
 ghost use Rattle.devices.specs.Parts.{counters_of, nonces_of};
-ghost use Rattle.devices.specs.declared.device.Device.{Device};
-ghost use Rattle.record_codec.specs.declared.version.RecordVersion.TheVariants.{V1};
-ghost use Rattle.record_codec.specs.Change.{IsChange, IsChangeOf, IsCurrentGroup, IsGroup};
-ghost use Rattle.record_codec.specs.Change.{IsItemGroup, IsSomeChange};
+ghost use Rattle.record_codec.specs.declared.version.RecordVersion.TheVariants.{V1, V2};
+ghost use Rattle.record_codec.specs.Answers.{ReadsChange};
+ghost use Rattle.record_codec.specs.Change.{IsChangeOf, IsCurrentGroup, IsGroup, IsGrown};
+ghost use Rattle.record_codec.specs.Change.{IsItemGroup};
 ghost use Rattle.record_codec.specs.ChangeReading.{change_read, current_after, device_after};
-ghost use Rattle.record_codec.specs.ChangeReading.{grants_after, items_after, IsNew, IsNewCurrent};
-ghost use Rattle.record_codec.specs.ChangeReading.{IsNewItems, IsNewTo, IsNoChange};
+ghost use Rattle.record_codec.specs.ChangeReading.{grants_after, heard_after, items_after, IsNew};
+ghost use Rattle.record_codec.specs.ChangeReading.{HasRoomToGrow, IsNewCurrent, IsNewItems};
+ghost use Rattle.record_codec.specs.ChangeReading.{IsNewTo, IsNoChange};
 ghost use Rattle.record_codec.specs.Parts.{groups_of_parts, item_change_of_parts, AreShort};
 ghost use Rattle.record_codec.specs.Parts.{IsShortChange};
 
 use crate::groups::read_groups;
 use crate::parts::{Counters, GroupParts, ItemChangePart, ItemPart, Nonces};
+use crate::version::RecordVersion;
 use byte_fields::FieldReader;
-use devices::{Activation, CurrentSession, Device, ItemQueue, MacQueue, Session, Tag};
+use devices::{
+    Activation, CurrentSession, Device, ItemQueue, LAST_HEARD, MacQueue, Session, Tag, UplinkCount,
+};
 use lw_types::Refusal;
 use mac_commands::are_queueable;
 use std::alloc::{AllocError, Global};
 
-/// The most bytes of a change: that of a device which gets another current session and a pending
-/// one, a full MAC queue, and an item of 242 bytes.
+/// The most bytes of a change of version 2: that of a device which gets another current session and
+/// a pending one, a full MAC queue, and an item of 242 bytes.
 pub const LONGEST_CHANGE: usize = 411;
 
 // ---- from one record to another
@@ -123,10 +128,25 @@ fn items_between<'a>(before: &Device, after: &'a Device) -> Option<ItemChangePar
     }
 }
 
-// The bytes of the change from one record to the next.
-fn change_between(alloc: Global, before: &Device, after: &Device) -> Result<Vec<u8>, AllocError>
+// Whether one more uplink is counted.
+fn has_grown(before: &Device, after: &Device) -> bool
+    requires { IsHeardAfter before.now.heard after.now.heard }
+    ensures group { IsGrown result before.now.heard after.now.heard }
+    ensures most { after.now.heard ≤ LAST_HEARD }
+{
+    let _most = after.heard.get();
+    before.heard != after.heard
+}
+
+/// The bytes of the change from one record to the next.
+pub(crate) fn change_between(
+    alloc: Global,
+    version: RecordVersion,
+    before: &Device,
+    after: &Device,
+) -> Result<Vec<u8>, AllocError>
     requires { MayBecome before.now after.now }
-    ensures { IfOk result (λ bytes. IsChangeOf V1 before.now after.now bytes.items) }
+    ensures { IfOk result (λ bytes. IsChangeOf version before.now after.now bytes.items) }
 {
     let (current, counters) = current_between(before, after);
     let groups = GroupParts {
@@ -137,13 +157,14 @@ fn change_between(alloc: Global, before: &Device, after: &Device) -> Result<Vec<
         awaited: awaited_between(before, after),
         mac_queue: commands_between(before, after),
         items: items_between(before, after),
+        grew: has_grown(before, after),
     };
-    groups.spelled(alloc)
+    groups.spelled(alloc, version)
 }
 
-/// Appends the change from one record to the next, its one spelling, of 1 byte to
-/// [`LONGEST_CHANGE`]. For want of memory it is refused as `OutOfMemory`, and then nothing is
-/// appended.
+/// Appends the change from one record to the next in version 2, its one spelling, of 1 byte to
+/// [`LONGEST_CHANGE`].
+/// For want of memory it is refused as `OutOfMemory`, and then nothing is appended.
 pub fn write_change(
     alloc: Global,
     before: &Device,
@@ -151,14 +172,30 @@ pub fn write_change(
     out: &mut Vec<u8>,
 ) -> Result<(), Refusal>
     requires { MayBecome before.now after.now }
-    ensures ok { OnOk result ((bytes : List ℕ) × (out.new.items ≡ out.old.items ++ bytes)
-        × IsChangeOf V1 before.now after.now bytes) }
-    ensures err { OnErr result (out.new.items ≡ out.old.items) }
-    ensures refused { IfErr result (λ e. e ≡ OutOfMemory) }
+    ensures { MatchResult result
+        (λ _. (bytes : List ℕ) × (out.new.items ≡ out.old.items ++ bytes)
+        × IsChangeOf V2 before.now after.now bytes)
+        (λ e. (e ≡ OutOfMemory) × (out.new.items ≡ out.old.items)) }
 {
-    let bytes = change_between(alloc, before, after)?;
-    out.extend_from_slice(bytes.as_slice())?;
-    Ok(())
+    RecordVersion::V2.write_change(alloc, before, after, out)
+}
+
+/// Appends the change from one record to the next in version 1, its one spelling, of 1 to 411
+/// bytes.
+/// For want of memory it is refused as `OutOfMemory`, and then nothing is appended.
+pub fn write_change_v1(
+    alloc: Global,
+    before: &Device,
+    after: &Device,
+    out: &mut Vec<u8>,
+) -> Result<(), Refusal>
+    requires { MayBecome before.now after.now }
+    ensures { MatchResult result
+        (λ _. (bytes : List ℕ) × (out.new.items ≡ out.old.items ++ bytes)
+        × IsChangeOf V1 before.now after.now bytes)
+        (λ e. (e ≡ OutOfMemory) × (out.new.items ≡ out.old.items)) }
+{
+    RecordVersion::V1.write_change(alloc, before, after, out)
 }
 
 // ---- from a change to the record
@@ -263,6 +300,13 @@ impl GroupParts<'_> {
         }
     }
 
+    // Whether the count isn't at its end, where it grows.
+    fn has_room_to_grow(&self, before: &Device) -> bool
+        ensures { IsTrue result ↔ HasRoomToGrow self.now.grew before.now.heard }
+    {
+        !self.grew || before.heard.get() < LAST_HEARD
+    }
+
     // Whether the groups are a change of the record.
     fn is_new(&self, before: &Device, after: &Activation) -> bool
         requires grants { after.now ≡ grants_after (groups_of_parts self.now) before.now }
@@ -274,6 +318,7 @@ impl GroupParts<'_> {
             && self.has_new_pending(before, after)
             && self.has_new_commands(before)
             && self.has_new_items(before)
+            && self.has_room_to_grow(before)
     }
 
     fn commands_after(&self, alloc: Global, before: &MacQueue) -> Result<MacQueue, AllocError>
@@ -305,8 +350,20 @@ impl GroupParts<'_> {
         Ok(items)
     }
 
-    // The record after the change.
-    fn device(
+    fn heard_after(&self, before: &Device) -> UplinkCount
+        requires { HasRoomToGrow self.now.grew before.now.heard }
+        ensures { result ≡ heard_after self.now.grew before.now.heard }
+    {
+        let heard = before.heard.get();
+        if self.grew {
+            UplinkCount::new(heard + 1).unwrap()
+        } else {
+            before.heard
+        }
+    }
+
+    /// The record after the change.
+    pub(crate) fn device(
         &self,
         alloc: Global,
         before: &Device,
@@ -332,23 +389,28 @@ impl GroupParts<'_> {
             awaited: self.awaited.unwrap_or(before.awaited),
             mac_queue: self.commands_after(alloc, &before.mac_queue)?,
             items: self.items_after(alloc, &before.items)?,
+            heard: self.heard_after(before),
         })
     }
 }
 
-// The groups of a change of the record, which is all of the bytes, and the grants and sessions
-// afterwards. Takes no memory.
+/// The groups of a change of the record, which is all of the bytes, and the grants and sessions
+/// afterwards. Takes no memory.
 #[tactic(auto, unfolding(crate::specs::ChangeReading::change_read))]
-fn change_in<'a>(before: &Device, bytes: &'a [u8]) -> Option<(GroupParts<'a>, Activation)>
-    ensures field { MatchOption result (IsNoChange before.now bytes.now)
-        (λ found. change_read bytes.now ≡ Some (groups_of_parts found.0)) }
+pub(crate) fn change_in<'a>(
+    version: RecordVersion,
+    before: &Device,
+    bytes: &'a [u8],
+) -> Option<(GroupParts<'a>, Activation)>
+    ensures field { MatchOption result (IsNoChange version before.now bytes.now)
+        (λ found. change_read version bytes.now ≡ Some (groups_of_parts found.0)) }
     ensures new { IfSome result (λ found. IsNewTo before.now (groups_of_parts found.0)) }
     ensures grants { IfSome result
         (λ found. found.1 ≡ grants_after (groups_of_parts found.0) before.now) }
     ensures short { IfSome result (λ found. AreShort found.0) }
 {
     let mut fields = FieldReader { rest: bytes };
-    let Some(groups) = read_groups(&mut fields) else {
+    let Some(groups) = read_groups(&mut fields, version) else {
         return None;
     };
     if !fields.rest.is_empty() {
@@ -364,24 +426,20 @@ fn change_in<'a>(before: &Device, bytes: &'a [u8]) -> Option<(GroupParts<'a>, Ac
     }
 }
 
-/// Reads the record that a change, which is all of the bytes, makes of the one before it. Bytes
-/// that are no change of that record are refused as `Damaged`, whether or not there is memory. For
-/// want of memory a change is refused as `OutOfMemory`.
+/// Reads the record that a change of version 2, which is all of the bytes, makes of the one before
+/// it. Bytes that are no change of that record are refused as `Damaged`, whether or not there is
+/// memory. For want of memory a change is refused as `OutOfMemory`.
 pub fn read_change(alloc: Global, before: &Device, bytes: &[u8]) -> Result<Device, Refusal>
-    // The bytes are the change to what is read.
-    ensures found { IfOk result (λ after. IsChangeOf V1 before.now after bytes.now) }
-    // The record to which the bytes are the change is read, unless memory runs out.
-    ensures only { (after : Device) → IsChangeOf V1 before.now after bytes.now
-        → MatchResult result (λ found. found ≡ after) (λ e. e ≡ OutOfMemory) }
-    ensures refused { IfErr result (λ e. (e ≡ OutOfMemory) ⊎ (e ≡ Damaged)) }
-    // Memory runs out for changes of the record alone.
-    ensures memory { (result ≡ Err OutOfMemory) → IsSomeChange V1 before.now bytes.now }
+    ensures { ReadsChange V2 before.now bytes.now result }
 {
-    // What may wait in a record.
-    let _commands = before.mac_queue.as_slice();
-    let _items = before.items.as_slice();
-    match change_in(before, bytes) {
-        Some((groups, activation)) => groups.device(alloc, before, activation),
-        None => Err(Refusal::Damaged),
-    }
+    RecordVersion::V2.read_change(alloc, before, bytes)
+}
+
+/// Reads the record that a change of version 1, which is all of the bytes, makes of the one before
+/// it. Bytes that are no change of that record are refused as `Damaged`, whether or not there is
+/// memory. For want of memory a change is refused as `OutOfMemory`.
+pub fn read_change_v1(alloc: Global, before: &Device, bytes: &[u8]) -> Result<Device, Refusal>
+    ensures { ReadsChange V1 before.now bytes.now result }
+{
+    RecordVersion::V1.read_change(alloc, before, bytes)
 }

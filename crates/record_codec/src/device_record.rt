@@ -1,23 +1,26 @@
-// A device record as a whole.
-ghost use Rattle.std.specs.Prelude.{◌≡◌, ◌≤◌, ◌<◌, ◌^◌, ◌++◌, ◌∷◌, ◌⊎◌, [], Err, IfErr, IfOk};
-ghost use Rattle.std.specs.Prelude.{IfSome, IsSome, MatchOption, MatchResult, OnErr, OnOk, Some};
-ghost use Rattle.std.specs.Prelude.{length};
+// A device record as a whole, in each version.
+ghost use Rattle.std.specs.Prelude.{◌≡◌, ◌≤◌, ◌<◌, ◌^◌, ◌++◌, ◌∷◌, [], IfOk, IfSome, IsSome};
+ghost use Rattle.std.specs.Prelude.{MatchOption, MatchResult, OnOk, Some, length};
 ghost use Rattle.std.specs.Int.{w16};
-ghost use Rattle.lw_types.specs.declared.refusal.Refusal.TheVariants.{OutOfMemory, Damaged};
+ghost use Rattle.lw_types.specs.declared.refusal.Refusal.TheVariants.{OutOfMemory};
 ghost use Rattle.byte_fields.specs.Reading.{Gives, GivesSeen};
 ghost use Rattle.mac_commands.specs.Queueable.{AreQueueable};
-ghost use Rattle.devices.specs.declared.device.Device.{Device};
-ghost use Rattle.record_codec.specs.DeviceRecord.{awaited_bytes, dev_nonce, head, spelling};
-ghost use Rattle.record_codec.specs.DeviceRecord.{HeadIsInRange, IsDevice, IsSomeRecord};
+ghost use Rattle.record_codec.specs.Answers.{ReadsRecord};
+ghost use Rattle.record_codec.specs.DeviceRecord.{awaited_bytes, dev_nonce, head, heard_bytes};
+ghost use Rattle.record_codec.specs.DeviceRecord.{spelling, HeadIsInRange, IsDevice, IsHeardIn};
 ghost use Rattle.record_codec.specs.Parts.{device_of_parts};
-ghost use Rattle.record_codec.specs.Reading.{awaited_at, device_at, flagged_at, items_at};
+ghost use Rattle.record_codec.specs.Reading.{awaited_at, device_at, flagged_at, heard_at, items_at};
 ghost use Rattle.record_codec.specs.Reading.{record_at, IsNoRecord};
+ghost use Rattle.record_codec.specs.declared.version.RecordVersion.TheVariants.{V1, V2};
 
 use crate::activation_fields::{put_activation, read_activation};
 use crate::queues::{ItemParts, put_item_queue, read_items, read_mac_queue};
+use crate::version::RecordVersion;
 use crate::written_fields::{put_counted, put_eui, put_flag, put_key};
 use byte_fields::FieldReader;
-use devices::{Activation, Application, Device, ItemQueue, MacQueue, Rx1Offset, RxDelay, Tag};
+use devices::{
+    Activation, Application, Device, ItemQueue, MacQueue, Rx1Offset, RxDelay, Tag, UplinkCount,
+};
 use lw_types::{Eui, Key, Refusal};
 use mac_commands::are_queueable;
 use std::alloc::{AllocError, Global};
@@ -48,13 +51,23 @@ pub(crate) fn read_awaited(fields: &mut FieldReader<'_>) -> Option<Option<Tag>>
     }
 }
 
-/// The most bytes of a record: that of a device with two sessions, a full MAC queue, and 16 items
-/// of 242 bytes.
-pub const LONGEST_RECORD: usize = 4_180;
+// The count of uplinks, which a record of version 1 doesn't have.
+fn read_heard(fields: &mut FieldReader<'_>, version: RecordVersion) -> Option<UplinkCount>
+    ensures { Gives result fields.new.rest.now (heard_at version fields.old.rest.now) }
+{
+    match version {
+        RecordVersion::V1 => UplinkCount::new(0),
+        RecordVersion::V2 => UplinkCount::new(fields.u64_be()?),
+    }
+}
+
+/// The most bytes of a record of version 2: that of a device with two sessions, a full MAC queue,
+/// and 16 items of 242 bytes. One of version 1 has at most 4,180.
+pub const LONGEST_RECORD: usize = 4_188;
 
 /// A record whose fields are there and in their ranges. What takes memory is still in the bytes.
 #[derive(Clone, Copy)]
-struct RecordParts<'a> {
+pub(crate) struct RecordParts<'a> {
     dev_eui: Eui,
     join_eui: Eui,
     app_key: Key,
@@ -66,12 +79,13 @@ struct RecordParts<'a> {
     awaited: Option<Tag>,
     mac_queue: &'a [u8],
     items: ItemParts<'a>,
+    heard: UplinkCount,
 }
 
 #[tactic(auto, unfolding(crate::specs::Reading::device_at, crate::specs::Reading::head_at))]
-fn read_parts<'a>(fields: &mut FieldReader<'a>) -> Option<RecordParts<'a>>
+fn read_parts<'a>(fields: &mut FieldReader<'a>, version: RecordVersion) -> Option<RecordParts<'a>>
     ensures field { GivesSeen device_of_parts result fields.new.rest.now
-        (device_at fields.old.rest.now) }
+        (device_at version fields.old.rest.now) }
     ensures mac_queue { IfSome result (λ r. length r.mac_queue.now ≤ MacQueue.MOST) }
     ensures items { IfSome result (λ r. r.items.count ≤ ItemQueue.MOST) }
     ensures there { IfSome result (λ r. IsSome (items_at r.items.count r.items.bytes.now)) }
@@ -86,23 +100,24 @@ fn read_parts<'a>(fields: &mut FieldReader<'a>) -> Option<RecordParts<'a>>
         last_dev_nonce: read_dev_nonce(fields)?,
         activation: read_activation(fields)?,
         awaited: read_awaited(fields)?,
-        mac_queue: read_mac_queue(fields)?,
+        mac_queue: read_mac_queue(fields, version)?,
         items: read_items(fields)?,
+        heard: read_heard(fields, version)?,
     })
 }
 
-// The parts of a record that is all of the bytes. Takes no memory.
+/// The parts of a record that is all of the bytes. Takes no memory.
 #[tactic(auto, unfolding(crate::specs::Reading::record_at))]
-fn read_record(bytes: &[u8]) -> Option<RecordParts<'_>>
-    ensures field { MatchOption result (IsNoRecord bytes.now)
-        (λ r. record_at bytes.now ≡ Some (device_of_parts r)) }
+pub(crate) fn read_record(version: RecordVersion, bytes: &[u8]) -> Option<RecordParts<'_>>
+    ensures field { MatchOption result (IsNoRecord version bytes.now)
+        (λ r. record_at version bytes.now ≡ Some (device_of_parts r)) }
     ensures whole { IfSome result (λ r. AreQueueable r.mac_queue.now) }
     ensures mac_queue { IfSome result (λ r. length r.mac_queue.now ≤ MacQueue.MOST) }
     ensures items { IfSome result (λ r. r.items.count ≤ ItemQueue.MOST) }
     ensures there { IfSome result (λ r. IsSome (items_at r.items.count r.items.bytes.now)) }
 {
     let mut fields = FieldReader { rest: bytes };
-    let Some(parts) = read_parts(&mut fields) else {
+    let Some(parts) = read_parts(&mut fields, version) else {
         return None;
     };
     if fields.rest.is_empty() && are_queueable(parts.mac_queue) {
@@ -114,7 +129,7 @@ fn read_record(bytes: &[u8]) -> Option<RecordParts<'_>>
 
 impl RecordParts<'_> {
     /// The device, with queues of its own.
-    fn device(self, alloc: Global) -> Result<Device, Refusal>
+    pub fn device(self, alloc: Global) -> Result<Device, Refusal>
         requires mac_queue { length self.mac_queue.now ≤ MacQueue.MOST }
         requires whole { AreQueueable self.mac_queue.now }
         requires items { self.items.count ≤ ItemQueue.MOST }
@@ -134,27 +149,27 @@ impl RecordParts<'_> {
             awaited: self.awaited,
             mac_queue: MacQueue::from_slice(alloc, self.mac_queue)?,
             items: self.items.queue(alloc)?,
+            heard: self.heard,
         })
     }
 }
 
-/// Reads a device from its record, which is all of the bytes. Bytes that are no device's record are
-/// refused as `Damaged`, whether or not there is memory. For want of memory a record is refused as
-/// `OutOfMemory`.
+/// Reads a device from its record of version 2, which is all of the bytes. Bytes that are no such
+/// record are refused as `Damaged`, whether or not there is memory. For want of memory a record is
+/// refused as `OutOfMemory`.
 pub fn read_device(alloc: Global, bytes: &[u8]) -> Result<Device, Refusal>
-    // What is read is spelled so.
-    ensures found { IfOk result (λ device. IsDevice device × (bytes.now ≡ spelling device)) }
-    // What is spelled so is read, unless memory runs out.
-    ensures only { (device : Device) → IsDevice device → bytes.now ≡ spelling device
-        → MatchResult result (λ found. found ≡ device) (λ e. e ≡ OutOfMemory) }
-    ensures refused { IfErr result (λ e. (e ≡ OutOfMemory) ⊎ (e ≡ Damaged)) }
-    // Memory runs out for records alone.
-    ensures memory { (result ≡ Err OutOfMemory) → IsSomeRecord bytes.now }
+    ensures { ReadsRecord V2 bytes.now result }
 {
-    match read_record(bytes) {
-        Some(parts) => parts.device(alloc),
-        None => Err(Refusal::Damaged),
-    }
+    RecordVersion::V2.read_device(alloc, bytes)
+}
+
+/// Reads a device from its record of version 1, which is all of the bytes. Bytes that are no such
+/// record are refused as `Damaged`, whether or not there is memory. For want of memory a record is
+/// refused as `OutOfMemory`. No uplink is counted there.
+pub fn read_device_v1(alloc: Global, bytes: &[u8]) -> Result<Device, Refusal>
+    ensures { ReadsRecord V1 bytes.now result }
+{
+    RecordVersion::V1.read_device(alloc, bytes)
 }
 
 // The application, and when and how fast the device is answered.
@@ -206,10 +221,26 @@ pub(crate) fn put_awaited(out: &mut Vec<u8>, tag: Option<Tag>) -> Result<(), All
     Ok(())
 }
 
+// Appends the count of uplinks, which a record of version 1 doesn't have.
+fn put_heard(
+    out: &mut Vec<u8>,
+    version: RecordVersion,
+    heard: UplinkCount,
+) -> Result<(), AllocError>
+    ensures written { OnOk result (out.new.items ≡ out.old.items ++ heard_bytes version heard) }
+    ensures in_range { OnOk result (IsHeardIn version heard) }
+{
+    let number = heard.get();
+    match version {
+        RecordVersion::V1 => Ok(()),
+        RecordVersion::V2 => out.extend_from_slice(&number.to_be_bytes()),
+    }
+}
+
 #[tactic(auto, unfolding(crate::specs::DeviceRecord::spelling))]
-fn put_device(out: &mut Vec<u8>, device: &Device) -> Result<(), AllocError>
-    ensures written { OnOk result (out.new.items ≡ out.old.items ++ spelling device.now) }
-    ensures in_range { OnOk result (IsDevice device.now) }
+fn put_device(out: &mut Vec<u8>, version: RecordVersion, device: &Device) -> Result<(), AllocError>
+    ensures written { OnOk result (out.new.items ≡ out.old.items ++ spelling version device.now) }
+    ensures in_range { OnOk result (IsDevice version device.now) }
 {
     put_head(out, device)?;
     put_dev_nonce(out, device.last_dev_nonce)?;
@@ -217,20 +248,42 @@ fn put_device(out: &mut Vec<u8>, device: &Device) -> Result<(), AllocError>
     put_awaited(out, device.awaited)?;
     put_counted(out, device.mac_queue.as_slice())?;
     put_item_queue(out, &device.items)?;
+    put_heard(out, version, device.heard)?;
     Ok(())
 }
 
-/// Appends the record of a device, its one spelling, of 50 to 4,180 bytes. For want of memory it is
-/// refused as `OutOfMemory`, and then nothing is appended.
-pub fn write_device(alloc: Global, device: &Device, out: &mut Vec<u8>) -> Result<(), Refusal>
-    ensures ok { OnOk result (out.new.items ≡ out.old.items ++ spelling device.now) }
-    ensures err { OnErr result (out.new.items ≡ out.old.items) }
-    ensures refused { IfErr result (λ e. e ≡ OutOfMemory) }
-    // What is written is the record of a device that can be read again.
-    ensures in_range { OnOk result (IsDevice device.now) }
+/// The bytes of a device's record.
+pub(crate) fn device_bytes(
+    alloc: Global,
+    version: RecordVersion,
+    device: &Device,
+) -> Result<Vec<u8>, AllocError>
+    ensures { IfOk result (λ bytes. (bytes.items ≡ spelling version device.now)
+        × IsDevice version device.now) }
 {
-    let mut record = Vec::new(alloc);
-    put_device(&mut record, device)?;
-    out.extend_from_slice(record.as_slice())?;
-    Ok(())
+    let mut bytes = Vec::new(alloc);
+    put_device(&mut bytes, version, device)?;
+    Ok(bytes)
+}
+
+/// Appends the record of a device in version 2, its one spelling, of 58 bytes to
+/// [`LONGEST_RECORD`]. For want of memory it is refused as `OutOfMemory`, and then nothing is
+/// appended.
+pub fn write_device(alloc: Global, device: &Device, out: &mut Vec<u8>) -> Result<(), Refusal>
+    // What is written is the record of a device that can be read again.
+    ensures { MatchResult result
+        (λ _. (out.new.items ≡ out.old.items ++ spelling V2 device.now) × IsDevice V2 device.now)
+        (λ e. (e ≡ OutOfMemory) × (out.new.items ≡ out.old.items)) }
+{
+    RecordVersion::V2.write_device(alloc, device, out)
+}
+
+/// Appends the record of a device in version 1, its one spelling, of 50 to 4,180 bytes. For want of
+/// memory it is refused as `OutOfMemory`, and then nothing is appended.
+pub fn write_device_v1(alloc: Global, device: &Device, out: &mut Vec<u8>) -> Result<(), Refusal>
+    ensures { MatchResult result
+        (λ _. (out.new.items ≡ out.old.items ++ spelling V1 device.now) × IsDevice V1 device.now)
+        (λ e. (e ≡ OutOfMemory) × (out.new.items ≡ out.old.items)) }
+{
+    RecordVersion::V1.write_device(alloc, device, out)
 }

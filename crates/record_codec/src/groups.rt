@@ -1,10 +1,10 @@
 // The groups of a change, read one after another.
-ghost use Rattle.std.specs.Prelude.{◌≡◌, ◌≤◌, ◌/◌, IfSome, length, option_map};
+ghost use Rattle.std.specs.Prelude.{◌≡◌, ◌≤◌, ◌/◌, ℕ, IfSome, List, length, option_map};
 ghost use Rattle.byte_fields.specs.Reading.{Gives, GivesSeen};
 ghost use Rattle.record_codec.specs.Reading.{awaited_at, current_at, mac_queue_at, optional_by};
 ghost use Rattle.record_codec.specs.Reading.{session_at};
 ghost use Rattle.record_codec.specs.ChangeReading.{change_at, counters_at, group_at, is_odd};
-ghost use Rattle.record_codec.specs.ChangeReading.{item_change_at, nonces_at};
+ghost use Rattle.record_codec.specs.ChangeReading.{item_change_at, last_bit_at, nonces_at};
 ghost use Rattle.record_codec.specs.Parts.{groups_of_parts, item_change_of_parts, AreShort};
 ghost use Rattle.record_codec.specs.Parts.{IsShortChange};
 
@@ -12,10 +12,12 @@ use crate::activation_fields::{read_granted, read_optional_current, read_optiona
 use crate::device_record::{read_awaited, read_dev_nonce};
 use crate::parts::{Counters, GroupParts, ItemChangePart, Nonces};
 use crate::queues::{read_item, read_mac_queue};
+use crate::version::RecordVersion;
 use byte_fields::FieldReader;
 use devices::{CurrentSession, MacQueue, NextDown, Session, Tag};
 
-// Which groups are there: a bit for each, the lowest for the next one.
+// Which groups are there: a bit for each, the lowest for the next one; behind them one bit for the
+// count of uplinks.
 #[derive(Clone, Copy)]
 struct Mask {
     bits: u8,
@@ -30,6 +32,17 @@ impl Mask {
         let is_there = self.bits % 2 == 1;
         self.bits /= 2;
         is_there
+    }
+
+    // Whether the count grew, by the bit that is left. Version 1 has no such bit.
+    fn last(self, version: RecordVersion) -> Option<bool>
+        ensures { (bytes : List ℕ) → Gives result bytes (last_bit_at version self.bits bytes) }
+    {
+        match (version, self.bits) {
+            (_, 0) => Some(false),
+            (RecordVersion::V2, 1) => Some(true),
+            _ => None,
+        }
     }
 }
 
@@ -90,13 +103,17 @@ fn read_tag(fields: &mut FieldReader<'_>, is_there: bool) -> Option<Option<Optio
     }
 }
 
-fn read_commands<'a>(fields: &mut FieldReader<'a>, is_there: bool) -> Option<Option<&'a [u8]>>
+fn read_commands<'a>(
+    fields: &mut FieldReader<'a>,
+    version: RecordVersion,
+    is_there: bool,
+) -> Option<Option<&'a [u8]>>
     ensures field { GivesSeen (λ o. option_map (λ bytes. bytes.now) o) result fields.new.rest.now
-        (group_at mac_queue_at is_there fields.old.rest.now) }
+        (group_at (mac_queue_at version) is_there fields.old.rest.now) }
     ensures few { IfSome result (λ o. IfSome o (λ bytes. length bytes.now ≤ MacQueue.MOST)) }
 {
     if is_there {
-        Some(Some(read_mac_queue(fields)?))
+        Some(Some(read_mac_queue(fields, version)?))
     } else {
         Some(None)
     }
@@ -139,9 +156,12 @@ fn read_items<'a>(
 
 /// The mask of a change, and each group whose bit is set.
 #[tactic(auto, unfolding(crate::specs::ChangeReading::change_at))]
-pub(crate) fn read_groups<'a>(fields: &mut FieldReader<'a>) -> Option<GroupParts<'a>>
+pub(crate) fn read_groups<'a>(
+    fields: &mut FieldReader<'a>,
+    version: RecordVersion,
+) -> Option<GroupParts<'a>>
     ensures field { GivesSeen groups_of_parts result fields.new.rest.now
-        (change_at fields.old.rest.now) }
+        (change_at version fields.old.rest.now) }
     ensures short { IfSome result AreShort }
 {
     let mut mask = Mask {
@@ -152,21 +172,21 @@ pub(crate) fn read_groups<'a>(fields: &mut FieldReader<'a>) -> Option<GroupParts
     let counters = read_counters(fields, mask.next())?;
     let pending = read_pending(fields, mask.next())?;
     let awaited = read_tag(fields, mask.next())?;
-    let mac_queue = read_commands(fields, mask.next())?;
+    let mac_queue = read_commands(fields, version, mask.next())?;
     let Some(items) = read_items(fields, mask.next()) else {
         return None;
     };
-    if mask.bits == 0 {
-        Some(GroupParts {
-            nonces,
-            current,
-            counters,
-            pending,
-            awaited,
-            mac_queue,
-            items,
-        })
-    } else {
-        None
-    }
+    let Some(grew) = mask.last(version) else {
+        return None;
+    };
+    Some(GroupParts {
+        nonces,
+        current,
+        counters,
+        pending,
+        awaited,
+        mac_queue,
+        items,
+        grew,
+    })
 }

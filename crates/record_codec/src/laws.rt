@@ -1,47 +1,64 @@
 //! Laws of device records and of changes, for crates that store them.
 ghost use Rattle.std.specs.Prelude.{◌≡◌, ◌≤◌, ℕ, List, length};
 ghost use Rattle.devices.specs.declared.device.Device.{Device};
-ghost use Rattle.record_codec.specs.DeviceRecord.{spelling, IsDevice};
-ghost use Rattle.record_codec.specs.declared.version.RecordVersion.{RecordVersion};
 ghost use Rattle.record_codec.specs.Change.{IsChangeOf};
+ghost use Rattle.record_codec.specs.DeviceRecord.{spelling, IsDevice};
+ghost use Rattle.record_codec.specs.Version.{longest_mac_queue, newest};
+ghost use Rattle.record_codec.specs.declared.version.RecordVersion.{RecordVersion};
+ghost use Rattle.record_codec.specs.declared.version.RecordVersion.TheVariants.{V1, V2};
 
-use crate::{LONGEST_CHANGE, LONGEST_RECORD};
+use crate::{LONGEST_CHANGE, LONGEST_RECORD, NEWEST};
 
-/// No two devices share a record.
+/// In each version no two devices share a record.
 pub fn each_record_is_of_one_device()
-    ensures { (a : Device) (b : Device) → IsDevice a → IsDevice b → spelling a ≡ spelling b
-        → a ≡ b }
+    ensures { (version : RecordVersion) (a b : Device) → IsDevice version a → IsDevice version b
+        → spelling version a ≡ spelling version b → a ≡ b }
 {}
 
-/// A record has 50 bytes to [`LONGEST_RECORD`].
+/// A record has 50 to 4,180 bytes in version 1, and 58 bytes to [`LONGEST_RECORD`] in version 2.
 pub fn records_are_short()
-    ensures least { (device : Device) → IsDevice device → 50 ≤ length (spelling device) }
-    ensures most { (device : Device) → IsDevice device → length (spelling device) ≤ LONGEST_RECORD }
+    ensures least { (version : RecordVersion) (device : Device) → IsDevice version device
+        → 50 ≤ length (spelling version device) }
+    ensures most { (version : RecordVersion) (device : Device) → IsDevice version device
+        → length (spelling version device) ≤ LONGEST_RECORD }
+    ensures most_of_v1 { (device : Device) → IsDevice V1 device
+        → length (spelling V1 device) ≤ 4180 }
+    ensures least_of_v2 { (device : Device) → IsDevice V2 device
+        → 58 ≤ length (spelling V2 device) }
 {}
 
-/// The most bytes of a record.
+/// The most bytes of a record, and those of a MAC queue.
 pub fn limits_are_these()
-    ensures { LONGEST_RECORD ≡ 4180 }
+    ensures record { LONGEST_RECORD ≡ 4188 }
+    ensures mac_queue_of_v1 { longest_mac_queue V1 ≡ 64 }
+    ensures mac_queue_of_v2 { longest_mac_queue V2 ≡ 64 }
 {}
 
-/// A change of one record leads to one record.
+/// Version 2 is the one that is written.
+pub fn the_newest_version_is_this()
+    ensures { NEWEST ≡ newest }
+{}
+
+/// In each version a change of one record leads to one record.
 pub fn each_change_is_of_one_record()
     ensures { (version : RecordVersion) (before a b : Device) (bytes : List ℕ)
         → IsChangeOf version before a bytes → IsChangeOf version before b bytes → a ≡ b }
 {}
 
-/// From one record to another there is one change.
+/// In each version there is one change from one record to another.
 pub fn each_record_has_one_change()
     ensures { (version : RecordVersion) (before after : Device) (a b : List ℕ)
         → IsChangeOf version before after a → IsChangeOf version before after b → a ≡ b }
 {}
 
-/// A change has 1 byte to [`LONGEST_CHANGE`].
+/// A change has 1 byte to [`LONGEST_CHANGE`], and in version 1 at most 411.
 pub fn changes_are_short()
     ensures least { (version : RecordVersion) (before after : Device) (bytes : List ℕ)
         → IsChangeOf version before after bytes → 1 ≤ length bytes }
     ensures most { (version : RecordVersion) (before after : Device) (bytes : List ℕ)
         → IsChangeOf version before after bytes → length bytes ≤ LONGEST_CHANGE }
+    ensures most_of_v1 { (before after : Device) (bytes : List ℕ)
+        → IsChangeOf V1 before after bytes → length bytes ≤ 411 }
 {}
 
 /// The most bytes of a change.

@@ -1,4 +1,5 @@
-//! Device records as the store lays them out: each record has one spelling, and no two share one.
+//! Device records as the store lays them out, in two versions: in each of them a record has one
+//! spelling, and no two share one.
 #![tactic(auto)]
 
 mod activation_fields;
@@ -12,6 +13,8 @@ mod version;
 mod written_fields;
 mod written_groups;
 
-pub use change::{LONGEST_CHANGE, read_change, write_change};
-pub use device_record::{LONGEST_RECORD, read_device, write_device};
-pub use version::RecordVersion;
+pub use change::{LONGEST_CHANGE, read_change, read_change_v1, write_change, write_change_v1};
+pub use device_record::{
+    LONGEST_RECORD, read_device, read_device_v1, write_device, write_device_v1,
+};
+pub use version::{NEWEST, RecordVersion};

@@ -54,7 +54,8 @@ pub(crate) type Counters = (u32, NextDown);
 /// The item that is added at the end, its payload elsewhere; none where the first item leaves.
 pub(crate) type ItemChangePart<'a> = Option<ItemPart<'a>>;
 
-/// The groups of a change, each there or not. What takes memory is elsewhere.
+/// The groups of a change, each there or not, and whether one more uplink is counted. What takes
+/// memory is elsewhere.
 #[derive(Clone, Copy)]
 pub(crate) struct GroupParts<'a> {
     pub nonces: Option<Nonces>,
@@ -64,4 +65,5 @@ pub(crate) struct GroupParts<'a> {
     pub awaited: Option<Option<Tag>>,
     pub mac_queue: Option<&'a [u8]>,
     pub items: Option<ItemChangePart<'a>>,
+    pub grew: bool,
 }

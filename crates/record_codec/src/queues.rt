@@ -10,20 +10,25 @@ ghost use Rattle.record_codec.specs.Reading.{item_at, item_queue_at, items_at, i
 ghost use Rattle.record_codec.specs.Reading.{mac_queue_at, payload_at};
 
 use crate::parts::ItemPart;
+use crate::version::RecordVersion;
 use crate::written_fields::{put_counted, put_flag};
 use byte_fields::FieldReader;
 use devices::{Item, ItemQueue, MacQueue, Payload, Port, Ranged, Tag};
 use lw_types::LONGEST_PAYLOAD;
 use std::alloc::{AllocError, Global};
 
-/// The bytes of the MAC queue, at most 64. Whether they are whole commands isn't looked at.
-pub(crate) fn read_mac_queue<'a>(fields: &mut FieldReader<'a>) -> Option<&'a [u8]>
+/// The bytes of the MAC queue, at most as many as the version has. Whether they are whole commands
+/// isn't looked at.
+pub(crate) fn read_mac_queue<'a>(
+    fields: &mut FieldReader<'a>,
+    version: RecordVersion,
+) -> Option<&'a [u8]>
     ensures field { GivesSeen (λ bytes. bytes.now) result fields.new.rest.now
-        (mac_queue_at fields.old.rest.now) }
+        (mac_queue_at version fields.old.rest.now) }
     ensures few { IfSome result (λ bytes. length bytes.now ≤ MacQueue.MOST) }
 {
     let bytes = fields.counted()?;
-    if bytes.len() <= MacQueue::MOST {
+    if bytes.len() <= version.longest_mac_queue() {
         Some(bytes)
     } else {
         None

@@ -1,19 +1,24 @@
-// Records and changes in the versions that a store has them in.
-ghost use Rattle.std.specs.Prelude.{◌≡◌, ◌≢◌, ◌⊎◌, ◌++◌, ℕ, List, Err, IfOk, IfErr, MatchOption};
-ghost use Rattle.std.specs.Prelude.{MatchResult};
-ghost use Rattle.lw_types.specs.declared.refusal.Refusal.TheVariants.{Damaged, OutOfMemory};
+// The versions of records, and records and changes in each of them.
+ghost use Rattle.std.specs.Prelude.{◌≡◌, ◌≢◌, ◌≤◌, ◌++◌, List, ℕ, MatchOption, MatchResult};
+ghost use Rattle.lw_types.specs.declared.refusal.Refusal.TheVariants.{OutOfMemory};
 ghost use Rattle.devices.specs.Becoming.{MayBecome};
-ghost use Rattle.record_codec.specs.Change.{IsChangeOf, IsSomeChange};
-ghost use Rattle.record_codec.specs.Version.{IsRecordIn, record_in, version_byte};
+ghost use Rattle.record_codec.specs.Answers.{ReadsChange, ReadsRecord};
+ghost use Rattle.record_codec.specs.Change.{IsChangeOf};
+ghost use Rattle.record_codec.specs.DeviceRecord.{spelling, IsDevice};
+ghost use Rattle.record_codec.specs.Version.{longest_mac_queue, newest, version_byte};
 
-use devices::Device;
+use crate::change::{change_between, change_in};
+use crate::device_record::{device_bytes, read_record};
+use devices::{Device, MacQueue};
 use lw_types::Refusal;
 use std::alloc::Global;
 
-/// The version of an area's records, which its header names. So far there is one.
-#[derive(Clone, Copy, PartialEq, Eq)]
+/// The version of an area's records, which its header names. Version 1 doesn't count uplinks, and
+/// its MAC queues have at most 64 bytes.
+#[derive(Clone, Copy, Debug, PartialEq, Eq)]
 pub enum RecordVersion {
     V1,
+    V2,
 }
 
 impl RecordVersion {
@@ -23,10 +28,10 @@ impl RecordVersion {
             ((version : RecordVersion) → byte ≢ version_byte version)
             (λ version. byte ≡ version_byte version) }
     {
-        if byte == 1 {
-            Some(RecordVersion::V1)
-        } else {
-            None
+        match byte {
+            1 => Some(RecordVersion::V1),
+            2 => Some(RecordVersion::V2),
+            _ => None,
         }
     }
 
@@ -36,6 +41,18 @@ impl RecordVersion {
     {
         match self {
             RecordVersion::V1 => 1,
+            RecordVersion::V2 => 2,
+        }
+    }
+
+    /// The most bytes of a MAC queue.
+    pub(crate) fn longest_mac_queue(self) -> usize
+        ensures value { result ≡ longest_mac_queue self }
+        ensures few { result ≤ MacQueue.MOST }
+    {
+        match self {
+            RecordVersion::V1 => 64,
+            RecordVersion::V2 => MacQueue::MOST,
         }
     }
 
@@ -48,27 +65,24 @@ impl RecordVersion {
         out: &mut Vec<u8>,
     ) -> Result<(), Refusal>
         ensures { MatchResult result
-            (λ _. (out.new.items ≡ out.old.items ++ record_in self device.now)
-            × IsRecordIn self device.now)
+            (λ _. (out.new.items ≡ out.old.items ++ spelling self device.now)
+            × IsDevice self device.now)
             (λ e. (e ≡ OutOfMemory) × (out.new.items ≡ out.old.items)) }
     {
-        match self {
-            RecordVersion::V1 => crate::write_device(alloc, device, out),
-        }
+        let bytes = device_bytes(alloc, self, device)?;
+        out.extend_from_slice(bytes.as_slice())?;
+        Ok(())
     }
 
     /// The device of a record in this version, which is all of the bytes. Bytes that are no such
-    /// record are refused as `Damaged`. For want of memory a record is refused as `OutOfMemory`.
+    /// record are refused as `Damaged`, whether or not there is memory. For want of memory a record
+    /// is refused as `OutOfMemory`.
     pub fn read_device(self, alloc: Global, bytes: &[u8]) -> Result<Device, Refusal>
-        ensures found { IfOk result
-            (λ device. IsRecordIn self device × (bytes.now ≡ record_in self device)) }
-        ensures only { (device : Device) → IsRecordIn self device
-            → bytes.now ≡ record_in self device
-            → MatchResult result (λ found. found ≡ device) (λ e. e ≡ OutOfMemory) }
-        ensures refused { IfErr result (λ e. (e ≡ OutOfMemory) ⊎ (e ≡ Damaged)) }
+        ensures { ReadsRecord self bytes.now result }
     {
-        match self {
-            RecordVersion::V1 => crate::read_device(alloc, bytes),
+        match read_record(self, bytes) {
+            Some(parts) => parts.device(alloc),
+            None => Err(Refusal::Damaged),
         }
     }
 
@@ -87,9 +101,9 @@ impl RecordVersion {
             × IsChangeOf self before.now after.now bytes)
             (λ e. (e ≡ OutOfMemory) × (out.new.items ≡ out.old.items)) }
     {
-        match self {
-            RecordVersion::V1 => crate::write_change(alloc, before, after, out),
-        }
+        let bytes = change_between(alloc, self, before, after)?;
+        out.extend_from_slice(bytes.as_slice())?;
+        Ok(())
     }
 
     /// The record that a change in this version, which is all of the bytes, makes of the one
@@ -101,14 +115,17 @@ impl RecordVersion {
         before: &Device,
         bytes: &[u8],
     ) -> Result<Device, Refusal>
-        ensures found { IfOk result (λ after. IsChangeOf self before.now after bytes.now) }
-        ensures only { (after : Device) → IsChangeOf self before.now after bytes.now
-            → MatchResult result (λ found. found ≡ after) (λ e. e ≡ OutOfMemory) }
-        ensures refused { IfErr result (λ e. (e ≡ OutOfMemory) ⊎ (e ≡ Damaged)) }
-        ensures memory { (result ≡ Err OutOfMemory) → IsSomeChange self before.now bytes.now }
+        ensures { ReadsChange self before.now bytes.now result }
     {
-        match self {
-            RecordVersion::V1 => crate::read_change(alloc, before, bytes),
+        // What may wait in a record.
+        let _commands = before.mac_queue.as_slice();
+        let _items = before.items.as_slice();
+        match change_in(self, before, bytes) {
+            Some((groups, activation)) => groups.device(alloc, before, activation),
+            None => Err(Refusal::Damaged),
         }
     }
 }
+
+/// The version that is written.
+pub const NEWEST: RecordVersion = RecordVersion::V2;

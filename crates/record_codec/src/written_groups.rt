@@ -1,5 +1,5 @@
 // The groups of a change, appended to the bytes so far.
-ghost use Rattle.std.specs.Prelude.{◌≡◌, ◌++◌, ◌≤◌, ◌<◌, ◌^◌, IfOk, IfSome, OnOk, length};
+ghost use Rattle.std.specs.Prelude.{◌≡◌, ◌++◌, ◌≤◌, ◌<◌, ◌^◌, ℕ, IfOk, IfSome, OnOk, length};
 ghost use Rattle.std.specs.Prelude.{option_map};
 ghost use Rattle.lw_types.specs.Hex.{IsBytes};
 ghost use Rattle.byte_fields.specs.Spelling.{counted_bytes};
@@ -8,9 +8,8 @@ ghost use Rattle.record_codec.specs.DeviceRecord.{optional_session, IsCurrentSes
 ghost use Rattle.record_codec.specs.Change.{change_bytes, counters_bytes, group_bytes};
 ghost use Rattle.record_codec.specs.Change.{item_change_bytes, mask, nonces_bytes, there};
 ghost use Rattle.record_codec.specs.Change.{AreCounters, AreInRange, AreNonces, IsItemChange};
-ghost use Rattle.record_codec.specs.declared.version.RecordVersion.TheVariants.{V1};
 ghost use Rattle.record_codec.specs.Parts.{groups_of_parts, item_change_of_parts, AreShort};
-ghost use Rattle.record_codec.specs.Parts.{IsShortChange};
+ghost use Rattle.record_codec.specs.Parts.{FitVersion, IsShortChange};
 
 use crate::activation_fields::{
     put_counters, put_granted, put_optional_current, put_optional_session,
@@ -18,6 +17,7 @@ use crate::activation_fields::{
 use crate::device_record::{put_awaited, put_dev_nonce};
 use crate::parts::{Counters, GroupParts, ItemChangePart, Nonces};
 use crate::queues::put_item;
+use crate::version::RecordVersion;
 use crate::written_fields::put_counted;
 use devices::{CurrentSession, MacQueue, Session, Tag};
 use std::alloc::{AllocError, Global};
@@ -36,11 +36,11 @@ fn there<T>(group: &Option<T>) -> u8
     }
 }
 
-// A bit for each group, the lowest for the first.
+// A bit for each group, the lowest for the first, and the highest for the count.
 fn mask(groups: &GroupParts<'_>) -> u8
     ensures { result ≡ mask (groups_of_parts groups.now) }
 {
-    let queues = there(&groups.mac_queue) + 2 * there(&groups.items);
+    let queues = there(&groups.mac_queue) + 2 * (there(&groups.items) + 2 * u8::from(groups.grew));
     let waiting = there(&groups.pending) + 2 * (there(&groups.awaited) + 2 * queues);
     let in_use = there(&groups.current) + 2 * (there(&groups.counters) + 2 * waiting);
     there(&groups.nonces) + 2 * in_use
@@ -116,8 +116,9 @@ fn put_commands(out: &mut Vec<u8>, commands: &Option<&[u8]>) -> Result<(), Alloc
     requires { IfSome commands.now (λ bytes. length bytes.now ≤ MacQueue.MOST) }
     ensures written { let waiting = option_map (λ bytes. bytes.now) commands.now in
         OnOk result (out.new.items ≡ out.old.items ++ group_bytes counted_bytes waiting) }
-    ensures in_range { OnOk result (IfSome (option_map (λ bytes. bytes.now) commands.now)
-        (λ bytes. IsBytes bytes × (length bytes ≤ MacQueue.MOST))) }
+    ensures in_range { (most : ℕ) → IfSome commands.now (λ bytes. length bytes.now ≤ most)
+        → OnOk result (IfSome (option_map (λ bytes. bytes.now) commands.now)
+        (λ bytes. IsBytes bytes × (length bytes ≤ most))) }
 {
     match commands {
         None => (),
@@ -159,11 +160,16 @@ fn put_items(out: &mut Vec<u8>, items: &Option<ItemChangePart<'_>>) -> Result<()
 
 // Appends the mask of a change and the groups that are there.
 #[tactic(auto, unfolding(crate::specs::Change::change_bytes))]
-fn put_groups(out: &mut Vec<u8>, groups: &GroupParts<'_>) -> Result<(), AllocError>
-    requires { AreShort groups.now }
+fn put_groups(
+    out: &mut Vec<u8>,
+    version: RecordVersion,
+    groups: &GroupParts<'_>,
+) -> Result<(), AllocError>
+    requires short { AreShort groups.now }
+    requires fit { FitVersion version groups.now }
     ensures written { OnOk result (out.new.items
-        ≡ out.old.items ++ change_bytes V1 (groups_of_parts groups.now)) }
-    ensures in_range { OnOk result (AreInRange V1 (groups_of_parts groups.now)) }
+        ≡ out.old.items ++ change_bytes (groups_of_parts groups.now)) }
+    ensures in_range { OnOk result (AreInRange version (groups_of_parts groups.now)) }
 {
     out.push(mask(groups))?;
     put_nonces(out, &groups.nonces)?;
@@ -178,13 +184,18 @@ fn put_groups(out: &mut Vec<u8>, groups: &GroupParts<'_>) -> Result<(), AllocErr
 
 impl GroupParts<'_> {
     /// The bytes of a change: its mask and the groups that are there.
-    pub(crate) fn spelled(&self, alloc: Global) -> Result<Vec<u8>, AllocError>
-        requires { AreShort self.now }
-        ensures { IfOk result (λ bytes. (bytes.items ≡ change_bytes V1 (groups_of_parts self.now))
-            × AreInRange V1 (groups_of_parts self.now)) }
+    pub(crate) fn spelled(
+        &self,
+        alloc: Global,
+        version: RecordVersion,
+    ) -> Result<Vec<u8>, AllocError>
+        requires short { AreShort self.now }
+        requires fit { FitVersion version self.now }
+        ensures { IfOk result (λ bytes. (bytes.items ≡ change_bytes (groups_of_parts self.now))
+            × AreInRange version (groups_of_parts self.now)) }
     {
         let mut bytes = Vec::with_capacity(alloc, USUAL_CHANGE)?;
-        put_groups(&mut bytes, self)?;
+        put_groups(&mut bytes, version, self)?;
         Ok(bytes)
     }
 }

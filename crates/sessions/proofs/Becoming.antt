@@ -43,6 +43,7 @@ kept : (d : Device) (dev_nonce : Option ℕ) (activation : Grants) (awaited : Op
 kept d dev_nonce activation awaited mac_queue items after = record {
   provisioned = record { dev_eui = refl; join_eui = refl; app_key = refl; application = refl; rx1_offset = refl; rx_delay = refl };
   items = after;
+  heard = inl refl;
 }
 
 -- ---- queues
@@ -115,6 +116,7 @@ taken-follows net_id slot d fit u copies best =
         rx_delay = p.rx_delay;
       };
       items = answered.items;
+      heard = answered.heard;
     }
 
 fitted-follows : (net_id slot : ℕ) (d : Device) (u : declared.Uplink) (copies : ℕ) (best : Hearing) (fit : Fit) (o : DeviceStep) → step_in_session net_id slot d u copies best fit ≡ Ok o

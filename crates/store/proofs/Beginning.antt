@@ -6,6 +6,7 @@ use Rattle.sessions.specs.Table.{TableState}
 use Rattle.sessions.specs.Decision.{FitAll, IsLegalContinuation, with_decisions}
 use Rattle.sessions.specs.declared.decision.Decision.{Decision}
 use Rattle.record_codec.specs.declared.version.RecordVersion.{RecordVersion}
+use Rattle.record_codec.specs.Version.{newest}
 use Rattle.store_layout.specs.Entries.{AreEntries, AreEntriesOf, EntryValue, EntriesLead, Replay, SpellsEntriesOf, entries}
 use Rattle.store.specs.declared.commit.Commit.{Commit}
 use Rattle.store.specs.declared.phases.Begun.{Begun}
@@ -30,10 +31,11 @@ some_decisions [] some = absurd (some refl)
 some_decisions (d ∷ ds) some = omega arith
 
 -- the bytes of a change that may follow a table and number lead on from there, whatever contents say those
-pub extends : EntryLaws → (v : RecordVersion) (tip : Tip) (sequel : Sequel) (size : ℕ) (bytes : List ℕ) → MayFollow tip sequel size
-    → SpellsEntriesOf v sequel.decisions bytes → length sequel.decisions ≤ 64
-    → Extends v tip.table tip.seq sequel (record { last_sequence = sequel.seq; entry_count = length sequel.decisions; entries = bytes })
-extends laws v tip sequel size bytes may written few =
+pub extends : EntryLaws → (tip : Tip) (sequel : Sequel) (size : ℕ) (bytes : List ℕ) → MayFollow tip sequel size
+    → SpellsEntriesOf newest sequel.decisions bytes → length sequel.decisions ≤ 64
+    → Extends tip.table tip.seq sequel (record { last_sequence = sequel.seq; entry_count = length sequel.decisions; entries = bytes })
+extends laws tip sequel size bytes may written few =
+    let v = newest in
     let t = tip.table in
     let ds = sequel.decisions in
     let es = written.values in
@@ -50,9 +52,9 @@ extends laws v tip sequel size bytes may written few =
     }
 
 pub begun_on : EntryLaws → (s : StoreState) (begun : Begun) → IsSettled s → MayFollow (tip_of s) (begun_sequel begun) (begun_size begun)
-    → HasEntries s.version begun → length (begun_sequel begun).decisions ≤ 64 → IsBegunOn s begun
+    → HasEntries begun → length (begun_sequel begun).decisions ≤ 64 → IsBegunOn s begun
 begun_on laws s begun settled may (bytes, written, is) few =
-    let more = extends laws s.version (tip_of s) (begun_sequel begun) (begun_size begun) bytes may written few in
+    let more = extends laws (tip_of s) (begun_sequel begun) (begun_size begun) bytes may written few in
     record {
       contents = settled.contents;
       batch = record { last_sequence = (begun_sequel begun).seq; entry_count = length (begun_sequel begun).decisions; entries = bytes };
@@ -63,16 +65,16 @@ begun_on laws s begun settled may (bytes, written, is) few =
 
 pub begun_behind : EntryLaws → (s : StoreState) (opened : GateWritten) (begun : Begun)
     → MayFollow (tip_behind s (gate_written_sequel opened) (gate_written_size opened)) (begun_sequel begun) (begun_size begun)
-    → HasEntries s.version begun → length (begun_sequel begun).decisions ≤ 64 → IsBegunBehind s opened begun
+    → HasEntries begun → length (begun_sequel begun).decisions ≤ 64 → IsBegunBehind s opened begun
 begun_behind laws s opened begun may (bytes, written, is) few =
     record {
       batch = record { last_sequence = (begun_sequel begun).seq; entry_count = length (begun_sequel begun).decisions; entries = bytes };
-      extends = extends laws s.version (tip_behind s (gate_written_sequel opened) (gate_written_size opened)) (begun_sequel begun) (begun_size begun) bytes may written few;
+      extends = extends laws (tip_behind s (gate_written_sequel opened) (gate_written_size opened)) (begun_sequel begun) (begun_size begun) bytes may written few;
       bytes = is;
     }
 
 -- the first phase of a legal batch, behind which there is room, may follow
-module _ (v : RecordVersion) (tip : Tip) (commit : Commit) (batch : List Decision)
+module _ (tip : Tip) (commit : Commit) (batch : List Decision)
     (legal : IsLegalContinuation tip.table tip.seq batch × ((commit.batch ≡ batch) × (commit.last ≡ tip.seq + length batch)))
     (roomy : tip.next + LARGEST_BATCH ≤ tip.end) where
   may_follow : (begun : Begun) → begun_sequel begun ≡ sequel_of commit → begun_size begun < LARGEST_BATCH → MayFollow tip (begun_sequel begun) (begun_size begun)
@@ -82,9 +84,9 @@ module _ (v : RecordVersion) (tip : Tip) (commit : Commit) (batch : List Decisio
     room = omega (arith, fits, roomy);
   }
 
-  pub once_begun : (r : Result Begun Refusal) (P : Begun → Type 0) → length commit.batch ≤ 64 → IfOk r (λ begun. begun_sequel begun ≡ sequel_of commit) → IfOk r (HasEntries v)
+  pub once_begun : (r : Result Begun Refusal) (P : Begun → Type 0) → length commit.batch ≤ 64 → IfOk r (λ begun. begun_sequel begun ≡ sequel_of commit) → IfOk r HasEntries
       → IfOk r (λ begun. begun_size begun < LARGEST_BATCH)
-      → ((begun : Begun) → MayFollow tip (begun_sequel begun) (begun_size begun) → HasEntries v begun → length (begun_sequel begun).decisions ≤ 64 → P begun)
+      → ((begun : Begun) → MayFollow tip (begun_sequel begun) (begun_size begun) → HasEntries begun → length (begun_sequel begun).decisions ≤ 64 → P begun)
       → IfOk r P
   once_begun (Ok begun) P few is entries fits then =
       then begun (may_follow begun is fits) entries (subst (λ (c : Sequel). length c.decisions ≤ 64) (sym is) few)

@@ -15,7 +15,7 @@ use Rattle.store.specs.Formatting.{IsFormatImage, IsShut}
 use Rattle.store.specs.Image.{area_a, area_b}
 use Rattle.store.specs.declared.areas.TheConstants.{RECORD_VERSION}
 use Rattle.store.specs.State.{IsSettled}
-use Rattle.record_codec.specs.declared.version.RecordVersion.TheVariants.{V1}
+use Rattle.record_codec.specs.Version.{newest}
 use Rattle.store.proofs.Holding.{front_is, laid_out}
 
 pub OnOk-map : {T E : Type 0} {P Q : Type 0} (r : Result T E) → (P → Q) → OnOk r P → OnOk r Q
@@ -56,7 +56,6 @@ pub settled_empty : ClosedLaw → (net_id slots : ℕ) (state : State) → net_i
       log = record { disk = state; areas = record { live = area_a slots; other = area_b slots }; next = (area_a slots).start + 30; generation = 1; other_open = false };
       table = empty_table net_id slots;
       seq = 0;
-      version = V1;
       failed = false;
     })
 unfolding header_bytes
@@ -133,6 +132,6 @@ formatted_image law net_id slots old image net range long outside held closed bo
           let still = outside (area_a slots) old image (checkpoint (fresh_header RECORD_VERSION) []) held (opened_range old image (32 + area_len slots) same) in
           let front = opened_front old image same ∙ ap (λ (l : List ℕ). OPEN ∷ l) body in
           let settled = settled_empty law net_id slots state net range (λ i. refl) (torn.same_length ∙ long) still (closed_after 0 1 (area_b slots) old image torn (omega arith) closed) front in
-          inr (inl (record { version = V1; contents = settled.contents; holds = settled.rest.holds; says = settled.says }))
+          inr (inl (record { version = newest; contents = settled.contents; holds = settled.rest.holds; says = settled.says }))
       | inr other ↦ inl other
     ]

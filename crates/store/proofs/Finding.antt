@@ -1,5 +1,5 @@
 -- What was read of a disk, against what the disk holds.
-use Rattle.std.proofs.Common.{◌≡◌, ◌↔◌, inl, inr, ◌<◌, ◌≤◌, ◌∙◌, ℕ, List, [], ◌∷◌, length, take, sym, ap, subst, refl}
+use Rattle.std.proofs.Common.{arith, ◌≡◌, ◌↔◌, inl, inr, ◌<◌, ◌≤◌, ◌∙◌, ℕ, List, [], ◌∷◌, length, take, sym, ap, subst, refl}
 use Rattle.lw_types.specs.declared.refusal.Refusal.{Refusal}
 use Rattle.lw_types.specs.declared.refusal.Refusal.TheVariants.{Damaged, WrongVersion}
 use Rattle.gate_log.specs.declared.layout.Area.{Area}
@@ -12,15 +12,14 @@ use Rattle.gate_log.specs.Live.{IsLiveAs}
 use Rattle.gate_log.specs.Recovered.{IsRecovered, contents_of}
 use Rattle.sessions.specs.Table.{TableState, empty_table}
 use Rattle.record_codec.specs.declared.version.RecordVersion.{RecordVersion}
-use Rattle.record_codec.specs.declared.version.RecordVersion.TheVariants.{V1}
+use Rattle.record_codec.specs.declared.version.RecordVersion.TheVariants.{V1, V2}
 use Rattle.record_codec.specs.Version.{version_byte}
 use Rattle.store_layout.specs.Entries.{EntryValue, EntriesLead}
 use Rattle.store_layout.specs.Superblock.{disk_len, superblock}
-use Rattle.store.specs.declared.areas.TheConstants.{LAST_GENERATION}
 use Rattle.store.specs.declared.found.Found.{Found}
 use Rattle.store.specs.Faults.{HasGoodFront, HeaderFault, IsFault, IsKnown, IsStoreOf, IsUsable}
 use Rattle.store.specs.Found.{IsFound}
-use Rattle.store.specs.Image.{AreAreas, HoldsTable, IsLive, BatchesLead, NoneLive, Restores, Says, area_a, area_b}
+use Rattle.store.specs.Image.{AreAreas, HoldsTable, IsLive, BatchesLead, NoneLive, Restores, Says, area_a, area_b, last_generation}
 use Rattle.store.proofs.Holding.{front_is, store_of}
 
 -- the laws of areas that this file stands on
@@ -54,8 +53,15 @@ restored_slots keep v net slots header records batches t seq r =
     ∙ keep.slots v (empty_table net slots) r.base r.checkpoint.entries r.checkpoint.replay.leads
 
 -- each version has a byte of its own
-one_version : (v w : RecordVersion) → version_byte v ≡ version_byte w → v ≡ w
+pub one_version : (v w : RecordVersion) → version_byte v ≡ version_byte w → v ≡ w
 one_version V1 V1 same = refl
+one_version V1 V2 same = absurd (omega (arith, same))
+one_version V2 V1 same = absurd (omega (arith, same))
+one_version V2 V2 same = refl
+
+-- so a usable header of a version has a generation that may be in that one
+pub early : {area : Area} {h : Header} (v : RecordVersion) → h.version ≡ version_byte v → IsUsable area h → h.generation ≤ last_generation v
+early {area} {h} v version usable = subst (λ w. h.generation ≤ last_generation w) (one_version usable.version v (sym usable.of_version ∙ version)) usable.generation
 
 pub good_front : (content : List ℕ) (net slots : ℕ) → IsStoreOf content net slots → length content ≡ disk_len slots → (areas : Areas) (h : Header)
     → IsLive content slots areas h → IsUsable areas.live h → HasGoodFront content
@@ -93,8 +99,9 @@ module _ (content : List ℕ) (net slots : ℕ) (store : IsStoreOf content net s
       none = λ t seq x.
           let same = same_live t seq x in
           useless (record {
-            version = version;
-            generation = subst (λ (k : Header). k.generation ≤ LAST_GENERATION) (sym same.1) x.says.generation;
+            version = x.version;
+            of_version = known t seq x;
+            generation = subst (λ (k : Header). k.generation ≤ last_generation x.version) (sym same.1) x.says.generation;
             room = subst (λ (k : Header). HasRoomFor areas.live k) (sym same.1) (subst (λ (a : Areas). HasRoomFor a.live x.contents.journal.header) (sym same.0) (laws.room content x.contents x.holds));
           });
       first = inr (net, slots, store, long, inr (areas, h, live, inr (version, is)));
@@ -144,7 +151,7 @@ module _ (content : List ℕ) (net slots : ℕ) (store : IsStoreOf content net s
                 ∙ (store.superblock ∙ (ap (λ k. superblock k slots) (sym net_is) ∙ ap (superblock found.table.net_id) (sym slots_is)));
             size = long ∙ ap disk_len (sym slots_is);
             of_version = ap (λ (k : Header). k.version) header ∙ version;
-            generation = subst (λ (k : Header). k.generation ≤ LAST_GENERATION) (sym header) usable.generation;
+            generation = subst (λ (k : Header). k.generation ≤ last_generation v) (sym header) (early v version usable);
             journal =
                 subst (λ k. Restores v found.table.net_id k r.header r.records.items r.batches.items found.table found.seq) (sym slots_is)
                 (subst (λ k. Restores v k slots r.header r.records.items r.batches.items found.table found.seq) (sym net_is) journal);

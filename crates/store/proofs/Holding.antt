@@ -8,6 +8,7 @@ use Rattle.lw_types.specs.declared.refusal.Refusal.TheVariants.{NotFormatted, Da
 use Rattle.sessions.specs.Decision.{with_decisions}
 use Rattle.sessions.specs.declared.decision.Decision.{Decision}
 use Rattle.sessions.specs.Table.{TableState, with_record}
+use Rattle.record_codec.specs.Version.{newest}
 use Rattle.store_layout.specs.Superblock.{area_len, disk_len}
 use Rattle.store.specs.Commit.{Sequel, table_after}
 use Rattle.store.specs.Faults.{IsStoreOf, IsFault, IsNamed, IsNoSuperblock, SuperblockFault}
@@ -17,10 +18,10 @@ use Rattle.store.specs.State.{StoreState}
 
 module _ (s : StoreState) (sequel : Sequel) (c : LogContents) (b : BatchValue) (journals : Journals s sequel c b) (image : List ℕ) where
   pub held : Holds c image → HoldsTable s.table s.seq image
-  held holds = record { version = s.version; contents = c; holds = holds; says = journals.before }
+  held holds = record { version = newest; contents = c; holds = holds; says = journals.before }
 
   pub held_with : Holds (contents_with_batch c b) image → HoldsTable (table_after s sequel) sequel.seq image
-  held_with holds = record { version = s.version; contents = contents_with_batch c b; holds = holds; says = journals.after }
+  held_with holds = record { version = newest; contents = contents_with_batch c b; holds = holds; says = journals.after }
 
   pub held_either : LogHoldsEither c (contents_with_batch c b) image → HoldsEither s sequel image
   held_either (inl without) = inl (held without)

@@ -4,5 +4,6 @@ pub mod Restoring
 pub mod EmptyStore
 pub mod Beginning
 pub mod Finding
+pub mod Answering
 pub mod Republishing
 pub mod NextCalls

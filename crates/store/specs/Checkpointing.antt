@@ -2,7 +2,9 @@
 -- throughout.
 use Rattle.std.specs.Prelude.{◌≡◌, ◌⊎◌, ◌<◌, ◌≤◌, ℕ, ◌+◌, List, length, MatchBool, MatchResult}
 use Rattle.std.specs.Prelude.{Result, Err}
+use Rattle.gate_log.specs.declared.checkpoint.Checkpoint.{Checkpoint as LogCheckpoint}
 use Rattle.gate_log.specs.declared.layout.Header.{Header}
+use Rattle.gate_log.specs.Layout.{IsHeader}
 use Rattle.gate_log.specs.Areas.{LogContents, MayFollowContents, contents_with_checkpoint}
 use Rattle.gate_log.specs.Checkpointing.{IsCheckpoint as IsLogCheckpoint}
 use Rattle.gate_log.specs.Checkpointing.{IsRetiring as IsLogRetiring}
@@ -15,7 +17,8 @@ use Rattle.sessions.specs.Table.{TableState}
 use Rattle.lw_types.specs.declared.refusal.Refusal.{Refusal}
 use Rattle.lw_types.specs.declared.refusal.Refusal.TheVariants.{Damaged, Failed, OutOfMemory}
 use Rattle.record_codec.specs.declared.version.RecordVersion.{RecordVersion}
-use Rattle.record_codec.specs.Version.{version_byte}
+use Rattle.record_codec.specs.Version.{newest, version_byte}
+use Rattle.store_layout.specs.Entries.{entries, entries_of_table}
 use Rattle.store.specs.declared.checkpointing.Checkpoint.{Checkpoint}
 use Rattle.store.specs.declared.checkpointing.Retiring.{Retiring}
 use Rattle.store.specs.declared.checkpointing.CheckpointWritten.{CheckpointWritten}
@@ -46,16 +49,27 @@ checkpoint_opened_size opened = (opened_front opened.phase).len
 abbrev pub FitsOther : StoreState → ℕ → Type 0
 FitsOther s size = s.log.areas.other.start + size + LARGEST_BATCH ≤ s.log.areas.other.end
 
--- the header of a checkpoint of a store's table, with `records_len` bytes of records: the next
--- generation
-abbrev pub next_header : StoreState → ℕ → Header
-next_header s records_len = record {
-  version = version_byte s.version;
-  generation = s.log.generation + 1;
-  sequence = s.seq;
-  record_count = length s.table.devices;
+-- the header of a checkpoint of a table and a number behind an area of this generation, with
+-- `records_len` bytes of records: of the next generation, and of the newest version
+abbrev pub header_behind : TableState → ℕ → ℕ → ℕ → Header
+header_behind t seq generation records_len = record {
+  version = version_byte newest;
+  generation = generation + 1;
+  sequence = seq;
+  record_count = length t.devices;
   records_len = records_len;
 }
+
+-- it has that header, and the table's entries
+abbrev pub IsCheckpointOfTable : LogCheckpoint → TableState → ℕ → ℕ → Type 0
+IsCheckpointOfTable begun t seq generation =
+    let records = entries newest (entries_of_table t) in
+    IsLogCheckpoint begun (header_behind t seq generation (length records)) records
+    × IsHeader (header_behind t seq generation (length records))
+
+-- that of a store's table
+abbrev pub next_header : StoreState → ℕ → Header
+next_header s records_len = header_behind s.table s.seq s.log.generation records_len
 
 -- Why no checkpoint is begun: a call of the disk has failed, or else the live area has the last
 -- generation, each of them exactly; or memory is wanted.
@@ -68,12 +82,12 @@ IsCheckpointAnswer s result =
     (λ e. ((e ≡ Damaged) × (LAST_GENERATION ≤ s.log.generation))
     ⊎ ((e ≡ OutOfMemory) × (s.log.generation < LAST_GENERATION))))
 
--- the contents say a table and a number, and so does the checkpoint that may follow them, of the
--- next generation
+-- the contents say a table and a number, in records of a version, and so does the checkpoint that
+-- may follow them, of the next generation and in the newest version
 pub record Republishes (version : RecordVersion) (t : TableState) (seq : ℕ) (c : LogContents)
     (header : Header) (records : List ℕ) : Type 0 where
   pub before : Says version c t seq
-  pub after : Says version (contents_with_checkpoint c header records) t seq
+  pub after : Says newest (contents_with_checkpoint c header records) t seq
   pub follows : MayFollowContents c header records
   pub next : header.generation ≡ c.journal.header.generation + 1
 
@@ -82,7 +96,7 @@ pub record IsCheckpointOn (s : StoreState) (begun : Checkpoint) : Type 0 where
   pub contents : LogContents
   pub header : Header
   pub records : List ℕ
-  pub republishes : Republishes s.version s.table s.seq contents header records
+  pub republishes : Republishes newest s.table s.seq contents header records
   pub rest : IsAtRest s.log contents
   pub bytes : IsLogCheckpoint begun.phase header records
 
@@ -91,7 +105,7 @@ pub record IsRetiringOn (s : StoreState) (retiring : Retiring) : Type 0 where
   pub contents : LogContents
   pub header : Header
   pub records : List ℕ
-  pub republishes : Republishes s.version s.table s.seq contents header records
+  pub republishes : Republishes newest s.table s.seq contents header records
   pub log : IsLogRetiring s.log contents
   pub bytes : IsLogCheckpoint retiring.checkpoint header records
 
@@ -100,7 +114,7 @@ pub record IsCheckpointWrittenOn (s : StoreState) (written : CheckpointWritten) 
   pub contents : LogContents
   pub header : Header
   pub records : List ℕ
-  pub republishes : Republishes s.version s.table s.seq contents header records
+  pub republishes : Republishes newest s.table s.seq contents header records
   pub log : IsLogWritten s.log contents header records (written_front written.phase)
 
 -- it is on the disk
@@ -108,7 +122,7 @@ pub record IsCheckpointSyncedOn (s : StoreState) (synced : CheckpointSynced) : T
   pub contents : LogContents
   pub header : Header
   pub records : List ℕ
-  pub republishes : Republishes s.version s.table s.seq contents header records
+  pub republishes : Republishes newest s.table s.seq contents header records
   pub log : IsLogSynced s.log contents header records (synced_front synced.phase)
 
 -- its gate is open, and may be torn
@@ -116,5 +130,5 @@ pub record IsCheckpointOpenedOn (s : StoreState) (opened : CheckpointOpened) : T
   pub contents : LogContents
   pub header : Header
   pub records : List ℕ
-  pub republishes : Republishes s.version s.table s.seq contents header records
+  pub republishes : Republishes newest s.table s.seq contents header records
   pub log : IsLogOpened s.log contents header records (opened_front opened.phase)

@@ -15,8 +15,7 @@ use Rattle.store_layout.specs.Superblock.{superblock, disk_len}
 use Rattle.store_layout.specs.declared.superblock.TheConstants.Superblock.{LEN}
 use Rattle.record_codec.specs.declared.version.RecordVersion.{RecordVersion}
 use Rattle.record_codec.specs.Version.{version_byte}
-use Rattle.store.specs.declared.areas.TheConstants.{LAST_GENERATION}
-use Rattle.store.specs.Image.{HoldsTable, IsLive, NoneLive}
+use Rattle.store.specs.Image.{HoldsTable, IsLive, NoneLive, last_generation}
 
 -- the gate of a store is open, and its name is there
 abbrev pub IsNamed : List ℕ → Type 0
@@ -57,8 +56,9 @@ IsKnown byte = (version : RecordVersion) × (byte ≡ version_byte version)
 -- a header of a version that is read, of a generation that may be, and with records that fit the
 -- area
 pub record IsUsable (area : Area) (h : Header) : Type 0 where
-  pub version : IsKnown h.version
-  pub generation : h.generation ≤ LAST_GENERATION
+  pub version : RecordVersion
+  pub of_version : h.version ≡ version_byte version
+  pub generation : h.generation ≤ last_generation version
   pub room : HasRoomFor area h
 
 -- the superblock, the length and the header of the live area are in order

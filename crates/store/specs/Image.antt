@@ -10,9 +10,10 @@ use Rattle.sessions.specs.declared.batch.TheConstants.Batch.{MOST}
 use Rattle.store_layout.specs.Superblock.{area_len, disk_len, superblock}
 use Rattle.store_layout.specs.declared.superblock.TheConstants.Superblock.{LEN}
 use Rattle.record_codec.specs.declared.version.RecordVersion.{RecordVersion}
+use Rattle.record_codec.specs.declared.version.RecordVersion.TheVariants.{V1, V2}
 use Rattle.record_codec.specs.Version.{version_byte}
 use Rattle.store_layout.specs.Entries.{EntryValue, Replay}
-use Rattle.store.specs.declared.areas.TheConstants.{LAST_GENERATION}
+use Rattle.store.specs.declared.areas.TheConstants.{LAST_GENERATION, LAST_OLD_GENERATION}
 
 -- the first area, behind the superblock
 abbrev pub area_a : ℕ → Area
@@ -69,6 +70,12 @@ pub record Restores (version : RecordVersion) (net_id slots : ℕ) (header : Hea
   pub checkpoint : IsCheckpointOf version net_id slots records header.record_count base
   pub batches : BatchesLead version base header.sequence later t seq
 
+-- The greatest generation of an area with records of a version. One of an older version has to be
+-- followed by one more, in the newest.
+abbrev pub last_generation : RecordVersion → ℕ
+last_generation V1 = LAST_OLD_GENERATION
+last_generation V2 = LAST_GENERATION
+
 -- the contents of a disk, with records of a version, are those of a store with this table and
 -- number: its superblock is in front, and its journal leads there
 pub record Says (version : RecordVersion) (c : LogContents) (t : TableState)
@@ -79,7 +86,7 @@ pub record Says (version : RecordVersion) (c : LogContents) (t : TableState)
   pub front : c.front ≡ superblock t.net_id t.slots
   pub size : c.size ≡ disk_len t.slots
   pub of_version : c.journal.header.version ≡ version_byte version
-  pub generation : c.journal.header.generation ≤ LAST_GENERATION
+  pub generation : c.journal.header.generation ≤ last_generation version
   pub journal : Restores version t.net_id t.slots c.journal.header c.journal.records
       c.journal.batches t seq
 

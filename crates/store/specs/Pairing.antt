@@ -6,7 +6,7 @@ use Rattle.gate_log.specs.Pairing.{IsPaired}
 use Rattle.gate_log.specs.Pairing.{paired_next_size as log_paired_next_size}
 use Rattle.gate_log.specs.Pairing.{paired_size as log_paired_size}
 use Rattle.gate_log.specs.Phases.{IsBegun}
-use Rattle.record_codec.specs.declared.version.RecordVersion.{RecordVersion}
+use Rattle.record_codec.specs.Version.{newest}
 use Rattle.sessions.specs.Decision.{with_decisions}
 use Rattle.sessions.specs.Table.{TableState}
 use Rattle.store.specs.declared.pairing.Paired.{Paired}
@@ -54,16 +54,16 @@ pub record AreUnderWay (s : StoreState) (paired : Paired) : Type 0 where
       (following_sequel paired) (following_size paired)
 
 -- whatever contents say this table and number, with the batch they say what the sequel leaves
-pub record Extends (version : RecordVersion) (t : TableState) (seq : ℕ) (sequel : Sequel)
+pub record Extends (t : TableState) (seq : ℕ) (sequel : Sequel)
     (b : BatchValue) : Type 0 where
   pub slots : (with_decisions t sequel.decisions).slots ≡ t.slots
-  pub says : (c : LogContents) → Says version c t seq
-      → Says version (contents_with_batch c b) (with_decisions t sequel.decisions) sequel.seq
+  pub says : (c : LogContents) → Says newest c t seq
+      → Says newest (contents_with_batch c b) (with_decisions t sequel.decisions) sequel.seq
 
 -- nothing of the following batch is written
 pub record IsBegunBehind (s : StoreState) (opened : GateWritten) (begun : Begun) : Type 0 where
   pub batch : BatchValue
-  pub extends : Extends s.version (table_behind s opened) (gate_written_sequel opened).seq
+  pub extends : Extends (table_behind s opened) (gate_written_sequel opened).seq
       (begun_sequel begun) batch
   pub bytes : IsBegun begun.phase batch
 
@@ -73,6 +73,6 @@ pub record IsPairedOn (s : StoreState) (paired : Paired) : Type 0 where
   pub batch : BatchValue
   pub following : BatchValue
   pub journals : Journals s (paired_sequel paired) contents batch
-  pub extends : Extends s.version (table_after s (paired_sequel paired)) (paired_sequel paired).seq
+  pub extends : Extends (table_after s (paired_sequel paired)) (paired_sequel paired).seq
       (following_sequel paired) following
   pub log : IsPaired s.log contents batch following (paired_size paired) (following_size paired)

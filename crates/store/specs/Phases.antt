@@ -8,7 +8,7 @@ use Rattle.gate_log.specs.Phases.{written_size as log_written_size}
 use Rattle.gate_log.specs.Phases.{body_synced_size as log_body_synced_size}
 use Rattle.gate_log.specs.Phases.{gate_written_size as log_gate_written_size}
 use Rattle.sessions.specs.declared.decision.Decision.{Decision}
-use Rattle.record_codec.specs.declared.version.RecordVersion.{RecordVersion}
+use Rattle.record_codec.specs.Version.{newest}
 use Rattle.store_layout.specs.Entries.{SpellsEntriesOf}
 use Rattle.store.specs.declared.phases.Begun.{Begun}
 use Rattle.store.specs.declared.phases.Written.{Written}
@@ -28,9 +28,9 @@ begun_size begun = length (bytes_of begun.phase)
 
 -- its bytes are one entry for each decision of the batch, in order, behind the batch's last number
 -- and how many they are
-abbrev pub HasEntries : RecordVersion → Begun → Type 0
-HasEntries version begun =
-    (entries : List ℕ) × SpellsEntriesOf version begun.commit.batch entries
+abbrev pub HasEntries : Begun → Type 0
+HasEntries begun =
+    (entries : List ℕ) × SpellsEntriesOf newest begun.commit.batch entries
     × IsBegun begun.phase (record {
       last_sequence = begun.commit.last;
       entry_count = length begun.commit.batch;
@@ -63,8 +63,8 @@ durable_decisions durable = durable.batch
 pub record Journals (s : StoreState) (sequel : Sequel) (c : LogContents)
     (b : BatchValue) : Type 0 where
   pub slots : (table_after s sequel).slots ≡ s.table.slots
-  pub before : Says s.version c s.table s.seq
-  pub after : Says s.version (contents_with_batch c b) (table_after s sequel) sequel.seq
+  pub before : Says newest c s.table s.seq
+  pub after : Says newest (contents_with_batch c b) (table_after s sequel) sequel.seq
 
 -- an image holds the table and number from before the sequel, or those that it leaves
 abbrev pub HoldsEither : StoreState → Sequel → List ℕ → Type 0

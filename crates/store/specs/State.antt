@@ -1,13 +1,14 @@
 -- A store as contracts see it.
-use Rattle.std.specs.Prelude.{◌≡◌, ◌≤◌, ℕ, ◌+◌, Bool, true, List, Result, MatchResult, is_ok}
+use Rattle.std.specs.Prelude.{◌≡◌, ◌≢◌, ◌≤◌, ℕ, ◌+◌, Bool, true, List, Result, MatchResult}
+use Rattle.std.specs.Prelude.{is_ok}
 use Rattle.lw_types.specs.declared.refusal.Refusal.{Refusal}
 use Rattle.lw_types.specs.declared.refusal.Refusal.TheVariants.{DeviceFailed}
 use Rattle.disk.specs.Outlook.{Outlook, HasCause, IsForeseen}
-use Rattle.disk.specs.State.{State}
+use Rattle.disk.specs.State.{EveryImage, State}
 use Rattle.gate_log.specs.Areas.{LogContents}
 use Rattle.gate_log.specs.Log.{LogState, IsAtRest, log_state, disk_of as disk_of_log}
 use Rattle.sessions.specs.Table.{TableState}
-use Rattle.record_codec.specs.declared.version.RecordVersion.{RecordVersion}
+use Rattle.record_codec.specs.Version.{newest}
 use Rattle.store.specs.declared.store.Store.{Store}
 use Rattle.store.specs.declared.store.TheConstants.{LARGEST_BATCH}
 use Rattle.store.specs.Image.{HoldsTable, Says}
@@ -17,8 +18,6 @@ pub record StoreState : Type 0 where
   -- the durable table, and the number of its last decision
   pub table : TableState
   pub seq : ℕ
-  -- the version of the live area's records
-  pub version : RecordVersion
   -- whether a call of the disk failed
   pub failed : Bool
 
@@ -31,7 +30,6 @@ store_state state store =
       log = log_state state store.log;
       table = store.table;
       seq = store.seq;
-      version = store.version;
       failed = store.failed;
     }
 
@@ -43,13 +41,29 @@ IsRoomy s = s.log.next + LARGEST_BATCH ≤ s.log.areas.live.end
 pub record IsSettled (s : StoreState) : Type 0 where
   pub contents : LogContents
   pub rest : IsAtRest s.log contents
-  pub says : Says s.version contents s.table s.seq
+  pub says : Says newest contents s.table s.seq
 
--- a store that was opened: it has what the disk held, and the disk holds nothing else
+-- an image holds a table in records of an older version
+abbrev pub IsOld : List ℕ → Type 0
+IsOld image =
+    (t : TableState) × ((seq : ℕ) × ((x : HoldsTable t seq image) × (x.version ≢ newest)))
+
+-- whatever a crash leaves of this disk holds the store's table and number
+abbrev pub EachImageHolds : StoreState → State → Type 0
+EachImageHolds s disk = EveryImage disk (HoldsTable s.table s.seq)
+
+-- a store that was opened: it has what the disk held, and no other table was there; nothing was
+-- written but where the records were of an older version
 pub record IsOpened (content : List ℕ) (s : StoreState) : Type 0 where
   pub settled : IsSettled s
-  pub same : s.log.disk.content ≡ content
+  pub was : HoldsTable s.table s.seq content
   pub only : (t : TableState) (seq : ℕ) → HoldsTable t seq content → (t ≡ s.table) × (seq ≡ s.seq)
+  pub same : ¬ (IsOld content) → s.log.disk.content ≡ content
+
+-- whatever table the bytes hold, each image of the disk holds
+abbrev pub StillHolds : List ℕ → State → Type 0
+StillHolds bytes disk =
+    (t : TableState) (seq : ℕ) → HoldsTable t seq bytes → EveryImage disk (HoldsTable t seq)
 
 -- one call of the store's disk: an error is the device's, comes exactly where that failed, and
 -- fails the store

@@ -1,15 +1,29 @@
 // The areas of a store's disk.
 ghost use Rattle.std.specs.Prelude.{◌≡◌};
-ghost use Rattle.store.specs.Image.{area_a, area_b};
+ghost use Rattle.store.specs.Image.{area_a, area_b, last_generation};
 
 use gate_log::{Area, Areas};
-use store_layout::Superblock;
+use store_layout::{RecordVersion, Superblock};
 
-/// The version of the records in an area.
-pub const RECORD_VERSION: u8 = 1;
+/// The version of the records in an area of a new store.
+pub const RECORD_VERSION: u8 = 2;
 
 /// The greatest generation of an area.
 pub const LAST_GENERATION: u64 = (1 << 63) - 1;
+
+/// The greatest generation of an area with records of an older version: it has to be followed by
+/// one more.
+pub const LAST_OLD_GENERATION: u64 = LAST_GENERATION - 1;
+
+/// The greatest generation of an area with records of a version.
+pub(crate) fn last_generation(version: RecordVersion) -> u64
+    ensures { result ≡ last_generation version }
+{
+    match version {
+        RecordVersion::V1 => LAST_OLD_GENERATION,
+        RecordVersion::V2 => LAST_GENERATION,
+    }
+}
 
 /// The area behind the superblock.
 pub(crate) fn first_area(superblock: &Superblock) -> Area

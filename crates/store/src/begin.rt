@@ -12,6 +12,7 @@ use crate::commit::Commit;
 use crate::{Begun, LARGEST_BATCH, Store};
 use disk::Disk;
 use lw_types::Refusal;
+use record_codec::NEWEST;
 use sessions::{Batch, Decision, PlacedBatch};
 use std::alloc::Global;
 use store_layout::{batch_entries, laws};
@@ -41,7 +42,7 @@ impl<D: Disk> Store<D> {
             → IsLegalContinuation (store_state D.state self.old).table
             (store_state D.state self.old).seq batch }
         ensures batch { IfOk result (λ begun. (begun_sequel begun).decisions ≡ batch) }
-        ensures entries { IfOk result (HasEntries (store_state D.state self.old).version) }
+        ensures entries { IfOk result HasEntries }
         ensures begun { IsSettled (store_state D.state self.old)
             → IfOk result (IsBegunOn (store_state D.state self.old)) }
     {
@@ -88,13 +89,15 @@ impl<D: Disk> Store<D> {
     pub(crate) fn begun_of(&self, alloc: Global, commit: Commit) -> Result<Begun, Refusal>
         ensures memory { IfErr result (λ e. e ≡ OutOfMemory) }
         ensures sequel { IfOk result (λ begun. begun_sequel begun ≡ sequel_of commit) }
-        ensures entries { IfOk result (HasEntries (store_state D.state self.now).version) }
+        ensures entries { IfOk result HasEntries }
         ensures few { length commit.batch ≤ MOST }
         ensures size { IfOk result (λ begun. begun_size begun < LARGEST_BATCH) }
     {
-        let entries = batch_entries(alloc, self.version, &commit.batch)?;
+        let entries = batch_entries(alloc, NEWEST, &commit.batch)?;
         let count = commit.batch.len() as u16;
-        let phase = gate_log::Begun::new(alloc, commit.last, count, &entries)?;
+        let mut bytes = gate_log::Begun::buffer(alloc, entries.len())?;
+        bytes.extend_from_slice(&entries)?;
+        let phase = gate_log::Begun::new(bytes, commit.last, count)?;
         Ok(Begun { phase, commit })
     }
 }

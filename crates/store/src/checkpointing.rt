@@ -1,13 +1,12 @@
 // The phases of a checkpoint, each spent by one call of the disk.
 ghost use Rattle.std.specs.Prelude.{◌≡◌, ◌≤◌, ◌+◌, true, false, IfOk, OnOk};
-ghost use Rattle.disk.specs.State.{EveryImage};
 ghost use Rattle.store.specs.Checkpointing.{FitsOther, IsCheckpointOn, IsCheckpointOpenedOn};
 ghost use Rattle.store.specs.Checkpointing.{IsCheckpointSyncedOn, IsCheckpointWrittenOn};
 ghost use Rattle.store.specs.Checkpointing.{IsRetiringOn, checkpoint_opened_size, checkpoint_size};
 ghost use Rattle.store.specs.Checkpointing.{checkpoint_synced_size, checkpoint_written_size};
 ghost use Rattle.store.specs.Checkpointing.{retiring_size};
-ghost use Rattle.store.specs.Image.{HoldsTable};
-ghost use Rattle.store.specs.State.{store_state, disk_of, IsOneCall, IsRoomy, IsSettled};
+ghost use Rattle.store.specs.State.{store_state, disk_of, EachImageHolds, IsOneCall, IsRoomy};
+ghost use Rattle.store.specs.State.{IsSettled};
 
 use crate::Store;
 use disk::Disk;
@@ -48,8 +47,7 @@ impl Checkpoint {
         ensures next { D.honest → IsCheckpointOn (store_state D.state store.old) self
             → IfOk result (IsRetiringOn (store_state D.state store.new)) }
         ensures images { D.honest → IsCheckpointOn (store_state D.state store.old) self
-            → EveryImage (D.state (disk_of store.new))
-            (HoldsTable (store_state D.state store.old).table (store_state D.state store.old).seq) }
+            → EachImageHolds (store_state D.state store.old) (D.state (disk_of store.new)) }
         ensures fits { IfOk result (λ phase. FitsOther (store_state D.state store.new)
             (retiring_size phase)) }
         ensures table { (store_state D.state store.new).table
@@ -78,8 +76,7 @@ impl Checkpoint {
         ensures next { D.honest → IsCheckpointOn (store_state D.state store.old) self
             → IfOk result (IsCheckpointWrittenOn (store_state D.state store.new)) }
         ensures images { D.honest → IsCheckpointOn (store_state D.state store.old) self
-            → EveryImage (D.state (disk_of store.new))
-            (HoldsTable (store_state D.state store.old).table (store_state D.state store.old).seq) }
+            → EachImageHolds (store_state D.state store.old) (D.state (disk_of store.new)) }
         ensures fits { IfOk result (λ phase. FitsOther (store_state D.state store.new)
             (checkpoint_written_size phase)) }
         ensures table { (store_state D.state store.new).table
@@ -111,8 +108,7 @@ impl Retiring {
         ensures next { D.honest → IsRetiringOn (store_state D.state store.old) self
             → IfOk result (IsCheckpointOn (store_state D.state store.new)) }
         ensures images { D.honest → IsRetiringOn (store_state D.state store.old) self
-            → EveryImage (D.state (disk_of store.new))
-            (HoldsTable (store_state D.state store.old).table (store_state D.state store.old).seq) }
+            → EachImageHolds (store_state D.state store.old) (D.state (disk_of store.new)) }
         ensures fits { IfOk result (λ phase. FitsOther (store_state D.state store.new)
             (checkpoint_size phase)) }
         ensures closed { OnOk result ((store_state D.state store.new).log.other_open ≡ false) }
@@ -149,8 +145,7 @@ impl CheckpointWritten {
         ensures next { D.honest → IsCheckpointWrittenOn (store_state D.state store.old) self
             → IfOk result (IsCheckpointSyncedOn (store_state D.state store.new)) }
         ensures images { D.honest → IsCheckpointWrittenOn (store_state D.state store.old) self
-            → EveryImage (D.state (disk_of store.new))
-            (HoldsTable (store_state D.state store.old).table (store_state D.state store.old).seq) }
+            → EachImageHolds (store_state D.state store.old) (D.state (disk_of store.new)) }
         ensures fits { IfOk result (λ phase. FitsOther (store_state D.state store.new)
             (checkpoint_synced_size phase)) }
         ensures table { (store_state D.state store.new).table
@@ -182,8 +177,7 @@ impl CheckpointSynced {
         ensures next { D.honest → IsCheckpointSyncedOn (store_state D.state store.old) self
             → IfOk result (IsCheckpointOpenedOn (store_state D.state store.new)) }
         ensures images { D.honest → IsCheckpointSyncedOn (store_state D.state store.old) self
-            → EveryImage (D.state (disk_of store.new))
-            (HoldsTable (store_state D.state store.old).table (store_state D.state store.old).seq) }
+            → EachImageHolds (store_state D.state store.old) (D.state (disk_of store.new)) }
         ensures fits { IfOk result (λ phase. FitsOther (store_state D.state store.new)
             (checkpoint_opened_size phase)) }
         ensures table { (store_state D.state store.new).table
@@ -221,8 +215,7 @@ impl CheckpointOpened {
             ((store_state D.state store.new).log.generation
             ≡ (store_state D.state store.old).log.generation + 1) }
         ensures images { D.honest → IsCheckpointOpenedOn (store_state D.state store.old) self
-            → EveryImage (D.state (disk_of store.new))
-            (HoldsTable (store_state D.state store.old).table (store_state D.state store.old).seq) }
+            → EachImageHolds (store_state D.state store.old) (D.state (disk_of store.new)) }
         ensures table { (store_state D.state store.new).table
             ≡ (store_state D.state store.old).table }
         ensures seq { (store_state D.state store.new).seq ≡ (store_state D.state store.old).seq }

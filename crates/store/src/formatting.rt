@@ -23,7 +23,7 @@ use gate_log::{CLOSED, Log, OPEN, close_area, format_area, laws};
 use lw_types::{NetId, Refusal};
 use sessions::{Slots, Table};
 use std::alloc::Global;
-use store_layout::{RecordVersion, Superblock};
+use store_layout::Superblock;
 
 /// The length in bytes of the disk of a store with `slots` slots.
 pub fn disk_len(slots: Slots) -> u64
@@ -87,7 +87,6 @@ pub fn format_back<D: Disk>(
             Log::new(disk, both_areas(&superblock), 1, next, false),
             table,
             0,
-            RecordVersion::V1,
         )),
         Err(_) => Err((disk, Refusal::DeviceFailed)),
     }

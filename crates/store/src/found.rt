@@ -1,6 +1,6 @@
 // What was read of a disk that is opened.
-ghost use Rattle.std.specs.Prelude.{◌≡◌, ◌<◌};
-ghost use Rattle.store.specs.Image.{HaveLength};
+ghost use Rattle.std.specs.Prelude.{◌≡◌, ◌<◌, ◌≤◌};
+ghost use Rattle.store.specs.Image.{HaveLength, last_generation};
 
 use gate_log::Live;
 use sessions::Table;
@@ -17,4 +17,5 @@ pub(crate) struct Found {
     pub(crate) next: u64,
     pub ghost room: { next < live.areas.live.end },
     pub ghost long: { HaveLength table.slots live.areas },
+    pub ghost early: { live.header.generation ≤ last_generation version },
 }

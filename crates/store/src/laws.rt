@@ -5,7 +5,7 @@ ghost use Rattle.disk.specs.State.{EveryImage};
 ghost use Rattle.store.specs.Image.{HoldsTable};
 ghost use Rattle.store.specs.State.{StoreState, IsSettled};
 
-use crate::{LARGEST_BATCH, LAST_GENERATION, RECORD_VERSION};
+use crate::{LARGEST_BATCH, LAST_GENERATION, LAST_OLD_GENERATION, RECORD_VERSION};
 
 /// A store with nothing under way is what every crash leaves.
 pub fn a_settled_store_is_on_its_disk()
@@ -14,10 +14,11 @@ pub fn a_settled_store_is_on_its_disk()
     disk::laws::settled_disk_keeps_its_content();
 }
 
-/// The bytes that the largest batch takes, the greatest generation of an area, and the version of
-/// its records.
+/// The bytes that the largest batch takes, the greatest generation of an area, also in records of
+/// an older version, and the version of a new store's records.
 pub fn limits_are_these()
     ensures largest { LARGEST_BATCH ≡ 275536 }
     ensures generation { LAST_GENERATION + 1 ≡ 2 ^ 63 }
-    ensures version { RECORD_VERSION ≡ 1 }
+    ensures old_generation { LAST_OLD_GENERATION + 2 ≡ 2 ^ 63 }
+    ensures version { RECORD_VERSION ≡ 2 }
 {}

@@ -20,9 +20,10 @@ mod publishing;
 mod recover;
 mod restore;
 mod store;
+mod taking_over;
 mod under_way;
 
-pub use areas::{LAST_GENERATION, RECORD_VERSION};
+pub use areas::{LAST_GENERATION, LAST_OLD_GENERATION, RECORD_VERSION};
 pub use checkpointing::{
     Checkpoint, CheckpointOpened, CheckpointSynced, CheckpointWritten, Retiring,
 };

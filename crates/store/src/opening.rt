@@ -8,9 +8,10 @@ ghost use Rattle.disk.specs.State.{NothingOpen};
 ghost use Rattle.gate_log.specs.Areas.{AreLaidOut};
 ghost use Rattle.gate_log.specs.Opening.{disk_in_opening};
 ghost use Rattle.store.specs.Faults.{HasGoodFront, IsFault};
-ghost use Rattle.store.specs.Found.{IsFound};
+ghost use Rattle.record_codec.specs.Version.{newest};
+ghost use Rattle.store.specs.Found.{IsFound, IsOpeningOf};
 ghost use Rattle.store.specs.Made.{IsOpenAnswer};
-ghost use Rattle.store.specs.State.{store_state, disk_of, IsOpened};
+ghost use Rattle.store.specs.State.{store_state, disk_of, IsOld, IsOpened, StillHolds};
 
 use crate::Store;
 use crate::found::Found;
@@ -18,6 +19,7 @@ use crate::recover::read_store;
 use disk::Disk;
 use gate_log::Opening;
 use lw_types::Refusal;
+use record_codec::NEWEST;
 use std::alloc::Global;
 
 /// Opens the store on a disk, as [`open_back`] does.
@@ -41,6 +43,11 @@ pub fn open<D: Disk + Drop>(alloc: Global, disk: D) -> Result<Store<D>, Refusal>
 /// is wrong there; of the other area only the gate and the generation count. `OutOfMemory` comes
 /// for want of memory, and only where the superblock and the live area's header are in order. With
 /// a refusal the disk comes back. The cost grows with the bytes of the live area's journal.
+///
+/// Where the live area's records are of an older version, the table is published in the other area
+/// in the newest one before the store is given, by four calls of the disk more, or six. Whatever a
+/// crash leaves between two of them holds the same table and number, and so does the disk that
+/// comes back with a refusal.
 pub fn open_back<D: Disk>(alloc: Global, disk: D) -> Result<Store<D>, (D, Refusal)>
     ensures made { IsOpenAnswer D.Disk disk (λ error. error.1) result }
 
@@ -57,30 +64,62 @@ pub fn open_back<D: Disk>(alloc: Global, disk: D) -> Result<Store<D>, (D, Refusa
         (λ store. IsArmed (D.outlook (disk_of store)))
         (λ e. (e.1 ≡ DeviceFailed → D.outlook e.0 ≡ AllSucceed)
         × (e.1 ≢ DeviceFailed → IsArmed (D.outlook e.0))) }
-    ensures same { D.honest → IfErr result (λ e. (D.state e.0).content ≡ (D.state disk).content) }
-    ensures still { D.honest → NothingOpen (D.state disk)
+
+    // Nothing is written but where the records are of an older version.
+    ensures same { D.honest → ¬ (IsOld (D.state disk).content)
+        → IfErr result (λ e. (D.state e.0).content ≡ (D.state disk).content) }
+    ensures still { D.honest → ¬ (IsOld (D.state disk).content) → NothingOpen (D.state disk)
         → IfErr result (λ e. NothingOpen (D.state e.0)) }
 
-    // Nothing is open, once the sync has succeeded.
-    ensures settled { D.honest → IfErr result (λ e. NothingOpen (D.state e.0)
+    // Then nothing is open, once the sync has succeeded.
+    ensures settled { D.honest → ¬ (IsOld (D.state disk).content) → IfErr result
+        (λ e. NothingOpen (D.state e.0)
         ⊎ ((e.1 ≡ DeviceFailed) × (D.state e.0 ≡ D.state disk))) }
+
+    // A refusal that isn't the device's comes before anything is written.
+    ensures memory { D.honest → IfErr result (λ e. e.1 ≢ DeviceFailed
+        → NothingOpen (D.state e.0) × ((D.state e.0).content ≡ (D.state disk).content)) }
+
+    // Whatever table the disk held, it holds.
+    ensures kept { D.honest → NothingOpen (D.state disk)
+        → IfErr result (λ e. StillHolds (D.state disk).content (D.state e.0)) }
     ensures same_length { IfErr result
         (λ e. length (D.state e.0).content ≡ length (D.state disk).content) }
 {
+    disk::laws::settled_disk_keeps_its_content();
+    gate_log::laws::what_is_held_is_live();
     let mut opening = match Opening::new(disk) {
         Ok(opening) => opening,
         Err((_, disk)) => return Err((disk, Refusal::DeviceFailed)),
     };
     match read_store(alloc, &mut opening) {
-        Ok(found) => Ok(found.into_store(opening)),
+        Ok(found) => found.open(alloc, opening),
         Err(refusal) => Err((opening.close(), refusal)),
     }
 }
 
 impl Found {
-    /// The store with what was found on this disk.
-    pub(crate) fn into_store<D: Disk>(self, opening: Opening<D>) -> Store<D>
+    /// The store with what was found on this disk, where its records are of the newest version, and
+    /// else behind a checkpoint that takes it over.
+    pub(crate) fn open<D: Disk>(
+        self,
+        alloc: Global,
+        opening: Opening<D>,
+    ) -> Result<Store<D>, (D, Refusal)>
         requires { AreLaidOut self.live.areas (length (D.state (disk_in_opening opening)).content) }
+        ensures { IsOpeningOf D.Disk (disk_in_opening opening) self result }
+    {
+        if self.version == NEWEST {
+            return Ok(self.into_store(opening));
+        }
+        self.take_over(alloc, opening)
+    }
+
+    // The store of the newest version with what was found on this disk.
+    fn into_store<D: Disk>(self, opening: Opening<D>) -> Store<D>
+        requires layout { AreLaidOut self.live.areas
+            (length (D.state (disk_in_opening opening)).content) }
+        requires version { self.version ≡ newest }
         ensures opened { D.honest → IsFound (D.state (disk_in_opening opening)).content self
             → IsOpened (D.state (disk_in_opening opening)).content (store_state D.state result) }
         ensures healthy { (store_state D.state result).failed ≡ false }
@@ -89,10 +128,10 @@ impl Found {
         let Found {
             table,
             seq,
-            version,
+            version: _,
             live,
             next,
         } = self;
-        Store::new(opening.into_log(live, next), table, seq, version)
+        Store::new(opening.into_log(live, next), table, seq)
     }
 }

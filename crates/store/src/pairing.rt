@@ -66,7 +66,7 @@ impl<D: Disk> Store<D> {
             → IsLegalContinuation (table_behind (store_state D.state self.now) under_way.now)
             (gate_written_sequel under_way.now).seq batch }
         ensures batch { IfOk result (λ begun. (begun_sequel begun).decisions ≡ batch) }
-        ensures entries { IfOk result (HasEntries (store_state D.state self.now).version) }
+        ensures entries { IfOk result HasEntries }
         ensures begun { IfOk result
             (IsBegunBehind (store_state D.state self.now) under_way.now) }
     {

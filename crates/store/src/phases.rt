@@ -8,7 +8,7 @@ ghost use Rattle.store.specs.Phases.{HoldsEither, IsBegunOn, IsWrittenOn, IsBody
 ghost use Rattle.store.specs.Phases.{IsGateWrittenOn, begun_sequel, begun_size, written_sequel};
 ghost use Rattle.store.specs.Phases.{written_size, body_synced_sequel, body_synced_size};
 ghost use Rattle.store.specs.Phases.{gate_written_sequel, gate_written_size, durable_decisions};
-ghost use Rattle.store.specs.State.{store_state, disk_of, IsSettled, IsOneCall};
+ghost use Rattle.store.specs.State.{store_state, disk_of, EachImageHolds, IsOneCall, IsSettled};
 
 use crate::Store;
 use crate::commit::Commit;
@@ -54,8 +54,7 @@ impl Begun {
         ensures next { D.honest → IsBegunOn (store_state D.state store.old) self
             → IfOk result (IsWrittenOn (store_state D.state store.new)) }
         ensures images { D.honest → IsBegunOn (store_state D.state store.old) self
-            → EveryImage (D.state (disk_of store.new))
-            (HoldsTable (store_state D.state store.old).table (store_state D.state store.old).seq) }
+            → EachImageHolds (store_state D.state store.old) (D.state (disk_of store.new)) }
         ensures under_way { IfOk result (λ written. IsUnderWay (store_state D.state store.new)
             (written_sequel written) (written_size written)) }
         ensures tip { IfOk result (λ written. tip_behind (store_state D.state store.new)
@@ -92,8 +91,7 @@ impl Written {
         ensures next { D.honest → IsWrittenOn (store_state D.state store.old) self
             → IfOk result (IsBodySyncedOn (store_state D.state store.new)) }
         ensures images { D.honest → IsWrittenOn (store_state D.state store.old) self
-            → EveryImage (D.state (disk_of store.new))
-            (HoldsTable (store_state D.state store.old).table (store_state D.state store.old).seq) }
+            → EachImageHolds (store_state D.state store.old) (D.state (disk_of store.new)) }
         ensures under_way { IfOk result (λ synced. IsUnderWay (store_state D.state store.new)
             (body_synced_sequel synced) (body_synced_size synced)) }
         ensures tip { IfOk result (λ synced. tip_behind (store_state D.state store.new)

@@ -1,16 +1,21 @@
 // Begins a checkpoint.
 ghost use Rattle.std.specs.Prelude.{◌≡◌, ◌<◌, ◌≤◌, ◌+◌, IfOk, MatchResult, drop, length};
+ghost use Rattle.gate_log.specs.Checkpointing.{checkpoint_bytes};
 ghost use Rattle.gate_log.specs.Layout.{IsHeader};
 ghost use Rattle.lw_types.specs.declared.refusal.Refusal.TheVariants.{OutOfMemory};
 ghost use Rattle.store.specs.Checkpointing.{FitsOther, IsCheckpointAnswer, IsCheckpointOn};
-ghost use Rattle.store.specs.Checkpointing.{checkpoint_size, next_header};
+ghost use Rattle.store.specs.Checkpointing.{IsCheckpointOfTable, checkpoint_size, header_behind};
+ghost use Rattle.record_codec.specs.Version.{newest};
 ghost use Rattle.store_layout.specs.Entries.{AreEntries, entries, entries_of_table};
+ghost use Rattle.store_layout.specs.Superblock.{area_len};
 
 use crate::areas::LAST_GENERATION;
-use crate::{Checkpoint, Store};
+use crate::{Checkpoint, LARGEST_BATCH, Store};
 use disk::{Disk, Sim};
 use gate_log::Header;
 use lw_types::Refusal;
+use record_codec::NEWEST;
+use sessions::Table;
 use std::alloc::Global;
 use store_layout::{LONGEST_ENTRY, laws, put_table};
 
@@ -51,11 +56,9 @@ impl<D: Disk> Store<D> {
         if self.log.generation() >= LAST_GENERATION {
             return Err(Refusal::Damaged);
         }
-        let records = self.checkpoint_records(alloc)?;
         laws::a_table_replays();
         let _devices = self.table.devices();
-        let header = self.checkpoint_header((records.len() - Header::LEN) as u64);
-        let phase = gate_log::Checkpoint::new(records, header)?;
+        let phase = checkpoint_of(alloc, &self.table, self.seq, self.log.generation())?;
         Ok(Checkpoint { phase })
     }
 
@@ -65,46 +68,6 @@ impl<D: Disk> Store<D> {
         ensures { result ≡ (store_state D.state self.now).log.other_open }
     {
         self.log.is_other_open()
-    }
-
-    // The durable table's records, behind room for a header. The other area has room for them, and
-    // for the largest batch.
-    fn checkpoint_records(&self, alloc: Global) -> Result<Vec<u8>, Refusal>
-        ensures { MatchResult result
-            (λ bytes. (Header.LEN ≤ length bytes.items)
-            × ((drop Header.LEN bytes.items
-            ≡ entries (store_state D.state self.now).version
-            (entries_of_table (store_state D.state self.now).table))
-            × (AreEntries (store_state D.state self.now).version
-            (entries_of_table (store_state D.state self.now).table)
-            × FitsOther (store_state D.state self.now) (length bytes.items + 1))))
-            (λ e. e ≡ OutOfMemory) }
-    {
-        // A table has at most 4,096 slots.
-        let _slots = self.table.slots();
-        laws::a_table_replays();
-        laws::entries_are_short();
-        let most = self.table.devices().len() * LONGEST_ENTRY;
-        let mut bytes = gate_log::Checkpoint::buffer(alloc, most)?;
-        put_table(alloc, self.version, &self.table, &mut bytes)?;
-        Ok(bytes)
-    }
-
-    // The header of a checkpoint of the durable table with `records_len` bytes of records.
-    fn checkpoint_header(&self, records_len: u64) -> Header
-        requires { (store_state D.state self.now).log.generation < LAST_GENERATION }
-        ensures header { result ≡ next_header (store_state D.state self.now) records_len }
-        ensures in_range { IsHeader result }
-    {
-        // A table has at most 4,096 slots.
-        let _slots = self.table.slots();
-        Header {
-            version: self.version.byte(),
-            generation: self.log.generation() + 1,
-            sequence: self.seq(),
-            record_count: self.table.devices().len() as u32,
-            records_len,
-        }
     }
 }
 
@@ -121,5 +84,63 @@ impl<D: Sim> Store<D> {
             → IfOk result (IsCheckpointOn (store_state D.state self.now)) }
     {
         self.begin_checkpoint(alloc)
+    }
+}
+
+/// The checkpoint of a table and the number of its last decision, behind an area of this
+/// generation. The other area has room for it, and for the largest batch. Refused with
+/// `OutOfMemory` alone; all the memory that its phases need is taken here.
+pub(crate) fn checkpoint_of(
+    alloc: Global,
+    table: &Table,
+    seq: u64,
+    generation: u64,
+) -> Result<gate_log::Checkpoint, Refusal>
+    requires { generation < LAST_GENERATION }
+    ensures { MatchResult result
+        (λ begun. (length (checkpoint_bytes begun) + LARGEST_BATCH ≤ area_len table.now.slots)
+        × (AreEntries newest (entries_of_table table.now)
+        × IsCheckpointOfTable begun table.now seq generation))
+        (λ e. e ≡ OutOfMemory) }
+{
+    let records = records_of(alloc, table)?;
+    let header = header_of(table, seq, generation, (records.len() - Header::LEN) as u64);
+    let checkpoint = gate_log::Checkpoint::new(records, header)?;
+    Ok(checkpoint)
+}
+
+// The table's records, behind room for a header.
+fn records_of(alloc: Global, table: &Table) -> Result<Vec<u8>, Refusal>
+    ensures { MatchResult result
+        (λ bytes. (Header.LEN ≤ length bytes.items)
+        × ((drop Header.LEN bytes.items ≡ entries newest (entries_of_table table.now))
+        × (AreEntries newest (entries_of_table table.now)
+        × (length bytes.items + 1 + LARGEST_BATCH ≤ area_len table.now.slots))))
+        (λ e. e ≡ OutOfMemory) }
+{
+    // A table has at most 4,096 slots.
+    let _slots = table.slots();
+    laws::a_table_replays();
+    laws::entries_are_short();
+    let most = table.devices().len() * LONGEST_ENTRY;
+    let mut bytes = gate_log::Checkpoint::buffer(alloc, most)?;
+    put_table(alloc, NEWEST, table, &mut bytes)?;
+    Ok(bytes)
+}
+
+// The header of a checkpoint of a table with `records_len` bytes of records.
+fn header_of(table: &Table, seq: u64, generation: u64, records_len: u64) -> Header
+    requires { generation < LAST_GENERATION }
+    ensures header { result ≡ header_behind table.now seq generation records_len }
+    ensures in_range { IsHeader result }
+{
+    // A table has at most 4,096 slots.
+    let _slots = table.slots();
+    Header {
+        version: NEWEST.byte(),
+        generation: generation + 1,
+        sequence: seq,
+        record_count: table.devices().len() as u32,
+        records_len,
     }
 }

@@ -17,7 +17,7 @@ ghost use Rattle.store.specs.Faults.{IsUsable};
 ghost use Rattle.store.specs.Found.{IsFound, is_device_refusal};
 ghost use Rattle.store.specs.Image.{AreAreas};
 
-use crate::areas::{LAST_GENERATION, first_area, second_area};
+use crate::areas::{first_area, last_generation, second_area};
 use crate::found::Found;
 use crate::restore::restore;
 use disk::Disk;
@@ -186,7 +186,7 @@ fn usable_version(header: Header, area: Area) -> Result<RecordVersion, Refusal>
     let Some(version) = RecordVersion::of(header.version) else {
         return Err(Refusal::WrongVersion);
     };
-    if header.generation > LAST_GENERATION || !header.fits(area) {
+    if header.generation > last_generation(version) || !header.fits(area) {
         return Err(Refusal::Damaged);
     }
     Ok(version)

@@ -8,20 +8,20 @@ use disk::{Disk, Sim};
 use gate_log::{ENTRIES_AT, Log};
 use lw_types::Refusal;
 use sessions::Table;
-use store_layout::{RESERVED_ENTRY, RecordVersion};
+use store_layout::RESERVED_ENTRY;
 
 /// The bytes of the journal that the largest batch takes: its gate and head, 64 entries of the
 /// bytes that are reserved for each, and the next gate.
 pub const LARGEST_BATCH: u64 = ENTRIES_AT + 64 * RESERVED_ENTRY + 1;
 
-/// A durable table with its journal on a disk. After a call of the disk has failed, it answers no
-/// `begin` but with [`Refusal::Failed`]: it is closed, and its disk opened again.
+/// A durable table with its journal on a disk, in records of the newest version. After a call of
+/// the disk has failed, it answers no `begin` but with [`Refusal::Failed`]: it is closed, and its
+/// disk opened again.
 #[derive(Drop)]
 pub struct Store<D: Disk> {
     pub(crate) log: Log<D>,
     pub(crate) table: Table,
     pub(crate) seq: u64,
-    pub(crate) version: RecordVersion,
     pub(crate) failed: bool,
     ghost long: { HaveLength table.slots log.areas },
 }
@@ -29,16 +29,14 @@ pub struct Store<D: Disk> {
 impl<D: Disk> Store<D> {
     ghost use Rattle.store.specs.State.{store_state, disk_of, IsRoomy};
 
-    /// The store of a table and the number of its last decision, in an area with records of a
-    /// version.
-    pub(crate) fn new(log: Log<D>, table: Table, seq: u64, version: RecordVersion) -> Self
+    /// The store of a table and the number of its last decision.
+    pub(crate) fn new(log: Log<D>, table: Table, seq: u64) -> Self
         requires { HaveLength table.slots log.areas }
         ensures store { store_state D.state result
             ≡ record {
               log = log_state D.state log;
               table = table;
               seq = seq;
-              version = version;
               failed = false;
             } }
         ensures disk { disk_of result ≡ disk_of_log log }
@@ -47,7 +45,6 @@ impl<D: Disk> Store<D> {
             log,
             table,
             seq,
-            version,
             failed: false,
         }
     }

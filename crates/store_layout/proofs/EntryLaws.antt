@@ -8,9 +8,8 @@ use Rattle.devices.specs.declared.device.Device.{Device}
 use Rattle.record_codec.specs.DeviceRecord.{spelling, IsDevice}
 use Rattle.sessions.specs.Table.{CanPut, TableState, with_record}
 use Rattle.record_codec.specs.declared.version.RecordVersion.{RecordVersion}
-use Rattle.record_codec.specs.declared.version.RecordVersion.TheVariants.{V1}
+use Rattle.record_codec.specs.declared.device_record.TheConstants.{LONGEST_RECORD}
 use Rattle.record_codec.specs.Change.{IsChangeOf}
-use Rattle.record_codec.specs.Version.{IsRecordIn, record_in}
 use Rattle.store_layout.specs.Entries.{EntryValue, kind_of, body_in, entry, entries, IsEntry, AreEntries, Replay, LeavesRecord, Puts, EntriesLead, NoEntry, slot_in}
 use Rattle.store_layout.specs.Entries.EntryValue.{Changed, Whole}
 
@@ -32,28 +31,31 @@ number_same m n hm hn e = sym (from_be_bytes-to_be_bytes_2 m hm) ∙ (ap (from_b
 
 -- the laws of records and changes that this file stands on
 pub record RecordLaws (v : RecordVersion) : Type 0 where
-  pub one : (a b : Device) → IsRecordIn v a → IsRecordIn v b → record_in v a ≡ record_in v b → a ≡ b
-  pub short : (a : Device) → IsRecordIn v a → length (record_in v a) ≤ 4300
+  pub one : (a b : Device) → IsDevice v a → IsDevice v b → spelling v a ≡ spelling v b → a ≡ b
+  pub short : (a : Device) → IsDevice v a → length (spelling v a) ≤ 4300
   pub one_change : (before a b : Device) (bytes : List ℕ) → IsChangeOf v before a bytes → IsChangeOf v before b bytes → a ≡ b
 
--- a record is no longer than the room that is reserved for it
-pub short_in : ((a : Device) → IsDevice a → length (spelling a) ≤ 4180) → (v : RecordVersion) (a : Device) → IsRecordIn v a → length (record_in v a) ≤ 4300
-short_in short V1 a is = let most : length (spelling a) ≤ 4180 = short a is in omega arith
+-- what `each_record_is_of_one_device` says
+abbrev pub RecordLaw : Type 0
+RecordLaw = (version : RecordVersion) (a b : Device) → IsDevice version a → IsDevice version b → spelling version a ≡ spelling version b → a ≡ b
 
-one_in : ((a b : Device) → IsDevice a → IsDevice b → spelling a ≡ spelling b → a ≡ b)
-    → (v : RecordVersion) (a b : Device) → IsRecordIn v a → IsRecordIn v b → record_in v a ≡ record_in v b → a ≡ b
-one_in one V1 = one
+-- what `records_are_short` says
+abbrev pub LengthLaw : Type 0
+LengthLaw = (version : RecordVersion) (a : Device) → IsDevice version a → length (spelling version a) ≤ LONGEST_RECORD
+
+-- a record is no longer than the room that is reserved for it
+pub short_in : LengthLaw → (v : RecordVersion) (a : Device) → IsDevice v a → length (spelling v a) ≤ 4300
+short_in short v a is = let most = short v a is in omega arith
 
 -- what `each_change_is_of_one_record` says
 abbrev pub ChangeLaw : Type 0
 ChangeLaw = (version : RecordVersion) (before a b : Device) (bytes : List ℕ) → IsChangeOf version before a bytes → IsChangeOf version before b bytes → a ≡ b
 
-pub record_laws : ((a b : Device) → IsDevice a → IsDevice b → spelling a ≡ spelling b → a ≡ b) → ((a : Device) → IsDevice a → length (spelling a) ≤ 4180) → ChangeLaw
-    → (v : RecordVersion) → RecordLaws v
-record_laws one short change v = record { one = one_in one v; short = short_in short v; one_change = change v }
+pub record_laws : RecordLaw → LengthLaw → ChangeLaw → (v : RecordVersion) → RecordLaws v
+record_laws one short change v = record { one = one v; short = short_in short v; one_change = change v }
 
 -- the body of an entry is no longer either
-pub short_body : (v : RecordVersion) → ((a : Device) → IsRecordIn v a → length (record_in v a) ≤ 4300) → (e : EntryValue) → IsEntry v e → length (body_in v e) ≤ 4300
+pub short_body : (v : RecordVersion) → ((a : Device) → IsDevice v a → length (spelling v a) ≤ 4300) → (e : EntryValue) → IsEntry v e → length (body_in v e) ≤ 4300
 short_body v short (Whole slot device) is = short device is.1
 short_body v short (Changed slot change) is = is.1
 
@@ -114,7 +116,7 @@ body_cut v bytes rest e cut len short is cut_is len_is =
     cut_is ∙ (ap (take len) (take_rest bytes 5 ∙ ap (drop 5) is) ∙ take_at (body_in v e) rest len long)
 
 -- no entry stands in front of bytes whose length cuts off no body of their kind
-pub no_body : (v : RecordVersion) (bytes cut : List ℕ) (len : ℕ) → ((a : Device) → IsRecordIn v a → length (record_in v a) ≤ 4300)
+pub no_body : (v : RecordVersion) (bytes cut : List ℕ) (len : ℕ) → ((a : Device) → IsDevice v a → length (spelling v a) ≤ 4300)
     → ((e : EntryValue) → IsEntry v e → get_or bytes 0 0 ≡ kind_of e → cut ≡ body_in v e → ⊥)
     → cut ≡ take len (take (length bytes - 5) (drop 5 bytes)) → len ≡ get_or bytes 3 0 * 256 + get_or bytes 4 0 → NoEntry v bytes
 no_body v bytes cut len short none cut_is len_is e rest is_entry is =

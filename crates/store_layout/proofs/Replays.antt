@@ -8,7 +8,7 @@ use Rattle.sessions.specs.Decision.{FitsTable, FitAll, with_decision, with_decis
 use Rattle.sessions.specs.declared.decision.Decision.{Decision}
 use Rattle.record_codec.specs.declared.version.RecordVersion.{RecordVersion}
 use Rattle.record_codec.specs.Change.{IsChangeOf}
-use Rattle.record_codec.specs.Version.{IsRecordIn, record_in}
+use Rattle.record_codec.specs.DeviceRecord.{spelling, IsDevice}
 use Rattle.store_layout.specs.Entries.{EntryValue, body_in, entry, entries, AreEntries, AreEntriesOf, IsEntryOf, EntriesLead, Puts, Replay}
 use Rattle.store_layout.specs.Entries.EntryValue.{Changed, Whole}
 use Rattle.store_layout.proofs.EntryLaws.{RecordLaws, entry-one, one_lead, short_body}
@@ -58,7 +58,7 @@ pub one-table : {v : RecordVersion} → RecordLaws v → (t u u' : TableState) (
 one-table {v} laws t u u' bytes count es fs a b =
     one_lead laws t fs u u' (subst (λ (l : List EntryValue). EntriesLead v t l u) (one-replay laws t t u u' bytes count es fs a b) a.leads) b.leads
 
-pub short-entries : (v : RecordVersion) → ((a : Device) → IsRecordIn v a → length (record_in v a) ≤ 4300) → (es : List EntryValue) → AreEntries v es
+pub short-entries : (v : RecordVersion) → ((a : Device) → IsDevice v a → length (spelling v a) ≤ 4300) → (es : List EntryValue) → AreEntries v es
     → length (entries v es) ≤ length es * 4305
 short-entries v short [] each = omega arith
 short-entries v short (e ∷ es) each =

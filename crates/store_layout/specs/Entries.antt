@@ -7,7 +7,7 @@ use Rattle.std.specs.Int.{to_be_bytes, w16}
 use Rattle.devices.specs.declared.device.Device.{Device}
 use Rattle.record_codec.specs.declared.version.RecordVersion.{RecordVersion}
 use Rattle.record_codec.specs.Change.{IsChangeOf}
-use Rattle.record_codec.specs.Version.{record_in, IsRecordIn}
+use Rattle.record_codec.specs.DeviceRecord.{spelling, IsDevice}
 use Rattle.sessions.specs.Table.{TableState, CanPut, with_record}
 use Rattle.sessions.specs.declared.decision.Decision.{Decision}
 use Rattle.store_layout.specs.declared.superblock.TheConstants.{RESERVED_RECORD}
@@ -30,7 +30,7 @@ slot_in (Changed slot change) = slot
 
 -- the record or the change of an entry
 abbrev pub body_in : RecordVersion → EntryValue → List ℕ
-body_in version (Whole slot device) = record_in version device
+body_in version (Whole slot device) = spelling version device
 body_in version (Changed slot change) = change
 
 -- the bytes of an entry: its kind, its slot, the length of its body, and that
@@ -41,7 +41,7 @@ entry version e =
     ++ (to_be_bytes w16 (length (body_in version e)) ++ body_in version e))
 
 abbrev pub IsBody : RecordVersion → EntryValue → Type 0
-IsBody version (Whole slot device) = IsRecordIn version device
+IsBody version (Whole slot device) = IsDevice version device
 IsBody version (Changed slot change) = length change ≤ RESERVED_RECORD
 
 abbrev pub IsEntry : RecordVersion → EntryValue → Type 0

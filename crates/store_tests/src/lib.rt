@@ -10,8 +10,12 @@ mod store_checkpoints_tests;
 #[cfg(test)]
 mod store_faults_tests;
 #[cfg(test)]
+mod store_fronts_tests;
+#[cfg(test)]
 mod store_images_tests;
 #[cfg(test)]
 mod store_joins_tests;
 #[cfg(test)]
 mod store_tests;
+#[cfg(test)]
+mod store_versions_tests;

@@ -1,5 +1,5 @@
-// Journals with changes, behind whole records as every entry was before changes came. The bytes
-// were laid out by hand, from the format.
+// Journals with changes, behind whole records as every entry was before changes came, in version 1.
+// The bytes were laid out by hand, from the format.
 use crate::store_joins_tests::JOIN_1;
 use devices::{Application, AskedBytes, Command, Queueing, Tag};
 use disk::{Image, MemDisk, Sim};
@@ -9,20 +9,26 @@ use std::alloc::Global;
 use store::{Store, open};
 use store_layout::{RecordVersion, batch_entries};
 use test_stores::devices_under_test::{JOINER, add, heard, joining, new_table};
-use test_stores::images_under_test::{FRONT, add_batch_of, checkpoint_of, disk_of};
-use test_stores::stores_under_test::{ALL, begin_commit, opened, put};
+use test_stores::images_under_test::{OLD_FRONT, add_batch_of, checkpoint_of, disk_of};
+use test_stores::stores_under_test::{ALL, GATE_B, begin_commit, opened, put};
 
-// The entry of the device that joins, as it was provisioned.
-const PROVISIONED: &str = concat!(
+// The entry of the device that joins, as it was provisioned, in version 1 and in version 2.
+const PROVISIONED_1: &str = concat!(
     "0100000032",
     "111213141516171801020304050607082B7E151628AED2A6ABF7158809CF4F3C",
     "030001000000000000000000000000000000",
 );
 
+const PROVISIONED_2: &str = concat!(
+    "010000003A",
+    "111213141516171801020304050607082B7E151628AED2A6ABF7158809CF4F3C",
+    "0300010000000000000000000000000000000000000000000000",
+);
+
 // Batches of a store without changes: the device is provisioned; an item with the tag 9 and the MAC
 // command DevStatusReq are queued for it; and a second device is provisioned.
 const WHOLE_RECORDS: &[((u8, u8), &str)] = &[
-    ((1, 1), PROVISIONED),
+    ((1, 1), PROVISIONED_1),
     (
         (3, 2),
         concat!(
@@ -49,7 +55,7 @@ const LAST_BATCH: usize = 62 + 70 + 142 + 70;
 
 // The bytes of these batches behind a checkpoint without records.
 fn journal(alloc: Global, batches: &[((u8, u8), &str)]) -> Result<Vec<u8>, Refusal> {
-    let mut bytes = FRONT.to_vec(alloc)?;
+    let mut bytes = OLD_FRONT.to_vec(alloc)?;
     for (numbers, entries) in batches {
         add_batch_of(&mut bytes, *numbers, &read_hex(alloc, entries)?)?;
     }
@@ -124,7 +130,7 @@ fn changes_are_of_the_record_that_the_slot_has_then(rt: HostRuntime) {
 
 // What comes of a checkpoint of the device that says so many records, with a change behind it.
 fn checkpointed(alloc: Global, count: u8, change: &str) -> Result<Found, Refusal> {
-    let mut records = read_hex(alloc, PROVISIONED)?;
+    let mut records = read_hex(alloc, PROVISIONED_2)?;
     let change = read_hex(alloc, change)?;
     records.extend_from_slice(&change)?;
     let bytes = checkpoint_of(alloc, count, &records)?;
@@ -161,7 +167,7 @@ fn entries(alloc: Global) -> Result<Vec<u8>, Refusal> {
     let mut table = new_table(alloc, 8)?;
     add(alloc, &mut table, 0, &mut batch, joining()?)?;
     add_changes(alloc, &mut table, &mut batch)?;
-    batch_entries(alloc, RecordVersion::V1, &batch)
+    batch_entries(alloc, RecordVersion::V2, &batch)
 }
 
 fn add_changes(alloc: Global, table: &mut Table, batch: &mut Batch) -> Result<(), Refusal> {
@@ -182,7 +188,7 @@ const JOINED: &str = "020000002B0901000100000102000001";
 
 fn have_their_layout(alloc: Global) -> Result<bool, Refusal> {
     let entries = entries(alloc)?;
-    let mut wanted = read_hex(alloc, PROVISIONED)?;
+    let mut wanted = read_hex(alloc, PROVISIONED_2)?;
     wanted.extend_from_slice(&read_hex(alloc, QUEUED)?)?;
     wanted.extend_from_slice(&read_hex(alloc, JOINED)?)?;
     Ok(entries.starts_with(&wanted) && entries.len() == wanted.len().saturating_add(32))
@@ -246,6 +252,8 @@ fn first_other(
             Ok(_) | Err(Refusal::Damaged) => put(disk, place, &[*was])?,
             Err(_) => return Ok(Some(place)),
         }
+        // Where the store was taken over, that is undone.
+        put(disk, GATE_B, &[0])?;
     }
     Ok(None)
 }

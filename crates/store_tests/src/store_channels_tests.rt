@@ -7,7 +7,7 @@ use sessions::Batch;
 use std::alloc::Global;
 use store::{Store, open};
 use test_stores::devices_under_test::{add, heard_on};
-use test_stores::images_under_test::{FRONT, add_batch_of, disk_of};
+use test_stores::images_under_test::{OLD_FRONT, add_batch_of, disk_of};
 use test_stores::stores_under_test::{ALL, begin_commit};
 
 // The entry of the device that joins, behind its first join and the uplink 0 of its session. The
@@ -21,7 +21,7 @@ const IN_USE: &str = concat!(
 );
 
 fn store_before(alloc: Global) -> Result<Store<MemDisk>, Refusal> {
-    let mut bytes = FRONT.to_vec(alloc)?;
+    let mut bytes = OLD_FRONT.to_vec(alloc)?;
     add_batch_of(&mut bytes, (1, 1), &read_hex(alloc, IN_USE)?)?;
     open(alloc, disk_of(alloc, bytes)?)
 }

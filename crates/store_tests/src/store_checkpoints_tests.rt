@@ -12,7 +12,7 @@ use test_stores::stores_under_test::{
 // The front of the second area after a checkpoint of one device: its gate, version, generation,
 // sequence number, number of records and their length.
 const CHECKPOINT: [u8; 30] = [
-    0xA5, 1, 0, 0, 0, 0, 0, 0, 0, 2, 0, 0, 0, 0, 0, 0, 0, 1, 0, 0, 0, 1, 0, 0, 0, 0, 0, 0, 0, 55,
+    0xA5, 2, 0, 0, 0, 0, 0, 0, 0, 2, 0, 0, 0, 0, 0, 0, 0, 1, 0, 0, 0, 1, 0, 0, 0, 0, 0, 0, 0, 63,
 ];
 
 // Whether the second area has the entry that the batch of the first one has, and behind it a closed
@@ -22,7 +22,7 @@ fn has_checkpoint(content: &[u8]) -> bool {
         return false;
     }
     let area = &content[SECOND_AREA..];
-    area.starts_with(&CHECKPOINT) && area[30..85] == content[77..132] && area[85] != 0xA5
+    area.starts_with(&CHECKPOINT) && area[30..93] == content[77..140] && area[93] != 0xA5
 }
 
 // A checkpoint that memory was refused leaves the store as it was, so that the next one goes well.
@@ -100,7 +100,7 @@ const OPENINGS: &[(usize, u8, Option<Answer>)] = &[
     (VERSION_A, 9, None),
     (LEN_A, 0x7F, Some(FOUND)),
     (GATE_A, 0xA5, None),
-    (VERSION_A, 1, None),
+    (VERSION_A, 2, None),
     (LEN_A, 0, None),
     (GATE_B, 0, Some(FOUND)),
     (VERSION_B, 9, None),
@@ -108,7 +108,7 @@ const OPENINGS: &[(usize, u8, Option<Answer>)] = &[
     // Both are closed, or of one generation: before any version is looked at.
     (GATE_A, 0, Some(DAMAGED)),
     (GATE_B, 0xA5, None),
-    (VERSION_B, 1, None),
+    (VERSION_B, 2, None),
     (LEN_B, 0, Some(FOUND)),
     (GATE_A, 0xA5, None),
     (LOW_A, 2, Some(DAMAGED)),
@@ -116,10 +116,10 @@ const OPENINGS: &[(usize, u8, Option<Answer>)] = &[
     (VERSION_B, 9, Some(DAMAGED)),
     // The greater generation counts, and of the other area nothing else.
     (LOW_A, 1, Some(OTHER_VERSION)),
-    (VERSION_B, 1, Some(FOUND)),
+    (VERSION_B, 2, Some(FOUND)),
     (LEN_A, 0x7F, Some(FOUND)),
     (LOW_A, 3, Some(OTHER_VERSION)),
-    (VERSION_A, 1, Some(DAMAGED)),
+    (VERSION_A, 2, Some(DAMAGED)),
     (LEN_A, 0, None),
     (VERSION_B, 9, Some(FOUND)),
     // Generations have no sign, and one is at most 2^63 - 1; the version is looked at before.
@@ -128,7 +128,7 @@ const OPENINGS: &[(usize, u8, Option<Answer>)] = &[
     (HIGH_A, 0, None),
     (LOW_A, 1, Some(OTHER_VERSION)),
     (HIGH_B, 0x80, Some(OTHER_VERSION)),
-    (VERSION_B, 1, Some(DAMAGED)),
+    (VERSION_B, 2, Some(DAMAGED)),
     (HIGH_B, 0x7F, Some(FOUND)),
     // The length of the records, their number, the kind of a record and its slot.
     (LEN_B, 0x7F, Some(DAMAGED)),

@@ -7,7 +7,7 @@ use test_stores::stores_under_test::{
 };
 
 // The batch of the live area.
-const BATCH: usize = SECOND_AREA + 85;
+const BATCH: usize = SECOND_AREA + 93;
 
 // Another byte of the image, and, with the last one of a fault, what an opening is refused for it.
 type Change = (usize, u8, Option<Refusal>);
@@ -35,14 +35,14 @@ const FAULTS: &[Change] = &[
     (LOW_A, 2, Some(Refusal::Damaged)),
     // The live one's version, generation, records, their number, and the first one's kind, slot and
     // length.
-    (VERSION_B, 2, Some(Refusal::WrongVersion)),
+    (VERSION_B, 3, Some(Refusal::WrongVersion)),
     (HIGH_B, 0x80, Some(Refusal::Damaged)),
     (LEN_B, 0, None),
     (LEN_B + 1, 1, Some(Refusal::Damaged)),
     (SECOND_AREA + 21, 2, Some(Refusal::Damaged)),
     (SECOND_AREA + 30, 2, Some(Refusal::Damaged)),
     (SECOND_AREA + 32, 1, Some(Refusal::Damaged)),
-    (SECOND_AREA + 34, 51, Some(Refusal::Damaged)),
+    (SECOND_AREA + 34, 59, Some(Refusal::Damaged)),
     // Its batch's length, last sequence number and number of entries, the entry's slot and its
     // DevEUI.
     (BATCH + 1, 1, Some(Refusal::Damaged)),

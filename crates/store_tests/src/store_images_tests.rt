@@ -64,7 +64,10 @@ const SPOILED: &[Spoiled] = &[
     (LEN, (0, 0), 0, 0, Ok((1, 1))),
     // The area's gate, version and generation.
     (LEN, (32, 33), 0x00, 0, Err(Refusal::Damaged)),
+    (LEN, (33, 34), 0x03, 0, Err(Refusal::WrongVersion)),
     (LEN, (33, 34), 0x09, 0, Err(Refusal::WrongVersion)),
+    // Its record has eight bytes more than one of version 1.
+    (LEN, (33, 34), 0x01, 0, Err(Refusal::Damaged)),
     (LEN, (34, 35), 0x7F, 0, Ok((1, 1))),
     (LEN, (34, 35), 0x80, 0, Err(Refusal::Damaged)),
     // The length of the records.
@@ -105,7 +108,7 @@ fn device_of(alloc: Global, entry: &Entry) -> Result<Device, Refusal> {
 fn add_entries(alloc: Global, bytes: &mut Vec<u8>, entries: &[Entry]) -> Result<(), Refusal> {
     for entry in entries {
         let device = device_of(alloc, entry)?;
-        put_entry(alloc, RecordVersion::V1, entry.0, &device, bytes)?;
+        put_entry(alloc, RecordVersion::V2, entry.0, &device, bytes)?;
     }
     Ok(())
 }
@@ -175,7 +178,7 @@ fn replaced(alloc: Global) -> Result<MemDisk, Refusal> {
     let mut bytes = checkpoint(alloc, 1, IDLE)?;
     let before = bytes.len();
     add_batch(alloc, &mut bytes, (10, 3), BUSY)?;
-    if bytes.len().saturating_sub(before) != 15 + 3 * 4_039 {
+    if bytes.len().saturating_sub(before) != 15 + 3 * 4_047 {
         return Err(Refusal::WrongSize);
     }
     add_batch(alloc, &mut bytes, (11, 1), OTHER)?;

@@ -96,20 +96,20 @@ fn open_positions(alloc: Global, steps: &str, last: char, calls: u64) -> Result<
 
 // Steps, and so many calls of a last one.
 const OPEN_POSITIONS: &[(&str, char, u64, Open)] = &[
-    // A commit of five writes 290 bytes behind its gate, and then that.
-    ("", '5', 1, (Some(63), 290, 0xA5, 0)),
+    // A commit of five writes 330 bytes behind its gate, and then that.
+    ("", '5', 1, (Some(63), 330, 0xA5, 0)),
     ("", '5', 2, (None, 0, 0xA5, 0)),
     ("", '5', 3, (Some(62), 1, 0xA5, 0)),
     ("", '5', 4, (None, 0, 0xA5, 0)),
-    // The first checkpoint writes 85 bytes behind the second area's gate, and then that.
-    ("1", 'c', 1, (Some(1_083_079), 85, 0xA5, 0)),
+    // The first checkpoint writes 93 bytes behind the second area's gate, and then that.
+    ("1", 'c', 1, (Some(1_083_079), 93, 0xA5, 0)),
     ("1", 'c', 2, (None, 0, 0xA5, 0)),
     ("1", 'c', 3, (Some(1_083_078), 1, 0xA5, 0xA5)),
     ("1", 'c', 4, (None, 0, 0xA5, 0xA5)),
     // The second one closes the first area's gate before it does the same there.
     ("1c", 'c', 1, (Some(32), 1, 0, 0xA5)),
     ("1c", 'c', 2, (None, 0, 0, 0xA5)),
-    ("1c", 'c', 3, (Some(33), 85, 0, 0xA5)),
+    ("1c", 'c', 3, (Some(33), 93, 0, 0xA5)),
     ("1c", 'c', 4, (None, 0, 0, 0xA5)),
     ("1c", 'c', 5, (Some(32), 1, 0xA5, 0xA5)),
     ("1c", 'c', 6, (None, 0, 0xA5, 0xA5)),

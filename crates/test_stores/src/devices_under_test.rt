@@ -164,7 +164,7 @@ pub fn idle_device(alloc: Global, dev_eui: u64) -> Result<Device, Refusal> {
     }
 }
 
-/// A device with a full queue, whose record has 4,034 bytes.
+/// A device with a full queue, whose record has 4,042 bytes.
 pub fn busy_device(alloc: Global, dev_eui: u64) -> Result<Device, Refusal> {
     let items = full_queue(alloc)?;
     let mut device = idle_device(alloc, dev_eui)?;
@@ -172,7 +172,7 @@ pub fn busy_device(alloc: Global, dev_eui: u64) -> Result<Device, Refusal> {
     Ok(device)
 }
 
-/// The device that joins, with a full queue, whose record has 4,034 bytes.
+/// The device that joins, with a full queue, whose record has 4,042 bytes.
 pub fn busy_joiner(alloc: Global) -> Result<Device, Refusal> {
     let items = full_queue(alloc)?;
     match provisioning(JOINER, JOINER_KEY) {

@@ -11,6 +11,13 @@ pub const FRONT: [u8; 62] = [
     0x86, 0xA6, 0, 0, 0, 0, 0, 0, 0, 0,
     // The first area: its gate, version, generation, sequence number, number of records and their
     // length.
+    0xA5, 2, 0, 0, 0, 0, 0, 0, 0, 1, 0, 0, 0, 0, 0, 0, 0, 0, 0, 0, 0, 0, 0, 0, 0, 0, 0, 0, 0, 0,
+];
+
+/// The front of such a store as it was formatted before records counted uplinks.
+pub const OLD_FRONT: [u8; 62] = [
+    0xA5, 0x4C, 0x4E, 0x53, 0x54, 0x4F, 0x52, 0x45, 1, 0, 0, 0x2A, 0, 0, 0, 8, 0, 0, 0, 0, 0, 0x10,
+    0x86, 0xA6, 0, 0, 0, 0, 0, 0, 0, 0, //
     0xA5, 1, 0, 0, 0, 0, 0, 0, 0, 1, 0, 0, 0, 0, 0, 0, 0, 0, 0, 0, 0, 0, 0, 0, 0, 0, 0, 0, 0, 0,
 ];
 

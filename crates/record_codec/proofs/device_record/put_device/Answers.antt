@@ -1,4 +1,14 @@
+use Rattle.std.proofs.Common.{ℕ, ◌≤◌, arith}
+use Rattle.devices.specs.declared.mac_queue.TheConstants.MacQueue.{MOST as LONGEST_MAC_QUEUE}
+use Rattle.record_codec.specs.Version.{longest_mac_queue}
+use Rattle.record_codec.specs.declared.version.RecordVersion.{RecordVersion}
+use Rattle.record_codec.specs.declared.version.RecordVersion.TheVariants.{V1, V2}
 use Rattle.record_codec.proofs.device_record.put_device.Goals as goal
+
+-- each version has room for a queue
+has_room : (v : RecordVersion) (len : ℕ) → len ≤ LONGEST_MAC_QUEUE → len ≤ longest_mac_queue v
+has_room V1 len few = omega arith
+has_room V2 len few = few
 
 pub returns-clause-in_range : goal.returns-clause-in_range
 returns-clause-in_range c =
@@ -8,6 +18,7 @@ returns-clause-in_range c =
       last_dev_nonce = c.in_ok-put_dev_nonce.ensures.in_range;
       activation = c.in_ok-put_activation.ensures.in_range;
       awaited = c.in_ok-put_awaited.ensures.in_range;
-      mac_queue = (rw queue.bytes at c.in_ok-put_counted.ensures.in_range, queue.few, queue.whole);
+      mac_queue = (rw queue.bytes at c.in_ok-put_counted.ensures.in_range, has_room c.args.version _ queue.few, queue.whole);
       items = c.in_ok-put_item_queue.ensures.in_range;
+      heard = c.in_ok-put_heard.ensures.in_range;
     }

@@ -5,7 +5,6 @@ use Rattle.sessions.specs.Table.{TableState}
 use Rattle.store.specs.Formatting.{IsFormatImage}
 use Rattle.store.specs.Image.{area_a, area_b}
 use Rattle.store.specs.State.{IsSettled, StoreState}
-use Rattle.record_codec.specs.declared.version.RecordVersion.TheVariants.{V1}
 use Rattle.store.proofs.EmptyStore.{settled_empty}
 use Rattle.store.proofs.formatting.format_back.Goals as goal
 
@@ -14,7 +13,7 @@ returns-in-Ok-write_empty-clause-made g c =
     let net_id = c.args.net_id in
     let slots = c.in-Some.slots in
     let state = g.D.Disk.state c.write_empty.new.disk in
-    let store_at : TableState → LogState → StoreState = λ t l. record { log = l; table = t; seq = 0; version = V1; failed = false } in
+    let store_at : TableState → LogState → StoreState = λ t l. record { log = l; table = t; seq = 0; failed = false } in
     let log_at : Areas → ℕ → LogState = λ a n. record { disk = state; areas = a; next = n; generation = 1; other_open = false } in
     let e = c.in-Ok-write_empty.ensures in
     let log = c.new-in-Ok-write_empty.ensures.log ∙ (ap (λ (a : Areas). log_at a c.in-Ok-write_empty.next) c.both_areas.ensures ∙ ap (log_at (record { live = area_a slots; other = area_b slots })) e.next) in

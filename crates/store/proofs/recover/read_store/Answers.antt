@@ -24,7 +24,7 @@ returns-in_err-recovered-clause-refused g c honest =
     let is_live : IsLive content front.superblock.slots front.live.areas front.live.header = record { place = f.ensures.areas; at = live.is } in
     let refused = c.in_err-recovered.ensures.refused honest (subst (λ (l : List ℕ). IsLiveAs front.live l) (sym same) live) device memory in
     area_fault content front.superblock.net_id front.superblock.slots (f.ensures.store honest) (f.ensures.only honest) f.ensures.long laws
-    front.live.areas front.live.header is_live c.in_err-recovered.field-0.0 f.ensures.usable.version refused.0
+    front.live.areas front.live.header is_live c.in_err-recovered.field-0.0 (f.ensures.usable.version, f.ensures.usable.of_version) refused.0
     (λ held are holds. refused.1 (area_a front.superblock.slots) (area_b front.superblock.slots) f.ensures.areas held are (subst (λ (l : List ℕ). Holds held l) (sym same) holds)))
 
 pub returns-in_err-table-clause-refused : goal.returns-in_err-table-clause-refused

@@ -5,13 +5,15 @@ use Rattle.gate_log.specs.declared.layout.Header.{Header}
 use Rattle.gate_log.specs.Areas.{IsClosedArea, IsOpenArea}
 use Rattle.gate_log.specs.Log.{LogState}
 use Rattle.gate_log.specs.Opening.{disk_in_opening}
+use Rattle.store.specs.Image.{Says}
 use Rattle.store.specs.State.{IsOpened, StoreState}
 use Rattle.store.proofs.found.Found.into_store.Goals as goal
 
 pub returns-clause-opened : goal.returns-clause-opened
 returns-clause-opened g c honest found =
     let content = (g.D.Disk.state (disk_in_opening c.args.opening)).content in
-    let with_log : LogState → StoreState = λ l. record { log = l; table = c.args.self.table; seq = c.args.self.seq; version = c.args.self.version; failed = false } in
+    let self = c.args.self in
+    let with_log : LogState → StoreState = λ l. record { log = l; table = self.table; seq = self.seq; failed = false } in
     subst (IsOpened content) (sym (c.new.ensures.store ∙ ap with_log c.into_log.ensures.log)) (record {
       settled = record {
         contents = found.contents;
@@ -19,10 +21,11 @@ returns-clause-opened g c honest found =
           settled = c.into_log.ensures.settled honest;
           holds = found.holds;
           knows = record { areas = sym found.areas; generation = ap (λ (h : Header). h.generation) (sym found.header); next = found.next };
-          other_gate = subst (λ (x : Areas). MatchBool c.args.self.live.other_open (IsOpenArea x.other content) (IsClosedArea x.other content)) (sym found.areas) found.live.other_gate;
+          other_gate = subst (λ (x : Areas). MatchBool self.live.other_open (IsOpenArea x.other content) (IsClosedArea x.other content)) (sym found.areas) found.live.other_gate;
         };
-        says = found.says;
+        says = subst (λ v. Says v found.contents self.table self.seq) c.requires.version found.says;
       };
-      same = refl;
+      was = record { version = self.version; contents = found.contents; holds = found.holds; says = found.says };
       only = found.only;
+      same = λ new. refl;
     })

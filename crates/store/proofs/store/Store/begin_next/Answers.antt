@@ -20,6 +20,6 @@ returns-clause-begun g c =
     let seq = opened.commit.last in
     let legal = subst (λ (ds : List Decision). IsLegalContinuation (with_decisions s.table ds) seq c.args.batch
     × ((commit.batch ≡ c.args.batch) × (commit.last ≡ seq + length c.args.batch))) c.as_slice.ensures.decisions c.in_ok-commit.ensures in
-    once_begun s.version tip commit c.args.batch legal c.requires.roomy c.begun_of.result (IsBegunBehind s opened) began.few began.sequel
+    once_begun tip commit c.args.batch legal c.requires.roomy c.begun_of.result (IsBegunBehind s opened) began.few began.sequel
     began.entries began.size
     (λ begun may entries few. begun_behind laws s opened begun may entries few)

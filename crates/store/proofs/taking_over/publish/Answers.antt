@@ -1,0 +1,53 @@
+use Rattle.std.proofs.Common.{◌≡◌, ◌<◌, ◌∙◌, ℕ, length, arith}
+use Rattle.gate_log.specs.Areas.{LogContents, contents_with_checkpoint}
+use Rattle.gate_log.specs.Log.{IsAtRest, log_state}
+use Rattle.record_codec.specs.Version.{newest}
+use Rattle.record_codec.specs.declared.version.RecordVersion.{RecordVersion}
+use Rattle.store_layout.specs.Entries.{entries, entries_of_table}
+use Rattle.store.specs.Checkpointing.{Republishes, header_behind}
+use Rattle.store.specs.Image.{Says}
+use Rattle.store.proofs.Republishing.{republishes, same_table_either}
+use Rattle.store.proofs.taking_over.publish.Goals as goal
+
+pub returns-in-Ok-clause-settled : goal.returns-in-Ok-clause-settled
+returns-in-Ok-clause-settled g c honest version contents rest says =
+    let t = c.args.table.now in
+    let generation = c.generation.result in
+    let records = entries newest (entries_of_table t) in
+    let header = header_behind t c.args.seq generation (length records) in
+    let is = c.in_ok-checkpoint.ensures in
+    let early : generation < 9223372036854775807 = (let at = c.generation.ensures in let early = c.requires.early in omega (arith, at, early)) in
+    let r =
+    republishes c.a_table_replays.ensures.replay version contents t c.args.seq generation says (c.generation.ensures ∙ rest.knows.generation) c.devices-devices.ensures.own
+    c.devices-devices.ensures.few is.1.0 early is.1.1.1 in
+    record {
+      contents = contents_with_checkpoint contents header records;
+      rest = c.in-Ok.ensures.done honest contents header records rest is.1.1.0 r.follows;
+      says = r.after;
+    }
+
+pub returns-in-Ok-clause-images : goal.returns-in-Ok-clause-images
+returns-in-Ok-clause-images g c honest version contents rest says image permitted =
+    let t = c.args.table.now in
+    let generation = c.generation.result in
+    let records = entries newest (entries_of_table t) in
+    let header = header_behind t c.args.seq generation (length records) in
+    let is = c.in_ok-checkpoint.ensures in
+    let early : generation < 9223372036854775807 = (let at = c.generation.ensures in let early = c.requires.early in omega (arith, at, early)) in
+    let r =
+    republishes c.a_table_replays.ensures.replay version contents t c.args.seq generation says (c.generation.ensures ∙ rest.knows.generation) c.devices-devices.ensures.own
+    c.devices-devices.ensures.few is.1.0 early is.1.1.1 in
+    same_table_either r image (c.in-Ok.ensures.images honest contents header records rest is.1.1.0 r.follows image permitted)
+
+pub returns-in-Err-clause-images : goal.returns-in-Err-clause-images
+returns-in-Err-clause-images g c honest version contents rest says image permitted =
+    let t = c.args.table.now in
+    let generation = c.generation.result in
+    let records = entries newest (entries_of_table t) in
+    let header = header_behind t c.args.seq generation (length records) in
+    let is = c.in_ok-checkpoint.ensures in
+    let early : generation < 9223372036854775807 = (let at = c.generation.ensures in let early = c.requires.early in omega (arith, at, early)) in
+    let r =
+    republishes c.a_table_replays.ensures.replay version contents t c.args.seq generation says (c.generation.ensures ∙ rest.knows.generation) c.devices-devices.ensures.own
+    c.devices-devices.ensures.few is.1.0 early is.1.1.1 in
+    same_table_either r image (c.in-Err.ensures.images honest contents header records rest is.1.1.0 r.follows image permitted)

@@ -1,0 +1,95 @@
+// Takes over a store whose records are of an older version.
+ghost use Rattle.std.specs.Prelude.{◌≡◌, ◌≢◌, ◌⊎◌, ◌<◌, ◌+◌, false, length, IfErr, OnOk};
+ghost use Rattle.std.specs.Prelude.{MatchResult};
+ghost use Rattle.lw_types.specs.declared.refusal.Refusal.TheVariants.{DeviceFailed, OutOfMemory};
+ghost use Rattle.disk.specs.Outlook.{IsArmed};
+ghost use Rattle.disk.specs.Outlook.Outlook.{AllSucceed};
+ghost use Rattle.disk.specs.State.{EveryImage};
+ghost use Rattle.gate_log.specs.Areas.{AreLaidOut, LogContents};
+ghost use Rattle.gate_log.specs.Log.{disk_of as disk_of_log, log_state, IsAtRest};
+ghost use Rattle.gate_log.specs.Opening.{disk_in_opening};
+ghost use Rattle.record_codec.specs.Version.{newest};
+ghost use Rattle.record_codec.specs.declared.version.RecordVersion.{RecordVersion};
+ghost use Rattle.store.specs.Found.{IsOpeningOf};
+ghost use Rattle.store.specs.Image.{HaveLength, HoldsTable, Says};
+ghost use Rattle.store.specs.State.{IsSettled};
+ghost use Rattle.store.specs.declared.areas.TheConstants.{LAST_GENERATION};
+
+use crate::Store;
+use crate::found::Found;
+use crate::preparing::checkpoint_of;
+use disk::Disk;
+use gate_log::{Log, Opening};
+use lw_types::Refusal;
+use sessions::Table;
+use std::alloc::Global;
+use store_layout::laws;
+
+impl Found {
+    /// The store of what was found in records of an older version: its table is published in the
+    /// other area, in the newest version, by four calls of the disk, or six where that area's gate
+    /// is open. No byte of the live area is written, so whatever a crash leaves at any moment holds
+    /// the same table and number. Want of memory is refused before the first call.
+    pub(crate) fn take_over<D: Disk>(
+        self,
+        alloc: Global,
+        opening: Opening<D>,
+    ) -> Result<Store<D>, (D, Refusal)>
+        requires layout { AreLaidOut self.live.areas
+            (length (D.state (disk_in_opening opening)).content) }
+        requires older { self.version ≢ newest }
+        ensures { IsOpeningOf D.Disk (disk_in_opening opening) self result }
+    {
+        disk::laws::settled_disk_keeps_its_content();
+        let Found {
+            table,
+            seq,
+            version: _,
+            live,
+            next,
+        } = self;
+        let mut log = opening.into_log(live, next);
+        match publish(alloc, &mut log, &table, seq) {
+            Ok(()) => Ok(Store::new(log, table, seq)),
+            Err(refusal) => Err((log.close(), refusal)),
+        }
+    }
+}
+
+// Publishes the table that the live area holds in the other area, in the newest version.
+fn publish<D: Disk>(alloc: Global, log: &mut Log<D>, table: &Table, seq: u64) -> Result<(), Refusal>
+    requires early { (log_state D.state log.old).generation < LAST_GENERATION }
+    requires long { HaveLength table.now.slots (log_state D.state log.old).areas }
+    ensures settled { D.honest → (version : RecordVersion) (c : LogContents)
+        → IsAtRest (log_state D.state log.old) c → Says version c table.now seq
+        → OnOk result (IsSettled (record {
+          log = log_state D.state log.new;
+          table = table.now;
+          seq = seq;
+          failed = false;
+        })) }
+    ensures images { D.honest → (version : RecordVersion) (c : LogContents)
+        → IsAtRest (log_state D.state log.old) c → Says version c table.now seq
+        → EveryImage (D.state (disk_of_log log.new)) (HoldsTable table.now seq) }
+    ensures long { OnOk result (HaveLength table.now.slots (log_state D.state log.new).areas) }
+    ensures cause { MatchResult result
+        (λ _. D.failures (disk_of_log log.new) ≡ D.failures (disk_of_log log.old))
+        (λ e. ((e ≡ OutOfMemory) × (log.new ≡ log.old)) ⊎ ((e ≡ DeviceFailed)
+        × (D.failures (disk_of_log log.new) ≡ D.failures (disk_of_log log.old) + 1))) }
+    ensures unarmed { D.outlook (disk_of_log log.old) ≡ AllSucceed
+        → (D.outlook (disk_of_log log.new) ≡ AllSucceed) × IfErr result (λ e. e ≢ DeviceFailed) }
+    ensures armed { IsArmed (D.outlook (disk_of_log log.old)) → MatchResult result
+        (λ _. IsArmed (D.outlook (disk_of_log log.new)))
+        (λ e. e ≡ DeviceFailed → D.outlook (disk_of_log log.new) ≡ AllSucceed) }
+    ensures same_length { length (D.state (disk_of_log log.new)).content
+        ≡ length (D.state (disk_of_log log.old)).content }
+{
+    disk::laws::settled_disk_keeps_its_content();
+    laws::a_table_replays();
+    let _devices = table.devices();
+    let checkpoint = checkpoint_of(alloc, table, seq, log.generation())?;
+    match checkpoint.publish(log) {
+        Ok(()) => Ok(()),
+        Err(_) => Err(Refusal::DeviceFailed),
+    }
+}
