@@ -105,13 +105,13 @@ not_begun false generation X r e was (inl h) = inl h
 not_begun false generation X r e was (inr (is, less)) = inr (less, inl is)
 
 -- it was begun, and its calls came
-pub once_begun : {T U : Type 0} (failed : Bool) (generation : ℕ) (rough N X : Type 0) (x : T) (r : Result U Refusal) → rough
+pub once_begun : {T U : Type 0} (failed : Bool) (generation : ℕ) (rough N untouched X : Type 0) (x : T) (r : Result U Refusal) → rough
     → MatchBool failed (Ok x ≡ Err Failed) (generation < LAST_GENERATION)
     → MatchResult r (λ _. N) (λ e. (e ≡ DeviceFailed) × X)
-    → MatchResult r (λ _. N) (λ e. (e ≡ OutOfMemory) ⊎ (rough × WhyNone failed generation X e))
-once_begun true generation rough N X x r no_room is calls = let no : ⊥ = cc in absurd no
-once_begun false generation rough N X x (Ok y) no_room less calls = calls
-once_begun false generation rough N X x (Err e) no_room less (is, failure) = inr (no_room, inr (less, inr (is, failure)))
+    → MatchResult r (λ _. N) (λ e. (untouched ⊎ (e ≡ DeviceFailed)) × ((e ≡ OutOfMemory) ⊎ (rough × WhyNone failed generation X e)))
+once_begun true generation rough N untouched X x r no_room is calls = let no : ⊥ = cc in absurd no
+once_begun false generation rough N untouched X x (Ok y) no_room less calls = calls
+once_begun false generation rough N untouched X x (Err e) no_room less (is, failure) = (inr is, inr (no_room, inr (less, inr (is, failure))))
 
 -- ---- why a batch that a store was given wasn't committed
 

@@ -25,8 +25,9 @@ use Rattle.store.specs.declared.under_way.Called.TheVariants as called
 use Rattle.store.specs.declared.under_way.UnderWay.{UnderWay}
 use Rattle.store.specs.declared.under_way.UnderWay.TheVariants.{Begun, Written, BodySynced, GateWritten, Following, Paired, Checkpoint}
 use Rattle.flusher.specs.declared.room.Room.{Room}
-use Rattle.flusher.specs.Calls.{LastFailed, NoneFailed}
-use Rattle.flusher.specs.Chain.{GivesAll, FeedGives, HasBroken, HasEnded, IsChain, IsFollowRefusal, LeaveInOrder, NoneFollows, decisions_in, store_behind, store_behind_opened}
+use Rattle.flusher.specs.Calls.{IsUntouched, LastFailed, NoneFailed}
+use Rattle.flusher.specs.Chain.HasBroken.{FeedRefused, HadNoRoom, WasUncommitted}
+use Rattle.flusher.specs.Chain.{GivesAll, FeedGives, HasBroken, HasEnded, IsChain, IsChainOfSome, IsFollowRefusal, LeaveInOrder, NoneFollows, decisions_in, store_behind, store_behind_opened}
 use Rattle.flusher.specs.Cycle.{Commits, HoldsWithOrWithout, IsUncommitted}
 use Rattle.flusher.proofs.Calling.{calls_then, none_then, one_call}
 use Rattle.flusher.proofs.Chains.{FoldLaws, batches_of}
@@ -158,7 +159,7 @@ module _ (laws : FoldLaws) (on_disk : IsSettledOnDisk) {D F C V : Type 0} (disk 
 
   -- a call of the device failed
   pub breaks : (refusal : Refusal) → IsNextCall disk now under_way (Err refusal) new → IsOneCall {T = Called Room} disk.failures disk.outlook now new (Err refusal)
-      → IsChain disk gives effects step most old new before feed old_out mid_out (Err refusal)
+      → IsChainOfSome disk gives effects step most old new before feed old_out mid_out (Err refusal)
   breaks refusal e call =
       let torn = torn_of gives more s1 up_to.mid up_to.here feed end under_way flying.some up_to.taken up_to.behind flying.way in
       let failed =
@@ -172,39 +173,31 @@ module _ (laws : FoldLaws) (on_disk : IsSettledOnDisk) {D F C V : Type 0} (disk 
       subst (λ n. IsLegalContinuation (store_behind s0 up_to.done).table n torn.torn) up_to.commits.seq
       (subst (λ (t : TableState). IsLegalContinuation t s1.seq torn.torn) up_to.commits.table torn.legal) in
       let is = failed.0 in
-      let last = failed.1 in
-      record {
-        batches = up_to.done;
-        torn = torn.torn;
-        feed = up_to.mid;
-        given = up_to.given;
-        few = omega (arith, number);
-        commits = record { continues = up_to.commits.continues; table = table ∙ up_to.commits.table; seq = seq ∙ up_to.commits.seq };
-        leave = up_to.leave;
-        ends = (
-          omega (arith, number, some),
-          inr (
-            inl roomy,
-            inr (
-              torn.next,
-              (
-                torn.given,
-                (
-                  subst (λ r. IsUncommitted (store_behind s0 up_to.done) torn.torn (LastFailed disk.failures disk.outlook old new) r) (sym is)
-                      (legal_failed (store_behind s0 up_to.done) torn.torn (LastFailed disk.failures disk.outlook old new) alive legal last),
-                  elim torn.asked [
-                    | inl same ↦ inl same
-                    | inr (more_may, answer) ↦ inr (is, (omega (arith, number, more_may), answer))
-                  ],
-                ),
-              ),
-            ),
-          ),
-        );
-        calls = inr (is, last);
-        settled = λ honest settled none. absurd (let a = none.count in let b = last.count in omega (arith, a, b));
-        images = λ honest settled image p. by_left torn.torn table seq torn.legal torn.left image (e.images honest (flying.on_disk honest settled) image p);
-      }
+      let last = failed.1 in (
+        record {
+          batches = up_to.done;
+          torn = torn.torn;
+          feed = up_to.mid;
+          given = up_to.given;
+          few = omega (arith, number);
+          commits = record { continues = up_to.commits.continues; table = table ∙ up_to.commits.table; seq = seq ∙ up_to.commits.seq };
+          leave = up_to.leave;
+          ends = (
+            omega (arith, number, some),
+            WasUncommitted (inl roomy) torn.next torn.given
+                (subst (λ r. IsUncommitted (store_behind s0 up_to.done) torn.torn (LastFailed disk.failures disk.outlook old new) r) (sym is)
+                (legal_failed (store_behind s0 up_to.done) torn.torn (LastFailed disk.failures disk.outlook old new) alive legal last))
+                (elim torn.asked [
+                  | inl same ↦ inl same
+                  | inr (more_may, answer) ↦ inr (is, (omega (arith, number, more_may), answer))
+                ]),
+          );
+          calls = inr (is, last);
+          settled = λ honest settled none. absurd (let a = none.count in let b = last.count in omega (arith, a, b));
+          images = λ honest settled image p. by_left torn.torn table seq torn.legal torn.left image (e.images honest (flying.on_disk honest settled) image p);
+        },
+        λ empty. torn.given.1.0,
+      )
     where
       none : (image : List ℕ) (kept : List Decision) → kept ≡ [] → HoldsTable (with_decisions s1.table kept) (s1.seq + length kept) image → HoldsTable s1.table s1.seq image
       none image kept is h =
@@ -258,6 +251,9 @@ module _ (laws : FoldLaws) (on_disk : IsSettledOnDisk) {D F C V : Type 0} (disk 
     long : length batches ≡ length up_to.done + 1
     long = length_push up_to.done (durable_decisions durable)
 
+    not_none : batches ≢ []
+    not_none is = absurd (let zero = ap (length {A = List Decision}) is in omega (arith, zero, long))
+
     committed : Commits s0 s2 (decisions_in batches)
     committed = commits' laws disk gives effects step most old now new before feed old_out mid_out out under_way more count end flying up_to durable along None e released all made
 
@@ -282,76 +278,71 @@ module _ (laws : FoldLaws) (on_disk : IsSettledOnDisk) {D F C V : Type 0} (disk 
     why_ended : NoneFollows gives more s1 alone.opened up_to.here feed → HasEnded gives most s2 batches up_to.here feed
     why_ended (inl (same, inl none)) = inl (same, inl (let number = up_to.number in omega (arith, number, none, long, one)))
     why_ended (inl (same, inr full)) =
-        inl (same, inr (λ (is : batches ≡ []). absurd (let zero = ap (length {A = List Decision}) is in omega (arith, zero, long)), no_room full))
+        inl (same, inr (not_none, no_room full))
     why_ended (inr (some, given)) = inr (let number = up_to.number in omega (arith, number, some, long, one), given)
 
-    pub ends_well : end ≡ Ok tt → IsChain disk gives effects step most old new before feed old_out out (Ok (count + many))
-    ends_well is = record {
-      batches = batches;
-      torn = [];
-      feed = up_to.here;
-      given = came;
-      few = let number = up_to.number in omega (arith, number, long, one);
-      commits = committed;
-      leave = left;
-      ends = (
-        counted' laws disk gives effects step most old now new before feed old_out mid_out out under_way more count end flying up_to durable along None e released all made many counted,
-        (
-          refl,
-          why_ended
-              (subst (λ r. MatchResult r (λ _. NoneFollows gives more s1 alone.opened up_to.here feed) (λ e. IsFollowRefusal gives more s1 alone.opened up_to.here feed e)) is alone.behind),
-        ),
-      );
-      calls = calls;
-      settled = λ honest settled none. rests honest settled;
-      images = λ honest settled image p. inl (on_disk s2 (rests honest settled) image p);
-    }
+    pub ends_well : end ≡ Ok tt → IsChainOfSome disk gives effects step most old new before feed old_out out (Ok (count + many))
+    ends_well is = (
+      record {
+        batches = batches;
+        torn = [];
+        feed = up_to.here;
+        given = came;
+        few = let number = up_to.number in omega (arith, number, long, one);
+        commits = committed;
+        leave = left;
+        ends = (
+          counted' laws disk gives effects step most old now new before feed old_out mid_out out under_way more count end flying up_to durable along None e released all made many counted,
+          (
+            refl,
+            why_ended
+                (subst (λ r. MatchResult r (λ _. NoneFollows gives more s1 alone.opened up_to.here feed) (λ e. IsFollowRefusal gives more s1 alone.opened up_to.here feed e)) is alone.behind),
+          ),
+        );
+        calls = calls;
+        settled = λ honest settled none. rests honest settled;
+        images = λ honest settled image p. inl (on_disk s2 (rests honest settled) image p);
+      },
+      λ empty. absurd (not_none empty),
+    )
 
     record IsRefusedBehind (refusal : Refusal) : Type 0 where
       pub torn : List Decision
-      pub why : HasBroken gives most (LastFailed disk.failures disk.outlook old new) s0 batches torn up_to.here feed refusal
+      pub why : HasBroken gives most (IsUntouched disk.state old new) (LastFailed disk.failures disk.outlook old new) s0 batches torn up_to.here feed refusal
       pub some : more ≢ 0
 
     why_broken : (refusal : Refusal) → IsFollowRefusal gives more s1 alone.opened up_to.here feed refusal → IsRefusedBehind refusal
-    why_broken refusal (some, inl (same, memory)) = record { torn = []; why = inl (same, (refl, inl memory)); some = some }
-    why_broken refusal (some, inr (inl given)) = record { torn = []; why = inr (inl roomy, inl (refl, given)); some = some }
+    why_broken refusal (some, inl (same, memory)) = record { torn = []; why = HadNoRoom same refl not_none memory; some = some }
+    why_broken refusal (some, inr (inl given)) = record { torn = []; why = FeedRefused (inl roomy) refl given; some = some }
     why_broken refusal (some, inr (inr (batch, (given, why)))) = record {
       torn = batch;
       why =
-          inr (
-            inl roomy,
-            inr (
-              feed,
-              (
-                given,
-                (
-                  why_not (store_behind_opened s1 alone.opened) (store_behind s0 batches) batch ⊥ (LastFailed disk.failures disk.outlook old new) refusal flying.calls.failed
-                      (ap (λ (t : Tip). t.table) alone.tip ∙ committed.table) (ap (λ (t : Tip). t.seq) alone.tip ∙ committed.seq) (λ none. absurd none) why,
-                  inl refl,
-                ),
-              ),
-            ),
-          );
+          WasUncommitted (inl roomy) feed given
+          (why_not (store_behind_opened s1 alone.opened) (store_behind s0 batches) batch ⊥ (LastFailed disk.failures disk.outlook old new) refusal flying.calls.failed
+          (ap (λ (t : Tip). t.table) alone.tip ∙ committed.table) (ap (λ (t : Tip). t.seq) alone.tip ∙ committed.seq) (λ none. absurd none) why)
+          (inl refl);
       some = some;
     }
 
-    pub ends_refused : (refusal : Refusal) → end ≡ Err refusal → IsChain disk gives effects step most old new before feed old_out out (Err refusal)
+    pub ends_refused : (refusal : Refusal) → end ≡ Err refusal → IsChainOfSome disk gives effects step most old new before feed old_out out (Err refusal)
     ends_refused refusal is =
         let why =
         why_broken refusal
         (subst (λ r. MatchResult r (λ _. NoneFollows gives more s1 alone.opened up_to.here feed) (λ e. IsFollowRefusal gives more s1 alone.opened up_to.here feed e)) is alone.behind) in
         let number = up_to.number in
-        let some = why.some in
-        record {
-          batches = batches;
-          torn = why.torn;
-          feed = up_to.here;
-          given = came;
-          few = omega (arith, number, long, one);
-          commits = committed;
-          leave = left;
-          ends = (omega (arith, number, long, one, some), why.why);
-          calls = inl calls;
-          settled = λ honest settled none. rests honest settled;
-          images = λ honest settled image p. inl (on_disk s2 (rests honest settled) image p);
-        }
+        let some = why.some in (
+          record {
+            batches = batches;
+            torn = why.torn;
+            feed = up_to.here;
+            given = came;
+            few = omega (arith, number, long, one);
+            commits = committed;
+            leave = left;
+            ends = (omega (arith, number, long, one, some), why.why);
+            calls = inl calls;
+            settled = λ honest settled none. rests honest settled;
+            images = λ honest settled image p. inl (on_disk s2 (rests honest settled) image p);
+          },
+          λ empty. absurd (not_none empty),
+        )

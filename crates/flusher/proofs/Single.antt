@@ -13,6 +13,7 @@ use Rattle.store.specs.Image.{HoldsTable}
 use Rattle.store.specs.State.{IsSettled, StoreState, disk_of, store_state}
 use Rattle.store.specs.declared.store.Store.{Store}
 use Rattle.flusher.specs.Calls.{IsUntouched, LastFailed}
+use Rattle.flusher.specs.Chain.HasBroken.{FeedRefused, HadNoRoom, WasUncommitted, WasUnready}
 use Rattle.flusher.specs.Chain.{GivesAll, FeedGives, HasBroken, HasEnded, IsChain, LeaveInOrder, decisions_in, store_behind}
 use Rattle.flusher.specs.Cycle.{Commits, HoldsWithOrWithout, IsReady, IsUncommitted, IsUnready}
 use Rattle.flusher.specs.Lived.{GoOn, HaveLed}
@@ -104,18 +105,18 @@ module _ {D F C V : Type 0} (disk : Ghosts D) (gives : FeedGives F) (effects : V
 
   abbrev pub IsRefused : Refusal → Type 0
   IsRefused e =
-      ((feed' ≡ feed) × IsUnready s (LastFailed disk.failures disk.outlook old new) e)
+      ((feed' ≡ feed) × IsUnready s (IsUntouched disk.state old new) (LastFailed disk.failures disk.outlook old new) e)
       ⊎ (IsReady s
       × (gives feed MOST (Err e) feed'
       ⊎ ((batch : List Decision) × (gives feed MOST (Ok batch) feed' × ((batch ≢ []) × IsUncommitted s batch (LastFailed disk.failures disk.outlook old new) e)))))
 
   refused_by : (e : Refusal) (torn : List Decision) (here : F) → feed ≡ here
-      → HasBroken gives 1 (LastFailed disk.failures disk.outlook old new) s [] torn here feed' e → IsRefused e
-  refused_by e torn here at (inl (same, (none, inl memory))) = inl (same ∙ sym at, inl memory)
-  refused_by e torn here at (inl (same, (none, inr (empty, why)))) = inl (same ∙ sym at, why)
-  refused_by e torn here at (inr (ready, inl (none, given))) = inr (ready, inl (subst (λ f. gives f MOST (Err e) feed') (sym at) given))
-  refused_by e torn here at (inr (ready, inr (next, ((x, (some, given), is), (why, inr (failed, (less, answer))))))) = absurd (omega (arith, less))
-  refused_by e torn here at (inr (ready, inr (next, ((x, (some, given), is), (why, inl same))))) =
+      → HasBroken gives 1 (IsUntouched disk.state old new) (LastFailed disk.failures disk.outlook old new) s [] torn here feed' e → IsRefused e
+  refused_by e torn here at (HadNoRoom same none some memory) = absurd (some refl)
+  refused_by e torn here at (WasUnready same none empty why) = inl (same ∙ sym at, why)
+  refused_by e torn here at (FeedRefused ready none given) = inr (ready, inl (subst (λ f. gives f MOST (Err e) feed') (sym at) given))
+  refused_by e torn here at (WasUncommitted ready next (x, (some, given), is) why (inr (failed, (less, answer)))) = absurd (omega (arith, less))
+  refused_by e torn here at (WasUncommitted ready next (x, (some, given), is) why (inl same)) =
       inr (
         ready,
         inr (
@@ -135,7 +136,7 @@ module _ {D F C V : Type 0} (disk : Ghosts D) (gives : FeedGives F) (effects : V
   refused (Err e) chain =
       let none = no_batches chain.batches chain.ends.0 in
       refused_by e chain.torn chain.feed (subst (λ l. GivesAll gives feed l chain.feed) none chain.given)
-      (subst (λ l. HasBroken gives 1 (LastFailed disk.failures disk.outlook old new) s l chain.torn chain.feed feed' e) none chain.ends.1)
+      (subst (λ l. HasBroken gives 1 (IsUntouched disk.state old new) (LastFailed disk.failures disk.outlook old new) s l chain.torn chain.feed feed' e) none chain.ends.1)
 
   -- ---- what a crash leaves
 
@@ -152,14 +153,16 @@ module _ {D F C V : Type 0} (disk : Ghosts D) (gives : FeedGives F) (effects : V
         ⊎ ((batch : List Decision) × (gives feed MOST (Ok batch) feed' × ((e ≡ DeviceFailed) × EveryImage (disk.state (disk_of new)) (HoldsWithOrWithout s batch))))
 
     leaves_by : (e : Refusal) (torn : List Decision) (here : F) → feed ≡ here → s'.table ≡ s.table → s'.seq ≡ s.seq
-        → HasBroken gives 1 (LastFailed disk.failures disk.outlook old new) s [] torn here feed' e
+        → HasBroken gives 1 (IsUntouched disk.state old new) (LastFailed disk.failures disk.outlook old new) s [] torn here feed' e
         → e ≡ DeviceFailed → EveryImage (disk.state (disk_of new)) (HoldsWithOrWithout s' torn) → Leaves e
-    leaves_by e torn here at table seq (inl (same, (none, why))) failed images =
+    leaves_by e torn here at table seq (HadNoRoom same none some memory) failed images =
         inl (λ image p. held_along s s' image table seq (plain torn image none (images image p)))
-    leaves_by e torn here at table seq (inr (ready, inl (none, given))) failed images =
+    leaves_by e torn here at table seq (WasUnready same none empty why) failed images =
         inl (λ image p. held_along s s' image table seq (plain torn image none (images image p)))
-    leaves_by e torn here at table seq (inr (ready, inr (next, (given, (why, inr (is, (less, answer))))))) failed images = absurd (omega (arith, less))
-    leaves_by e torn here at table seq (inr (ready, inr (next, ((x, (some, given), is), (why, inl same))))) failed images =
+    leaves_by e torn here at table seq (FeedRefused ready none given) failed images =
+        inl (λ image p. held_along s s' image table seq (plain torn image none (images image p)))
+    leaves_by e torn here at table seq (WasUncommitted ready next given why (inr (is, (less, answer)))) failed images = absurd (omega (arith, less))
+    leaves_by e torn here at table seq (WasUncommitted ready next (x, (some, given), is) why (inl same)) failed images =
         inr (
           torn,
           (
@@ -179,7 +182,7 @@ module _ {D F C V : Type 0} (disk : Ghosts D) (gives : FeedGives F) (effects : V
           | inl all ↦ inl (λ image p. held_along s s' image table seq (on_disk s' (chain.settled honest settled all) image p))
           | inr (is, last) ↦
               leaves_by e chain.torn chain.feed (subst (λ l. GivesAll gives feed l chain.feed) none chain.given) table seq
-              (subst (λ l. HasBroken gives 1 (LastFailed disk.failures disk.outlook old new) s l chain.torn chain.feed feed' e) none chain.ends.1) is
+              (subst (λ l. HasBroken gives 1 (IsUntouched disk.state old new) (LastFailed disk.failures disk.outlook old new) s l chain.torn chain.feed feed' e) none chain.ends.1) is
               (chain.images honest settled)
         ]
 

@@ -1,5 +1,5 @@
 -- How a chain starts, and where it leads.
-use Rattle.std.proofs.Common.{◌≡◌, ◌⊎◌, ◌<◌, ◌≤◌, ◌+◌, ◌∙◌, ℕ, Bool, true, false, MatchBool, MatchResult, List, [], ◌∷◌, ◌++◌, length, flat_map, Result, Ok, Err, OnOk, inl, inr, sym, ap, subst, refl, arith, append_assoc, append-nil, length-append}
+use Rattle.std.proofs.Common.{◌≢◌, ◌≡◌, ◌⊎◌, ◌<◌, ◌≤◌, ◌+◌, ◌∙◌, ℕ, Bool, true, false, MatchBool, MatchResult, List, [], ◌∷◌, ◌++◌, length, flat_map, Result, Ok, Err, OnOk, inl, inr, sym, ap, subst, refl, arith, append_assoc, append-nil, length-append}
 use Rattle.std.specs.List.{FoldsTo}
 use Rattle.std.proofs.lemmas.List.{length-map, map-append}
 use Rattle.devices.specs.declared.effect.Effect.{Effect}
@@ -14,8 +14,9 @@ use Rattle.sessions.specs.declared.decision.Decision.{Decision}
 use Rattle.store.specs.Image.{HoldsTable}
 use Rattle.store.specs.State.{IsRoomy, IsSettled, StoreState, disk_of, store_state}
 use Rattle.store.specs.declared.store.Store.{Store}
-use Rattle.flusher.specs.Calls.{LastFailed, NoneFailed}
-use Rattle.flusher.specs.Chain.{FeedGives, HasBroken, HasEnded, IsChain, LeaveInOrder, decisions_in, store_behind}
+use Rattle.flusher.specs.Calls.{IsUntouched, LastFailed, NoneFailed}
+use Rattle.flusher.specs.Chain.HasBroken.{FeedRefused, HadNoRoom, WasUncommitted, WasUnready}
+use Rattle.flusher.specs.Chain.{FeedGives, HasBroken, HasEnded, IsChain, IsChainOfSome, LeaveInOrder, decisions_in, store_behind}
 use Rattle.flusher.specs.Cycle.{HoldsWithOrWithout, IsReady}
 use Rattle.flusher.specs.Lived.{HaveLed, HoldsWithTorn, LeadOn}
 use Rattle.flusher.specs.Lives.{LifeEvent, Lives, lives_after, lives_after_all}
@@ -32,7 +33,7 @@ pub no_batch : {D F C V : Type 0} (disk : Ghosts D) (gives : FeedGives F) (effec
     (old new : Store D disk) (feed feed' : F) (out : C) (torn : List Decision) (r : Result ℕ Refusal) → 1 ≤ most
     → (store_state disk.state new).table ≡ (store_state disk.state old).table → (store_state disk.state new).seq ≡ (store_state disk.state old).seq
     → MatchResult r (λ count. (count ≡ 0) × ((torn ≡ []) × gives feed MOST (Ok []) feed'))
-    (λ e. HasBroken gives most (LastFailed disk.failures disk.outlook old new) (store_state disk.state old) [] torn feed feed' e)
+    (λ e. HasBroken gives most (IsUntouched disk.state old new) (LastFailed disk.failures disk.outlook old new) (store_state disk.state old) [] torn feed feed' e)
     → MatchResult r (λ _. NoneFailed disk.failures disk.outlook old new)
     (λ e. NoneFailed disk.failures disk.outlook old new ⊎ ((e ≡ DeviceFailed) × LastFailed disk.failures disk.outlook old new))
     → (disk.honest → IsSettled (store_state disk.state old) → NoneFailed disk.failures disk.outlook old new → IsSettled (store_state disk.state new))
@@ -55,9 +56,9 @@ no_batch disk gives effects step most old new feed feed' out torn r some table s
     }
   where
     by : (r : Result ℕ Refusal) → MatchResult r (λ count. (count ≡ 0) × ((torn ≡ []) × gives feed MOST (Ok []) feed'))
-        (λ e. HasBroken gives most (LastFailed disk.failures disk.outlook old new) (store_state disk.state old) [] torn feed feed' e)
+        (λ e. HasBroken gives most (IsUntouched disk.state old new) (LastFailed disk.failures disk.outlook old new) (store_state disk.state old) [] torn feed feed' e)
         → MatchResult r (λ count. (count ≡ 0) × ((torn ≡ []) × HasEnded gives most (store_state disk.state new) [] feed feed'))
-        (λ e. (0 < most) × HasBroken gives most (LastFailed disk.failures disk.outlook old new) (store_state disk.state old) [] torn feed feed' e)
+        (λ e. (0 < most) × HasBroken gives most (IsUntouched disk.state old new) (LastFailed disk.failures disk.outlook old new) (store_state disk.state old) [] torn feed feed' e)
     by (Ok count) (none, (alone, given)) = (none, (alone, inr (omega (arith, some), given)))
     by (Err e) why = (omega (arith, some), why)
 
@@ -101,32 +102,22 @@ module _ {D F C V : Type 0} (disk : Ghosts D) (gives : FeedGives F) (effects : V
   calls_along (Err e) (inl none) = inl (none_then disk.failures disk.outlook old mid new first none)
   calls_along (Err e) (inr (is, last)) = inr (is, last_along last)
 
-  broken_along : (batches : List (List Decision)) (torn : List Decision) (here : F) (e : Refusal)
-      → HasBroken gives most (LastFailed disk.failures disk.outlook mid new) (store_state disk.state mid) batches torn here feed' e
-      → HasBroken gives most (LastFailed disk.failures disk.outlook old new) (store_state disk.state old) batches torn here feed' e
-  broken_along batches torn here e (inl (same, (none, inl memory))) = inl (same, (none, inl memory))
-  broken_along batches torn here e (inl (same, (none, inr (empty, inl memory)))) = inl (same, (none, inl memory))
-  broken_along batches torn here e (inl (same, (none, inr (empty, inr (full, why))))) = absurd (full roomy)
-  broken_along batches torn here e (inr (is, inl refused)) = inr (ready, inl refused)
-  broken_along batches torn here e (inr (is, inr (next, (given, (why, asked))))) =
-      inr (
-        ready,
-        inr (
-          next,
-          (
-            given,
-            (
-              why_not (store_behind (store_state disk.state mid) batches) (store_behind (store_state disk.state old) batches) torn
-                  (LastFailed disk.failures disk.outlook mid new) (LastFailed disk.failures disk.outlook old new) e first.failed
-                  (ap (λ (t : TableState). fold_of t (commands_of (decisions_in batches))) table) (ap (λ n. n + length (decisions_in batches)) seq) last_along why,
-              asked,
-            ),
-          ),
-        ),
-      )
+  broken_along : (batches : List (List Decision)) (torn : List Decision) (here : F) (e : Refusal) → (batches ≡ [] → torn ≢ [])
+      → HasBroken gives most (IsUntouched disk.state mid new) (LastFailed disk.failures disk.outlook mid new) (store_state disk.state mid) batches torn here feed' e
+      → HasBroken gives most (IsUntouched disk.state old new) (LastFailed disk.failures disk.outlook old new) (store_state disk.state old) batches torn here feed' e
+  broken_along batches torn here e some (HadNoRoom same none more memory) = HadNoRoom same none more memory
+  broken_along batches torn here e some (WasUnready same none empty why) = absurd (some empty none)
+  broken_along batches torn here e some (FeedRefused is none given) = FeedRefused ready none given
+  broken_along batches torn here e some (WasUncommitted is next given why asked) =
+      WasUncommitted ready next given
+      (why_not (store_behind (store_state disk.state mid) batches) (store_behind (store_state disk.state old) batches) torn
+      (LastFailed disk.failures disk.outlook mid new) (LastFailed disk.failures disk.outlook old new) e first.failed
+      (ap (λ (t : TableState). fold_of t (commands_of (decisions_in batches))) table) (ap (λ n. n + length (decisions_in batches)) seq) last_along why)
+      asked
 
-  pub chain_along : (r : Result ℕ Refusal) → IsChain disk gives effects step most mid new feed feed' out out' r → IsChain disk gives effects step most old new feed feed' out out' r
-  chain_along r chain = record {
+  pub chain_along : (r : Result ℕ Refusal) → IsChainOfSome disk gives effects step most mid new feed feed' out out' r
+      → IsChain disk gives effects step most old new feed feed' out out' r
+  chain_along r (chain, some) = record {
     batches = chain.batches;
     torn = chain.torn;
     feed = chain.feed;
@@ -144,13 +135,13 @@ module _ {D F C V : Type 0} (disk : Ghosts D) (gives : FeedGives F) (effects : V
           → MatchResult r
           (λ count. (count ≡ length (decisions_in chain.batches)) × ((chain.torn ≡ []) × HasEnded gives most (store_state disk.state new) chain.batches chain.feed feed'))
           (λ e. (length chain.batches < most)
-          × HasBroken gives most (LastFailed disk.failures disk.outlook mid new) (store_state disk.state mid) chain.batches chain.torn chain.feed feed' e)
+          × HasBroken gives most (IsUntouched disk.state mid new) (LastFailed disk.failures disk.outlook mid new) (store_state disk.state mid) chain.batches chain.torn chain.feed feed' e)
           → MatchResult r
           (λ count. (count ≡ length (decisions_in chain.batches)) × ((chain.torn ≡ []) × HasEnded gives most (store_state disk.state new) chain.batches chain.feed feed'))
           (λ e. (length chain.batches < most)
-          × HasBroken gives most (LastFailed disk.failures disk.outlook old new) (store_state disk.state old) chain.batches chain.torn chain.feed feed' e)
+          × HasBroken gives most (IsUntouched disk.state old new) (LastFailed disk.failures disk.outlook old new) (store_state disk.state old) chain.batches chain.torn chain.feed feed' e)
       by (Ok n) is = is
-      by (Err e) (few, why) = (few, broken_along chain.batches chain.torn chain.feed e why)
+      by (Err e) (few, why) = (few, broken_along chain.batches chain.torn chain.feed e some why)
 
 -- ---- where a chain leads
 

@@ -17,7 +17,7 @@ use Rattle.store.specs.State.{StoreState, IsRoomy, IsSettled, disk_of, store_sta
 use Rattle.store.specs.declared.phases.Begun.{Begun}
 use Rattle.store.specs.declared.phases.GateWritten.{GateWritten}
 use Rattle.store.specs.declared.store.Store.{Store}
-use Rattle.flusher.specs.Calls.{LastFailed, NoneFailed}
+use Rattle.flusher.specs.Calls.{IsUntouched, LastFailed, NoneFailed}
 use Rattle.flusher.specs.Cycle.{Commits, HoldsWithOrWithout, IsReady, IsUncommitted, IsUnready}
 
 -- a feed as it was, how many decisions were asked for at most, its answer, and the feed then
@@ -57,20 +57,26 @@ HasEnded gives most new batches old_feed new_feed =
     ((new_feed ≡ old_feed) × ((length batches ≡ most) ⊎ ((batches ≢ []) × ¬ (IsRoomy new))))
     ⊎ ((length batches < most) × gives old_feed MOST (Ok []) new_feed)
 
--- Why a chain is refused behind these batches. No other was asked for; or the feed refused one; or
--- it gave this one, which wasn't committed. Where a device call failed, the feed may have been
--- asked for the batch behind that, which is given up too.
-abbrev pub HasBroken : {F : Type 0} → FeedGives F → ℕ → Type 0 → StoreState → List (List Decision)
-    → List Decision → F → F → Refusal → Type 0
-HasBroken {F} gives most failure s batches torn old_feed new_feed e =
-    ((new_feed ≡ old_feed) × ((torn ≡ [])
-    × ((e ≡ OutOfMemory) ⊎ ((batches ≡ []) × IsUnready s failure e))))
-    ⊎ (IsReady s × (((torn ≡ []) × gives old_feed MOST (Err e) new_feed)
-    ⊎ ((next : F) × (GivesAll gives old_feed (torn ∷ []) next
-    × (IsUncommitted (store_behind s batches) torn failure e
-    × ((new_feed ≡ next)
-    ⊎ ((e ≡ DeviceFailed) × ((length batches + 1 < most)
-    × ((answer : Result (List Decision) Refusal) × gives next MOST answer new_feed)))))))))
+-- Why a chain is refused behind these batches.
+pub data HasBroken {F : Type 0} (gives : FeedGives F) (most : ℕ) (untouched failure : Type 0)
+    (s : StoreState) (batches : List (List Decision)) (torn : List Decision)
+    (old_feed new_feed : F) (e : Refusal) : Type 0 where
+  -- none was asked for: the store wasn't ready for a first one
+  WasUnready : new_feed ≡ old_feed → torn ≡ [] → batches ≡ [] → IsUnready s untouched failure e
+      → HasBroken gives most untouched failure s batches torn old_feed new_feed e
+  -- no other was asked for: there was no memory for its effects
+  HadNoRoom : new_feed ≡ old_feed → torn ≡ [] → batches ≢ [] → e ≡ OutOfMemory
+      → HasBroken gives most untouched failure s batches torn old_feed new_feed e
+  -- the feed refused one
+  FeedRefused : IsReady s → torn ≡ [] → gives old_feed MOST (Err e) new_feed
+      → HasBroken gives most untouched failure s batches torn old_feed new_feed e
+  -- it gave this one, which wasn't committed; where a device call failed, it may have been asked
+  -- for the batch behind that, which is given up too
+  WasUncommitted : IsReady s → (next : F) → GivesAll gives old_feed (torn ∷ []) next
+      → IsUncommitted (store_behind s batches) torn failure e
+      → (new_feed ≡ next) ⊎ ((e ≡ DeviceFailed) × ((length batches + 1 < most)
+      × ((answer : Result (List Decision) Refusal) × gives next MOST answer new_feed)))
+      → HasBroken gives most untouched failure s batches torn old_feed new_feed e
 
 -- A chain of at most so many commits. These batches came from the feed, were committed, and their
 -- effects left. The one that was given up behind them is the torn one, which is empty where there
@@ -91,7 +97,8 @@ pub record IsChain {D F C V : Type 0} (disk : Ghosts D) (gives : FeedGives F)
       (λ count. (count ≡ length (decisions_in batches)) × ((torn ≡ [])
       × HasEnded gives most (store_state disk.state new) batches feed new_feed))
       (λ e. (length batches < most)
-      × HasBroken gives most (LastFailed disk.failures disk.outlook old new)
+      × HasBroken gives most (IsUntouched disk.state old new)
+      (LastFailed disk.failures disk.outlook old new)
       (store_state disk.state old) batches torn feed new_feed e)
   pub calls : MatchResult result
       (λ _. NoneFailed disk.failures disk.outlook old new)
@@ -102,6 +109,16 @@ pub record IsChain {D F C V : Type 0} (disk : Ghosts D) (gives : FeedGives F)
   pub images : disk.honest → IsSettled (store_state disk.state old)
       → EveryImage (disk.state (disk_of new))
       (HoldsWithOrWithout (store_state disk.state new) torn)
+
+-- ---- what the private function that commits the batches behind a first one does
+
+-- it is a chain in which a batch was given
+abbrev pub IsChainOfSome : {D F C V : Type 0} (disk : Ghosts D) → FeedGives F
+    → (V → List Effect) → (C → V → C → Type 0) → ℕ → Store D disk → Store D disk → F → F
+    → C → C → Result ℕ Refusal → Type 0
+IsChainOfSome disk gives effects call most old new old_feed new_feed old_out new_out result =
+    (chain : IsChain disk gives effects call most old new old_feed new_feed old_out new_out result)
+    × (chain.batches ≡ [] → chain.torn ≢ [])
 
 -- ---- what the private function that gets the batch behind the one under way answers
 

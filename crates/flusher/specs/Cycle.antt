@@ -32,9 +32,11 @@ IsUnchecked s failure e =
     ⊎ ((s.log.generation < LAST_GENERATION) × ((e ≡ OutOfMemory) ⊎ ((e ≡ DeviceFailed) × failure))))
 
 -- why a batch wasn't asked for: no memory for its effects, or no room in the journal and no
--- checkpoint
-abbrev pub IsUnready : StoreState → Type 0 → Refusal → Type 0
-IsUnready s failure e = (e ≡ OutOfMemory) ⊎ ((¬ (IsRoomy s)) × IsUnchecked s failure e)
+-- checkpoint; unless a call of the disk failed, the store is untouched
+abbrev pub IsUnready : StoreState → Type 0 → Type 0 → Refusal → Type 0
+IsUnready s untouched failure e =
+    (untouched ⊎ (e ≡ DeviceFailed))
+    × ((e ≡ OutOfMemory) ⊎ ((¬ (IsRoomy s)) × IsUnchecked s failure e))
 
 -- a checkpoint was written exactly where the journal lacked room for the largest batch: it is of
 -- the next generation

@@ -4,5 +4,6 @@ pub mod Cycle
 pub mod Feed
 pub mod Lived
 pub mod Lives
+pub mod OneCycle
 pub mod Released
 pub mod Serving

@@ -39,3 +39,13 @@ LeadOn {C} {V} effects call here there old new =
     × ((calls : List V)
     × (((lives_after_all t lives events).left ≡ lives.left ++ flat_map effects calls)
     × FoldsTo call old calls new)))
+
+-- The same where one event at most leads on: what left besides was given away at once.
+abbrev pub LeadsOn : {C V : Type 0} → (V → List Effect) → (C → V → C → Type 0) → StoreState
+    → StoreState → C → C → Type 0
+LeadsOn {C} {V} effects call here there old new =
+    (t : TableState) (number : ℕ) (lives : Lives) → HaveLed lives t number here
+    → (next : Lives) × (GoOn t lives next × (HaveLed next t number there
+    × (((new ≡ old) × (next.left ≡ lives.left))
+    ⊎ ((released : V) × ((next.left ≡ lives.left ++ effects released)
+    × call old released new)))))

@@ -3,8 +3,8 @@ ghost use Rattle.std.specs.Global.{Global};
 ghost use Rattle.std.specs.Prelude.{◌≡◌, ◌<◌, ◌≤◌, ◌+◌, ◌∷◌, [], true, false, OnOk, Ok};
 ghost use Rattle.std.specs.Prelude.{MatchOption, MatchResult, Vec, length};
 ghost use Rattle.flusher.specs.Calls.{IsUntouched};
-ghost use Rattle.flusher.specs.Chain.{FollowsOpened, GivesAll, IsChain, IsFollowRefusal};
-ghost use Rattle.flusher.specs.Chain.{NoneFollows};
+ghost use Rattle.flusher.specs.Chain.{FollowsOpened, GivesAll, IsChain, IsChainOfSome};
+ghost use Rattle.flusher.specs.Chain.{IsFollowRefusal, NoneFollows};
 ghost use Rattle.flusher.specs.Cycle.{ChecksWhereFull, IsReady};
 ghost use Rattle.flusher.specs.Lived.{LeadOn};
 ghost use Rattle.flusher.specs.Released.{effects_of_all};
@@ -101,7 +101,7 @@ fn follow<D: Disk, F: Feed, C: FnMut(Vec<Released>)>(
     requires begun { IsSettled (store_state D.state store.old)
         → IsBegunOn (store_state D.state store.old) begun }
     ensures chain { (before : F) → GivesAll F.gives before ((begun_sequel begun).decisions ∷ [])
-        feed.old → IsChain D.Disk F.gives
+        feed.old → IsChainOfSome D.Disk F.gives
         (λ (released : Vec Released Global). effects_of_all released.items)
         (λ before released after. C.step before released tt after) (more + 1)
         store.old store.new before feed.new out.old out.new result }

@@ -1,12 +1,10 @@
 // Whole checkpoints.
 ghost use Rattle.std.specs.Prelude.{◌≡◌, ◌⊎◌, ◌+◌, true, IfErr, OnOk, MatchResult};
-ghost use Rattle.disk.specs.State.{EveryImage};
 ghost use Rattle.flusher.specs.Calls.{AreStoreCalls, IsUntouched, LastFailed, NoneFailed};
 ghost use Rattle.flusher.specs.Cycle.{ChecksWhereFull, IsReady, IsUnready};
 ghost use Rattle.lw_types.specs.declared.refusal.Refusal.TheVariants.{DeviceFailed};
 ghost use Rattle.store.specs.Checkpointing.{FitsOther, IsCheckpointOn, checkpoint_size};
-ghost use Rattle.store.specs.Image.{HoldsTable};
-ghost use Rattle.store.specs.State.{store_state, disk_of, IsRoomy, IsSettled};
+ghost use Rattle.store.specs.State.{store_state, disk_of, EachImageHolds, IsRoomy, IsSettled};
 
 use disk::Disk;
 use lw_types::Refusal;
@@ -17,7 +15,7 @@ use store::{Checkpoint, Publishing, Store};
 pub(crate) fn make_room<D: Disk>(alloc: Global, store: &mut Store<D>) -> Result<(), Refusal>
     ensures calls { MatchResult result
         (λ _. NoneFailed D.failures D.outlook store.old store.new)
-        (λ e. IsUnready (store_state D.state store.old)
+        (λ e. IsUnready (store_state D.state store.old) (IsUntouched D.state store.old store.new)
         (LastFailed D.failures D.outlook store.old store.new) e) }
     ensures ready { OnOk result (IsReady (store_state D.state store.old)) }
     ensures roomy { OnOk result (IsRoomy (store_state D.state store.new)) }
@@ -25,8 +23,7 @@ pub(crate) fn make_room<D: Disk>(alloc: Global, store: &mut Store<D>) -> Result<
         (ChecksWhereFull (store_state D.state store.old) (store_state D.state store.new)) }
     ensures images { D.honest → IsSettled (store_state D.state store.old) → MatchResult result
         (λ _. IsSettled (store_state D.state store.new))
-        (λ _. EveryImage (D.state (disk_of store.new))
-        (HoldsTable (store_state D.state store.old).table (store_state D.state store.old).seq)) }
+        (λ _. EachImageHolds (store_state D.state store.old) (D.state (disk_of store.new))) }
     ensures refused { IfErr result (λ e. IsUntouched D.state store.old store.new
         ⊎ ((e ≡ DeviceFailed) × LastFailed D.failures D.outlook store.old store.new)) }
     ensures closed { (store_state D.state store.old).failed ≡ true
@@ -53,8 +50,7 @@ fn publish<D: Disk>(store: &mut Store<D>, checkpoint: Checkpoint) -> Result<(), 
     ensures images { D.honest → IsCheckpointOn (store_state D.state store.old) checkpoint
         → MatchResult result
         (λ _. IsSettled (store_state D.state store.new))
-        (λ _. EveryImage (D.state (disk_of store.new))
-        (HoldsTable (store_state D.state store.old).table (store_state D.state store.old).seq)) }
+        (λ _. EachImageHolds (store_state D.state store.old) (D.state (disk_of store.new))) }
     ensures table { (store_state D.state store.new).table ≡ (store_state D.state store.old).table }
     ensures seq { (store_state D.state store.new).seq ≡ (store_state D.state store.old).seq }
 {

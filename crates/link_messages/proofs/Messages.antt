@@ -12,8 +12,8 @@ use Rattle.lw_types.specs.declared.identifiers.Eui.{Eui}
 use Rattle.lw_types.specs.declared.frame_copy.Reception.{Reception}
 use Rattle.lw_types.specs.declared.frame_copy.FrameCopy.{FrameCopy}
 use Rattle.byte_fields.specs.Field.{IsField}
-use Rattle.byte_fields.specs.FieldLemmas.{bind_some, some_is, chosen_some, guard_some, both_field, seen_field, whole_takes, whole_again, byte_field, IsBytes-after}
-use Rattle.byte_fields.specs.NumberLemmas.{Below, Between, IsEui, u16_be_field, u32_be_field, be_eui_field, ranged_field}
+use Rattle.byte_fields.proofs.FieldLemmas.{bind_some, some_is, chosen_some, guard_some, both_field, seen_field, whole_takes, whole_again, byte_field, IsBytes-after}
+use Rattle.byte_fields.proofs.NumberLemmas.{Below, Between, IsEui, u16_be_field, u32_be_field, be_eui_field, ranged_field}
 use Rattle.byte_fields.specs.Reading.{◌>>=◌, both, be_at, be_eui_at, byte_at, ranged_at, whole}
 use Rattle.link_messages.specs.declared.message.Peer.{Peer}
 use Rattle.link_messages.specs.declared.message.Peer.TheVariants.{Gateway, Application}

@@ -6,7 +6,7 @@ use Rattle.std.proofs.lemmas.Nat.{be_bytes_2}
 use Rattle.std.proofs.lemmas.List.{take-append-drop, length-take, length-drop}
 use Rattle.lw_types.specs.Hex.{IsBytes}
 use Rattle.lw_types.specs.declared.refusal.Refusal.TheVariants.{BadMessage, FrameTooLong}
-use Rattle.byte_fields.specs.FieldLemmas.{IsBytes-after, IsBytes-take}
+use Rattle.byte_fields.proofs.FieldLemmas.{IsBytes-after, IsBytes-take}
 use Rattle.link_messages.specs.declared.message.Peer.{Peer}
 use Rattle.link_messages.specs.declared.message.Message.{Message}
 use Rattle.link_messages.specs.Message.{IsSaying}

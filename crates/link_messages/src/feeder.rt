@@ -1,6 +1,6 @@
 // What a link says, of the pieces in which its bytes come.
 ghost use Rattle.std.specs.Prelude.{◌≡◌, ◌≤◌, ◌++◌, ◌<◌, ◌+◌, ◌-◌, min, length, take, drop, IfErr};
-ghost use Rattle.std.specs.Prelude.{IfOk, OnErr, OnOk};
+ghost use Rattle.std.specs.Prelude.{◌⊎◌, ◌↔◌, [], IfOk, IsSome, IsTrue, OnErr, OnOk};
 ghost use Rattle.lw_types.specs.declared.refusal.Refusal.TheVariants.{OutOfMemory};
 ghost use Rattle.link_messages.specs.Stream.{peer_after_one, stated_length, BeginsWithMessage};
 ghost use Rattle.link_messages.specs.Stream.{IsPart, WantsMemory};
@@ -317,6 +317,22 @@ impl Feeder {
             }
             Err(_) => Err(Refusal::OutOfMemory),
         }
+    }
+
+    /// Whether a piece adds nothing to what was heard: it is empty, or a fault stands before it.
+    /// Takes no memory.
+    pub fn adds_nothing(&self, piece: &[u8]) -> bool
+        ensures nothing { IsTrue result → Feeds self.now piece.now [] self.now }
+        ensures only { IsTrue result ↔ ((piece.now ≡ []) ⊎ IsSome (fault_in self.now.end)) }
+    {
+        piece.is_empty() || self.fault.is_some()
+    }
+
+    /// What is wrong with the bytes so far, behind which nothing is read. Takes no memory.
+    pub fn fault(&self) -> Option<Refusal>
+        ensures { result ≡ fault_in self.now.end }
+    {
+        self.fault
     }
 
     /// Who is at the other end, none before the greeting.

@@ -1,4 +1,6 @@
 // The flusher commits what was decided, and lets its effects out.
+ghost use Rattle.std.specs.Prelude.{IsTrue};
+
 use crate::link::MOST_LINKS;
 use crate::routing::route;
 use crate::server::LiveServer;
@@ -64,7 +66,9 @@ fn let_out<B: Books, R: Wait>(
 
 // Whether nothing is left, behind an empty batch. The last tick may have been made behind that
 // batch, so one more is asked for once the tick is seen. Else waits for a decision.
-fn is_done<B: Books, R: Wait>(rt: &R, server: &LiveServer<B>, is_ticked: &mut bool) -> bool {
+fn is_done<B: Books, R: Wait>(rt: &R, server: &LiveServer<B>, is_ticked: &mut bool) -> bool
+    ensures { IsTrue result → IsTrue is_ticked.old }
+{
     if *is_ticked {
         return true;
     }

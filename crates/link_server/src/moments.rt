@@ -1,4 +1,6 @@
 // Where moments come from.
+ghost use Rattle.std.specs.Prelude.{◌≡◌, ◌<◌, ◌+◌, ◌^◌};
+
 use session_core::{LAST_MOMENT, Moment};
 use std::sync::Wait;
 use std::thread::Parker;
@@ -56,11 +58,15 @@ impl<C: time::Clock> LifeClock for Monotonic<C> {
 }
 
 /// The moment of so many milliseconds, or the last one.
-pub(crate) fn moment_of(millis: u64) -> Moment {
+pub(crate) fn moment_of(millis: u64) -> Moment
+    ensures { millis < 2 ^ 63 → result ≡ millis }
+{
     Moment::new(millis.min(LAST_MOMENT)).unwrap()
 }
 
 /// The moment that is so many milliseconds later, or the last one.
-pub(crate) fn later(moment: Moment, millis: u64) -> Moment {
+pub(crate) fn later(moment: Moment, millis: u64) -> Moment
+    ensures { moment + millis < 2 ^ 63 → result ≡ moment + millis }
+{
     moment_of(moment.get().saturating_add(millis))
 }

@@ -1,4 +1,7 @@
 // A worker reads a link, and hands in what is said on it.
+ghost use Rattle.std.specs.Prelude.{◌≡◌, ◌<◌, ◌↔◌, IfSome, IsTrue, Some};
+ghost use Rattle.link_messages.specs.declared.message.Peer.TheVariants.{Application as Asking};
+
 use crate::context::Context;
 use crate::gate::Gate;
 use crate::link::Link;
@@ -51,7 +54,9 @@ fn read_some(stream: &TcpStream, buffer: &mut [u8]) -> Incoming {
 }
 
 // The application at the other end of a link.
-fn asking(peer: Option<Peer>) -> Option<Application> {
+fn asking(peer: Option<Peer>) -> Option<Application>
+    ensures { IfSome result (λ application. peer ≡ Some (Asking application)) }
+{
     match peer? {
         Peer::Application(application) => Some(application),
         Peer::Gateway(_) => None,
@@ -59,7 +64,9 @@ fn asking(peer: Option<Peer>) -> Option<Application> {
 }
 
 // Whether a turn has decisions.
-fn has_decided(turn: &Turn) -> bool {
+fn has_decided(turn: &Turn) -> bool
+    ensures { IsTrue result ↔ (turn.now.from < turn.now.to) }
+{
     turn.from < turn.to
 }
 

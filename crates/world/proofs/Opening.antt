@@ -68,7 +68,7 @@ two_reasons e h = absurd (h (λ p. let n = ap number_of p in absurd (omega (arit
 pub disk_survives : {D : Type 0} {g : _} (state : D → State) (origin : Origin) (c : Course) (place : Place D g) (disk : D)
     → FollowsPlace state origin c place → HasDisk place disk → Survives origin c (state disk)
 disk_survives state origin c (Open life) disk f is = subst (λ d. Survives origin c (state d)) (sym is) f.1.0.survives
-disk_survives state origin c (Closed d) disk f is = subst (λ d. Survives origin c (state d)) (sym is) f.1.1
+disk_survives state origin c (Closed d) disk f is = subst (λ d. Survives origin c (state d)) (sym is) f.1
 disk_survives state origin c Crashing disk f is = absurd f
 
 -- after a crash the same holds of the disk

@@ -1,5 +1,5 @@
 -- What links say, piece by piece.
-use Rattle.std.proofs.Common.{◌≡◌, ◌∙◌, ℕ, Bool, true, false, nat_eq, cond, List, [], ◌∷◌, ◌++◌, Option, Some, None, Result, Ok, Err, OnErr, append_assoc, refl, sym, ap, subst}
+use Rattle.std.proofs.Common.{◌≡◌, ◌≢◌, ◌∙◌, ℕ, IsSome, inl, inr, Bool, true, false, nat_eq, cond, List, [], ◌∷◌, ◌++◌, Option, Some, None, Result, Ok, Err, OnErr, append_assoc, refl, sym, ap, subst}
 use Rattle.std.proofs.lemmas.Bool.{eqb-true, eqb-false}
 use Rattle.std.proofs.lemmas.List.{append-nil}
 use Rattle.lw_types.specs.declared.refusal.Refusal.{Refusal}
@@ -8,11 +8,11 @@ use Rattle.link_messages.specs.declared.message.Peer.TheVariants.{Application, G
 use Rattle.link_messages.specs.declared.message.Message.{Message}
 use Rattle.link_messages.specs.declared.message.Message.TheVariants.{Copy, Greeting, Line}
 use Rattle.link_messages.specs.Stream.{End, Rest, Fault, IsSaid, peer_after, peer_after_one}
-use Rattle.link_messages.specs.Feeding.{Adds, FeedState}
+use Rattle.link_messages.specs.Feeding.{Adds, FeedState, fault_in}
 use Rattle.world.specs.declared.event.Event.{Event}
 use Rattle.world.specs.declared.event.Event.TheVariants as events
 use Rattle.world.specs.declared.links.Links.{Links}
-use Rattle.world.specs.Links.{before_others, AreHandedIn, HandsIn, Completes, HasSaid, Piece, SaysMore, heard_on, stream_on}
+use Rattle.world.specs.Links.{before_others, AddsNothing, AreHandedIn, HandsIn, Completes, HasSaid, Piece, SaysMore, heard_on, stream_on}
 
 after_append : (peer : Option Peer) (xs ys : List Message) → peer_after peer (xs ++ ys) ≡ peer_after (peer_after peer xs) ys
 after_append peer [] ys = refl
@@ -104,3 +104,15 @@ module _ (rest_law : RestLaw) (fault_law : FaultLaw) where
           → HasSaid (cond b (stream_on l pieces ++ piece) (stream_on l pieces)) (heard_on new l)
       others l true is here = subst (λ k. HasSaid (stream_on k pieces ++ piece) (heard_on new k)) (eqb-true link l is) here
       others l false is here = subst (λ h. HasSaid (stream_on l pieces) h) (sym (more.4 l (λ same. eqb-false link l is (sym same)))) (said l)
+
+-- a stream says one thing
+abbrev pub OneLaw : Type 0
+OneLaw =
+    (peer : Option Peer) (stream : List ℕ) (a b : List Message) (x y : End) → IsSaid peer stream a x → IsSaid peer stream b y → (a ≡ b) × (x ≡ y)
+
+-- bytes that come behind no fault add something
+pub adds-something : OneLaw → (stream piece : List ℕ) (heard : FeedState) → HasSaid stream heard → piece ≢ [] → ¬ (IsSome (fault_in heard.end)) → ¬ (AddsNothing stream piece)
+adds-something law stream piece heard said some faultless (inl empty) = some empty
+adds-something law stream piece heard said some faultless (inr (messages, refusal, fault)) =
+    let is = (law None stream messages said.0 (Fault refusal) heard.end fault said.1).1 in
+    faultless (subst (λ (e : End). IsSome (fault_in e)) is refl)

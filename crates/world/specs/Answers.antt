@@ -16,7 +16,7 @@ use Rattle.sessions.specs.Decision.{AnswersTo}
 use Rattle.session_core.specs.Deciding.{verdict_of}
 use Rattle.session_core.specs.declared.turn.Turn.{Turn}
 use Rattle.gateway_wire.specs.Emission.{emission}
-use Rattle.world.specs.Links.{Completes, stream_on}
+use Rattle.world.specs.Links.{AddsNothing, Completes, stream_on}
 use Rattle.world.specs.declared.answer.EventTurn.{EventTurn}
 use Rattle.world.specs.declared.event.Event.{Event}
 use Rattle.world.specs.declared.event.Event.TheVariants as events
@@ -83,12 +83,14 @@ abbrev pub event_of : EventTurn → Event
 event_of t = t.event
 
 -- A piece of a link's bytes is answered by the turns of the events that it hands in, and by its
--- fault; or nothing of it counts, since there was no memory.
+-- fault; or nothing of it counts, since there was no memory for it. One that adds nothing to what
+-- its link has said wants none.
 abbrev pub AnswersPiece : Origin → Course → ℕ → ℕ → List ℕ → Answer → Type 0
 AnswersPiece origin c link moment bytes (answers.Turns turns fault) =
     Completes (stream_on link c.pieces) bytes (map event_of turns.items) fault
     × AreTurns origin (with_piece c link bytes) moment turns.items
-AnswersPiece origin c link moment bytes (answers.Refused e) = e ≡ refusals.OutOfMemory
+AnswersPiece origin c link moment bytes (answers.Refused e) =
+    (e ≡ refusals.OutOfMemory) × ¬ (AddsNothing (stream_on link c.pieces) bytes)
 AnswersPiece origin c link moment bytes answer = ⊥
 
 -- nothing is taken where nothing waits; a batch begins or is lost behind no lost one, and is out of

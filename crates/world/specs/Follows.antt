@@ -112,7 +112,7 @@ FollowsLife state origin c life =
 -- the disk of a store that is closed
 abbrev pub FollowsClosed : {D : Type 0} → (D → State) → Origin → Course → D → Type 0
 FollowsClosed state origin c disk =
-    (c.is_open ≡ false) × (NothingOpen (state disk) × Survives origin c (state disk))
+    (c.is_open ≡ false) × Survives origin c (state disk)
 
 abbrev pub FollowsPlace : {D : Type 0} {g : _} → (D → State) → Origin → Course → Place D g → Type 0
 FollowsPlace state origin c (Open life) = (c.is_open ≡ true) × FollowsLife state origin c life

@@ -1,5 +1,5 @@
 -- What is said on the links of a life, and the events that it hands in.
-use Rattle.std.specs.Prelude.{◌≡◌, ◌≢◌, ℕ, List, [], ◌∷◌, ◌++◌, Option, Some, None, nat_eq}
+use Rattle.std.specs.Prelude.{◌≡◌, ◌≢◌, ◌⊎◌, ℕ, List, [], ◌∷◌, ◌++◌, Option, Some, None, nat_eq}
 use Rattle.std.specs.Prelude.{if◌then◌else◌}
 use Rattle.std.specs.BTreeMap.{get}
 use Rattle.std.specs.Ordering.{nat_cmp}
@@ -10,7 +10,7 @@ use Rattle.link_messages.specs.declared.message.Message.{Message}
 use Rattle.link_messages.specs.declared.message.Message.TheVariants.{Greeting, Copy, Line}
 use Rattle.gateway_wire.specs.declared.request.Request.{Request}
 use Rattle.gateway_wire.specs.Request.{IsRequestInRange, IsRequestLine, request_line, command_of}
-use Rattle.link_messages.specs.Stream.{End, IsSaid, peer_after, peer_after_one}
+use Rattle.link_messages.specs.Stream.{End, Fault, IsSaid, peer_after, peer_after_one}
 use Rattle.link_messages.specs.Feeding.{FeedState, Feeds, fault_in, new_feed}
 use Rattle.world.specs.declared.event.Event.{Event}
 use Rattle.world.specs.declared.event.Event.TheVariants as events
@@ -61,6 +61,12 @@ Completes stream piece handed_in fault =
     (before : List Message) × (others : List Message) × (end : End) × (now : End)
     × IsSaid None stream before end × IsSaid None (stream ++ piece) (before ++ others) now
     × AreHandedIn (peer_after None before) others handed_in × (fault ≡ fault_in now)
+
+-- a piece adds nothing to what a link has said: it is empty, or a fault stands before it
+abbrev pub AddsNothing : List ℕ → List ℕ → Type 0
+AddsNothing stream piece =
+    (piece ≡ []) ⊎ ((messages : List Message) × (refusal : Refusal)
+    × IsSaid None stream messages (Fault refusal))
 
 -- what these links have heard
 abbrev pub or_nothing : Option FeedState → FeedState

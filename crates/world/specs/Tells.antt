@@ -1,6 +1,6 @@
 -- What a step's answer tells of the disk: a full journal only where it is, how long a checkpoint
 -- takes, and a crash leaves the image that it names.
-use Rattle.std.specs.Prelude.{◌≡◌, ◌<◌, ◌≤◌, if◌then◌else◌}
+use Rattle.std.specs.Prelude.{◌≡◌, ◌<◌, ◌≤◌, ℕ, List, if◌then◌else◌}
 use Rattle.lw_types.specs.declared.refusal.Refusal.{Refusal}
 use Rattle.lw_types.specs.declared.refusal.Refusal.TheVariants as refusals
 use Rattle.disk.specs.declared.sim.Image.{Image}
@@ -8,7 +8,7 @@ use Rattle.disk.specs.Crash.{IsCrashed}
 use Rattle.disk.specs.State.{State}
 use Rattle.flusher.specs.declared.room.Room.{Room}
 use Rattle.store.specs.Pairing.{IsRoomyBehind}
-use Rattle.store.specs.State.{StoreState, store_state, IsRoomy}
+use Rattle.store.specs.State.{StoreState, store_state, IsOld, IsRoomy, StillHolds}
 use Rattle.store.specs.declared.phases.GateWritten.{GateWritten}
 use Rattle.store.specs.declared.areas.TheConstants.{LAST_GENERATION}
 use Rattle.world.specs.Commits.{at_gate}
@@ -62,11 +62,17 @@ PlaceTellsRoom state (Open life) step answer =
 PlaceTellsRoom state (Closed disk) step answer = Unit {0}
 PlaceTellsRoom state Crashing step answer = Unit {0}
 
--- the disk of a world has crashed to this image
+-- A store was opened of these bytes, or its opening was refused: nothing was written but where the
+-- records are of an older version, and whatever table was there, each crash leaves.
+pub record IsOpenedFrom (left : List ℕ) (now : State) : Type 0 where
+  pub same : ¬ (IsOld left) → now.content ≡ left
+  pub keeps : StillHolds left now
+
+-- the disk of a world has crashed to this image, and a store was opened of what was left
 abbrev pub CrashesTo : {D : Type 0} {g : _} → (D → State) → Image → Place D g → Place D g → Type 0
 CrashesTo {D} state image old new =
     (before now : D) → HasDisk old before → HasDisk new now
-    → IsCrashed image (state before) (state now).content
+    → (left : List ℕ) × IsCrashed image (state before) left × IsOpenedFrom left (state now)
 
 -- a crash leaves the image that it names
 abbrev pub LeavesImage : {D : Type 0} {g : _} → (D → State) → Place D g → Step → Place D g → Type 0

@@ -1,8 +1,8 @@
 // The links of a life, and the events that what is said on them hands in.
-ghost use Rattle.std.specs.Prelude.{◌≡◌, ◌≢◌, ◌≤◌, ◌++◌, ℕ, Some, None, [], length, vec_capacity};
-ghost use Rattle.std.specs.Prelude.{IfOk, IfErr, OnErr, MatchResult};
+ghost use Rattle.std.specs.Prelude.{◌≡◌, ◌≢◌, ◌≤◌, ◌++◌, ◌⊎◌, ◌↔◌, ℕ, Some, None, [], length};
+ghost use Rattle.std.specs.Prelude.{vec_capacity, IfOk, IfErr, IsSome, IsTrue, OnErr, MatchResult};
 ghost use Rattle.lw_types.specs.declared.refusal.Refusal.TheVariants.{OutOfMemory};
-ghost use Rattle.link_messages.specs.Feeding.{new_feed};
+ghost use Rattle.link_messages.specs.Feeding.{fault_in, new_feed, Feeds};
 ghost use Rattle.link_messages.specs.Stream.{peer_after_one};
 ghost use Rattle.link_messages.specs.declared.message.Peer.TheVariants.{Application as Asking};
 ghost use Rattle.world.specs.Links.{before_others, heard_on, AreHandedIn, AsksFor, HandsIn};
@@ -50,7 +50,16 @@ impl Links {
             × (length r.events.items ≤ vec_capacity r.room)) }
         ensures refused { IfErr result (λ e. (e ≡ OutOfMemory)
             × ((other : ℕ) → heard_on self.new other ≡ heard_on self.old other)) }
+        ensures wanted { OnErr result ((piece.now ≢ [])
+            × ¬ (IsSome (fault_in (heard_on self.old link).end))) }
     {
+        if self.adds_nothing(link, piece) {
+            return Ok(HandedIn {
+                events: Vec::new(self.alloc),
+                fault: self.fault_on(link),
+                room: Vec::new(self.alloc),
+            });
+        }
         let mut feeder = self.feeder_on(link)?;
         let peer = feeder.peer();
         let Fed { messages, fault } = feeder.feed(piece)?;
@@ -62,6 +71,25 @@ impl Links {
             fault,
             room,
         })
+    }
+
+    // Whether a piece adds nothing to what was heard on this link.
+    fn adds_nothing(&self, link: u64, piece: &[u8]) -> bool
+        ensures nothing { IsTrue result
+            → Feeds (heard_on self.now link) piece.now [] (heard_on self.now link) }
+        ensures only { IsTrue result
+            ↔ ((piece.now ≡ []) ⊎ IsSome (fault_in (heard_on self.now link).end)) }
+    {
+        match self.feeders.get(&link) {
+            Some(feeder) => feeder.adds_nothing(piece),
+            None => Feeder::new(self.alloc).adds_nothing(piece),
+        }
+    }
+
+    fn fault_on(&self, link: u64) -> Option<Refusal>
+        ensures { result ≡ fault_in (heard_on self.now link).end }
+    {
+        self.feeders.get(&link)?.fault()
     }
 
     fn feeder_on(&self, link: u64) -> Result<Feeder, AllocError>

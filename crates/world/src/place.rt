@@ -22,16 +22,18 @@ impl<D: Sim> Place<D> {
     ghost use Rattle.world.specs.Calls.{ForetellsOpening, IsNoFailure};
     ghost use Rattle.world.specs.Follows.{Reopens, IsBegunPlace};
     ghost use Rattle.world.specs.Sound.{IsSomewhere, HasDisk, IsSoundPlace};
+    ghost use Rattle.world.specs.Tells.{IsOpenedFrom};
+    ghost use Rattle.disk.specs.State.{NothingOpen};
 
     /// The store on a disk that crashed is opened, and a life begins with it.
     pub(crate) fn reopen(alloc: Global, disk: D) -> (Self, Answer)
         ensures sound { (there fit : ℕ) → IsSoundPlace D.state result.0 there fit }
         ensures course { Reopens D.state disk result.1 result.0 }
         ensures calls { ForetellsOpening D.failures D.outlook disk result.1 result.0 }
-        ensures same { (now : D) → HasDisk result.0 now
-            → (D.state now).content ≡ (D.state disk).content }
+        ensures from { NothingOpen (D.state disk) → (now : D) → HasDisk result.0 now
+            → IsOpenedFrom (D.state disk).content (D.state now) }
     {
-        disk::laws::settled_disk_keeps_its_content();
+        store::laws::a_settled_store_is_on_its_disk();
         match store::open_back(alloc, disk) {
             Ok(store) => Place::begin(alloc, store),
             Err((disk, refusal)) => (Place::Closed(disk), Answer::Refused(refusal)),

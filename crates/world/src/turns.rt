@@ -114,6 +114,7 @@ impl<D: Sim> Life<D> {
         ensures calls { IsNoFailure result }
     {
         link_messages::laws::cuts_make_no_difference();
+        link_messages::laws::each_stream_says_one_thing();
         match self.links.say(link, bytes) {
             Err(refusal) => Answer::Refused(refusal),
             Ok(handed_in) => {

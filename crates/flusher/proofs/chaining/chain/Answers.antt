@@ -7,7 +7,8 @@ use Rattle.store.specs.Phases.{begun_sequel}
 use Rattle.store.specs.State.{IsRoomy, IsSettled, StoreState, store_state}
 use Rattle.store.specs.declared.phases.Begun.{Begun}
 use Rattle.flusher.specs.Calls.{LastFailed}
-use Rattle.flusher.specs.Chain.{GivesAll, IsChain, store_behind}
+use Rattle.flusher.specs.Chain.HasBroken.{FeedRefused, WasUncommitted, WasUnready}
+use Rattle.flusher.specs.Chain.{GivesAll, IsChain, IsChainOfSome, store_behind}
 use Rattle.flusher.specs.Lived.{HaveLed}
 use Rattle.flusher.specs.Released.{effects_of_all}
 use Rattle.flusher.specs.declared.released.Released.{Released}
@@ -27,7 +28,7 @@ returns-in_err-room-clause-chain g c =
     let step : g.row.C.Denot → Vec Released Global → g.row.C.Denot → Type 0 = λ before released after. Called g.C.FnMut before (released, tt) tt after in
     subst (λ r. IsChain g.D.Disk g.F.Feed.gives effects step c.args.most store store feed feed c.args.out.now c.args.out.now r) (sym (refused.1 ∙ ap Err refused.2))
     (no_batch g.D.Disk g.F.Feed.gives effects step c.args.most store store feed feed c.args.out.now [] (Err c.in_err-room.field-0.0) (omega arith) refl refl
-    (inl (refl, (refl, inl c.in_err-room.ensures))) (inl (none_yet g.D.Disk.failures g.D.Disk.outlook store)) (λ honest settled none. settled)
+    (WasUnready refl refl refl (inl (refl, refl), inl c.in_err-room.ensures)) (inl (none_yet g.D.Disk.failures g.D.Disk.outlook store)) (λ honest settled none. settled)
     (λ honest settled. c.a_settled_store_is_on_its_disk.ensures (store_state g.D.Disk.state store) settled))
 
 pub returns-in_err-make_room-clause-chain : goal.returns-in_err-make_room-clause-chain
@@ -45,7 +46,7 @@ returns-in_err-make_room-clause-chain g c =
     let step : g.row.C.Denot → Vec Released Global → g.row.C.Denot → Type 0 = λ before released after. Called g.C.FnMut before (released, tt) tt after in
     subst (λ r. IsChain g.D.Disk g.F.Feed.gives effects step c.args.most store new feed feed c.args.out.now c.args.out.now r) (sym (refused.1 ∙ ap Err refused.2))
     (no_batch g.D.Disk g.F.Feed.gives effects step c.args.most store new feed feed c.args.out.now [] (Err e) (omega arith) is.table is.seq
-    (inl (refl, (refl, inr (refl, is.calls))))
+    (WasUnready refl refl refl is.calls)
     (then_refused g.D.Disk.state g.D.Disk.failures g.D.Disk.outlook store store new e (none_yet g.D.Disk.failures g.D.Disk.outlook store) is.refused)
     (λ honest settled none.
     settled_still g.D.Disk.state g.D.Disk.failures g.D.Disk.outlook store store new e (none_yet g.D.Disk.failures g.D.Disk.outlook store) is.refused settled none)
@@ -75,7 +76,7 @@ returns-in_err-batch-clause-chain g c =
     let step : g.row.C.Denot → Vec Released Global → g.row.C.Denot → Type 0 = λ before released after. Called g.C.FnMut before (released, tt) tt after in
     subst (λ r. IsChain g.D.Disk g.F.Feed.gives effects step c.args.most store new c.args.feed.now c.take.new.feed c.args.out.now c.args.out.now r) (sym (refused.1 ∙ ap Err refused.2))
     (no_batch g.D.Disk g.F.Feed.gives effects step c.args.most store new c.args.feed.now c.take.new.feed c.args.out.now [] (Err c.in_err-batch.field-0.0) (omega arith)
-    ready.table ready.seq (inr (ready.ready, inl (refl, c.in_err-batch.ensures))) (inl ready.calls) (λ honest settled none. ready.images honest settled)
+    ready.table ready.seq (FeedRefused ready.ready refl c.in_err-batch.ensures) (inl ready.calls) (λ honest settled none. ready.images honest settled)
     (λ honest settled. c.a_settled_store_is_on_its_disk.ensures (store_state g.D.Disk.state new) (ready.images honest settled)))
 
 pub returns-in_err-batch-clause-lives : goal.returns-in_err-batch-clause-lives
@@ -137,7 +138,7 @@ returns-in_err-begun-clause-chain g c =
     subst (λ r. IsChain g.D.Disk g.F.Feed.gives effects step c.args.most store new c.args.feed.now c.take.new.feed c.args.out.now c.args.out.now r) (sym (refused.1 ∙ ap Err refused.2))
     (no_batch g.D.Disk g.F.Feed.gives effects step c.args.most store new c.args.feed.now c.take.new.feed c.args.out.now batch (Err e) (omega arith)
     (ap (λ (x : StoreState). x.table) began.same ∙ ready.table) (ap (λ (x : StoreState). x.seq) began.same ∙ ready.seq)
-    (inr (ready.ready, inr (c.take.new.feed, ((c.take.new.feed, (some, c.in_ok-batch.ensures), refl), (why, inl refl)))))
+    (WasUncommitted ready.ready c.take.new.feed (c.take.new.feed, (some, c.in_ok-batch.ensures), refl) why (inl refl))
     (inl none) (λ honest settled all. subst IsSettled (sym began.same) (ready.images honest settled))
     (λ honest settled. c.a_settled_store_is_on_its_disk.ensures (store_state g.D.Disk.state new) (subst IsSettled (sym began.same) (ready.images honest settled))))
 
@@ -172,7 +173,7 @@ returns-clause-chain g c =
     chain_along g.D.Disk g.F.Feed.gives effects step c.args.most store mid c.follow.new.store c.args.feed.now c.follow.new.feed c.args.out.now c.follow.new.out none
     (ap (λ (x : StoreState). x.table) began.same ∙ ready.table) (ap (λ (x : StoreState). x.seq) began.same ∙ ready.seq) (subst IsRoomy (sym began.same) ready.roomy) ready.ready
     (λ honest settled. subst IsSettled (sym began.same) (ready.images honest settled)) c.follow.result
-    (subst (λ n. IsChain g.D.Disk g.F.Feed.gives effects step n mid c.follow.new.store c.args.feed.now c.follow.new.feed c.args.out.now c.follow.new.out c.follow.result) most
+    (subst (λ n. IsChainOfSome g.D.Disk g.F.Feed.gives effects step n mid c.follow.new.store c.args.feed.now c.follow.new.feed c.args.out.now c.follow.new.out c.follow.result) most
     (c.follow.ensures.chain c.args.feed.now given))
 
 pub returns-clause-checkpoint : goal.returns-clause-checkpoint
@@ -202,5 +203,5 @@ returns-clause-lives g c honest =
     (by_failed lives t number s led (λ is. subst (HaveLed lives t number) (sym (ready.closed is).0) led)
     (λ nothing settled. rests lives t number s led c.a_settled_store_is_on_its_disk.ensures room ready.table ready.seq nothing (ready.images honest settled))))
     (chain_leads effects step c.composing.ensures.table c.a_settled_store_is_on_its_disk.ensures g.D.Disk g.F.Feed.gives (c.get.result - 1 + 1) c.begin.new.self c.follow.new.store
-    c.args.feed.now c.follow.new.feed c.args.out.now c.follow.new.out c.follow.result (c.follow.ensures.chain c.args.feed.now given) honest
+    c.args.feed.now c.follow.new.feed c.args.out.now c.follow.new.out c.follow.result (c.follow.ensures.chain c.args.feed.now given).0 honest
     (ap (λ (x : StoreState). x.failed) began.same ∙ alive))

@@ -8,7 +8,7 @@ use Rattle.store.specs.UnderWay.{IsNextCall, flights_in}
 use Rattle.store.specs.declared.under_way.Called.{Called as NextCalled}
 use Rattle.store.specs.declared.under_way.Called.TheVariants as called
 use Rattle.store.specs.declared.under_way.UnderWay.TheVariants.{GateWritten}
-use Rattle.flusher.specs.Chain.{FollowsOpened, IsChain, IsFollowRefusal, NoneFollows}
+use Rattle.flusher.specs.Chain.{FollowsOpened, IsChainOfSome, IsFollowRefusal, NoneFollows}
 use Rattle.flusher.specs.Released.{effects_of_all}
 use Rattle.flusher.specs.declared.released.Released.{Released}
 use Rattle.flusher.specs.declared.room.Room.{Room}
@@ -59,7 +59,7 @@ returns-in_err-next-clause-chain g c before given =
     let step : g.row.C.Denot → Vec Released Global → g.row.C.Denot → Type 0 = λ before released after. Called g.C.FnMut before (released, tt) tt after in
     let refusal = c.in_err-next.field-0.0 in
     let refused = err_from_is_err_and c.from_residual.result c.from_residual.ensures.1 in
-    subst (λ r. IsChain g.D.Disk g.F.Feed.gives effects step (c.args.more + 1) c.args.store.now c.call.new.store before c.calls.feed c.args.out.now c.calls.out r)
+    subst (λ r. IsChainOfSome g.D.Disk g.F.Feed.gives effects step (c.args.more + 1) c.args.store.now c.call.new.store before c.calls.feed c.args.out.now c.calls.out r)
     (sym (refused.1 ∙ ap Err refused.2))
     (breaks laws c.a_settled_store_is_on_its_disk.ensures g.D.Disk g.F.Feed.gives effects step (c.args.more + 1) c.args.store.now c.calls.store c.call.new.store before c.calls.feed
     c.args.out.now c.calls.out c.calls.under_way c.calls.more c.calls.count c.calls.end c.requires.roomy c.requires.alive c.calls.invariant.1.0
@@ -269,7 +269,7 @@ returns-in_err-end-in-None-clause-chain g c before given =
     let out = c.release-count.ensures.released in
     let up_to = c.calls.invariant.1.1 before given in
     let refused = err_from_is_err_and c.from_residual-in_err-end-in-None.result c.from_residual-in_err-end-in-None.ensures.1 in
-    subst (λ r. IsChain g.D.Disk g.F.Feed.gives effects step (c.args.more + 1) c.args.store.now c.call.new.store before c.calls.feed c.args.out.now c.release-count.new.out r)
+    subst (λ r. IsChainOfSome g.D.Disk g.F.Feed.gives effects step (c.args.more + 1) c.args.store.now c.call.new.store before c.calls.feed c.args.out.now c.release-count.new.out r)
     (sym (refused.1 ∙ ap Err refused.2))
     (ends_refused laws c.a_settled_store_is_on_its_disk.ensures g.D.Disk g.F.Feed.gives effects step (c.args.more + 1) c.args.store.now c.calls.store c.call.new.store before c.calls.feed
     c.args.out.now c.calls.out c.calls.under_way c.calls.more c.calls.count c.calls.end c.requires.roomy c.requires.alive c.calls.invariant.1.0 up_to durable room e call

@@ -1,7 +1,7 @@
 use Rattle.std.proofs.Common.{◌≡◌, Err, false, inl, inr, refl, true}
 use Rattle.store.specs.declared.checkpointing.Checkpoint.{Checkpoint}
 use Rattle.store.specs.State.{IsRoomy, store_state}
-use Rattle.flusher.specs.Calls.{LastFailed, NoneFailed}
+use Rattle.flusher.specs.Calls.{IsUntouched, LastFailed, NoneFailed}
 use Rattle.flusher.proofs.Calling.{not_begun, once_begun}
 use Rattle.flusher.proofs.Holding.{on_refused}
 use Rattle.flusher.proofs.checkpointing.make_room.Goals as goal
@@ -16,18 +16,21 @@ returns-in_err-checkpoint-clause-calls g c =
     let s = store_state g.D.Disk.state c.args.store.now in
     let e = c.in_err-checkpoint.field-0.0 in
     let failure = LastFailed g.D.Disk.failures g.D.Disk.outlook c.args.store.now c.args.store.now in
-    on_refused c.from_residual.result e _ _ c.from_residual.ensures.1
-    (inr (
-      λ (roomy : IsRoomy s). let no : false ≡ true = c.if-roomy.ensures.1 roomy in cc,
-      not_begun {T = Checkpoint} s.failed s.log.generation failure (Err e) e refl c.in_err-checkpoint.ensures.answer,
-    ))
+    on_refused c.from_residual.result e _ _ c.from_residual.ensures.1 (
+      inl (refl, refl),
+      inr (
+        λ (roomy : IsRoomy s). let no : false ≡ true = c.if-roomy.ensures.1 roomy in cc,
+        not_begun {T = Checkpoint} s.failed s.log.generation failure (Err e) e refl c.in_err-checkpoint.ensures.answer,
+      ),
+    )
 
 pub returns-clause-calls : goal.returns-clause-calls
 returns-clause-calls g c =
     let s = store_state g.D.Disk.state c.args.store.now in
     let none = NoneFailed g.D.Disk.failures g.D.Disk.outlook c.args.store.now c.publish.new.store in
     let failure = LastFailed g.D.Disk.failures g.D.Disk.outlook c.args.store.now c.publish.new.store in
-    once_begun s.failed s.log.generation (¬ (IsRoomy s)) none failure c.in_ok-checkpoint.checkpoint c.publish.result
+    let untouched = IsUntouched g.D.Disk.state c.args.store.now c.publish.new.store in
+    once_begun s.failed s.log.generation (¬ (IsRoomy s)) none untouched failure c.in_ok-checkpoint.checkpoint c.publish.result
     (λ (roomy : IsRoomy s). let no : false ≡ true = c.if-roomy.ensures.1 roomy in cc)
     c.in_ok-checkpoint.ensures.answer c.publish.ensures.calls
 

@@ -4,31 +4,33 @@ use Rattle.devices.specs.declared.effect.Effect.{Effect}
 use Rattle.flusher.specs.Chain.{IsChain}
 use Rattle.flusher.specs.Released.{effects_of_all}
 use Rattle.flusher.specs.declared.released.Released.{Released}
-use Rattle.flusher.proofs.Single.{done, leads_once, leaves}
+use Rattle.flusher.proofs.Single.{done, held_back, keeps_seq, keeps_table, leads_once, leaves, refused}
 use Rattle.flusher.proofs.cycles.cycle.Goals as goal
 
-pub returns-clause-done : goal.returns-clause-done
-returns-clause-done g c =
+pub returns-clause-cycle : goal.returns-clause-cycle
+returns-clause-cycle g c =
     let effects : Vec Released Global → List Effect = λ released. effects_of_all released.items in
     let step : g.row.C.Denot → Vec Released Global → g.row.C.Denot → Type 0 = λ before released after. Called g.C.FnMut before (released, tt) tt after in
+    let gives = g.F.Feed.gives in
+    let disk = g.D.Disk in
     let store = c.args.store.now in
     let new = c.chain.new.store in
-    let is =
-    subst (λ n. IsChain g.D.Disk g.F.Feed.gives effects step n store new c.args.feed.now c.chain.new.feed c.args.out.now c.chain.new.out c.chain.result) c.one.ensures
-    c.chain.ensures.chain in
-    done g.D.Disk g.F.Feed.gives effects step store new c.args.feed.now c.chain.new.feed c.args.out.now c.chain.new.out c.chain.result is
-
-pub returns-clause-images : goal.returns-clause-images
-returns-clause-images g c honest settled =
-    let effects : Vec Released Global → List Effect = λ released. effects_of_all released.items in
-    let step : g.row.C.Denot → Vec Released Global → g.row.C.Denot → Type 0 = λ before released after. Called g.C.FnMut before (released, tt) tt after in
-    let store = c.args.store.now in
-    let new = c.chain.new.store in
-    let is =
-    subst (λ n. IsChain g.D.Disk g.F.Feed.gives effects step n store new c.args.feed.now c.chain.new.feed c.args.out.now c.chain.new.out c.chain.result) c.one.ensures
-    c.chain.ensures.chain in
-    leaves g.D.Disk g.F.Feed.gives effects step store new c.args.feed.now c.chain.new.feed c.args.out.now c.chain.new.out c.a_settled_store_is_on_its_disk.ensures c.chain.result is
-    honest settled
+    let feed = c.args.feed.now in
+    let feed' = c.chain.new.feed in
+    let out = c.args.out.now in
+    let out' = c.chain.new.out in
+    let r = c.chain.result in
+    let is = subst (λ n. IsChain disk gives effects step n store new feed feed' out out' r) c.one.ensures c.chain.ensures.chain in
+    record {
+      done = done disk gives effects step store new feed feed' out out' r is;
+      held_back = held_back disk gives effects step store new feed feed' out out' r is;
+      table = keeps_table disk gives effects step store new feed feed' out out' r is;
+      seq = keeps_seq disk gives effects step store new feed feed' out out' r is;
+      refused = refused disk gives effects step store new feed feed' out out' r is;
+      calls = is.calls;
+      settled = is.settled;
+      images = leaves disk gives effects step store new feed feed' out out' c.a_settled_store_is_on_its_disk.ensures r is;
+    }
 
 pub returns-clause-lives : goal.returns-clause-lives
 returns-clause-lives g c honest t number lives led =

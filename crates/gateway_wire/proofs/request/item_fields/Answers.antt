@@ -1,7 +1,7 @@
 use Rattle.std.proofs.Common.{◌≡◌, ◌∙◌, ℕ, Bool, Option, Some, ap, sym}
 use Rattle.lw_types.specs.declared.identifiers.Eui.{Eui}
 use Rattle.devices.specs.declared.Tag.{Tag}
-use Rattle.byte_fields.specs.FieldLemmas.{some_is}
+use Rattle.byte_fields.proofs.FieldLemmas.{some_is}
 use Rattle.gateway_wire.specs.declared.word_values.Confirmed.{Confirmed}
 use Rattle.gateway_wire.proofs.request.item_fields.Goals as goal
 

@@ -1,5 +1,4 @@
 use Rattle.std.proofs.Common.{◌∙◌, length, inl, refl, ap, subst, sym}
-use Rattle.disk.specs.State.{NothingOpen}
 use Rattle.sessions.specs.Table.{TableState}
 use Rattle.session_core.specs.State.{new_decisions}
 use Rattle.store.specs.State.{store_state}
@@ -40,10 +39,7 @@ returns-in-Err-clause-course g c healthy settled origin course left =
       inl c.in-Err.ensures.refused.1,
       λ image. (
         refl,
-        (
-          subst (λ d. NothingOpen (state d)) (sym disk) settled.rest.settled,
-          subst (λ d. Survives origin course (state d)) (sym disk)
-              (λ image p. (left.0, left.1, held s.table _ s.seq _ image left.2 left.3 (c.a_settled_store_is_on_its_disk.ensures s settled image p))),
-        ),
+        subst (λ d. Survives origin course (state d)) (sym disk)
+            (λ image p. (left.0, left.1, held s.table _ s.seq _ image left.2 left.3 (c.a_settled_store_is_on_its_disk.ensures s settled image p))),
       ),
     )

@@ -1,13 +1,12 @@
-use Rattle.std.proofs.Common.{◌∙◌, List, refl, ap, subst, sym}
-use Rattle.devices.specs.declared.command.Command.{Command}
+use Rattle.std.proofs.Common.{refl, subst, sym}
 use Rattle.store.specs.Image.{HoldsTable}
-use Rattle.store.specs.State.{disk_of}
+use Rattle.store.specs.State.{disk_of, store_state}
 use Rattle.world.specs.declared.answer.Answer.TheVariants as answers
 use Rattle.world.specs.declared.step.Step.TheVariants as steps
 use Rattle.world.specs.Calls.{AreRecordedCalls, calls_after, outlook_after_opening}
 use Rattle.world.specs.Course.{table_from, number_from}
-use Rattle.world.specs.Answers.{Leaves}
 use Rattle.world.specs.Follows.{Survives}
+use Rattle.world.specs.Tells.{IsOpenedFrom}
 use Rattle.world.proofs.Known.{none_failed, opening_passed, opening_told}
 use Rattle.world.proofs.Opening.{content_permitted, two_reasons}
 use Rattle.world.proofs.place.Place.reopen.Goals as goal
@@ -28,13 +27,11 @@ returns-in-Err-clause-course g c origin course nothing_open survives =
     let after = c.in-Err.disk in
     let e = c.in-Err.ensures in
     let found = survives (state before).content (content_permitted (state before)) in
-    let still = e.still honest nothing_open in
     let kept : Survives origin course (state after) = λ image p.
-    subst (λ bytes. (kept : List Command) × Leaves course kept × HoldsTable (table_from origin kept) (number_from origin kept) bytes)
-    (sym (c.settled_disk_keeps_its_content.ensures (state after) still image p ∙ e.same honest)) found in (
+    (found.0, found.1, e.kept honest nothing_open (table_from origin found.0) (number_from origin found.0) found.2 image p) in (
       two_reasons c.in-Err.refusal
           (λ device memory. (e.made.refused honest device memory).none (table_from origin found.0) (number_from origin found.0) found.2),
-      λ image. (refl, (still, kept)),
+      λ image. (refl, kept),
     )
 
 pub returns-in-Ok-clause-calls : goal.returns-in-Ok-clause-calls
@@ -65,6 +62,24 @@ returns-in-Err-clause-calls g c image calls are =
     e.device (λ all. (e.made.unarmed all, e.unarmed all)) (λ first. (e.made.fails first, e.fails first)) (λ armed. (e.armed armed).0) in
     (found.0, λ disk there. subst (λ d. AreRecordedCalls (calls_after calls (steps.Crash image) (answers.Refused c.in-Err.refusal)) (failures d) (outlook d)) (sym there) found.1)
 
-pub returns-in-Ok-clause-same : goal.returns-in-Ok-clause-same
-returns-in-Ok-clause-same g c now there =
-    ap (λ d. (g.D.Disk.state d).content) (c.begin.ensures.same now there) ∙ (c.in-Ok.ensures.made.opened g.met.D.Sim.is_honest).same
+pub returns-in-Ok-clause-from : goal.returns-in-Ok-clause-from
+returns-in-Ok-clause-from g c nothing_open now there =
+    let state = g.D.Disk.state in
+    let content = (state c.args.disk).content in
+    let opened = c.in-Ok.ensures.made.opened g.met.D.Sim.is_honest in
+    let s = store_state state c.in-Ok.store in
+    subst (λ d. IsOpenedFrom content (state d)) (sym (c.begin.ensures.same now there)) (record {
+      same = opened.same;
+      keeps = λ t seq holds image p.
+          let only = opened.only t seq holds in
+          subst (λ u. HoldsTable u seq image) (sym only.0)
+          (subst (λ n. HoldsTable s.table n image) (sym only.1) (c.a_settled_store_is_on_its_disk.ensures s opened.settled image p));
+    })
+
+pub returns-in-Err-clause-from : goal.returns-in-Err-clause-from
+returns-in-Err-clause-from g c nothing_open now there =
+    let state = g.D.Disk.state in
+    let honest = g.met.D.Sim.is_honest in
+    let content = (state c.args.disk).content in
+    let e = c.in-Err.ensures in
+    subst (λ d. IsOpenedFrom content (state d)) (sym there) (record { same = e.same honest; keeps = e.kept honest nothing_open })

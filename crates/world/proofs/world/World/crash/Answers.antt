@@ -62,6 +62,5 @@ returns-clause-crashed g c before now at there =
     let old = c.end-disk.result in
     let disk = c.crash.new.self in
     let came = subst (λ p. HasDisk p old) c.replace.ensures.value c.end-disk.ensures in
-    let same = c.reopen-place.ensures.same now (subst (λ p. HasDisk p now) c.put.ensures.place there) in
-    subst (IsCrashed image (state before)) (sym same)
-    (subst (λ d. IsCrashed image (state d) (state disk).content) (one_disk c.args.self.now.place old before came at) c.crash.ensures.image)
+    let opened = c.reopen-place.ensures.from c.crash.ensures.settled.nothing_open now (subst (λ p. HasDisk p now) c.put.ensures.place there) in
+    ((state disk).content, subst (λ d. IsCrashed image (state d) (state disk).content) (one_disk c.args.self.now.place old before came at) c.crash.ensures.image, opened)
