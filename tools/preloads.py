@@ -1,63 +1,138 @@
 """Functions of the C library that are replaced in a program's process, by a library that is loaded
-before it. A C compiler makes it, so where there is none, nothing is replaced."""
+before it. A C compiler makes it."""
+import errno
 import os
 import shutil
 import subprocess
 
-# Only one thread of the program syncs. The first SLOW_SYNCS syncs take SLOW_MS and SLOW_MICROS
-# longer, and the one of the number FAILING_SYNC fails.
-SYNCS = r"""
+# Only one thread of the program reads, writes and syncs at places of a file. Of all such calls the
+# one of the number FAILING_CALL fails, a write when half of it is written. The first SLOW_SYNCS
+# syncs take SLOW_MS and SLOW_MICROS longer. Each write and sync that succeeds is added to the file
+# CALL_LOG: its kind, w or s, its place (8 bytes) and length (4) in the machine's order, its bytes.
+CALLS = r"""
 #define _GNU_SOURCE
-#include <dlfcn.h>
 #include <errno.h>
+#include <fcntl.h>
+#include <stdint.h>
 #include <stdlib.h>
+#include <string.h>
+#include <sys/syscall.h>
 #include <unistd.h>
 
 static long number(const char *name) { const char *it = getenv(name); return it ? atol(it) : 0; }
 
-int fdatasync(int file) {
+static int fails(void) {
     static long calls;
-    calls += 1;
-    if (calls <= number("SLOW_SYNCS")) usleep(1000 * number("SLOW_MS") + number("SLOW_MICROS"));
-    if (calls == number("FAILING_SYNC")) { errno = EIO; return -1; }
-    int (*real)(int) = (int (*)(int))dlsym(RTLD_NEXT, "fdatasync");
-    return real(file);
+    if (++calls != number("FAILING_CALL")) return 0;
+    errno = EIO;
+    return 1;
+}
+
+static void put(int log, const void *bytes, size_t length) {
+    while (length) {
+        ssize_t written = write(log, bytes, length);
+        if (written <= 0) abort();
+        bytes = (const char *)bytes + written;
+        length -= written;
+    }
+}
+
+static void note(char kind, int64_t place, const void *bytes, uint32_t length) {
+    static int log = -1;
+    const char *name = getenv("CALL_LOG");
+    if (!name) return;
+    if (log < 0) log = open(name, O_WRONLY | O_CREAT | O_APPEND, 0600);
+    put(log, &kind, 1);
+    put(log, &place, 8);
+    put(log, &length, 4);
+    put(log, bytes, length);
+}
+
+ssize_t pread64(int file, void *bytes, size_t length, off64_t place) {
+    return fails() ? -1 : syscall(SYS_pread64, file, bytes, length, place);
+}
+
+ssize_t pwrite64(int file, const void *bytes, size_t length, off64_t place) {
+    if (fails()) {
+        syscall(SYS_pwrite64, file, bytes, length / 2, place);
+        errno = EIO;
+        return -1;
+    }
+    ssize_t written = syscall(SYS_pwrite64, file, bytes, length, place);
+    if (written > 0) note('w', place, bytes, written);
+    return written;
+}
+
+int fdatasync(int file) {
+    static long syncs;
+    if (fails()) return -1;
+    if (++syncs <= number("SLOW_SYNCS")) usleep(1000 * number("SLOW_MS") + number("SLOW_MICROS"));
+    int status = syscall(SYS_fdatasync, file);
+    if (!status) note('s', 0, "", 0);
+    return status;
+}
+
+ssize_t pread(int file, void *bytes, size_t length, off_t place) {
+    return pread64(file, bytes, length, place);
+}
+
+ssize_t pwrite(int file, const void *bytes, size_t length, off_t place) {
+    return pwrite64(file, bytes, length, place);
 }
 """
 
-# The program has one thread. Its request for memory of the number REFUSED_REQUEST is refused, or
-# none where that is 0, and how many there were is told behind its last line of standard error.
+# The program's request for memory of the number REFUSED_REQUEST is refused, or none where that is
+# 0. How many there were is told behind the last line of standard error; and in the first 8 bytes of
+# the file REQUESTS, in the machine's order, for a program that may end without what ends it.
 REQUESTS = r"""
 #define _GNU_SOURCE
+#include <fcntl.h>
 #include <stdio.h>
 #include <stdlib.h>
+#include <sys/mman.h>
+#include <unistd.h>
 
 void *__libc_malloc(size_t size);
 void *__libc_realloc(void *block, size_t size);
 
-static long requests, refused;
+static long here, *requests = &here, refused;
 
 __attribute__((constructor)) static void begin(void) {
-    const char *it = getenv("REFUSED_REQUEST");
+    const char *it = getenv("REFUSED_REQUEST"), *name = getenv("REQUESTS");
     refused = it ? atol(it) : 0;
+    if (!name) return;
+    int file = open(name, O_RDWR | O_CREAT, 0600);
+    if (file < 0 || ftruncate(file, sizeof *requests)) abort();
+    void *there = mmap(NULL, sizeof *requests, PROT_READ | PROT_WRITE, MAP_SHARED, file, 0);
+    if (there == MAP_FAILED) abort();
+    *(long *)there = here;
+    requests = there;
 }
 
-__attribute__((destructor)) static void end(void) { dprintf(2, "%ld requests\n", requests); }
+__attribute__((destructor)) static void end(void) { dprintf(2, "%ld requests\n", *requests); }
 
-void *malloc(size_t size) { return ++requests == refused ? NULL : __libc_malloc(size); }
+static int is_refused(void) { return __sync_add_and_fetch(requests, 1) == refused; }
+
+void *malloc(size_t size) { return is_refused() ? NULL : __libc_malloc(size); }
 
 void *realloc(void *block, size_t size) {
-    return ++requests == refused ? NULL : __libc_realloc(block, size);
+    return is_refused() ? NULL : __libc_realloc(block, size);
 }
 """
 
 
+class NoCompiler(OSError):
+    """There is no C compiler, so nothing can be replaced."""
+
+    def __init__(self):
+        super().__init__(errno.ENOENT, "no C compiler is there: apt-get install gcc", "cc")
+
+
 def made(source, folder):
-    """The library of a C source, made in a folder, or None without a compiler."""
+    """The library of a C source, made in a folder."""
     compiler = shutil.which("cc")
     if not compiler:
-        print("  there is no C compiler, so this isn't tried: apt-get install gcc")
-        return None
+        raise NoCompiler
     file = os.path.join(folder, "preload.c")
     with open(file, "w", encoding="utf-8") as it:
         it.write(source)

@@ -1,66 +1,86 @@
-"""Trials of lnsd on a disk whose syncs fail or are slow. The C library's fdatasync is replaced in
-the program's process, so a C compiler is needed; where there is none, nothing is tried."""
+"""Trials of lnsd on a disk whose calls fail, or whose syncs are slow. The C library's calls are
+replaced in the program's process, so a C compiler is needed."""
+import tempfile
 import time
+from functools import cache
 
 import preloads
-from . import floods, load
+from . import floods, load, starts
 from .trials import EUI, OWNER, Pair, end_all, records
 from server import wire
 from server.links import Application, Ended, Gateway
 
-# of a run of `Pair.play` and two more uplinks: one for the opening, and two a commit
-SYNCS, WAITING, ASKED = 11, 4096, 5000
+# more than the calls of a run of `Pair.play` and two more uplinks
+CALLS, WAITING, ASKED = 80, 4096, 5000
+FAILED = (1, "", "lnsd: refused 40\n")
+MADE = tempfile.TemporaryDirectory(prefix="lnsd-disks-")
 
 
-def with_disk(program, **settings):
-    """The environment in which the program's syncs are so, or None without a compiler."""
-    made = preloads.made(preloads.SYNCS, program.folder)
-    return made and preloads.environment(made, **settings)
+@cache
+def library():
+    """What is loaded before the program, made once."""
+    return preloads.made(preloads.CALLS, MADE.name)
+
+
+def with_disk(**settings):
+    """The environment in which the program's disk is so."""
+    return preloads.environment(library(), **settings)
 
 
 def failing(trials):
-    """Each sync of a short run fails: the links are closed, `lnsd: refused 40`, and what had left
-    is there; a sync that comes later does no harm."""
-    for number in range(1, SYNCS + 2):
+    """Each call of a short run fails, reads and writes too: `lnsd: refused 40`, the links are
+    closed, and what had left is there. What comes first is the calls of an opening."""
+    with trials.store() as program:
+        opening = calls_of_opening(trials, program)
+    for number in range(opening + 1, CALLS):
         with trials.store() as program:
-            how = with_disk(program, FAILING_SYNC=number)
-            if how:
-                fails(trials, program, how, number)
+            if not fails(trials, program, number):
+                print(f"  {opening} calls of an opening, {number - 1} of a run", flush=True)
+                return
+    trials.wrong(f"a run makes more than {CALLS} calls")
 
 
-def fails(trials, program, how, number):
-    """The run whose sync of this number fails."""
-    if number == 1:
+def calls_of_opening(trials, program):
+    """How many calls an opening makes of a disk: where one of them fails, nothing is served."""
+    for number in range(1, CALLS):
+        how = with_disk(FAILING_CALL=number)
         came = program.run("list", program.store, env=how)
-        trials.compare("a list whose sync fails", came, (1, "", "lnsd: refused 40\n"))
-        return
-    pair = Pair(program.serve(2, env=how))
+        if came != FAILED:
+            trials.compare("a list of which no call fails", came, (0, "devices 0 seq 0\n", ""))
+            return number - 1
+        trials.compare(f"a list whose call {number} fails", came, FAILED)
+        came = program.run(*starts.served(program.store), env=how)
+        trials.compare(f"a server whose call {number} fails", came, FAILED)
+    return CALLS
+
+
+def fails(trials, program, number):
+    """The run whose call of this number fails; whether one did."""
+    pair = Pair(program.serve(2, env=with_disk(FAILING_CALL=number)))
     pair.greet()
-    before, left = trials.passed, 0
+    begun, has_failed = trials.passed, False
     try:
         pair.play(trials)
         pair.sends(trials)
         pair.sends(trials)
     except Ended:
-        left = trials.passed - before
-        trials.compare("the server's end", program.ended(), (1, "", "lnsd: refused 40\n"))
-        trials.holds(f"sync {number} failed, and it went on", number <= SYNCS)
+        has_failed = True
+    # each of the pair's comparisons is of what one decision let out
+    left = trials.passed - begun
+    if has_failed:
+        trials.compare("the server's end", program.ended(), FAILED)
     else:
-        left = trials.passed - before
-        trials.holds(f"sync {number} failed, and nobody knew", number > SYNCS)
         end_all(trials, pair.links())
         trials.ended(program)
-    # each of the pair's comparisons is of what one decision let out
     seq = int(program.list()[-1].split(" ")[3])
     trials.holds(f"{seq} decisions are there, and {left} had left", seq >= left)
+    return has_failed
 
 
 def stuck(trials):
     """A sync fails while an application doesn't read what it is sent: the end doesn't wait."""
     with trials.store(4096, records(floods.LONG // 8, OWNER)) as program:
-        how = with_disk(program, FAILING_SYNC=300)
-        if not how:
-            return
+        how = with_disk(FAILING_CALL=600)
         begun = time.monotonic()
         try:
             floods.long_uplinks(program, program.serve(2, env=how))
@@ -73,9 +93,7 @@ def stuck(trials):
 def slow(trials):
     """Syncs of 300 ms: what waits goes into one batch, and nothing else waits for the disk."""
     with trials.store(32, records(20, OWNER)) as program:
-        how = with_disk(program, SLOW_SYNCS=1_000_000, SLOW_MS=300)
-        if not how:
-            return
+        how = with_disk(SLOW_SYNCS=1_000_000, SLOW_MS=300)
         address = program.serve(2, env=how)
         application, gateway = Application(address, OWNER), Gateway(address, EUI)
         begun = time.monotonic()
@@ -100,9 +118,7 @@ def backlog(trials):
     answer to each of the others. What was decided is told, or counted as dropped: of what leaves
     at once behind that commit, 1,024 lines wait for an application."""
     with trials.store(4096, records(4096, OWNER)) as program:
-        how = with_disk(program, SLOW_SYNCS=3, SLOW_MS=500)
-        if not how:
-            return
+        how = with_disk(SLOW_SYNCS=3, SLOW_MS=500)
         application = Application(program.serve(1, env=how), OWNER)
         lines = (f"mac {load.dev_eui(it % 4096)} 06" for it in range(ASKED))
         application.say(b"".join(map(wire.request, lines)))
@@ -120,7 +136,7 @@ def backlog(trials):
 
 
 TRIALS = {
-    "a disk whose nth sync fails": failing,
+    "a disk whose nth call fails": failing,
     "a disk that fails while an application doesn't read": stuck,
     "a disk whose syncs are slow": slow,
     "4,096 decisions that wait for the disk": backlog,

@@ -32,8 +32,8 @@ class Record:
     items: tuple = ()
     has_three_channels: bool = False
 
-    def encoded(self):
-        """Its bytes."""
+    def encoded(self, version=2):
+        """Its bytes in a version of records."""
         out = bytes.fromhex(self.dev_eui + self.join_eui + self.app_key)
         out += bytes([self.application, self.offset, self.delay, self.dev_nonce is not None])
         out += big(self.dev_nonce or 0, 2) + big(self.granted, 3)
@@ -50,16 +50,31 @@ class Record:
         out += big(len(self.mac), 1) + self.mac + big(len(self.items), 1)
         for tag, port, confirmed, payload in self.items:
             out += big(tag, 4) + bytes([port, confirmed, len(payload)]) + payload
-        return out
+        # no new uplink is counted yet
+        return out if version == 1 else out + big(0, 8)
 
 
-def put(path, records):
+def entry(slot, record, version=2):
+    """A whole record as an entry, in a version of records."""
+    encoded = record.encoded(version)
+    return b"\x01" + big(slot, 2) + big(len(encoded), 2) + encoded
+
+
+def batch(entries, seq):
+    """A batch of these entries behind the decision of a number."""
+    body = b"".join(entries)
+    return OPEN + big(len(body), 4) + big(seq + len(entries), 8) + big(len(entries), 2) + body
+
+
+def put(path, records, batches=(), version=2):
     """Puts a table of these records, in order of slot, into a store that has none. The second
-    area becomes the live one, with generation 2 and no batch."""
-    entries = bytearray()
-    for slot, record in enumerate(records):
-        encoded = record.encoded()
-        entries += b"\x01" + big(slot, 2) + big(len(encoded), 2) + encoded
+    area becomes the live one, of a version of records, with generation 2 and these batches, each a
+    list of entries."""
+    entries = b"".join(entry(slot, it, version) for slot, it in enumerate(records))
+    journal, seq = bytearray(), len(records)
+    for it in batches:
+        journal += batch(it, seq)
+        seq += len(it)
     with open(path, "r+b") as file:
         front = file.read(SUPERBLOCK)
         if front[:1] != OPEN or front[1:8] != NAME or front[8] != 1:
@@ -67,8 +82,11 @@ def put(path, records):
         slots, area = int.from_bytes(front[12:16], "big"), int.from_bytes(front[16:24], "big")
         if len(records) > slots:
             raise ValueError(f"{len(records)} devices don't fit into {slots} slots")
-        header = b"\x01" + big(2, 8) + big(len(records), 8) + big(len(records), 4)
+        header = big(version, 1) + big(2, 8) + big(len(records), 8) + big(len(records), 4)
+        content = OPEN + header + big(len(entries), 8) + entries + journal + CLOSED
+        if len(content) > area:
+            raise ValueError(f"{len(content)} bytes don't fit into an area of {area}")
         file.seek(SUPERBLOCK + area)
-        file.write(OPEN + header + big(len(entries), 8) + entries + CLOSED)
+        file.write(content)
         file.flush()
         os.fsync(file.fileno())

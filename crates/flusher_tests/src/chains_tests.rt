@@ -1,5 +1,5 @@
 // What leaves by chains of commits, and what is found of them.
-use crate::flusher_tests::{is_provisioned, records, request};
+use crate::flusher_tests::{is_provisioned, low_bits, records, request};
 use disk::{Image, MemDisk, Sim};
 use flusher::{ChainLength, Feed, Most, Released, StoredBatches, chain};
 use lw_types::Refusal;
@@ -194,26 +194,27 @@ fn a_chain_ends_and_what_was_durable_left(rt: HostRuntime) {
     }
 }
 
-// The decisions that are found of what was synced, of what was written, and of open gates.
-type Found = (u64, u64, u64);
+// The decisions that are found of what was synced, of what was written, of open gates, and of the
+// low eight bits of each place: 3E, 8C and DA, which are closed gates.
+type Found = (u64, u64, u64, u64);
 
 // A call that fails in a chain of three batches of one decision each: how many of them left and are
 // durable, whether a batch is left for a chain behind it, and what is found then.
 const FAILURES: &[(u64, u64, bool, Found)] = &[
     // the first one's body, and its sync
-    (1, 0, true, (0, 0, 0)),
-    (2, 0, true, (0, 0, 0)),
+    (1, 0, true, (0, 0, 0, 0)),
+    (2, 0, true, (0, 0, 0, 0)),
     // its gate; the second one's body, and the sync of both
-    (3, 0, true, (0, 0, 1)),
-    (4, 0, true, (0, 1, 1)),
-    (5, 0, true, (0, 1, 1)),
+    (3, 0, true, (0, 0, 1, 0)),
+    (4, 0, true, (0, 1, 1, 0)),
+    (5, 0, true, (0, 1, 1, 0)),
     // the second one's gate; the third one's body, and the sync of both
-    (6, 1, true, (1, 1, 2)),
-    (7, 1, false, (1, 2, 2)),
-    (8, 1, false, (1, 2, 2)),
+    (6, 1, true, (1, 1, 2, 1)),
+    (7, 1, false, (1, 2, 2, 1)),
+    (8, 1, false, (1, 2, 2, 1)),
     // the third one's gate, and its sync
-    (9, 2, false, (2, 2, 3)),
-    (10, 2, false, (2, 3, 3)),
+    (9, 2, false, (2, 2, 3, 2)),
+    (10, 2, false, (2, 3, 3, 2)),
 ];
 
 fn left(alloc: Global, failing: u64, image: &Image) -> Result<(Chains, u64), Refusal> {
@@ -234,7 +235,8 @@ fn failure(alloc: Global, failing: u64) -> Result<(Chains, Found), Refusal> {
     let (chains, old) = left(alloc, failing, &Image::Old)?;
     let (_, new) = left(alloc, failing, &Image::New)?;
     let (_, gates) = left(alloc, failing, &Image::Fill(0xA5))?;
-    Ok((chains, (old, new, gates)))
+    let (_, low) = left(alloc, failing, &low_bits(alloc, 4096)?)?;
+    Ok((chains, (old, new, gates, low)))
 }
 
 #[test]
@@ -252,8 +254,9 @@ fn one_batch_at_most_is_in_doubt(rt: HostRuntime) {
     }
 }
 
-// A store of a device with a full queue, behind whose journal of 803,851 bytes a checkpoint is due
-// with 807,511: three batches of 64 whole records of 4,039 bytes, and one of seven.
+// A store of a device with a full queue, behind whose journal of 805,443 bytes a checkpoint is due
+// with 807,511: a header of 30, and three batches of 64 whole records of 4,047 bytes and one of
+// seven, each behind 15.
 fn nearly_full_store(alloc: Global) -> Result<Store<MemDisk>, Refusal> {
     let mut bytes = FRONT.to_vec(alloc)?;
     for (last, count) in [(64, 64), (128, 64), (192, 64), (199, 7)] {
@@ -316,10 +319,10 @@ fn rooms(alloc: Global, most: u16) -> Result<(Rooms, u64), Refusal> {
     Ok((rooms, store.seq()))
 }
 
-// Each join takes 63 bytes, so behind 59 of them there is no room for the largest batch. Then a
-// checkpoint is written, and a chain has as many as it may.
+// Each join takes 63 bytes, so behind 33 of them, with 807,522, there is no room for the largest
+// batch. Then a checkpoint is written, and a chain has as many as it may.
 #[test]
 fn a_chain_ends_for_want_of_room(rt: HostRuntime) {
-    let wanted = [(Ok(59), false), (Ok(64), true), (Ok(7), true)];
+    let wanted = [(Ok(33), false), (Ok(64), true), (Ok(33), true)];
     assert!(rt; rooms(rt.alloc(), 130) == Ok((wanted, 329)));
 }

@@ -1,6 +1,6 @@
 // What a flusher releases.
 use devices::{Application, AskedBytes, Command, Effect, Queueing, Report, Tag};
-use disk::MemDisk;
+use disk::{Image, MemDisk, Sim};
 use flusher::{Durable, Feed, Most, Released, Room, StoredBatches, cycle};
 use frame_crypt::join_mic;
 use lw_types::{Eui, Refusal};
@@ -12,7 +12,7 @@ use test_stores::devices_under_test::{
     JOINER, JOINER_KEY, add, bringing, busy_joiner, heard_frame, joining,
 };
 use test_stores::images_under_test::{FRONT, add_batch_of, disk_of};
-use test_stores::stores_under_test::new_store;
+use test_stores::stores_under_test::{LEN, new_store, opened};
 
 // Provisionings of so many devices, made of a table without devices, which stays as it is. The
 // DevEUIs are counted down from 2000.
@@ -351,7 +351,7 @@ fn joins(alloc: Global, most: u16) -> Result<(usize, usize, u64), Refusal> {
 }
 
 // Of an area's journal 807,510 bytes are filled before a checkpoint is due. The device and its
-// items take 4,406, and each join, whose change has 43 bytes, takes 63.
+// items take 4,414, and each join, whose change has 43 bytes, takes 63.
 #[test]
 fn a_store_never_fills(rt: HostRuntime) {
     assert!(rt; joins(rt.alloc(), 20_000) == Ok((20_000, 1, 20_017)));
@@ -362,13 +362,13 @@ pub fn records(alloc: Global, count: u8) -> Result<Vec<u8>, Refusal> {
     let device = busy_joiner(alloc)?;
     let mut bytes = Vec::new(alloc);
     for _ in 0..count {
-        put_entry(alloc, RecordVersion::V1, 0, &device, &mut bytes)?;
+        put_entry(alloc, RecordVersion::V2, 0, &device, &mut bytes)?;
     }
     Ok(bytes)
 }
 
 // A store in whose journal there is no room for the largest batch: 200 whole records are there, of
-// 4,039 bytes each.
+// 4,047 bytes each.
 fn full_store(alloc: Global) -> Result<Store<MemDisk>, Refusal> {
     let mut bytes = FRONT.to_vec(alloc)?;
     for (last, count) in [(64, 64), (128, 64), (192, 64), (200, 8)] {
@@ -402,4 +402,64 @@ fn nothing_leaves_where_a_checkpoint_fails(rt: HostRuntime) {
         );
     }
     assert!(rt; failing_checkpoint(rt.alloc(), 9) == Ok((None, 1, false)));
+}
+
+/// The image that has the low eight bits of each place.
+pub fn low_bits(alloc: Global, len: usize) -> Result<Image, Refusal> {
+    let mut bytes = Vec::with_capacity(alloc, len)?;
+    for place in 0..len {
+        bytes.push((place % 256) as u8)?;
+    }
+    Ok(Image::Bytes(bytes))
+}
+
+// The number of the store behind such a round, where the disk crashes to this image.
+fn left_by(alloc: Global, call: u64, image: &Image) -> Result<u64, Refusal> {
+    let mut flushed = Flushed::new(full_store(alloc)?)?;
+    arm(&mut flushed.store, call);
+    let _ = flushed.join(alloc, 1);
+    let Flushed { store, .. } = flushed;
+    let mut disk = store.close();
+    disk.crash(image);
+    let (_, seq) = opened(alloc, &mut disk)?;
+    Ok(seq)
+}
+
+// The numbers behind a crash to what was synced, to what was written, to open gates, and to the low
+// eight bits of each place.
+type Left = [u64; 4];
+
+fn left_by_each(alloc: Global, call: u64) -> Result<Left, Refusal> {
+    let low = low_bits(alloc, LEN)?;
+    let mut left = [0; 4];
+    for (seq, image) in left
+        .iter_mut()
+        .zip(&[Image::Old, Image::New, Image::Fill(0xA5), low])
+    {
+        *seq = left_by(alloc, call, image)?;
+    }
+    Ok(left)
+}
+
+// The call that fails: four of the checkpoint, and four of the batch behind it. A write that fails
+// may have reached the disk, and a sync that fails leaves what a stop in front of it leaves. The
+// low eight bits of both gates' places, C6 and B3, are closed gates.
+const CHECKPOINTED: &[(u64, Left)] = &[
+    (1, [200; 4]),
+    (2, [200; 4]),
+    (3, [200; 4]),
+    (4, [200; 4]),
+    (5, [200; 4]),
+    (6, [200; 4]),
+    (7, [200, 200, 201, 200]),
+    (8, [200, 201, 201, 200]),
+    (9, [201; 4]),
+];
+
+#[test]
+fn a_stop_in_a_checkpoint_loses_nothing(rt: HostRuntime) {
+    for (call, wanted) in CHECKPOINTED {
+        let left = left_by_each(rt.alloc(), *call);
+        assert!(rt; left == Ok(*wanted), "{call}: {left:?}");
+    }
 }

@@ -20,9 +20,10 @@ c call
 f fail
 r release
 e emit
-# Two images of a crash.
+# Three images of a crash.
 o crash old
 n crash new
+i crash fill
 l list
 # Copies of the Join-Request of the device of the DevEUI 0, of which the second joins the first
 # and the third doesn't; one on no channel; and a moment.

@@ -52,12 +52,15 @@ pub(crate) struct Plain {
     // Whether the next device call fails, and how many have failed.
     armed: bool,
     failures: u64,
-    // Whether the gate that was written last is open on the disk, as written and as synced.
+    // Whether the gate that was written last is open on the disk, as written and as synced, and
+    // whether it may be anything, since a write of it was tried and no sync came behind.
     gate_written: bool,
     gate_synced: bool,
+    gate_in_doubt: bool,
     // The same of the gate of the area that isn't live, after an opening.
     other_written: bool,
     other_synced: bool,
+    other_in_doubt: bool,
 }
 
 impl Model for Plain {
@@ -117,8 +120,10 @@ impl Plain {
             failures: 0,
             gate_written: false,
             gate_synced: false,
+            gate_in_doubt: false,
             other_written: false,
             other_synced: false,
+            other_in_doubt: false,
         }
     }
 
@@ -382,6 +387,7 @@ impl Plain {
         });
         self.gate_written = false;
         self.gate_synced = false;
+        self.gate_in_doubt = false;
         Ok(Answer::Taken(count))
     }
 
@@ -429,6 +435,7 @@ impl Plain {
         if self.armed {
             self.failures = self.failures.checked_add(1).ok_or(Refusal::OutOfMemory)?;
             self.armed = false;
+            self.doubt_gates();
             let under_way = mem::replace(&mut self.under_way, UnderWay::Nothing);
             self.under_way = under_way.failed();
             return Ok(Answer::Refused(Refusal::DeviceFailed));
@@ -460,13 +467,38 @@ impl Plain {
         ensures { self.new ≡ self.old }
     {
         match &self.under_way {
-            UnderWay::Batch(flight) => self.gate_written = flight.stage == Stage::BodySynced,
             UnderWay::Batches(_, flight) if flight.stage == Stage::Begun => {}
-            UnderWay::Batches(_, flight) => self.gate_written = flight.stage == Stage::BodySynced,
-            UnderWay::Checkpoint(6) => self.other_written = false,
-            UnderWay::Checkpoint(2) => self.other_written = true,
-            UnderWay::Checkpoint(_) => self.other_synced = self.other_written,
+            UnderWay::Batch(flight) | UnderWay::Batches(_, flight) => {
+                self.gate_written = flight.stage == Stage::BodySynced;
+                self.gate_in_doubt = self.gate_written;
+            }
+            UnderWay::Checkpoint(6) => {
+                self.other_written = false;
+                self.other_in_doubt = true;
+            }
+            UnderWay::Checkpoint(2) => {
+                self.other_written = true;
+                self.other_in_doubt = true;
+            }
+            UnderWay::Checkpoint(_) => {
+                self.other_synced = self.other_written;
+                self.other_in_doubt = false;
+            }
             UnderWay::Nothing | UnderWay::FailedCheckpoint => {}
+        }
+    }
+
+    // The gate that the next device call writes may be anything where that fails.
+    fn doubt_gates(&mut self)
+        ensures { self.new ≡ self.old }
+    {
+        match &self.under_way {
+            UnderWay::Batch(flight) | UnderWay::Batches(_, flight) => {
+                let is_written = flight.stage == Stage::BodySynced;
+                self.gate_in_doubt = self.gate_in_doubt || is_written;
+            }
+            UnderWay::Checkpoint(2 | 6) => self.other_in_doubt = true,
+            UnderWay::Checkpoint(_) | UnderWay::Nothing | UnderWay::FailedCheckpoint => {}
         }
     }
 
@@ -537,9 +569,11 @@ impl Plain {
         let flew = self.flew(image);
         self.gate_written = flew;
         self.gate_synced = flew;
+        self.gate_in_doubt = false;
         let is_other_open = self.is_other_left_open(image);
         self.other_written = is_other_open;
         self.other_synced = is_other_open;
+        self.other_in_doubt = false;
         if self.armed {
             self.failures = self.failures.checked_add(1).ok_or(Refusal::OutOfMemory)?;
             self.armed = false;
@@ -567,6 +601,7 @@ impl Plain {
     fn is_other_left_open(&self, image: &Image) -> bool {
         match image {
             Image::Old => self.other_synced,
+            Image::Fill(0xA5) if self.other_in_doubt => true,
             _ => self.other_written,
         }
     }
@@ -575,6 +610,7 @@ impl Plain {
     fn flew(&self, image: &Image) -> bool {
         match image {
             Image::Old => self.gate_synced,
+            Image::Fill(0xA5) if self.gate_in_doubt => true,
             _ => self.gate_written,
         }
     }

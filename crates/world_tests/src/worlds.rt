@@ -47,14 +47,32 @@ pub(crate) fn answers_to(
     answers
 }
 
-// What a new model answers.
-fn answers_of_model(alloc: Global, slots: u64, steps: &[Step]) -> Result<Vec<Answer>, Refusal> {
+/// What a new model answers, where the next device call fails from the step of this place on.
+pub(crate) fn answers_of_model(
+    alloc: Global,
+    slots: u64,
+    steps: &[Step],
+    failing: Option<usize>,
+) -> Result<Vec<Answer>, Refusal> {
     let mut model = Plain::new(alloc, net_id()?, slots_of(slots)?);
     let mut answers = Vec::new(alloc);
-    for step in steps {
+    for (place, step) in steps.iter().enumerate() {
+        if failing == Some(place) {
+            let _ = model.step(alloc, &Step::Fail)?;
+        }
         answers.push(model.step(alloc, step)?)?;
     }
     Ok(answers)
+}
+
+/// The number of the first answer that isn't the one that is wanted.
+pub(crate) fn first_other(answers: &[Answer], wanted: &[Answer]) -> Option<usize> {
+    for (number, (answer, wanted)) in answers.iter().zip(wanted).enumerate() {
+        if !same(answer, wanted) {
+            return Some(number);
+        }
+    }
+    (answers.len() != wanted.len()).then_some(wanted.len())
 }
 
 /// The number of the first step that a new world and a new model answer otherwise.
@@ -64,11 +82,6 @@ pub(crate) fn first_difference(
     steps: &[Step],
 ) -> Result<Option<usize>, Refusal> {
     let answers = answers_to(alloc, slots, steps)?;
-    let wanted = answers_of_model(alloc, slots, steps)?;
-    for (number, (answer, wanted)) in answers.iter().zip(&wanted).enumerate() {
-        if !same(answer, wanted) {
-            return Ok(Some(number));
-        }
-    }
-    Ok((answers.len() != wanted.len()).then_some(wanted.len()))
+    let wanted = answers_of_model(alloc, slots, steps, None)?;
+    Ok(first_other(&answers, &wanted))
 }
