@@ -1,6 +1,6 @@
 -- What one cycle of a flusher does.
-use Rattle.std.specs.Prelude.{◌≡◌, ◌≢◌, ◌⊎◌, ◌==◌, ℕ, List, [], length, Result, Ok, Err, IfOk, IfErr}
-use Rattle.std.specs.Prelude.{OnErr, MatchBool, MatchResult}
+use Rattle.std.specs.Prelude.{◌≡◌, ◌≢◌, ◌⊎◌, ◌==◌, ℕ, List, [], length, Result, Ok, Err, IfOk}
+use Rattle.std.specs.Prelude.{IfErr, OnErr, MatchBool, MatchResult}
 use Rattle.devices.specs.declared.effect.Effect.{Effect}
 use Rattle.disk.specs.State.{EveryImage}
 use Rattle.disk.specs.declared.disk.Disk.{Ghosts}
