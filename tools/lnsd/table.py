@@ -59,6 +59,7 @@ def others(found):
         ("in another such time, under strace: system calls", calls),
         ("memory behind these loads (VmHWM)", f"{most['VmHWM']} MiB"),
         ("4,096 full records: `lnsd list`", f"{median(full['list_ms'])} ms"),
+        ("the same of version 1, which are taken over", f"{median(found['older']['list_ms'])} ms"),
         ("from the start until a link is taken; until a line is answered",
          f"{median(taken)} ms; {median(answered)} ms"),
         ("memory before an uplink of each of these, and behind (VmHWM)",

@@ -7,12 +7,11 @@ use crate::attempt::Attempt;
 use crate::stores::{SLOTS, new_disk};
 use devices::{Application, Provisioning, Rx1Offset, RxDelay};
 use disk::MemDisk;
-use lw_types::{Eui, Key, Refusal, read_hex};
-use scripts::read_step;
-use session_core::{Core, Moment, Most};
+use lw_types::{Eui, FrameCopy, Key, Reception, Refusal, read_hex};
+use session_core::{Core, Moment, Most, Turn};
 use std::alloc::Global;
 use test_stores::devices_under_test::{net_id, new_table};
-use world::{Answer, Step, World, run};
+use world::{Answer, Event, Step, World, run};
 
 // As many decisions as a batch may have.
 const MOST: u64 = 64;
@@ -70,16 +69,40 @@ fn new_world(alloc: Global) -> Result<World<MemDisk>, Refusal>
     World::format(alloc, new_disk(alloc)?, net_id()?, SLOTS)
 }
 
-// Whether one event was handed in, and not refused; or what a step was refused.
-fn is_one_event(answers: &[Answer]) -> Result<bool, Refusal> {
-    match answers {
-        [Answer::Turns { turns, fault }] => Ok(match turns.as_slice() {
-            [turn] => turn.turn.refused.is_none() && fault.is_none(),
-            _ => false,
-        }),
-        [Answer::Turn { turn, .. }] => turn.refused.map_or(Ok(true), Err),
-        [Answer::Refused(refusal)] => Err(*refusal),
-        _ => Ok(false),
+// How a step went that is to hand in one event.
+#[derive(Clone, Copy)]
+enum Came {
+    // The event was answered, as is due or not.
+    Answered(bool),
+    // The event was handed in and refused: of it only its moment counts.
+    UsedUp(Refusal),
+    // The step was refused.
+    Refused(Refusal),
+}
+
+impl Came {
+    fn of_turn(turn: &Turn) -> Self {
+        turn.refused.map_or(Came::Answered(true), Came::UsedUp)
+    }
+
+    fn of(answers: &[Answer]) -> Self {
+        match answers {
+            [Answer::Turns { turns, fault: None }] => match turns.as_slice() {
+                [turn] => Came::of_turn(&turn.turn),
+                _ => Came::Answered(false),
+            },
+            [Answer::Turn { turn, .. }] => Came::of_turn(turn),
+            [Answer::Refused(refusal)] => Came::Refused(*refusal),
+            _ => Came::Answered(false),
+        }
+    }
+
+    // Whether the event was answered as is due, or what it was refused.
+    fn is_due(self) -> Result<bool, Refusal> {
+        match self {
+            Came::Answered(is_due) => Ok(is_due),
+            Came::UsedUp(refusal) | Came::Refused(refusal) => Err(refusal),
+        }
     }
 }
 
@@ -95,27 +118,34 @@ fn went_well(answers: &[Answer]) -> bool {
     true
 }
 
-// What came of one step, which hands in one event.
-fn step(alloc: Global, world: &mut World<MemDisk>, last: &[Step]) -> Result<bool, Refusal>
+// How a step went.
+fn step(alloc: Global, world: &mut World<MemDisk>, last: &[Step]) -> Came
     requires { IsSoundWorld state_of world.old }
     ensures { IsSoundWorld state_of world.new }
 {
     match run(world, alloc, last) {
-        Ok(answers) => is_one_event(&answers),
-        Err(refusal) => Err(refusal),
+        Ok(answers) => Came::of(&answers),
+        Err(refusal) => Came::Refused(refusal),
     }
 }
 
-// Takes some steps, and then a last one, once more where it was refused for want of memory.
-fn stepped(alloc: Global, before: &[Step], last: &[Step]) -> Result<Attempt, Refusal> {
+// Takes some steps, and then a last one. Where that was refused for want of memory it is taken once
+// more, and where its event was used up, the step that hands it in anew.
+fn stepped(
+    alloc: Global,
+    before: &[Step],
+    last: &[Step],
+    anew: &[Step],
+) -> Result<Attempt, Refusal> {
     let mut world = new_world(alloc)?;
     let is_ready = match run(&mut world, alloc, before) {
         Ok(answers) => went_well(&answers),
         Err(_) => false,
     };
     let told = match step(alloc, &mut world, last) {
-        Ok(is_due) => Attempt::at_once(is_due),
-        Err(_) => Attempt::again(true, &step(alloc, &mut world, last)),
+        Came::Answered(is_due) => Attempt::at_once(is_due),
+        Came::UsedUp(_) => Attempt::again(true, &step(alloc, &mut world, anew).is_due()),
+        Came::Refused(_) => Attempt::again(true, &step(alloc, &mut world, last).is_due()),
     };
     let _ = world.close();
     if is_ready {
@@ -125,44 +155,57 @@ fn stepped(alloc: Global, before: &[Step], last: &[Step]) -> Result<Attempt, Ref
     }
 }
 
-// The greeting of a gateway and a part of its copy, and the rest.
-const FIRST: &str =
-    "00090000000000000000B100270100000000000000B133BE27A005FFECFFA10000C35040F17DBE";
+// The greeting of a gateway, and its copy in two parts.
+const GREETING: &str = "00090000000000000000B1";
+
+const FIRST: &str = "00270100000000000000B133BE27A005FFECFFA10000C35040F17DBE";
 
 const REST: &str = "4900020001954378762B11FF0D";
 
-fn piece(alloc: Global, digits: &str) -> Result<Vec<Step>, Refusal> {
+fn piece(alloc: Global, parts: &[&str]) -> Result<Vec<Step>, Refusal> {
+    let mut bytes = Vec::new(alloc);
+    for digits in parts {
+        bytes.extend_from_slice(&read_hex(alloc, digits)?)?;
+    }
     let mut steps = Vec::new(alloc);
     steps.push(Step::Piece {
         link: 1,
         moment: moment(0)?,
-        bytes: read_hex(alloc, digits)?,
+        bytes,
     })?;
     Ok(steps)
 }
 
 /// A piece of a link makes a gateway's copy whole.
 pub fn of_piece(alloc: Global) -> Result<Attempt, Refusal> {
-    stepped(alloc, &piece(alloc, FIRST)?, &piece(alloc, REST)?)
+    let before = piece(alloc, &[GREETING, FIRST])?;
+    let (last, anew) = (piece(alloc, &[REST])?, piece(alloc, &[FIRST, REST])?);
+    stepped(alloc, &before, &last, &anew)
 }
 
-// A gateway hears these frames, each of which has two bytes.
+// How a gateway hears each frame.
+const HEARD: Reception = Reception {
+    gateway: Eui(0xB1),
+    frequency: 868_100_000,
+    data_rate: 5,
+    snr: -20,
+    rssi: -95,
+};
+
+// The gateway hears these frames, each of which has two bytes.
 fn hearing(alloc: Global, from: u16, to: u16) -> Result<Vec<Step>, Refusal> {
-    let mut steps = Vec::new(alloc);
+    let mut steps = Vec::with_capacity(alloc, 1024)?;
     for frame in from..to {
-        let line = format!(in alloc;
-            "hear 0 00000000000000B1 868100000 5 -20 -95 50000 {frame:04X}"
-        )?;
-        steps.push(read_step(alloc, line.as_bytes())?)?;
+        steps.push(Step::Event {
+            moment: moment(0)?,
+            event: Event::Hear(FrameCopy::new(alloc, HEARD, 50_000, &frame.to_be_bytes())?),
+        })?;
     }
     Ok(steps)
 }
 
 /// A copy opens the last window that there may be.
 pub fn of_last_window(alloc: Global) -> Result<Attempt, Refusal> {
-    stepped(
-        alloc,
-        &hearing(alloc, 0, 1023)?,
-        &hearing(alloc, 1023, 1024)?,
-    )
+    let last = hearing(alloc, 1023, 1024)?;
+    stepped(alloc, &hearing(alloc, 0, 1023)?, &last, &last)
 }

@@ -1,6 +1,6 @@
 -- A store as contracts see it.
 use Rattle.std.specs.Prelude.{◌≡◌, ◌≢◌, ◌≤◌, ℕ, ◌+◌, Bool, true, List, Result, MatchResult}
-use Rattle.std.specs.Prelude.{is_ok}
+use Rattle.std.specs.Prelude.{OnOk, is_ok}
 use Rattle.lw_types.specs.declared.refusal.Refusal.{Refusal}
 use Rattle.lw_types.specs.declared.refusal.Refusal.TheVariants.{DeviceFailed}
 use Rattle.disk.specs.Outlook.{Outlook, HasCause, IsForeseen}
@@ -51,6 +51,12 @@ IsOld image =
 -- whatever a crash leaves of this disk holds the store's table and number
 abbrev pub EachImageHolds : StoreState → State → Type 0
 EachImageHolds s disk = EveryImage disk (HoldsTable s.table s.seq)
+
+-- a call leaves what a store holds: the table, its number and, where it succeeded, the generation
+pub record KeepsTable {T : Type 0} (old new : StoreState) (result : Result T Refusal) : Type 0 where
+  pub table : new.table ≡ old.table
+  pub seq : new.seq ≡ old.seq
+  pub generation : OnOk result (new.log.generation ≡ old.log.generation)
 
 -- a store that was opened: it has what the disk held, and no other table was there; nothing was
 -- written but where the records were of an older version

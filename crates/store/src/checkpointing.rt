@@ -6,7 +6,7 @@ ghost use Rattle.store.specs.Checkpointing.{IsRetiringOn, checkpoint_opened_size
 ghost use Rattle.store.specs.Checkpointing.{checkpoint_synced_size, checkpoint_written_size};
 ghost use Rattle.store.specs.Checkpointing.{retiring_size};
 ghost use Rattle.store.specs.State.{store_state, disk_of, EachImageHolds, IsOneCall, IsRoomy};
-ghost use Rattle.store.specs.State.{IsSettled};
+ghost use Rattle.store.specs.State.{IsSettled, KeepsTable};
 
 use crate::Store;
 use disk::Disk;
@@ -50,11 +50,8 @@ impl Checkpoint {
             → EachImageHolds (store_state D.state store.old) (D.state (disk_of store.new)) }
         ensures fits { IfOk result (λ phase. FitsOther (store_state D.state store.new)
             (retiring_size phase)) }
-        ensures table { (store_state D.state store.new).table
-            ≡ (store_state D.state store.old).table }
-        ensures seq { (store_state D.state store.new).seq ≡ (store_state D.state store.old).seq }
-        ensures generation { OnOk result ((store_state D.state store.new).log.generation
-            ≡ (store_state D.state store.old).log.generation) }
+        ensures kept { KeepsTable (store_state D.state store.old) (store_state D.state store.new)
+            result }
         ensures call { IsOneCall D.failures D.outlook store.old store.new result }
     {
         let Checkpoint { phase: checkpoint } = self;
@@ -79,11 +76,8 @@ impl Checkpoint {
             → EachImageHolds (store_state D.state store.old) (D.state (disk_of store.new)) }
         ensures fits { IfOk result (λ phase. FitsOther (store_state D.state store.new)
             (checkpoint_written_size phase)) }
-        ensures table { (store_state D.state store.new).table
-            ≡ (store_state D.state store.old).table }
-        ensures seq { (store_state D.state store.new).seq ≡ (store_state D.state store.old).seq }
-        ensures generation { OnOk result ((store_state D.state store.new).log.generation
-            ≡ (store_state D.state store.old).log.generation) }
+        ensures kept { KeepsTable (store_state D.state store.old) (store_state D.state store.new)
+            result }
         ensures call { IsOneCall D.failures D.outlook store.old store.new result }
     {
         let Checkpoint { phase } = self;
@@ -112,11 +106,8 @@ impl Retiring {
         ensures fits { IfOk result (λ phase. FitsOther (store_state D.state store.new)
             (checkpoint_size phase)) }
         ensures closed { OnOk result ((store_state D.state store.new).log.other_open ≡ false) }
-        ensures table { (store_state D.state store.new).table
-            ≡ (store_state D.state store.old).table }
-        ensures seq { (store_state D.state store.new).seq ≡ (store_state D.state store.old).seq }
-        ensures generation { OnOk result ((store_state D.state store.new).log.generation
-            ≡ (store_state D.state store.old).log.generation) }
+        ensures kept { KeepsTable (store_state D.state store.old) (store_state D.state store.new)
+            result }
         ensures call { IsOneCall D.failures D.outlook store.old store.new result }
     {
         let Retiring { phase, checkpoint } = self;
@@ -148,11 +139,8 @@ impl CheckpointWritten {
             → EachImageHolds (store_state D.state store.old) (D.state (disk_of store.new)) }
         ensures fits { IfOk result (λ phase. FitsOther (store_state D.state store.new)
             (checkpoint_synced_size phase)) }
-        ensures table { (store_state D.state store.new).table
-            ≡ (store_state D.state store.old).table }
-        ensures seq { (store_state D.state store.new).seq ≡ (store_state D.state store.old).seq }
-        ensures generation { OnOk result ((store_state D.state store.new).log.generation
-            ≡ (store_state D.state store.old).log.generation) }
+        ensures kept { KeepsTable (store_state D.state store.old) (store_state D.state store.new)
+            result }
         ensures call { IsOneCall D.failures D.outlook store.old store.new result }
     {
         let CheckpointWritten { phase } = self;
@@ -180,11 +168,8 @@ impl CheckpointSynced {
             → EachImageHolds (store_state D.state store.old) (D.state (disk_of store.new)) }
         ensures fits { IfOk result (λ phase. FitsOther (store_state D.state store.new)
             (checkpoint_opened_size phase)) }
-        ensures table { (store_state D.state store.new).table
-            ≡ (store_state D.state store.old).table }
-        ensures seq { (store_state D.state store.new).seq ≡ (store_state D.state store.old).seq }
-        ensures generation { OnOk result ((store_state D.state store.new).log.generation
-            ≡ (store_state D.state store.old).log.generation) }
+        ensures kept { KeepsTable (store_state D.state store.old) (store_state D.state store.new)
+            result }
         ensures call { IsOneCall D.failures D.outlook store.old store.new result }
     {
         let CheckpointSynced { phase } = self;

@@ -13,7 +13,7 @@ ghost use Rattle.store.specs.Phases.{HasEntries, HoldsEither, IsBodySyncedOn, Is
 ghost use Rattle.store.specs.Phases.{begun_sequel, begun_size, body_synced_sequel};
 ghost use Rattle.store.specs.Phases.{body_synced_size};
 ghost use Rattle.store.specs.Phases.{durable_decisions, gate_written_sequel, gate_written_size};
-ghost use Rattle.store.specs.State.{store_state, disk_of, IsOneCall};
+ghost use Rattle.store.specs.State.{store_state, disk_of, IsOneCall, KeepsTable};
 
 use crate::commit::Commit;
 use crate::{Begun, BodySynced, Durable, GateWritten, LARGEST_BATCH, Store};
@@ -108,11 +108,8 @@ impl GateWritten {
         ensures sequel { IfOk result (λ paired. paired_sequel paired ≡ gate_written_sequel self) }
         ensures following { IfOk result
             (λ paired. following_sequel paired ≡ begun_sequel following) }
-        ensures table { (store_state D.state store.new).table
-            ≡ (store_state D.state store.old).table }
-        ensures seq { (store_state D.state store.new).seq ≡ (store_state D.state store.old).seq }
-        ensures generation { OnOk result ((store_state D.state store.new).log.generation
-            ≡ (store_state D.state store.old).log.generation) }
+        ensures kept { KeepsTable (store_state D.state store.old) (store_state D.state store.new)
+            result }
         ensures call { IsOneCall D.failures D.outlook store.old store.new result }
     {
         let GateWritten { phase, commit } = self;

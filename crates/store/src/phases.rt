@@ -9,6 +9,7 @@ ghost use Rattle.store.specs.Phases.{IsGateWrittenOn, begun_sequel, begun_size, 
 ghost use Rattle.store.specs.Phases.{written_size, body_synced_sequel, body_synced_size};
 ghost use Rattle.store.specs.Phases.{gate_written_sequel, gate_written_size, durable_decisions};
 ghost use Rattle.store.specs.State.{store_state, disk_of, EachImageHolds, IsOneCall, IsSettled};
+ghost use Rattle.store.specs.State.{KeepsTable};
 
 use crate::Store;
 use crate::commit::Commit;
@@ -61,11 +62,8 @@ impl Begun {
             (written_sequel written) (written_size written)
             ≡ tip_behind (store_state D.state store.old) (begun_sequel self) (begun_size self)) }
         ensures sequel { IfOk result (λ written. written_sequel written ≡ begun_sequel self) }
-        ensures table { (store_state D.state store.new).table
-            ≡ (store_state D.state store.old).table }
-        ensures seq { (store_state D.state store.new).seq ≡ (store_state D.state store.old).seq }
-        ensures generation { OnOk result ((store_state D.state store.new).log.generation
-            ≡ (store_state D.state store.old).log.generation) }
+        ensures kept { KeepsTable (store_state D.state store.old) (store_state D.state store.new)
+            result }
         ensures call { IsOneCall D.failures D.outlook store.old store.new result }
     {
         let Begun { phase, commit } = self;
@@ -99,11 +97,8 @@ impl Written {
             ≡ tip_behind (store_state D.state store.old) (written_sequel self)
             (written_size self)) }
         ensures sequel { IfOk result (λ synced. body_synced_sequel synced ≡ written_sequel self) }
-        ensures table { (store_state D.state store.new).table
-            ≡ (store_state D.state store.old).table }
-        ensures seq { (store_state D.state store.new).seq ≡ (store_state D.state store.old).seq }
-        ensures generation { OnOk result ((store_state D.state store.new).log.generation
-            ≡ (store_state D.state store.old).log.generation) }
+        ensures kept { KeepsTable (store_state D.state store.old) (store_state D.state store.new)
+            result }
         ensures call { IsOneCall D.failures D.outlook store.old store.new result }
     {
         let Written { phase, commit } = self;
@@ -139,11 +134,8 @@ impl BodySynced {
             (body_synced_size self)) }
         ensures sequel { IfOk result
             (λ opened. gate_written_sequel opened ≡ body_synced_sequel self) }
-        ensures table { (store_state D.state store.new).table
-            ≡ (store_state D.state store.old).table }
-        ensures seq { (store_state D.state store.new).seq ≡ (store_state D.state store.old).seq }
-        ensures generation { OnOk result ((store_state D.state store.new).log.generation
-            ≡ (store_state D.state store.old).log.generation) }
+        ensures kept { KeepsTable (store_state D.state store.old) (store_state D.state store.new)
+            result }
         ensures call { IsOneCall D.failures D.outlook store.old store.new result }
     {
         let BodySynced { phase, commit } = self;

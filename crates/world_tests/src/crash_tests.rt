@@ -1,9 +1,9 @@
 // Crashes in the middle of a commit, and what is opened after them.
-use crate::letters::add_letters;
-use crate::steps::provision;
-use crate::worlds::{net_id, new_disk};
 use disk::Image;
 use lw_types::Refusal;
+use plain_world::letters::add_letters;
+use plain_world::steps::provision;
+use plain_world::worlds::{net_id, new_disk};
 use std::alloc::Global;
 use world::Step;
 

@@ -1,22 +1,15 @@
-//! Tests of worlds, beside a plain model whose contract is the definition, and of the public call
-//! of `headline`. They stand above those crates, so that each of these is proved once.
+//! Tests of worlds, beside a plain model, and of the public call of `headline`. They stand above those
+//! crates, so that each of these is proved once.
 #![tactic(auto)]
 
 #[cfg(test)]
 mod answers;
 #[cfg(test)]
 mod crash_tests;
-mod flight;
-#[cfg(test)]
-mod gathering;
-#[cfg(test)]
-mod letters;
 #[cfg(test)]
 mod links;
 #[cfg(test)]
 mod many_tests;
-#[cfg(test)]
-mod model;
 #[cfg(test)]
 mod row_tests;
 #[cfg(test)]
@@ -24,10 +17,4 @@ mod rows;
 #[cfg(test)]
 mod stage_tests;
 #[cfg(test)]
-mod steps;
-#[cfg(test)]
-mod streams;
-#[cfg(test)]
 mod windows;
-#[cfg(test)]
-mod worlds;

@@ -1,8 +1,8 @@
 // Many devices, whose decisions wait and are taken in more than one batch.
-use crate::letters::add_letters;
-use crate::steps::provision;
-use crate::worlds::{answers_to, first_difference};
 use lw_types::Refusal;
+use plain_world::letters::add_letters;
+use plain_world::steps::provision;
+use plain_world::worlds::{answers_to, first_difference};
 use std::alloc::Global;
 use world::{Answer, Step};
 

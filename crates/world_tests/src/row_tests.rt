@@ -1,11 +1,11 @@
 // Worlds, and their models beside them, that answer as rows tell.
-use crate::letters::add_letters;
 use crate::links::STREAMS;
 use crate::rows::{add_line, add_rows, ends_so, first_wrong};
-use crate::steps::{hear, step_of};
 use crate::windows::{GATHERINGS, REFUSED};
-use crate::worlds::{SLOTS, first_difference};
 use lw_types::Refusal;
+use plain_world::letters::add_letters;
+use plain_world::steps::{hear, step_of};
+use plain_world::worlds::{SLOTS, first_difference};
 use std::alloc::Global;
 use world::Step;
 

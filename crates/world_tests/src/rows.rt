@@ -1,8 +1,8 @@
 // Steps that are lines, each with what its answer tells.
 use crate::answers::tell;
-use crate::steps::step_of;
-use crate::worlds::{SLOTS, answers_to, first_difference};
 use lw_types::Refusal;
+use plain_world::steps::step_of;
+use plain_world::worlds::{SLOTS, answers_to, first_difference};
 use std::alloc::Global;
 use world::{Answer, Step};
 

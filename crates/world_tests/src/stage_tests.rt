@@ -1,7 +1,7 @@
 // Worlds and their models take the same steps, and have to give the same answers.
-use crate::letters::add_script;
-use crate::worlds::{SLOTS, first_difference};
 use lw_types::Refusal;
+use plain_world::letters::add_script;
+use plain_world::worlds::{SLOTS, first_difference};
 use std::alloc::Global;
 
 const LETTERS: &str = "abtTNpcfreonl";

@@ -11,14 +11,14 @@ returns-in_err-retire-in-Begun-clause-next g c =
     let e = c.in_err-retire-in-Begun.ensures in
     let refused = err_from_is_err_and c.from_residual.result c.from_residual.ensures.1 in
     subst (λ p. IsPublishingCall g.D.Disk c.args.store.now p c.from_residual.result c.retire.new.store) (sym c.in-Begun.is)
-    (publishing_fails g.D.Disk c.args.store.now c.retire.new.store (Begun c.in-Begun.phase) c.from_residual.result refused.0 refused.1 e.table e.seq e.images)
+    (publishing_fails g.D.Disk c.args.store.now c.retire.new.store (Begun c.in-Begun.phase) c.from_residual.result refused.0 refused.1 e.kept.table e.kept.seq e.images)
 
 pub returns-in_err-write-in-Begun-2-clause-next : goal.returns-in_err-write-in-Begun-2-clause-next
 returns-in_err-write-in-Begun-2-clause-next g c =
     let e = c.in_err-write-in-Begun-2.ensures in
     let refused = err_from_is_err_and c.from_residual-in_err-write-in-Begun-2.result c.from_residual-in_err-write-in-Begun-2.ensures.1 in
     subst (λ p. IsPublishingCall g.D.Disk c.args.store.now p c.from_residual-in_err-write-in-Begun-2.result c.write.new.store) (sym c.in-Begun.is)
-    (publishing_fails g.D.Disk c.args.store.now c.write.new.store (Begun c.in-Begun.phase) c.from_residual-in_err-write-in-Begun-2.result refused.0 refused.1 e.table e.seq e.images)
+    (publishing_fails g.D.Disk c.args.store.now c.write.new.store (Begun c.in-Begun.phase) c.from_residual-in_err-write-in-Begun-2.result refused.0 refused.1 e.kept.table e.kept.seq e.images)
 
 pub returns-in_ok-retire-in-Begun-clause-next : goal.returns-in_ok-retire-in-Begun-clause-next
 returns-in_ok-retire-in-Begun-clause-next g c =
@@ -27,11 +27,11 @@ returns-in_ok-retire-in-Begun-clause-next g c =
     (record {
       fits = e.fits;
       calls = five_left (store_state g.D.Disk.state c.args.store.now).log.other_open (sym c.must_retire.ensures ∙ c.if-must_retire.true);
-      table = e.table;
-      seq = e.seq;
+      table = e.kept.table;
+      seq = e.kept.seq;
       on_disk = e.next;
       images = e.images;
-      generation = λ honest on. e.generation;
+      generation = λ honest on. e.kept.generation;
     })
 
 pub returns-in_ok-write-in-Begun-2-clause-next : goal.returns-in_ok-write-in-Begun-2-clause-next
@@ -41,11 +41,11 @@ returns-in_ok-write-in-Begun-2-clause-next g c =
     (record {
       fits = e.fits;
       calls = three_left (store_state g.D.Disk.state c.args.store.now).log.other_open (sym c.must_retire.ensures ∙ c.if-must_retire.false);
-      table = e.table;
-      seq = e.seq;
+      table = e.kept.table;
+      seq = e.kept.seq;
       on_disk = e.next;
       images = e.images;
-      generation = λ honest on. e.generation;
+      generation = λ honest on. e.kept.generation;
     })
 
 pub returns-in_ok-sync-in-Retiring-clause-next : goal.returns-in_ok-sync-in-Retiring-clause-next
@@ -55,11 +55,11 @@ returns-in_ok-sync-in-Retiring-clause-next g c =
     (record {
       fits = e.fits;
       calls = four_left (store_state g.D.Disk.state c.sync.new.store).log.other_open e.closed;
-      table = e.table;
-      seq = e.seq;
+      table = e.kept.table;
+      seq = e.kept.seq;
       on_disk = e.next;
       images = e.images;
-      generation = λ honest on. e.generation;
+      generation = λ honest on. e.kept.generation;
     })
 
 pub returns-in_ok-sync-in-Written-clause-next : goal.returns-in_ok-sync-in-Written-clause-next
@@ -69,9 +69,9 @@ returns-in_ok-sync-in-Written-clause-next g c =
     (record {
       fits = e.fits;
       calls = refl;
-      table = e.table;
-      seq = e.seq;
+      table = e.kept.table;
+      seq = e.kept.seq;
       on_disk = e.next;
       images = e.images;
-      generation = λ honest on. e.generation;
+      generation = λ honest on. e.kept.generation;
     })

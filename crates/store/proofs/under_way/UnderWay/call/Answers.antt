@@ -17,7 +17,7 @@ returns-in_err-write-in-Begun-clause-next g c =
     let e = c.in_err-write-in-Begun.ensures in
     let refused = err_from_is_err_and c.from_residual.result c.from_residual.ensures.1 in
     subst (λ u. IsNextCall g.D.Disk c.args.store.now u c.from_residual.result c.write.new.store) (sym c.in-Begun.is)
-    (call_fails g.D.Disk c.args.store.now c.write.new.store (Begun c.in-Begun.phase c.in-Begun.along) c.from_residual.result refused.0 refused.1 refl e.table e.seq
+    (call_fails g.D.Disk c.args.store.now c.write.new.store (Begun c.in-Begun.phase c.in-Begun.along) c.from_residual.result refused.0 refused.1 refl e.kept.table e.kept.seq
     (λ honest on image permitted. left_without s (flight Stage.Stopped (begun_sequel c.in-Begun.phase).decisions ∷ []) image refl (e.images honest on image permitted)))
 
 pub returns-in_ok-write-in-Begun-clause-next : goal.returns-in_ok-write-in-Begun-clause-next
@@ -33,10 +33,10 @@ returns-in_ok-write-in-Begun-clause-next g c =
       calls = refl;
       way = e.under_way;
       tip = λ tip is. is ∙ sym e.tip;
-      durable = keeps_all s s' (flight Stage.Written (begun_sequel c.in-Begun.phase).decisions ∷ []) refl e.table e.seq;
+      durable = keeps_all s s' (flight Stage.Written (begun_sequel c.in-Begun.phase).decisions ∷ []) refl e.kept.table e.kept.seq;
       images = λ honest on image permitted. left_without s (flight Stage.Written (begun_sequel c.in-Begun.phase).decisions ∷ []) image refl (e.images honest on image permitted);
       on_disk = e.next;
-      generation = λ honest on. e.generation;
+      generation = λ honest on. e.kept.generation;
     })
 
 pub returns-in_err-sync-in-Written-clause-next : goal.returns-in_err-sync-in-Written-clause-next
@@ -45,7 +45,7 @@ returns-in_err-sync-in-Written-clause-next g c =
     let e = c.in_err-sync-in-Written.ensures in
     let refused = err_from_is_err_and c.from_residual-in_err-sync-in-Written.result c.from_residual-in_err-sync-in-Written.ensures.1 in
     subst (λ u. IsNextCall g.D.Disk c.args.store.now u c.from_residual-in_err-sync-in-Written.result c.sync.new.store) (sym c.in-Written.is)
-    (call_fails g.D.Disk c.args.store.now c.sync.new.store (Written c.in-Written.phase c.in-Written.along) c.from_residual-in_err-sync-in-Written.result refused.0 refused.1 refl e.table e.seq
+    (call_fails g.D.Disk c.args.store.now c.sync.new.store (Written c.in-Written.phase c.in-Written.along) c.from_residual-in_err-sync-in-Written.result refused.0 refused.1 refl e.kept.table e.kept.seq
     (λ honest on image permitted. left_without s (flight Stage.Stopped (written_sequel c.in-Written.phase).decisions ∷ []) image refl (e.images honest on image permitted)))
 
 pub returns-in_ok-sync-in-Written-clause-next : goal.returns-in_ok-sync-in-Written-clause-next
@@ -61,10 +61,10 @@ returns-in_ok-sync-in-Written-clause-next g c =
       calls = refl;
       way = e.under_way;
       tip = λ tip is. is ∙ sym e.tip;
-      durable = keeps_all s s' (flight Stage.BodySynced (written_sequel c.in-Written.phase).decisions ∷ []) refl e.table e.seq;
+      durable = keeps_all s s' (flight Stage.BodySynced (written_sequel c.in-Written.phase).decisions ∷ []) refl e.kept.table e.kept.seq;
       images = λ honest on image permitted. left_without s (flight Stage.BodySynced (written_sequel c.in-Written.phase).decisions ∷ []) image refl (e.images honest on image permitted);
       on_disk = e.next;
-      generation = λ honest on. e.generation;
+      generation = λ honest on. e.kept.generation;
     })
 
 pub returns-in_err-open_gate-in-BodySynced-clause-next : goal.returns-in_err-open_gate-in-BodySynced-clause-next
@@ -74,7 +74,7 @@ returns-in_err-open_gate-in-BodySynced-clause-next g c =
     let way = subst (IsOnItsWay s) c.in-BodySynced.is c.requires in
     let refused = err_from_is_err_and c.from_residual-in_err-open_gate-in-BodySynced.result c.from_residual-in_err-open_gate-in-BodySynced.ensures.1 in
     subst (λ u. IsNextCall g.D.Disk c.args.store.now u c.from_residual-in_err-open_gate-in-BodySynced.result c.open_gate.new.store) (sym c.in-BodySynced.is)
-    (call_fails g.D.Disk c.args.store.now c.open_gate.new.store (BodySynced c.in-BodySynced.phase c.in-BodySynced.along) c.from_residual-in_err-open_gate-in-BodySynced.result refused.0 refused.1 refl e.table e.seq
+    (call_fails g.D.Disk c.args.store.now c.open_gate.new.store (BodySynced c.in-BodySynced.phase c.in-BodySynced.along) c.from_residual-in_err-open_gate-in-BodySynced.result refused.0 refused.1 refl e.kept.table e.kept.seq
     (λ honest on image permitted. left_either s (flight Stage.Unsure (body_synced_sequel c.in-BodySynced.phase).decisions ∷ []) (body_synced_sequel c.in-BodySynced.phase) (body_synced_size c.in-BodySynced.phase) image way (λ kept left. left) (e.images honest on image permitted)))
 
 pub returns-in_ok-open_gate-in-BodySynced-clause-next : goal.returns-in_ok-open_gate-in-BodySynced-clause-next
@@ -91,10 +91,10 @@ returns-in_ok-open_gate-in-BodySynced-clause-next g c =
       calls = refl;
       way = e.under_way;
       tip = λ tip is. is ∙ sym e.tip;
-      durable = keeps_all s s' (flight Stage.GateWritten (body_synced_sequel c.in-BodySynced.phase).decisions ∷ []) refl e.table e.seq;
+      durable = keeps_all s s' (flight Stage.GateWritten (body_synced_sequel c.in-BodySynced.phase).decisions ∷ []) refl e.kept.table e.kept.seq;
       images = λ honest on image permitted. left_either s (flight Stage.GateWritten (body_synced_sequel c.in-BodySynced.phase).decisions ∷ []) (body_synced_sequel c.in-BodySynced.phase) (body_synced_size c.in-BodySynced.phase) image way (λ kept left. left) (e.images honest on image permitted);
       on_disk = e.next;
-      generation = λ honest on. e.generation;
+      generation = λ honest on. e.kept.generation;
     })
 
 pub returns-in_err-sync-in-GateWritten-clause-next : goal.returns-in_err-sync-in-GateWritten-clause-next
@@ -178,7 +178,7 @@ returns-in_err-paired-in-Following-clause-next g c =
     let way = subst (IsOnItsWay s) c.in-Following.is c.requires in
     let refused = err_from_is_err_and c.from_residual-in_err-paired-in-Following.result c.from_residual-in_err-paired-in-Following.ensures.1 in
     subst (λ u. IsNextCall g.D.Disk c.args.store.now u c.from_residual-in_err-paired-in-Following.result c.write_next.new.store) (sym c.in-Following.is)
-    (call_fails g.D.Disk c.args.store.now c.write_next.new.store (Following c.in-Following.opened c.in-Following.along c.in-Following.following c.in-Following.behind) c.from_residual-in_err-paired-in-Following.result refused.0 refused.1 refl e.table e.seq
+    (call_fails g.D.Disk c.args.store.now c.write_next.new.store (Following c.in-Following.opened c.in-Following.along c.in-Following.following c.in-Following.behind) c.from_residual-in_err-paired-in-Following.result refused.0 refused.1 refl e.kept.table e.kept.seq
     (λ honest on image permitted. left_either s (all_failed (flights_in (Following c.in-Following.opened c.in-Following.along c.in-Following.following c.in-Following.behind))) (gate_written_sequel c.in-Following.opened) (gate_written_size c.in-Following.opened) image way.0 (λ kept left. left) (e.images honest on.0 image permitted)))
 
 pub returns-in_ok-paired-in-Following-clause-next : goal.returns-in_ok-paired-in-Following-clause-next
@@ -197,11 +197,11 @@ returns-in_ok-paired-in-Following-clause-next g c =
       calls = refl;
       way = e.under_way;
       tip = λ tip is. is ∙ sym e.tip;
-      durable = keeps_all s s' (all_succeeded (flights_in old)) refl e.table e.seq;
+      durable = keeps_all s s' (all_succeeded (flights_in old)) refl e.kept.table e.kept.seq;
       images = λ honest on image permitted. left_either s (all_succeeded (flights_in old)) (gate_written_sequel c.in-Following.opened) (gate_written_size c.in-Following.opened) image way.0 (λ kept left. left)
           (e.images honest on.0 image permitted);
       on_disk = λ honest on. e.next honest on.0 on.1;
-      generation = λ honest on. e.generation;
+      generation = λ honest on. e.kept.generation;
     })
 
 pub returns-in_err-durable-in-Paired-clause-next : goal.returns-in_err-durable-in-Paired-clause-next

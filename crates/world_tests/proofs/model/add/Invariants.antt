@@ -1,6 +1,0 @@
--- so many of the commands were added
-use Rattle.std.proofs.Common.{◌≡◌, ◌++◌, take}
-use Rattle.world_tests.proofs.model.add.Given as goal
-
-abbrev pub invariant-loop-command : goal.invariant-loop-command
-invariant-loop-command l = l.commands.items ≡ l.fn.commands.items ++ take l.command-index l.more
