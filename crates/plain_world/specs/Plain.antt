@@ -22,11 +22,11 @@ use Rattle.world.specs.Course.Checkpoint.{NotUnderWay, CallsLeft, CallFailed}
 use Rattle.world.specs.Answers.{AnswersCall, AreTurns, Behind, Beside, IsRight}
 use Rattle.world.specs.Answers.{event_of, last_stage}
 use Rattle.world.specs.Links.{Completes, stream_on}
-use Rattle.plain_world.specs.declared.flight.Flight.{Flight as PlainFlight}
-use Rattle.plain_world.specs.declared.flight.Stage.{Stage as PlainStage}
-use Rattle.plain_world.specs.declared.flight.Stage.TheVariants as variants
-use Rattle.plain_world.specs.declared.flight.UnderWay.{UnderWay}
-use Rattle.plain_world.specs.declared.flight.UnderWay.TheVariants as ways
+use Rattle.plain_world.specs.declared.flight.PlainFlight.{PlainFlight}
+use Rattle.plain_world.specs.declared.flight.PlainStage.{PlainStage}
+use Rattle.plain_world.specs.declared.flight.PlainStage.TheVariants as variants
+use Rattle.plain_world.specs.declared.flight.PlainUnderWay.{PlainUnderWay}
+use Rattle.plain_world.specs.declared.flight.PlainUnderWay.TheVariants as ways
 
 -- where the course begins, what is known of the disk's calls, and the course
 pub record PlainState : Type 0 where
@@ -47,7 +47,7 @@ stage_of variants.Unsure = Unsure
 abbrev pub flight_of : PlainFlight → Flight Command
 flight_of f = record { batch = f.commands.items; stage = stage_of f.stage }
 
-abbrev pub flights_of : UnderWay → List (Flight Command)
+abbrev pub flights_of : PlainUnderWay → List (Flight Command)
 flights_of ways.Nothing = []
 flights_of (ways.Batch f) = flight_of f ∷ []
 flights_of (ways.Batches first second) = flight_of first ∷ flight_of second ∷ []
@@ -55,7 +55,7 @@ flights_of (ways.Checkpoint n) = []
 flights_of ways.FailedCheckpoint = []
 
 -- the checkpoint under way, if there is one
-abbrev pub checkpoint_of : UnderWay → Checkpoint
+abbrev pub checkpoint_of : PlainUnderWay → Checkpoint
 checkpoint_of ways.Nothing = NotUnderWay
 checkpoint_of (ways.Batch f) = NotUnderWay
 checkpoint_of (ways.Batches first second) = NotUnderWay
@@ -153,6 +153,6 @@ Settles old commands new count =
     }))
 
 -- a second batch is begun behind the first
-abbrev pub IsFollowed : UnderWay → PlainFlight → UnderWay → Type 0
+abbrev pub IsFollowed : PlainUnderWay → PlainFlight → PlainUnderWay → Type 0
 IsFollowed (ways.Batch first) second result = result ≡ ways.Batches first second
 IsFollowed other second result = result ≡ other

@@ -1,10 +1,9 @@
-// What is begun, as the model has it. It stands apart from the tests, since the definitions of the
-// model name it.
+// What is begun, as the model has it.
 use devices::Command;
 
 /// How far the commit of a batch is.
 #[derive(Clone, Copy, PartialEq, Eq)]
-pub enum Stage {
+pub enum PlainStage {
     Begun,
     Written,
     BodySynced,
@@ -16,25 +15,25 @@ pub enum Stage {
 
 /// A batch.
 #[derive(Drop)]
-pub struct Flight {
+pub struct PlainFlight {
     pub commands: Vec<Command>,
-    pub stage: Stage,
+    pub stage: PlainStage,
 }
 
 /// What is begun and not released.
 #[derive(Drop)]
-pub enum UnderWay {
+pub enum PlainUnderWay {
     Nothing,
-    Batch(Flight),
+    Batch(PlainFlight),
     /// A batch, and one behind it.
-    Batches(Flight, Flight),
+    Batches(PlainFlight, PlainFlight),
     /// A checkpoint, of which so many device calls are left.
     Checkpoint(u64),
     /// A checkpoint of which a device call failed.
     FailedCheckpoint,
 }
 
-impl Stage {
+impl PlainStage {
     ghost use Rattle.std.specs.Prelude.{◌≡◌};
     ghost use Rattle.store.specs.Flights.{failed_stage, next_stage};
     ghost use Rattle.plain_world.specs.Plain.{stage_of};
@@ -44,11 +43,11 @@ impl Stage {
         ensures { stage_of result ≡ next_stage (stage_of self) }
     {
         match self {
-            Stage::Begun => Stage::Written,
-            Stage::Written => Stage::BodySynced,
-            Stage::BodySynced => Stage::GateWritten,
-            Stage::GateWritten => Stage::Durable,
-            Stage::Durable | Stage::Stopped | Stage::Unsure => self,
+            PlainStage::Begun => PlainStage::Written,
+            PlainStage::Written => PlainStage::BodySynced,
+            PlainStage::BodySynced => PlainStage::GateWritten,
+            PlainStage::GateWritten => PlainStage::Durable,
+            PlainStage::Durable | PlainStage::Stopped | PlainStage::Unsure => self,
         }
     }
 
@@ -57,25 +56,25 @@ impl Stage {
         ensures { stage_of result ≡ failed_stage (stage_of self) }
     {
         match self {
-            Stage::Begun | Stage::Written => Stage::Stopped,
-            Stage::BodySynced | Stage::GateWritten => Stage::Unsure,
-            Stage::Durable | Stage::Stopped | Stage::Unsure => self,
+            PlainStage::Begun | PlainStage::Written => PlainStage::Stopped,
+            PlainStage::BodySynced | PlainStage::GateWritten => PlainStage::Unsure,
+            PlainStage::Durable | PlainStage::Stopped | PlainStage::Unsure => self,
         }
     }
 }
 
-impl UnderWay {
+impl PlainUnderWay {
     ghost use Rattle.std.specs.Prelude.{◌≡◌};
     ghost use Rattle.store.specs.Flights.{all_failed, all_succeeded};
     ghost use Rattle.world.specs.Course.{checkpoint_after_call, checkpoint_after_failure};
     ghost use Rattle.plain_world.specs.Plain.{IsFollowed, checkpoint_of, flights_of};
 
     /// With a second batch behind the one that is begun.
-    pub fn followed_by(self, second: Flight) -> Self
+    pub fn followed_by(self, second: PlainFlight) -> Self
         ensures { IsFollowed self second result }
     {
         match self {
-            UnderWay::Batch(first) => UnderWay::Batches(first, second),
+            PlainUnderWay::Batch(first) => PlainUnderWay::Batches(first, second),
             other => other,
         }
     }
@@ -87,31 +86,31 @@ impl UnderWay {
         ensures checkpoint { checkpoint_of result ≡ checkpoint_after_call (checkpoint_of self) }
     {
         match self {
-            UnderWay::Batch(flight) => UnderWay::Batch(Flight {
+            PlainUnderWay::Batch(flight) => PlainUnderWay::Batch(PlainFlight {
                 commands: flight.commands,
                 stage: flight.stage.next(),
             }),
-            UnderWay::Batches(first, second) => {
-                let waits = second.stage == Stage::Begun;
+            PlainUnderWay::Batches(first, second) => {
+                let waits = second.stage == PlainStage::Begun;
                 let stage = if waits {
                     first.stage
                 } else {
                     first.stage.next()
                 };
-                UnderWay::Batches(
-                    Flight {
+                PlainUnderWay::Batches(
+                    PlainFlight {
                         commands: first.commands,
                         stage,
                     },
-                    Flight {
+                    PlainFlight {
                         commands: second.commands,
                         stage: second.stage.next(),
                     },
                 )
             }
-            UnderWay::Checkpoint(left) if left > 1 => UnderWay::Checkpoint(left - 1),
-            UnderWay::Checkpoint(_) | UnderWay::Nothing => UnderWay::Nothing,
-            UnderWay::FailedCheckpoint => UnderWay::FailedCheckpoint,
+            PlainUnderWay::Checkpoint(left) if left > 1 => PlainUnderWay::Checkpoint(left - 1),
+            PlainUnderWay::Checkpoint(_) | PlainUnderWay::Nothing => PlainUnderWay::Nothing,
+            PlainUnderWay::FailedCheckpoint => PlainUnderWay::FailedCheckpoint,
         }
     }
 
@@ -121,22 +120,23 @@ impl UnderWay {
         ensures checkpoint { checkpoint_of result ≡ checkpoint_after_failure (checkpoint_of self) }
     {
         match self {
-            UnderWay::Batch(flight) => UnderWay::Batch(Flight {
+            PlainUnderWay::Batch(flight) => PlainUnderWay::Batch(PlainFlight {
                 commands: flight.commands,
                 stage: flight.stage.failed(),
             }),
-            UnderWay::Batches(first, second) => UnderWay::Batches(
-                Flight {
+            PlainUnderWay::Batches(first, second) => PlainUnderWay::Batches(
+                PlainFlight {
                     commands: first.commands,
                     stage: first.stage.failed(),
                 },
-                Flight {
+                PlainFlight {
                     commands: second.commands,
                     stage: second.stage.failed(),
                 },
             ),
-            UnderWay::Checkpoint(_) | UnderWay::FailedCheckpoint => UnderWay::FailedCheckpoint,
-            UnderWay::Nothing => UnderWay::Nothing,
+            PlainUnderWay::Checkpoint(_) | PlainUnderWay::FailedCheckpoint =>
+                PlainUnderWay::FailedCheckpoint,
+            PlainUnderWay::Nothing => PlainUnderWay::Nothing,
         }
     }
 }

@@ -18,7 +18,7 @@ ghost use Rattle.plain_world.specs.Plain.{Goes, GoesPiece, GoesThrough, HasCall,
 ghost use Rattle.plain_world.specs.Plain.{Settles, at_course, flight_of, flights_of, kept_with};
 ghost use Rattle.plain_world.specs.Plain.{left_of, own_after};
 
-use crate::flight::{Flight, Stage, UnderWay};
+use crate::flight::{PlainFlight, PlainStage, PlainUnderWay};
 use crate::gathering::{PlainArrival, PlainWindow, due_frames, refusal_by, windows_of};
 use crate::streams::{PlainPiece, completed};
 use devices::{Command, Effect, is_receivable};
@@ -39,7 +39,7 @@ pub struct Plain {
     net_id: NetId,
     slots: Slots,
     settled: Vec<Command>,
-    under_way: UnderWay,
+    under_way: PlainUnderWay,
     untaken: Vec<Command>,
     made: u64,
     left: Vec<Effect>,
@@ -106,7 +106,7 @@ impl Plain {
             net_id,
             slots,
             settled: Vec::new(alloc),
-            under_way: UnderWay::Nothing,
+            under_way: PlainUnderWay::Nothing,
             untaken: Vec::new(alloc),
             made: 0,
             left: Vec::new(alloc),
@@ -346,13 +346,15 @@ impl Plain {
         ensures { IsBusy self.now.course.flights self.now.course.checkpoint result }
     {
         match &self.under_way {
-            UnderWay::Nothing => None,
-            UnderWay::Batch(flight) | UnderWay::Batches(_, flight) => Some(match flight.stage {
-                Stage::Stopped | Stage::Unsure => Answer::Refused(Refusal::Failed),
-                _ => Answer::Idle,
-            }),
-            UnderWay::Checkpoint(_) => Some(Answer::Idle),
-            UnderWay::FailedCheckpoint => Some(Answer::Refused(Refusal::Failed)),
+            PlainUnderWay::Nothing => None,
+            PlainUnderWay::Batch(flight) | PlainUnderWay::Batches(_, flight) => Some(
+                match flight.stage {
+                    PlainStage::Stopped | PlainStage::Unsure => Answer::Refused(Refusal::Failed),
+                    _ => Answer::Idle,
+                },
+            ),
+            PlainUnderWay::Checkpoint(_) => Some(Answer::Idle),
+            PlainUnderWay::FailedCheckpoint => Some(Answer::Refused(Refusal::Failed)),
         }
     }
 
@@ -365,7 +367,7 @@ impl Plain {
             return answer;
         }
         let calls = if self.other_synced { 6 } else { 4 };
-        self.under_way = UnderWay::Checkpoint(calls);
+        self.under_way = PlainUnderWay::Checkpoint(calls);
         Answer::Begun(calls)
     }
 
@@ -381,9 +383,9 @@ impl Plain {
         }
         let count = self.untaken.len().min(most.get() as usize);
         let rest = self.untaken.split_off(count)?;
-        self.under_way = UnderWay::Batch(Flight {
+        self.under_way = PlainUnderWay::Batch(PlainFlight {
             commands: mem::replace(&mut self.untaken, rest),
-            stage: Stage::Begun,
+            stage: PlainStage::Begun,
         });
         self.gate_written = false;
         self.gate_synced = false;
@@ -396,19 +398,19 @@ impl Plain {
         requires { self.old.course.is_open ≡ true }
         ensures { IfOk result (λ answer. Goes self.old (steps.Next most) answer self.new) }
     {
-        let UnderWay::Batch(first) = &self.under_way else {
+        let PlainUnderWay::Batch(first) = &self.under_way else {
             return Ok(Answer::Idle);
         };
-        if first.stage != Stage::GateWritten || self.untaken.is_empty() {
+        if first.stage != PlainStage::GateWritten || self.untaken.is_empty() {
             return Ok(Answer::Idle);
         }
         let count = self.untaken.len().min(most.get() as usize);
         let rest = self.untaken.split_off(count)?;
-        let second = Flight {
+        let second = PlainFlight {
             commands: mem::replace(&mut self.untaken, rest),
-            stage: Stage::Begun,
+            stage: PlainStage::Begun,
         };
-        let begun = mem::replace(&mut self.under_way, UnderWay::Nothing);
+        let begun = mem::replace(&mut self.under_way, PlainUnderWay::Nothing);
         self.under_way = begun.followed_by(second);
         Ok(Answer::Taken(count))
     }
@@ -436,12 +438,12 @@ impl Plain {
             self.failures = self.failures.checked_add(1).ok_or(Refusal::OutOfMemory)?;
             self.armed = false;
             self.doubt_gates();
-            let under_way = mem::replace(&mut self.under_way, UnderWay::Nothing);
+            let under_way = mem::replace(&mut self.under_way, PlainUnderWay::Nothing);
             self.under_way = under_way.failed();
             return Ok(Answer::Refused(Refusal::DeviceFailed));
         }
         self.move_gates();
-        let under_way = mem::replace(&mut self.under_way, UnderWay::Nothing);
+        let under_way = mem::replace(&mut self.under_way, PlainUnderWay::Nothing);
         self.under_way = under_way.called();
         Ok(Answer::Called)
     }
@@ -451,12 +453,15 @@ impl Plain {
         ensures { HasCall result self.now.course.flights self.now.course.checkpoint }
     {
         match &self.under_way {
-            UnderWay::Batch(flight) | UnderWay::Batches(_, flight) => matches!(
+            PlainUnderWay::Batch(flight) | PlainUnderWay::Batches(_, flight) => matches!(
                 flight.stage,
-                Stage::Begun | Stage::Written | Stage::BodySynced | Stage::GateWritten
+                PlainStage::Begun
+                    | PlainStage::Written
+                    | PlainStage::BodySynced
+                    | PlainStage::GateWritten
             ),
-            UnderWay::Checkpoint(_) => true,
-            UnderWay::Nothing | UnderWay::FailedCheckpoint => false,
+            PlainUnderWay::Checkpoint(_) => true,
+            PlainUnderWay::Nothing | PlainUnderWay::FailedCheckpoint => false,
         }
     }
 
@@ -467,24 +472,24 @@ impl Plain {
         ensures { self.new ≡ self.old }
     {
         match &self.under_way {
-            UnderWay::Batches(_, flight) if flight.stage == Stage::Begun => {}
-            UnderWay::Batch(flight) | UnderWay::Batches(_, flight) => {
-                self.gate_written = flight.stage == Stage::BodySynced;
+            PlainUnderWay::Batches(_, flight) if flight.stage == PlainStage::Begun => {}
+            PlainUnderWay::Batch(flight) | PlainUnderWay::Batches(_, flight) => {
+                self.gate_written = flight.stage == PlainStage::BodySynced;
                 self.gate_in_doubt = self.gate_written;
             }
-            UnderWay::Checkpoint(6) => {
+            PlainUnderWay::Checkpoint(6) => {
                 self.other_written = false;
                 self.other_in_doubt = true;
             }
-            UnderWay::Checkpoint(2) => {
+            PlainUnderWay::Checkpoint(2) => {
                 self.other_written = true;
                 self.other_in_doubt = true;
             }
-            UnderWay::Checkpoint(_) => {
+            PlainUnderWay::Checkpoint(_) => {
                 self.other_synced = self.other_written;
                 self.other_in_doubt = false;
             }
-            UnderWay::Nothing | UnderWay::FailedCheckpoint => {}
+            PlainUnderWay::Nothing | PlainUnderWay::FailedCheckpoint => {}
         }
     }
 
@@ -493,12 +498,14 @@ impl Plain {
         ensures { self.new ≡ self.old }
     {
         match &self.under_way {
-            UnderWay::Batch(flight) | UnderWay::Batches(_, flight) => {
-                let is_written = flight.stage == Stage::BodySynced;
+            PlainUnderWay::Batch(flight) | PlainUnderWay::Batches(_, flight) => {
+                let is_written = flight.stage == PlainStage::BodySynced;
                 self.gate_in_doubt = self.gate_in_doubt || is_written;
             }
-            UnderWay::Checkpoint(2 | 6) => self.other_in_doubt = true,
-            UnderWay::Checkpoint(_) | UnderWay::Nothing | UnderWay::FailedCheckpoint => {}
+            PlainUnderWay::Checkpoint(2 | 6) => self.other_in_doubt = true,
+            PlainUnderWay::Checkpoint(_)
+            | PlainUnderWay::Nothing
+            | PlainUnderWay::FailedCheckpoint => {}
         }
     }
 
@@ -506,13 +513,13 @@ impl Plain {
         requires { self.old.course.is_open ≡ true }
         ensures { IfOk result (λ answer. Goes self.old steps.Release answer self.new) }
     {
-        match mem::replace(&mut self.under_way, UnderWay::Nothing) {
-            UnderWay::Batch(flight) if flight.stage == Stage::Durable => {
+        match mem::replace(&mut self.under_way, PlainUnderWay::Nothing) {
+            PlainUnderWay::Batch(flight) if flight.stage == PlainStage::Durable => {
                 Ok(Answer::Released(self.settle(alloc, flight)?))
             }
-            UnderWay::Batches(first, second) if first.stage == Stage::Durable => {
+            PlainUnderWay::Batches(first, second) if first.stage == PlainStage::Durable => {
                 let count = self.settle(alloc, first)?;
-                self.under_way = UnderWay::Batch(second);
+                self.under_way = PlainUnderWay::Batch(second);
                 Ok(Answer::Released(count))
             }
             other => {
@@ -523,7 +530,7 @@ impl Plain {
     }
 
     // The effects of a batch leave, and its commands are settled. Gives how many effects.
-    fn settle(&mut self, alloc: Global, flight: Flight) -> Result<usize, Refusal>
+    fn settle(&mut self, alloc: Global, flight: PlainFlight) -> Result<usize, Refusal>
         ensures { IfOk result (Settles self.old flight.commands.items self.new) }
     {
         let mut table = self.table(alloc, &self.settled)?;
@@ -583,7 +590,7 @@ impl Plain {
         let kept = self.kept(alloc, flew)?;
         let table = self.table(alloc, &kept)?;
         self.settled = kept;
-        self.under_way = UnderWay::Nothing;
+        self.under_way = PlainUnderWay::Nothing;
         self.untaken.clear();
         self.made = 0;
         self.is_open = true;
@@ -622,14 +629,16 @@ impl Plain {
         let mut kept = Vec::new(alloc);
         add(&mut kept, &self.settled)?;
         match &self.under_way {
-            UnderWay::Batch(flight) => add_left(&mut kept, flight, flew)?,
-            UnderWay::Batches(first, second) => {
+            PlainUnderWay::Batch(flight) => add_left(&mut kept, flight, flew)?,
+            PlainUnderWay::Batches(first, second) => {
                 add_left(&mut kept, first, flew)?;
-                if first.stage == Stage::Durable {
+                if first.stage == PlainStage::Durable {
                     add_left(&mut kept, second, flew)?;
                 }
             }
-            UnderWay::Nothing | UnderWay::Checkpoint(_) | UnderWay::FailedCheckpoint => {}
+            PlainUnderWay::Nothing
+            | PlainUnderWay::Checkpoint(_)
+            | PlainUnderWay::FailedCheckpoint => {}
         }
         Ok(kept)
     }
@@ -657,29 +666,31 @@ impl Plain {
 }
 
 // Adds the commands of the batches that are begun behind others.
-fn add_flying(commands: &mut Vec<Command>, under_way: &UnderWay) -> Result<(), Refusal>
+fn add_flying(commands: &mut Vec<Command>, under_way: &PlainUnderWay) -> Result<(), Refusal>
     ensures { IfOk result (λ _. commands.new.items
         ≡ commands.old.items ++ in_flight (flights_of under_way.now)) }
 {
     match under_way {
-        UnderWay::Batch(flight) => add(commands, &flight.commands),
-        UnderWay::Batches(first, second) => {
+        PlainUnderWay::Batch(flight) => add(commands, &flight.commands),
+        PlainUnderWay::Batches(first, second) => {
             add(commands, &first.commands)?;
             add(commands, &second.commands)
         }
-        UnderWay::Nothing | UnderWay::Checkpoint(_) | UnderWay::FailedCheckpoint => Ok(()),
+        PlainUnderWay::Nothing | PlainUnderWay::Checkpoint(_) | PlainUnderWay::FailedCheckpoint =>
+            Ok(()),
     }
 }
 
 // Adds the commands of a batch behind others, where a crash leaves it.
-fn add_left(commands: &mut Vec<Command>, flight: &Flight, flew: bool) -> Result<(), Refusal>
+fn add_left(commands: &mut Vec<Command>, flight: &PlainFlight, flew: bool) -> Result<(), Refusal>
     ensures { IfOk result (λ _. commands.new.items
         ≡ left_of flew commands.old.items (flight_of flight.now ∷ [])) }
 {
     let is_left = match flight.stage {
-        Stage::Durable => true,
-        Stage::GateWritten | Stage::Unsure => flew,
-        Stage::Begun | Stage::Written | Stage::BodySynced | Stage::Stopped => false,
+        PlainStage::Durable => true,
+        PlainStage::GateWritten | PlainStage::Unsure => flew,
+        PlainStage::Begun | PlainStage::Written | PlainStage::BodySynced | PlainStage::Stopped =>
+            false,
     };
     if is_left {
         add(commands, &flight.commands)?;
