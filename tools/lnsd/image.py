@@ -10,6 +10,8 @@ NEWEST = max(GENERATIONS)
 SUPERBLOCK, HEADER = 32, 30
 ENTRY, BATCHES = 4305, 1 << 20
 WHOLE, CHANGE = 1, 2
+# DevEUI, JoinEUI, AppKey, application, RX1DROffset, RX delay
+FRONT = 8 + 8 + 16 + 1 + 1 + 1
 # the commands that may be queued, each with the bytes behind its identifier
 QUEUED = {0x03: 4, 0x04: 1, 0x06: 0}
 
@@ -120,8 +122,9 @@ def item(fields):
 
 @dataclass(frozen=True)
 class Device:
-    """A device's record."""
+    """A device's record; its front is what it was provisioned with."""
 
+    front: bytes
     dev_eui: str
     nonces: tuple
     current: Session | None
@@ -157,7 +160,7 @@ def record(content, version):
     how["current"], how["counters"] = current(fields)
     how.update(pending=session(fields), awaited=awaited(fields), mac=mac_queue(fields))
     count = fields.flag(16)
-    found = Device(dev_eui, items=tuple(item(fields) for _ in range(count)), **how)
+    found = Device(content[:FRONT], dev_eui, items=tuple(item(fields) for _ in range(count)), **how)
     # no uplink is counted yet
     need(version == 1 or fields.number(8) == 0)
     need(fields.is_at_end() and found.is_in_order())
