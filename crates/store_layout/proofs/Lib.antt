@@ -1,3 +1,4 @@
 pub mod EntryLaws
 pub mod Replays
+mod SoundTables
 mod Tables

@@ -1,6 +1,7 @@
 //! What follows from the layout alone. The functions do nothing: their contracts are the laws.
 ghost use Rattle.std.specs.Prelude.{◌≡◌, ◌≤◌, ◌*◌, ℕ, List, length};
 ghost use Rattle.sessions.specs.Index.{HaveOwnSlots};
+ghost use Rattle.sessions.specs.Marks.{IsSound};
 ghost use Rattle.sessions.specs.Table.{TableState, empty_table};
 ghost use Rattle.sessions.specs.Decision.{FitAll, with_decisions};
 ghost use Rattle.sessions.specs.declared.decision.Decision.{Decision};
@@ -66,6 +67,13 @@ pub fn entries_keep_the_network()
         → EntriesLead version t es u → u.net_id ≡ t.net_id }
     ensures slots { (version : RecordVersion) (t u : TableState) (es : List EntryValue)
         → EntriesLead version t es u → u.slots ≡ t.slots }
+{}
+
+/// Entries that are put on a sound table leave a sound one: no DevEUI comes to stand at two slots,
+/// and the sessions of each device stay in order.
+pub fn entries_lead_to_sound_tables()
+    ensures { (version : RecordVersion) (t u : TableState) (es : List EntryValue) → IsSound t
+        → AreEntries version es → EntriesLead version t es u → IsSound u }
 {}
 
 /// The bytes of a superblock, the room of an area, and the most bytes of an entry and of a record.
