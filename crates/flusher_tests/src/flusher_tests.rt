@@ -362,7 +362,7 @@ pub fn records(alloc: Global, count: u8) -> Result<Vec<u8>, Refusal> {
     let device = busy_joiner(alloc)?;
     let mut bytes = Vec::new(alloc);
     for _ in 0..count {
-        put_entry(alloc, RecordVersion::V2, 0, &device, &mut bytes)?;
+        put_entry(RecordVersion::V2, 0, &device, &mut bytes)?;
     }
     Ok(bytes)
 }

@@ -6,7 +6,7 @@ use lw_types::Refusal;
 use sessions::{Batch, Decision};
 use std::alloc::Global;
 use std::io;
-use store_layout::{RecordVersion, batch_entries, put_entry};
+use store_layout::{RecordVersion, put_batch, put_entry};
 
 /// The slots of the table in which it is decided.
 const SLOTS: u16 = 8;
@@ -48,7 +48,6 @@ fn lengths(alloc: Global, what: Decided) -> Result<(usize, usize), Refusal> {
     let decision = decide(alloc, what)?;
     let mut whole = Vec::new(alloc);
     put_entry(
-        alloc,
         RecordVersion::V2,
         decision.slot,
         &decision.after,
@@ -56,7 +55,8 @@ fn lengths(alloc: Global, what: Decided) -> Result<(usize, usize), Refusal> {
     )?;
     let mut batch = Batch::new(alloc)?;
     batch.push(decision);
-    let change = batch_entries(alloc, RecordVersion::V2, &batch)?;
+    let mut change = Vec::new(alloc);
+    put_batch(RecordVersion::V2, &batch, &mut change)?;
     Ok((change.len(), whole.len()))
 }
 

@@ -15,7 +15,10 @@ use lw_types::Refusal;
 use record_codec::NEWEST;
 use sessions::{Batch, Decision, PlacedBatch};
 use std::alloc::Global;
-use store_layout::{batch_entries, laws};
+use store_layout::{laws, put_batch};
+
+// The bytes that the entries of a batch mostly fit into.
+const USUAL_ENTRIES: usize = 1024;
 
 impl<D: Disk> Store<D> {
     ghost use Rattle.store.specs.State.{store_state, disk_of, IsRoomy, IsSettled};
@@ -24,8 +27,9 @@ impl<D: Disk> Store<D> {
     /// with `Failed` exactly where an earlier call of the disk failed, else with `OutOfStep`
     /// exactly where the batch is no legal continuation of the durable table, and with
     /// `OutOfMemory` for want of memory, where it is one. A refusal gives the batch up and leaves
-    /// the store and the disk. All the memory that the commit needs is taken here. No record is
-    /// copied, and the cost doesn't grow with the number of devices.
+    /// the store and the disk. All the memory that the commit needs is taken here, mostly by one
+    /// request for the batch's bytes, each of which is written once. The cost doesn't grow with the
+    /// number of devices.
     pub fn begin(&mut self, alloc: Global, batch: Batch) -> Result<Begun, Refusal>
         requires roomy { IsRoomy (store_state D.state self.old) }
         ensures same { store_state D.state self.new ≡ store_state D.state self.old }
@@ -93,10 +97,9 @@ impl<D: Disk> Store<D> {
         ensures few { length commit.batch ≤ MOST }
         ensures size { IfOk result (λ begun. begun_size begun < LARGEST_BATCH) }
     {
-        let entries = batch_entries(alloc, NEWEST, &commit.batch)?;
         let count = commit.batch.len() as u16;
-        let mut bytes = gate_log::Begun::buffer(alloc, entries.len())?;
-        bytes.extend_from_slice(&entries)?;
+        let mut bytes = gate_log::Begun::buffer(alloc, USUAL_ENTRIES)?;
+        put_batch(NEWEST, &commit.batch, &mut bytes)?;
         let phase = gate_log::Begun::new(bytes, commit.last, count)?;
         Ok(Begun { phase, commit })
     }

@@ -108,7 +108,7 @@ fn device_of(alloc: Global, entry: &Entry) -> Result<Device, Refusal> {
 fn add_entries(alloc: Global, bytes: &mut Vec<u8>, entries: &[Entry]) -> Result<(), Refusal> {
     for entry in entries {
         let device = device_of(alloc, entry)?;
-        put_entry(alloc, RecordVersion::V2, entry.0, &device, bytes)?;
+        put_entry(RecordVersion::V2, entry.0, &device, bytes)?;
     }
     Ok(())
 }

@@ -3,6 +3,8 @@
 #![tactic(auto)]
 
 #[cfg(test)]
+mod adoption_tests;
+#[cfg(test)]
 mod answers;
 #[cfg(test)]
 mod crash_tests;

@@ -1,0 +1,113 @@
+// Worlds that begin with the store of a world before.
+use crate::answers::tell;
+use crate::rows::add_line;
+use disk::{Image, MemDisk};
+use lw_types::Refusal;
+use plain_world::letters::add_letters;
+use plain_world::worlds::{net_id, new_disk};
+use std::alloc::Global;
+use world::{Answer, Step, World, run};
+
+const SLOTS: u64 = 3;
+
+fn steps_of(alloc: Global, letters: &str) -> Result<Vec<Step>, Refusal> {
+    let mut steps = Vec::new(alloc);
+    add_letters(alloc, &mut steps, 0, letters)?;
+    Ok(steps)
+}
+
+// The disk that a new world leaves behind these letters.
+fn left(alloc: Global, letters: &str) -> Result<MemDisk, Refusal> {
+    let mut world = World::format(alloc, new_disk(alloc, SLOTS)?, net_id()?, SLOTS)?;
+    let answers = run(&mut world, alloc, &steps_of(alloc, letters)?);
+    let disk = world.close();
+    let _ = answers?;
+    Ok(disk)
+}
+
+// What a world answers to these letters that has adopted a disk.
+fn answers_behind(alloc: Global, disk: MemDisk, letters: &str) -> Result<Vec<Answer>, Refusal> {
+    let mut world = match World::adopt(alloc, disk) {
+        Ok(world) => world,
+        Err((_, refusal)) => return Err(refusal),
+    };
+    let answers = run(&mut world, alloc, &steps_of(alloc, letters)?);
+    let _ = world.close();
+    answers
+}
+
+// Letters of a world, those of one that adopts its disk, and what the last answer tells: whose
+// DevNonce was seen last at slot 0, and the number. The device that joins does so once by each of
+// its requests, whichever world hears it.
+const ADOPTED: &str = "\
+- l -> listed nobody 0
+aTccccr l -> listed - 1
+aTccc l -> listed - 1
+aTcc l -> listed nobody 0
+aTccccrpcccc l -> listed - 1
+aTccccr bTccccrol -> listed - 2
+JTccccr1Tccccree l -> listed 1 2
+JTccccr1Tccccree 11l -> listed 1 2
+JTccccr1Tccccree 12l -> listed 2 3
+JTccccr1Tccccree 2Tccccrpccccol -> listed 2 3
+";
+
+// Whether the last answer behind the letters tells this.
+fn adopts_so(alloc: Global, row: &str) -> Result<bool, Refusal> {
+    let (letters, told) = row.split_once(" -> ").ok_or(Refusal::BadMessage)?;
+    let (before, behind) = letters.split_once(' ').ok_or(Refusal::BadMessage)?;
+    let before = if before == "-" { "" } else { before };
+    let answers = answers_behind(alloc, left(alloc, before)?, behind)?;
+    let (mut came, mut due) = (Vec::new(alloc), Vec::new(alloc));
+    add_line(&mut due, told)?;
+    let last = answers.last().ok_or(Refusal::Damaged)?;
+    if tell(&mut came, last).is_err() {
+        return Err(Refusal::OutOfMemory);
+    }
+    Ok(came == due)
+}
+
+#[test]
+fn a_world_goes_on_with_the_store_of_another(rt: HostRuntime) {
+    for row in ADOPTED.trim_end().split('\n') {
+        assert_eq!(rt; adopts_so(rt.alloc(), row), Ok(true), "{row}");
+    }
+}
+
+// What a disk that holds no store is refused, and whether it comes back as it was.
+fn refused(alloc: Global) -> Result<(Refusal, bool), Refusal> {
+    let bytes = vec![in alloc; 0; 1000]?;
+    match World::adopt(alloc, MemDisk::new(alloc, bytes)?) {
+        Ok(world) => {
+            let _ = world.close();
+            Err(Refusal::Damaged)
+        }
+        Err((disk, refusal)) => Ok((refusal, disk.content() == [0; 1000])),
+    }
+}
+
+#[test]
+fn a_disk_that_holds_no_store_comes_back(rt: HostRuntime) {
+    assert_eq!(rt; refused(rt.alloc()), Ok((Refusal::NotFormatted, true)));
+}
+
+// The steps that are answered, and the devices and the number behind a crash, of a world that has
+// adopted the disk of another.
+fn found_after(
+    alloc: Global,
+    before: &str,
+    letters: &str,
+    image: &Image,
+) -> Result<(usize, usize, u64), Refusal> {
+    let (disk, steps) = (left(alloc, before)?, steps_of(alloc, letters)?);
+    let (answers, store) = headline::crash_after_adoption(alloc, disk, &steps, image)?;
+    Ok((answers.len(), store.table().devices().len(), store.seq()))
+}
+
+#[test]
+fn a_crash_behind_an_adoption_leaves_what_was_there(rt: HostRuntime) {
+    let alloc = rt.alloc();
+    assert_eq!(rt; found_after(alloc, "aTccccr", "bTccc", &Image::Old), Ok((5, 1, 1)));
+    assert_eq!(rt; found_after(alloc, "aTccccr", "bTccc", &Image::New), Ok((5, 2, 2)));
+    assert_eq!(rt; found_after(alloc, "aTccccr", "bTcccc", &Image::Old), Ok((6, 2, 2)));
+}
