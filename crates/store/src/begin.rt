@@ -27,9 +27,9 @@ impl<D: Disk> Store<D> {
     /// with `Failed` exactly where an earlier call of the disk failed, else with `OutOfStep`
     /// exactly where the batch is no legal continuation of the durable table, and with
     /// `OutOfMemory` for want of memory, where it is one. A refusal gives the batch up and leaves
-    /// the store and the disk. All the memory that the commit needs is taken here, mostly by one
-    /// request for the batch's bytes, each of which is written once. The cost doesn't grow with the
-    /// number of devices.
+    /// the store and the disk. All the memory that the commit needs is taken here. No record is
+    /// copied, each byte of the batch is written once, and the cost doesn't grow with the number of
+    /// devices.
     pub fn begin(&mut self, alloc: Global, batch: Batch) -> Result<Begun, Refusal>
         requires roomy { IsRoomy (store_state D.state self.old) }
         ensures same { store_state D.state self.new ≡ store_state D.state self.old }
