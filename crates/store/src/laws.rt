@@ -1,7 +1,9 @@
 //! What follows from a store's definitions alone. The functions do nothing: their contracts are the
 //! laws.
-ghost use Rattle.std.specs.Prelude.{◌≡◌, ◌+◌, ◌^◌};
+ghost use Rattle.std.specs.Prelude.{◌≡◌, ◌+◌, ◌^◌, ℕ, List};
 ghost use Rattle.disk.specs.State.{EveryImage};
+ghost use Rattle.sessions.specs.Marks.{IsSound};
+ghost use Rattle.sessions.specs.Table.{TableState};
 ghost use Rattle.store.specs.Image.{HoldsTable};
 ghost use Rattle.store.specs.State.{StoreState, IsSettled};
 
@@ -12,6 +14,15 @@ pub fn a_settled_store_is_on_its_disk()
     ensures { (s : StoreState) → IsSettled s → EveryImage s.log.disk (HoldsTable s.table s.seq) }
 {
     disk::laws::settled_disk_keeps_its_content();
+}
+
+/// Whatever table an image holds, in records of whatever version, is sound: each DevEUI stands at
+/// one slot, and the sessions of each device are in order.
+pub fn what_is_held_is_sound()
+    ensures { (t : TableState) (seq : ℕ) (image : List ℕ) → HoldsTable t seq image → IsSound t }
+{
+    sessions::laws::no_mark_stands_twice();
+    store_layout::laws::entries_lead_to_sound_tables();
 }
 
 /// The bytes that the largest batch takes, the greatest generation of an area, also in records of
