@@ -6,11 +6,11 @@ use Rattle.store.proofs.store.Store.begun_of.Goals as goal
 pub returns-clause-entries : goal.returns-clause-entries
 returns-clause-entries g c =
     let front = c.in_ok-bytes.bytes.items in
-    let entries = c.in_ok-entries.entries.items in
-    let appended = c.in_ok-extend_from_slice.ensures.items in
+    let put = c.in_ok-put_batch.ensures.entries in
+    let entries = put.0 in
     let begun : ℕ → List ℕ → Type 0 = λ n l. IsBegun c.in_ok-phase.phase (record { last_sequence = c.args.commit.last; entry_count = n; entries = l }) in
-    let behind = ap (drop 14) appended ∙ (ap (λ (l : List ℕ). drop 14 (front ++ l)) c.deref.ensures.value ∙ drop_at front entries 14 c.in_ok-bytes.ensures.len) in (
+    let behind = ap (drop 14) put.1 ∙ drop_at front entries 14 c.in_ok-bytes.ensures.len in (
       entries,
-      c.in_ok-entries.ensures.entries,
+      put.2,
       subst (λ n. begun n entries) c.len-count.ensures.len (subst (begun c.len-count.result) behind c.in_ok-phase.ensures.begun),
     )
