@@ -177,10 +177,12 @@ class Seen:
             self.wrong(f"{meter.dev_eui} isn't in the list, though it was provisioned")
             return
         shown, dev_eui = " ".join(words), meter.dev_eui
-        slot, _, granted, join_nonce, last_up, next_down, items = words
+        slot, _, granted, join_nonce, last_up, next_down, items, heard = words
         self.expect(f"the slot in {shown}", int(slot), meter.slot)
         seen = self.last.get(("JoinNonce", dev_eui), 0)
         self.holds(int(granted) >= seen, f"{shown}, though JoinNonce {seen} was in an accept")
+        ups = sum(1 for session, _ in self.ups if session[0] == dev_eui)
+        self.holds(int(heard) >= ups, f"{shown}, though {ups} uplinks came out")
         marks = [name for what, name in self.last if what == "uplink counter"]
         sessions = [name[1] for name in marks if name[0] == dev_eui]
         if not sessions:
