@@ -6,13 +6,15 @@ import shutil
 import subprocess
 
 # Only one thread of the program reads, writes and syncs at places of a file. Of all such calls the
-# one of the number FAILING_CALL fails, a write when half of it is written. The first SLOW_SYNCS
+# one of the number FAILING_CALL fails, a write when half of it is written, and in that of the number
+# KILLING_CALL the program is killed, in the middle of a write, too. The first SLOW_SYNCS
 # syncs take SLOW_MS and SLOW_MICROS longer. Each write and sync that succeeds is added to the file
 # CALL_LOG: its kind, w or s, its place (8 bytes) and length (4) in the machine's order, its bytes.
 CALLS = r"""
 #define _GNU_SOURCE
 #include <errno.h>
 #include <fcntl.h>
+#include <signal.h>
 #include <stdint.h>
 #include <stdlib.h>
 #include <string.h>
@@ -21,11 +23,19 @@ CALLS = r"""
 
 static long number(const char *name) { const char *it = getenv(name); return it ? atol(it) : 0; }
 
+static int is_killed;
+
 static int fails(void) {
     static long calls;
-    if (++calls != number("FAILING_CALL")) return 0;
+    is_killed = ++calls == number("KILLING_CALL");
+    if (!is_killed && calls != number("FAILING_CALL")) return 0;
     errno = EIO;
     return 1;
+}
+
+static int failed(void) {
+    if (is_killed) kill(getpid(), SIGKILL);
+    return -1;
 }
 
 static void put(int log, const void *bytes, size_t length) {
@@ -49,14 +59,14 @@ static void note(char kind, int64_t place, const void *bytes, uint32_t length) {
 }
 
 ssize_t pread64(int file, void *bytes, size_t length, off64_t place) {
-    return fails() ? -1 : syscall(SYS_pread64, file, bytes, length, place);
+    return fails() ? failed() : syscall(SYS_pread64, file, bytes, length, place);
 }
 
 ssize_t pwrite64(int file, const void *bytes, size_t length, off64_t place) {
     if (fails()) {
         syscall(SYS_pwrite64, file, bytes, length / 2, place);
         errno = EIO;
-        return -1;
+        return failed();
     }
     ssize_t written = syscall(SYS_pwrite64, file, bytes, length, place);
     if (written > 0) note('w', place, bytes, written);
@@ -65,7 +75,7 @@ ssize_t pwrite64(int file, const void *bytes, size_t length, off64_t place) {
 
 int fdatasync(int file) {
     static long syncs;
-    if (fails()) return -1;
+    if (fails()) return failed();
     if (++syncs <= number("SLOW_SYNCS")) usleep(1000 * number("SLOW_MS") + number("SLOW_MICROS"));
     int status = syscall(SYS_fdatasync, file);
     if (!status) note('s', 0, "", 0);

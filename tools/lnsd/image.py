@@ -10,6 +10,8 @@ NEWEST = max(GENERATIONS)
 SUPERBLOCK, HEADER = 32, 30
 ENTRY, BATCHES = 4305, 1 << 20
 WHOLE, CHANGE = 1, 2
+# DevEUI, JoinEUI, AppKey, application, RX1DROffset, RX delay
+FRONT = 8 + 8 + 16 + 1 + 1 + 1
 # the commands that may be queued, each with the bytes behind its identifier
 QUEUED = {0x03: 4, 0x04: 1, 0x06: 0}
 # the bytes of such commands that may wait, in each version
@@ -123,8 +125,9 @@ def item(fields):
 
 @dataclass(frozen=True)
 class Device:
-    """A device's record."""
+    """A device's record; its front is what it was provisioned with."""
 
+    front: bytes
     dev_eui: str
     nonces: tuple
     current: Session | None
@@ -162,10 +165,16 @@ def record(content, version):
     how.update(pending=session(fields), awaited=awaited(fields))
     how["mac"] = mac_queue(fields, version)
     count = fields.flag(16)
+<<<<<<< HEAD
     how["items"] = tuple(item(fields) for _ in range(count))
     heard = 0 if version == 1 else fields.number(8)
     need(heard <= MOST_HEARD)
     found = Device(dev_eui, heard=heard, **how)
+=======
+    found = Device(content[:FRONT], dev_eui, items=tuple(item(fields) for _ in range(count)), **how)
+    # no uplink is counted yet
+    need(version == 1 or fields.number(8) == 0)
+>>>>>>> 2682f20b50e5f033693ca2508c24640d4a617b7b
     need(fields.is_at_end() and found.is_in_order())
     return found
 

@@ -67,15 +67,16 @@ def batch(entries, seq):
     return OPEN + big(len(body), 4) + big(seq + len(entries), 8) + big(len(entries), 2) + body
 
 
-def put(path, records, batches=(), version=2):
+def put(path, records, batches=(), version=2, seq=None):
     """Puts a table of these records, in order of slot, into a store that has none. The second
     area becomes the live one, of a version of records, with generation 2 and these batches, each a
-    list of entries."""
+    list of entries, behind the decision of a number: one a record where none is given."""
     entries = b"".join(entry(slot, it, version) for slot, it in enumerate(records))
-    journal, seq = bytearray(), len(records)
+    first = len(records) if seq is None else seq
+    journal, last = bytearray(), first
     for it in batches:
-        journal += batch(it, seq)
-        seq += len(it)
+        journal += batch(it, last)
+        last += len(it)
     with open(path, "r+b") as file:
         front = file.read(SUPERBLOCK)
         if front[:1] != OPEN or front[1:8] != NAME or front[8] != 1:
@@ -83,7 +84,7 @@ def put(path, records, batches=(), version=2):
         slots, area = int.from_bytes(front[12:16], "big"), int.from_bytes(front[16:24], "big")
         if len(records) > slots:
             raise ValueError(f"{len(records)} devices don't fit into {slots} slots")
-        header = big(version, 1) + big(2, 8) + big(len(records), 8) + big(len(records), 4)
+        header = big(version, 1) + big(2, 8) + big(first, 8) + big(len(records), 4)
         content = OPEN + header + big(len(entries), 8) + entries + journal + CLOSED
         if len(content) > area:
             raise ValueError(f"{len(content)} bytes don't fit into an area of {area}")
