@@ -165,16 +165,10 @@ def record(content, version):
     how.update(pending=session(fields), awaited=awaited(fields))
     how["mac"] = mac_queue(fields, version)
     count = fields.flag(16)
-<<<<<<< HEAD
     how["items"] = tuple(item(fields) for _ in range(count))
     heard = 0 if version == 1 else fields.number(8)
     need(heard <= MOST_HEARD)
-    found = Device(dev_eui, heard=heard, **how)
-=======
-    found = Device(content[:FRONT], dev_eui, items=tuple(item(fields) for _ in range(count)), **how)
-    # no uplink is counted yet
-    need(version == 1 or fields.number(8) == 0)
->>>>>>> 2682f20b50e5f033693ca2508c24640d4a617b7b
+    found = Device(content[:FRONT], dev_eui, heard=heard, **how)
     need(fields.is_at_end() and found.is_in_order())
     return found
 
