@@ -53,7 +53,7 @@ def joins(it):
     network = session(1, device.dev_nonce)
     line = network.accept(best)
     it.commit(1, [line])
-    it.line("list", f"0 {METER} 1 - - - 0", "devices 1 seq 2")
+    it.line("list", f"0 {METER} 1 - - - 0 0", "devices 1 seq 2")
     it.downlink(line, device.take_accept)
     it.say(
         "The Join-Accept goes to gateway B2, which has the greatest SNR, with that gateway's "
@@ -75,7 +75,7 @@ def first_uplinks(it, device):
     it.hear(10_050, far, frame, "turn 2 2")
     it.line("tick 10200", "turn 2 3")
     it.commit(1, [up(0, 7, reading, 2, near)])
-    it.line("list", *listed(1, 0, 0, 0, 3))
+    it.line("list", *listed(1, 0, 0, 0, 1, 3))
     it.say(
         "Two gateways hear the first uplink, counter 0, with a reading on port 7. It is on 867.1 "
         "MHz, which is one of the channels that the accept has added. Now the session is in use. "
@@ -139,7 +139,7 @@ def lost_item(it, device, network):
     it.hear(60_000, copy, frame, "turn 8 8")
     it.line("tick 60200", "turn 8 9")
     it.commit(1, [told(f"lost {METER} 7002"), up(4, 7, bytes.fromhex("04D6"), 1, copy)])
-    it.line("list", *listed(1, 4, 2, 0, 9))
+    it.line("list", *listed(1, 4, 2, 0, 5, 9))
     it.say(
         "The device misses the downlink with the item of tag 7002. Its next uplink has no ACK, "
         "so the item is lost: it isn't sent again, and counter 1 isn't used again either."
@@ -202,7 +202,7 @@ def repeats(it, device, network):
     it.line("tick 103200", "turn 14 15")
     line = network.downlink(again, 5, ack=True)
     it.commit(1, [line])
-    it.line("list", *listed(1, 8, 6, 0, 15))
+    it.line("list", *listed(1, 8, 6, 0, 9, 15))
     it.downlink(line, device.take_downlink)
     it.say(
         "So the device sends the frame again, on another channel. It is acknowledged under a "

@@ -48,7 +48,7 @@ class Books:
 
     def listed(self):
         """The list; no device has joined."""
-        lines = [f"{slot} {meter} 0 - - - {self.items[meter]}" for slot, meter in enumerate(METERS)]
+        lines = [f"{slot} {it} 0 - - - {self.items[it]} 0" for slot, it in enumerate(METERS)]
         return *lines, f"devices {SLOTS} seq {self.seq + self.untaken}"
 
 

@@ -61,7 +61,7 @@ def sends_again(it, uplink):
     it.hear(500, NEAR, uplink, "turn 0 0")
     it.line("tick 700", "turn 0 1")
     it.commit(1, [up(0, 7, READING, 1, NEAR)])
-    it.line("list", *listed(1, 0, 0, 0, 3))
+    it.line("list", *listed(1, 0, 0, 0, 1, 3))
     it.say(
         "Moments and turns begin anew after a crash. The same frame is taken, as its counter is "
         "still above the last one that the store knows: the application is told the reading, for "

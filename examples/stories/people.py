@@ -36,9 +36,9 @@ def up(counter, port, payload, copies, best, join_nonce=1):
     return told(f"up {METER} {join_nonce} {counter} {port} {text} {copies} {best.heard()}")
 
 
-def listed(granted, last_up, next_down, items, seq, join_nonce=1):
+def listed(granted, last_up, next_down, items, heard, seq, join_nonce=1):
     """The list of a table in which the meter alone stands, with a session in use."""
     return (
-        f"0 {METER} {granted} {join_nonce} {last_up} {next_down} {items}",
+        f"0 {METER} {granted} {join_nonce} {last_up} {next_down} {items} {heard}",
         f"devices 1 seq {seq}",
     )

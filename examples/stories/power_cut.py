@@ -82,7 +82,7 @@ def before_the_gate():
     sent(it, frame, 500, 0)
     line = network.downlink(COPY, 0, ack=True)
     it.commit(1, [up(1, 7, reading, 1, COPY), line])
-    it.line("list", *listed(1, 1, 1, 0, 4))
+    it.line("list", *listed(1, 1, 1, 0, 2, 4))
     it.downlink(line, device.take_downlink)
     it.say(
         "The sixth time the commit is whole. The application is told the reading once, and the "
@@ -105,7 +105,7 @@ def gate_lost_or_kept(it, device, network):
     it.take(1)
     it.call(3)
     it.line("crash new", "opened 1 4")
-    it.line("list", *listed(1, 1, 1, 0, 4))
+    it.line("list", *listed(1, 1, 1, 0, 2, 4))
     it.say(
         "Now the gate is open, and decision 4 is there. It had forwarded the reading and "
         "answered with counter 0, but neither has left and neither will: counters are used up, "
@@ -142,7 +142,7 @@ def at_the_gate():
     sent(it, frame, 500, 0)
     line = network.downlink(COPY, 3, ack=True)
     it.commit(1, [line])
-    it.line("list", *listed(1, 2, 4, 0, 7))
+    it.line("list", *listed(1, 2, 4, 0, 3, 7))
     it.downlink(line, device.take_downlink)
     it.say(
         "A disk that leaves A5 in the byte leaves an open gate, so it is as above: decision 6 is "
@@ -161,7 +161,7 @@ def cut_before_the_release(it, device, network):
     it.call(4)
     it.line("crash old", "opened 1 5")
     it.line("emit", "idle")
-    it.line("list", *listed(1, 1, 1, 0, 5))
+    it.line("list", *listed(1, 1, 1, 0, 2, 5))
     it.say(
         "Decision 5 forwarded the reading 04D3 and sent the item, and both are lost with the "
         "cut: the queue is empty, and counter 0 is used up. An unconfirmed item is sent at most "
@@ -209,7 +209,7 @@ def cut_once_told(it, device, network):
     sent(it, frame, 500, 0)
     line = network.downlink(COPY, 5, ack=True)
     it.commit(1, [line])
-    it.line("list", *listed(1, 3, 6, 0, 10))
+    it.line("list", *listed(1, 3, 6, 0, 4, 10))
     it.downlink(line, device.take_downlink)
     it.say(
         "The application has the reading 04D5, and doesn't get it a second time. The device gets "
@@ -243,7 +243,7 @@ def join_cut_twice(it, device):
     it.take(1)
     it.call(2)
     it.line("crash new", "opened 1 1")
-    it.line("list", f"0 {METER} 0 - - - 0", "devices 1 seq 1")
+    it.line("list", f"0 {METER} 0 - - - 0 0", "devices 1 seq 1")
     it.say("JoinNonce 1 was granted for DevNonce 1, and that never was: nothing has left.")
     it.part("Cut after the gate is open")
     request = device.join_request()
@@ -251,7 +251,7 @@ def join_cut_twice(it, device):
     it.take(1)
     it.call(3)
     it.line("crash new", "opened 1 2")
-    it.line("list", f"0 {METER} 1 - - - 0", "devices 1 seq 2")
+    it.line("list", f"0 {METER} 1 - - - 0 0", "devices 1 seq 2")
     it.say(
         "The device had no accept, and asks again with DevNonce 2. JoinNonce 1 is granted and "
         "kept; its accept never leaves."
@@ -277,7 +277,7 @@ def join_again(it, device, request):
     reading = bytes.fromhex("04D2")
     sent(it, device.uplink(7, reading), 9000, 1)
     it.commit(1, [up(0, 7, reading, 1, COPY, 2)])
-    it.line("list", *listed(2, 0, 0, 0, 4, 2))
+    it.line("list", *listed(2, 0, 0, 0, 1, 4, 2))
     it.say("Its first uplink in that session: the payload is told under JoinNonce 2.")
 
 

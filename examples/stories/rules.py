@@ -89,11 +89,11 @@ def requests(it):
     it.asks("mac", "00000000000000FF 02", 0, 7)
     for bytes_text in ("-", "02", "0350", "0605", "04"):
         it.asks("mac", f"{METER} {bytes_text}", 0, 18)
-    it.asks("mac", f"{METER} {'06' * 65}", 0, 13)
+    it.asks("mac", f"{METER} {'06' * 129}", 0, 13)
     it.say(
         "The device is brought, and of two reasons for a refusal the first in order is told: a "
         "device that isn't there (7) before a payload that is too long (14), and that before its "
-        "port (15). MAC commands have to be whole ones of 03, 04 and 06 (18), and 64 bytes of "
+        "port (15). MAC commands have to be whole ones of 03, 04 and 06 (18), and 128 bytes of "
         "them wait at most (13)."
     )
 

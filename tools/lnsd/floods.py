@@ -328,7 +328,7 @@ def unlinked(trials):
         for number in range(5):
             gateway.hands_in(sent(load.device(number), number), HEARD)
         finish(trials, program, [gateway], dropped=5)
-        due = [f"{it} {load.dev_eui(it)} 1 1 1 0 0" for it in range(5)]
+        due = [f"{it} {load.dev_eui(it)} 1 1 1 0 0 1" for it in range(5)]
         trials.compare("the list", program.list(), [*due, "devices 5 seq 10"])
 
 

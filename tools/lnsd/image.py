@@ -14,6 +14,9 @@ WHOLE, CHANGE = 1, 2
 FRONT = 8 + 8 + 16 + 1 + 1 + 1
 # the commands that may be queued, each with the bytes behind its identifier
 QUEUED = {0x03: 4, 0x04: 1, 0x06: 0}
+# the bytes of such commands that may wait, in each version
+MOST_COMMANDS = {1: 64, 2: 128}
+MOST_HEARD = 2**63 - 1
 
 
 class Refused(Exception):
@@ -99,10 +102,10 @@ def awaited(fields):
     return tag if is_there else None
 
 
-def mac_queue(fields):
+def mac_queue(fields, version):
     """Whole commands that may be queued."""
     length = fields.number(1)
-    need(length <= 64)
+    need(length <= MOST_COMMANDS[version])
     found = fields.take(length)
     commands = Fields(found)
     while not commands.is_at_end():
@@ -133,6 +136,7 @@ class Device:
     awaited: int | None
     mac: bytes
     items: tuple
+    heard: int = 0
 
     def is_in_order(self):
         """Whether the JoinNonces of its sessions are."""
@@ -144,7 +148,7 @@ class Device:
         of = "- - -"
         if self.current:
             of = f"{self.current.join_nonce} {self.counters[0]} {self.counters[1]}"
-        return f"{slot} {self.dev_eui} {self.nonces[1]} {of} {len(self.items)}"
+        return f"{slot} {self.dev_eui} {self.nonces[1]} {of} {len(self.items)} {self.heard}"
 
 
 @lru_cache(maxsize=4096)
@@ -158,20 +162,22 @@ def record(content, version):
     need(fields.flag(15) > 0)
     how = {"nonces": nonces(fields)}
     how["current"], how["counters"] = current(fields)
-    how.update(pending=session(fields), awaited=awaited(fields), mac=mac_queue(fields))
+    how.update(pending=session(fields), awaited=awaited(fields))
+    how["mac"] = mac_queue(fields, version)
     count = fields.flag(16)
-    found = Device(content[:FRONT], dev_eui, items=tuple(item(fields) for _ in range(count)), **how)
-    # no uplink is counted yet
-    need(version == 1 or fields.number(8) == 0)
+    how["items"] = tuple(item(fields) for _ in range(count))
+    heard = 0 if version == 1 else fields.number(8)
+    need(heard <= MOST_HEARD)
+    found = Device(content[:FRONT], dev_eui, heard=heard, **how)
     need(fields.is_at_end() and found.is_in_order())
     return found
 
 
-def changed(device, content):
-    """The record to which a change of this one leads."""
+def changed(device, content, version):
+    """The record of a version to which a change of this one leads."""
     fields, now = Fields(content), {}
     mask = fields.number(1)
-    need(mask < 0x80 and mask & 6 != 6)
+    need(mask & 6 != 6 and (version > 1 or mask < 0x80))
     if mask & 1:
         now["nonces"] = nonces(fields)
     if mask & 2:
@@ -186,11 +192,14 @@ def changed(device, content):
     if mask & 16:
         now["awaited"] = awaited(fields)
     if mask & 32:
-        now["mac"] = mac_queue(fields)
+        now["mac"] = mac_queue(fields, version)
     may_be_same = ("current", "counters") if mask & 2 else ()
     need(all(it != getattr(device, name) for name, it in now.items() if name not in may_be_same))
     if mask & 64:
         now["items"] = changed_items(fields, device.items)
+    if mask & 128:
+        need(device.heard < MOST_HEARD)
+        now["heard"] = device.heard + 1
     found = replace(device, **now)
     need(fields.is_at_end() and found.is_in_order())
     return found
@@ -226,7 +235,7 @@ class Table:
             self.put(slot, record(content, self.version))
             return
         need(kind == CHANGE and may_change and slot < len(self.devices))
-        self.put(slot, changed(self.devices[slot], content))
+        self.put(slot, changed(self.devices[slot], content, self.version))
 
 
 @dataclass

@@ -85,7 +85,7 @@ def one_area(trials):
     a batch."""
     with trials.store() as program:
         provisioned(trials, program, [PROVISION])
-        trials.compare("the list", program.list(), [f"0 {DEV_EUI} 0 - - - 0", "devices 1 seq 1"])
+        trials.compare("the list", program.list(), [f"0 {DEV_EUI} 0 - - - 0 0", "devices 1 seq 1"])
         with open(program.store, "rb") as file:
             made = spoilt(file.read())
         for name, (content, due) in made.items():

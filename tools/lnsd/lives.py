@@ -120,7 +120,7 @@ class Sim:
         if lack:
             return "refused 30"
         count = len(self.decided)
-        devices = [f"{slot} {dev_eui} 0 - - - 0" for dev_eui, slot in self.decided]
+        devices = [f"{slot} {dev_eui} 0 - - - 0 0" for dev_eui, slot in self.decided]
         return "\n".join([*devices, f"devices {count} seq {count}"])
 
     def crash(self, image, lack):

@@ -46,7 +46,7 @@ class Exchange:
             answers=told(f"provisioned {DEV_EUI} 0") + told(f"queued {DEV_EUI} 9"),
             uplink=told(f"up {DEV_EUI} 1 0 7 04D2 1 {later.heard()}"),
             downlinks=accept + bytes_of(session.downlink(later, 0, item)),
-            listed=[f"0 {DEV_EUI} 1 1 0 1 0", "devices 1 seq 4"],
+            listed=[f"0 {DEV_EUI} 1 1 0 1 0 1", "devices 1 seq 4"],
         )
 
     def cases(self):

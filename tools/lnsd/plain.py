@@ -14,6 +14,7 @@ FLOORS = (-80, -70, -60, -50, -40, -30)
 UP_LENGTHS = {2: 0, 3: 1, 4: 0, 5: 1, 6: 2, 7: 1, 8: 0, 9: 0, 10: 1, 13: 0}
 QUEUED_LENGTHS = {3: 4, 4: 1, 6: 0}
 GAP = 16384
+MOST_HEARD = 2**63 - 1
 NUMBER = "(0|[1-9][0-9]{0,9})"
 EUI, HEX = "([0-9A-F]{16})", "((?:[0-9A-F]{2})+|-)"
 REQUESTS = {
@@ -55,12 +56,13 @@ class Device:
     awaited: int | None = None
     mac: bytes = b""
     items: list = field(default_factory=list)
+    heard: int = 0
 
     def listed(self):
         """Its line of a list."""
         it = self.current
         session = f"{it.join_nonce} {it.last_up} {it.next_down}" if it else "- - -"
-        return f"{self.slot} {self.dev_eui} {self.granted} {session} {len(self.items)}"
+        return f"{self.slot} {self.dev_eui} {self.granted} {session} {len(self.items)} {self.heard}"
 
 
 def bytes_of(text):
@@ -196,7 +198,7 @@ class Network:
         device, commands = self.owned(application, dev_eui), bytes_of(commands)
         if not commands or b"".join(commands_in(commands, QUEUED_LENGTHS)) != commands:
             raise Refused(18)
-        if len(device.mac) + len(commands) > 64:
+        if len(device.mac) + len(commands) > 128:
             raise Refused(13)
         device.mac += commands
         return f"macqueued {dev_eui} {text_of(commands)}"
@@ -259,6 +261,7 @@ class Network:
                 raise Refused(6)
             return answered(device, session, best(copies), b"", None, True)
         left, owner = [], device.application
+        device.heard = min(device.heard + 1, MOST_HEARD)
         if device.awaited is not None:
             is_acked = uplink.ack and session is not device.pending
             word = "acked" if is_acked else "lost"

@@ -68,6 +68,8 @@ class Seen:
         self.ups, self.accepts, self.downlinks = {}, {}, {}
         self.items, self.answers = Counter(), 0
         self.queued, self.keys, self.meters = {}, {}, {}
+        # the uplinks of each device that came out before its store counted them
+        self.uncounted = Counter()
         # the greatest marks: all, those of earlier lives, and those of each link of this life
         self.last, self.before, self.by_link = {}, {}, {}
         self.seq = 0
@@ -160,6 +162,14 @@ class Seen:
             return
         self.wrong(f"an accept that no device opens: {frame.hex().upper()}")
 
+    def came_out(self):
+        """How many uplinks of each device came out."""
+        return Counter(name[0] for name, _ in self.ups)
+
+    def count_anew(self):
+        """The store counts uplinks from 0."""
+        self.uncounted = self.came_out()
+
     def compare(self, lines, meters):
         """A list against all that was seen."""
         *devices, total = lines
@@ -177,10 +187,12 @@ class Seen:
             self.wrong(f"{meter.dev_eui} isn't in the list, though it was provisioned")
             return
         shown, dev_eui = " ".join(words), meter.dev_eui
-        slot, _, granted, join_nonce, last_up, next_down, items = words
+        slot, _, granted, join_nonce, last_up, next_down, items, heard = words
         self.expect(f"the slot in {shown}", int(slot), meter.slot)
         seen = self.last.get(("JoinNonce", dev_eui), 0)
         self.holds(int(granted) >= seen, f"{shown}, though JoinNonce {seen} was in an accept")
+        ups = self.came_out()[dev_eui] - self.uncounted[dev_eui]
+        self.holds(int(heard) >= ups, f"{shown}, though {ups} uplinks came out")
         marks = [name for what, name in self.last if what == "uplink counter"]
         sessions = [name[1] for name in marks if name[0] == dev_eui]
         if not sessions:

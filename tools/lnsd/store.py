@@ -15,7 +15,8 @@ def big(number, length):
 class Record:
     """A device's record. A session is its JoinNonce, NwkSKey and AppSKey, and the current one has
     its last uplink and its next downlink counter behind these; an item is its tag, its port,
-    whether it is confirmed, and its payload. The sessions have eight channels, or three."""
+    whether it is confirmed, and its payload. The sessions have eight channels, or three. New
+    uplinks are counted in version 2 alone."""
 
     dev_eui: str
     join_eui: str
@@ -30,6 +31,7 @@ class Record:
     awaited: int | None = None
     mac: bytes = b""
     items: tuple = ()
+    heard: int = 0
     has_three_channels: bool = False
 
     def encoded(self, version=2):
@@ -50,8 +52,7 @@ class Record:
         out += big(len(self.mac), 1) + self.mac + big(len(self.items), 1)
         for tag, port, confirmed, payload in self.items:
             out += big(tag, 4) + bytes([port, confirmed, len(payload)]) + payload
-        # no new uplink is counted yet
-        return out if version == 1 else out + big(0, 8)
+        return out if version == 1 else out + big(self.heard, 8)
 
 
 def entry(slot, record, version=2):
