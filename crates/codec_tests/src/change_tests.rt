@@ -433,9 +433,9 @@ fn written(alloc: Global, before: &Device, after: &Device) -> Option<(Vec<u8>, V
     requires { MayBecome before.now after.now }
 {
     let mut first = [9].to_vec(alloc).ok()?;
-    write_change_v1(alloc, before, after, &mut first).ok()?;
+    write_change_v1(before, after, &mut first).ok()?;
     let mut second = [9].to_vec(alloc).ok()?;
-    write_change(alloc, before, after, &mut second).ok()?;
+    write_change(before, after, &mut second).ok()?;
     Some((first, second))
 }
 

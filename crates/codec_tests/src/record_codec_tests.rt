@@ -97,8 +97,8 @@ fn written(
         return None;
     };
     let answer = match version {
-        V1 => write_device_v1(alloc, device, &mut out),
-        V2 => write_device(alloc, device, &mut out),
+        V1 => write_device_v1(device, &mut out),
+        V2 => write_device(device, &mut out),
     };
     match answer {
         Ok(()) => Some(out),

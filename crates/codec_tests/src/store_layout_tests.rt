@@ -6,7 +6,7 @@ use devices::Command;
 use lw_types::{Eui, NetId, Refusal};
 use sessions::{Batch, Decision, Slots, Table};
 use std::alloc::Global;
-use store_layout::{RecordVersion, Superblock, batch_entries, put_entry, replay};
+use store_layout::{RecordVersion, Superblock, put_batch, put_entry, replay};
 
 fn net_id() -> Result<NetId, Refusal> {
     NetId::new(0x2A).ok_or(Refusal::Damaged)
@@ -69,7 +69,7 @@ fn another_superblock_is_refused(rt: HostRuntime) {
 fn has_entry(alloc: Global, version: RecordVersion, len: u8) -> Result<bool, Refusal> {
     let mut bytes = [7].to_vec(alloc)?;
     let device = new_device(alloc, Eui(0x1112131415161718)).ok_or(Refusal::Damaged)?;
-    put_entry(alloc, version, 0x0102, &device, &mut bytes)?;
+    put_entry(version, 0x0102, &device, &mut bytes)?;
     let front = [
         7, 1, 1, 2, 0, len, 0x11, 0x12, 0x13, 0x14, 0x15, 0x16, 0x17, 0x18,
     ];
@@ -128,7 +128,9 @@ fn add_all(alloc: Global, table: &mut Table, batch: &mut Batch, count: u64) -> R
 fn entries(alloc: Global, version: RecordVersion, count: u64) -> Result<Vec<u8>, Refusal> {
     let mut batch = Batch::new(alloc)?;
     add_all(alloc, &mut new_table(alloc, 64)?, &mut batch, count)?;
-    batch_entries(alloc, version, &batch)
+    let mut bytes = Vec::new(alloc);
+    put_batch(version, &batch, &mut bytes)?;
+    Ok(bytes)
 }
 
 // How many devices a table has, and in which slot that of a DevEUI is.

@@ -1,4 +1,5 @@
 pub mod Loop
+pub mod Writing
 pub mod RecordFields
 pub mod RecordLaws
 pub mod Lengths

@@ -63,8 +63,12 @@ pub record HasBuilt (count : ℕ) (bytes : List ℕ) (i : ℕ) (rest : List ℕ)
 pub two_written : (out first second after_first written : List ℕ) → after_first ≡ out ++ first → written ≡ after_first ++ second → written ≡ out ++ (first ++ second)
 two_written out first second after_first written a b = rw (b, a) (append_assoc out first second)
 
-pub three_written : (out first second third after_first after_second written : List ℕ) → after_first ≡ out ++ first → after_second ≡ after_first ++ second → written ≡ after_second ++ third → written ≡ out ++ (first ++ (second ++ third))
-three_written out first second third after_first after_second written a b c = rw (c, b, a) (simp append_assoc)
+pub four_written : (out a b c d o0 o1 o2 o3 : List ℕ) → o0 ≡ out ++ a → o1 ≡ o0 ++ b → o2 ≡ o1 ++ c → o3 ≡ o2 ++ d → o3 ≡ out ++ (a ++ (b ++ (c ++ d)))
+four_written out a b c d o0 o1 o2 o3 h0 h1 h2 h3 = rw (h3, h2, h1, h0) (simp append_assoc)
+
+pub seven_written : (out a b c d e f g o0 o1 o2 o3 o4 o5 o6 : List ℕ) → o0 ≡ out ++ a → o1 ≡ o0 ++ b → o2 ≡ o1 ++ c → o3 ≡ o2 ++ d → o4 ≡ o3 ++ e → o5 ≡ o4 ++ f → o6 ≡ o5 ++ g
+    → o6 ≡ out ++ (a ++ (b ++ (c ++ (d ++ (e ++ (f ++ g))))))
+seven_written out a b c d e f g o0 o1 o2 o3 o4 o5 o6 h0 h1 h2 h3 h4 h5 h6 = rw (h6, h5, h4, h3, h2, h1, h0) (simp append_assoc)
 
 pub eight_written : (out : List ℕ) (m : ℕ) (a b c d e f g o0 o1 o2 o3 o4 o5 o6 o7 : List ℕ) → o0 ≡ out ++ m ∷ [] → o1 ≡ o0 ++ a → o2 ≡ o1 ++ b → o3 ≡ o2 ++ c → o4 ≡ o3 ++ d → o5 ≡ o4 ++ e → o6 ≡ o5 ++ f → o7 ≡ o6 ++ g
     → o7 ≡ out ++ (m ∷ (a ++ (b ++ (c ++ (d ++ (e ++ (f ++ g)))))))

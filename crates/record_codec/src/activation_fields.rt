@@ -8,6 +8,7 @@ ghost use Rattle.record_codec.specs.Change.{counters_bytes, AreCounters};
 ghost use Rattle.byte_fields.specs.Reading.{Gives, seen_as, three_be_bytes_at};
 ghost use Rattle.record_codec.specs.Reading.{activation_at, channels_at, current_at};
 ghost use Rattle.record_codec.specs.Reading.{granted_nonce, optional_by, session_at};
+ghost use Rattle.record_codec.specs.Writing.{KeepsFront};
 
 use crate::written_fields::put_key;
 use byte_fields::FieldReader;
@@ -108,6 +109,7 @@ fn channels_byte(channels: Channels) -> u8
 fn put_session(out: &mut Vec<u8>, s: &Session) -> Result<(), AllocError>
     ensures written { OnOk result (out.new.items ≡ out.old.items ++ session s.now) }
     ensures in_range { OnOk result (IsSession s.now) }
+    ensures keeps { KeepsFront out.old.items out.new.items }
 {
     let [_, high, middle, low] = s.join_nonce.get().to_be_bytes();
     out.extend_from_slice(&[high, middle, low])?;
@@ -125,6 +127,7 @@ pub(crate) fn put_counters(
     ensures written { OnOk result (out.new.items
         ≡ out.old.items ++ counters_bytes (last_up, next_down)) }
     ensures in_range { AreCounters (last_up, next_down) }
+    ensures keeps { KeepsFront out.old.items out.new.items }
 {
     out.extend_from_slice(&last_up.to_be_bytes())?;
     out.extend_from_slice(&next_down.get().to_be_bytes())?;
@@ -134,6 +137,7 @@ pub(crate) fn put_counters(
 fn put_current(out: &mut Vec<u8>, current: &CurrentSession) -> Result<(), AllocError>
     ensures written { OnOk result (out.new.items ≡ out.old.items ++ current_session current.now) }
     ensures in_range { OnOk result (IsCurrentSession current.now) }
+    ensures keeps { KeepsFront out.old.items out.new.items }
 {
     put_session(out, &current.session)?;
     put_counters(out, current.last_up, current.next_down)?;
@@ -144,6 +148,7 @@ fn put_current(out: &mut Vec<u8>, current: &CurrentSession) -> Result<(), AllocE
 pub(crate) fn put_granted(out: &mut Vec<u8>, nonce: Option<JoinNonce>) -> Result<(), AllocError>
     ensures written { OnOk result (out.new.items ≡ out.old.items ++ granted_bytes nonce) }
     ensures in_range { OnOk result (IfSome nonce IsJoinNonce) }
+    ensures keeps { KeepsFront out.old.items out.new.items }
 {
     let number = match nonce {
         None => 0,
@@ -160,6 +165,7 @@ pub(crate) fn put_optional_current(
 ) -> Result<(), AllocError>
     ensures written { OnOk result (out.new.items ≡ out.old.items ++ optional_current current.now) }
     ensures in_range { OnOk result (IfSome current.now IsCurrentSession) }
+    ensures keeps { KeepsFront out.old.items out.new.items }
 {
     match current {
         None => out.push(0)?,
@@ -178,6 +184,7 @@ pub(crate) fn put_optional_session(
 ) -> Result<(), AllocError>
     ensures written { OnOk result (out.new.items ≡ out.old.items ++ optional_session pending.now) }
     ensures in_range { OnOk result (IfSome pending.now IsSession) }
+    ensures keeps { KeepsFront out.old.items out.new.items }
 {
     match pending {
         None => out.push(0)?,
@@ -193,6 +200,7 @@ pub(crate) fn put_optional_session(
 pub(crate) fn put_activation(out: &mut Vec<u8>, grants: &Activation) -> Result<(), AllocError>
     ensures written { OnOk result (out.new.items ≡ out.old.items ++ activation grants.now) }
     ensures in_range { OnOk result (AreGrants grants.now) }
+    ensures keeps { KeepsFront out.old.items out.new.items }
 {
     put_granted(out, grants.granted())?;
     put_optional_current(out, &grants.current())?;

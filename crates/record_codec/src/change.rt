@@ -1,6 +1,6 @@
 // A change of a record, in each version: from one record to another, and back from the change to
 // the record.
-ghost use Rattle.std.specs.Prelude.{◌≡◌, ◌≢◌, ◌≤◌, ◌<◌, ◌++◌, ◌↔◌, List, ℕ, IsTrue, IfOk};
+ghost use Rattle.std.specs.Prelude.{◌≡◌, ◌≢◌, ◌≤◌, ◌<◌, ◌++◌, ◌↔◌, List, ℕ, IsTrue, IfOk, OnOk};
 ghost use Rattle.std.specs.Prelude.{IfSome, MatchOption, MatchResult, Some, SomeIff, length};
 ghost use Rattle.std.specs.Prelude.{option_map, unwrap_or};
 ghost use Rattle.lw_types.specs.declared.refusal.Refusal.TheVariants.{OutOfMemory};
@@ -18,10 +18,12 @@ ghost use Rattle.record_codec.specs.ChangeReading.{HasRoomToGrow, IsNewCurrent, 
 ghost use Rattle.record_codec.specs.ChangeReading.{IsNewTo, IsNoChange};
 ghost use Rattle.record_codec.specs.Parts.{groups_of_parts, item_change_of_parts, AreShort};
 ghost use Rattle.record_codec.specs.Parts.{IsShortChange};
+ghost use Rattle.record_codec.specs.Writing.{KeepsFront};
 
 use crate::groups::read_groups;
 use crate::parts::{Counters, GroupParts, ItemChangePart, ItemPart, Nonces};
 use crate::version::RecordVersion;
+use crate::written_groups::put_groups;
 use byte_fields::FieldReader;
 use devices::{
     Activation, CurrentSession, Device, ItemQueue, LAST_HEARD, MacQueue, Session, Tag, UplinkCount,
@@ -138,15 +140,17 @@ fn has_grown(before: &Device, after: &Device) -> bool
     before.heard != after.heard
 }
 
-/// The bytes of the change from one record to the next.
-pub(crate) fn change_between(
-    alloc: Global,
+/// Appends the change from one record to the next.
+pub(crate) fn put_change(
+    out: &mut Vec<u8>,
     version: RecordVersion,
     before: &Device,
     after: &Device,
-) -> Result<Vec<u8>, AllocError>
+) -> Result<(), AllocError>
     requires { MayBecome before.now after.now }
-    ensures { IfOk result (λ bytes. IsChangeOf version before.now after.now bytes.items) }
+    ensures written { OnOk result ((bytes : List ℕ) × (out.new.items ≡ out.old.items ++ bytes)
+        × IsChangeOf version before.now after.now bytes) }
+    ensures keeps { KeepsFront out.old.items out.new.items }
 {
     let (current, counters) = current_between(before, after);
     let groups = GroupParts {
@@ -159,43 +163,33 @@ pub(crate) fn change_between(
         items: items_between(before, after),
         grew: has_grown(before, after),
     };
-    groups.spelled(alloc, version)
+    put_groups(out, version, &groups)
 }
 
 /// Appends the change from one record to the next in version 2, its one spelling, of 1 byte to
-/// [`LONGEST_CHANGE`].
-/// For want of memory it is refused as `OutOfMemory`, and then nothing is appended.
-pub fn write_change(
-    alloc: Global,
-    before: &Device,
-    after: &Device,
-    out: &mut Vec<u8>,
-) -> Result<(), Refusal>
+/// [`LONGEST_CHANGE`]. Each byte is written once, and no memory is taken but for the room of `out`.
+/// For want of that it is refused as `OutOfMemory`, and then nothing is appended.
+pub fn write_change(before: &Device, after: &Device, out: &mut Vec<u8>) -> Result<(), Refusal>
     requires { MayBecome before.now after.now }
     ensures { MatchResult result
         (λ _. (bytes : List ℕ) × (out.new.items ≡ out.old.items ++ bytes)
         × IsChangeOf V2 before.now after.now bytes)
         (λ e. (e ≡ OutOfMemory) × (out.new.items ≡ out.old.items)) }
 {
-    RecordVersion::V2.write_change(alloc, before, after, out)
+    RecordVersion::V2.write_change(before, after, out)
 }
 
 /// Appends the change from one record to the next in version 1, its one spelling, of 1 to 411
-/// bytes.
-/// For want of memory it is refused as `OutOfMemory`, and then nothing is appended.
-pub fn write_change_v1(
-    alloc: Global,
-    before: &Device,
-    after: &Device,
-    out: &mut Vec<u8>,
-) -> Result<(), Refusal>
+/// bytes. Each byte is written once, and no memory is taken but for the room of `out`.
+/// For want of that it is refused as `OutOfMemory`, and then nothing is appended.
+pub fn write_change_v1(before: &Device, after: &Device, out: &mut Vec<u8>) -> Result<(), Refusal>
     requires { MayBecome before.now after.now }
     ensures { MatchResult result
         (λ _. (bytes : List ℕ) × (out.new.items ≡ out.old.items ++ bytes)
         × IsChangeOf V1 before.now after.now bytes)
         (λ e. (e ≡ OutOfMemory) × (out.new.items ≡ out.old.items)) }
 {
-    RecordVersion::V1.write_change(alloc, before, after, out)
+    RecordVersion::V1.write_change(before, after, out)
 }
 
 // ---- from a change to the record

@@ -1,5 +1,5 @@
 // A device record as a whole, in each version.
-ghost use Rattle.std.specs.Prelude.{◌≡◌, ◌≤◌, ◌<◌, ◌^◌, ◌++◌, ◌∷◌, [], IfOk, IfSome, IsSome};
+ghost use Rattle.std.specs.Prelude.{◌≡◌, ◌≤◌, ◌<◌, ◌^◌, ◌++◌, ◌∷◌, [], IfSome, IsSome};
 ghost use Rattle.std.specs.Prelude.{MatchOption, MatchResult, OnOk, Some, length};
 ghost use Rattle.std.specs.Int.{w16};
 ghost use Rattle.lw_types.specs.declared.refusal.Refusal.TheVariants.{OutOfMemory};
@@ -11,6 +11,7 @@ ghost use Rattle.record_codec.specs.DeviceRecord.{spelling, HeadIsInRange, IsDev
 ghost use Rattle.record_codec.specs.Parts.{device_of_parts};
 ghost use Rattle.record_codec.specs.Reading.{awaited_at, device_at, flagged_at, heard_at, items_at};
 ghost use Rattle.record_codec.specs.Reading.{record_at, IsNoRecord};
+ghost use Rattle.record_codec.specs.Writing.{KeepsFront};
 ghost use Rattle.record_codec.specs.declared.version.RecordVersion.TheVariants.{V1, V2};
 
 use crate::activation_fields::{put_activation, read_activation};
@@ -180,6 +181,7 @@ fn put_terms(out: &mut Vec<u8>, device: &Device) -> Result<(), AllocError>
     ensures application { device.now.application ≤ 15 }
     ensures rx1_offset { device.now.rx1_offset ≤ 5 }
     ensures rx_delay { (1 ≤ device.now.rx_delay) × (device.now.rx_delay ≤ 15) }
+    ensures keeps { KeepsFront out.old.items out.new.items }
 {
     let application = device.application.get() as u8;
     let offset = device.rx1_offset.get() as u8;
@@ -190,6 +192,7 @@ fn put_terms(out: &mut Vec<u8>, device: &Device) -> Result<(), AllocError>
 fn put_head(out: &mut Vec<u8>, device: &Device) -> Result<(), AllocError>
     ensures written { OnOk result (out.new.items ≡ out.old.items ++ head device.now) }
     ensures in_range { OnOk result (HeadIsInRange device.now) }
+    ensures keeps { KeepsFront out.old.items out.new.items }
 {
     put_eui(out, device.dev_eui)?;
     put_eui(out, device.join_eui)?;
@@ -201,6 +204,7 @@ fn put_head(out: &mut Vec<u8>, device: &Device) -> Result<(), AllocError>
 pub(crate) fn put_dev_nonce(out: &mut Vec<u8>, nonce: Option<u16>) -> Result<(), AllocError>
     ensures written { OnOk result (out.new.items ≡ out.old.items ++ dev_nonce nonce) }
     ensures in_range { IfSome nonce (λ n. n < 2 ^ 16) }
+    ensures keeps { KeepsFront out.old.items out.new.items }
 {
     put_flag(out, nonce.is_some())?;
     out.extend_from_slice(&nonce.unwrap_or(0).to_be_bytes())?;
@@ -211,6 +215,7 @@ pub(crate) fn put_dev_nonce(out: &mut Vec<u8>, nonce: Option<u16>) -> Result<(),
 pub(crate) fn put_awaited(out: &mut Vec<u8>, tag: Option<Tag>) -> Result<(), AllocError>
     ensures written { OnOk result (out.new.items ≡ out.old.items ++ awaited_bytes tag) }
     ensures in_range { IfSome tag (λ t. t.0 < 2 ^ 32) }
+    ensures keeps { KeepsFront out.old.items out.new.items }
 {
     let number = match tag {
         None => 0,
@@ -229,6 +234,7 @@ fn put_heard(
 ) -> Result<(), AllocError>
     ensures written { OnOk result (out.new.items ≡ out.old.items ++ heard_bytes version heard) }
     ensures in_range { OnOk result (IsHeardIn version heard) }
+    ensures keeps { KeepsFront out.old.items out.new.items }
 {
     let number = heard.get();
     match version {
@@ -237,10 +243,16 @@ fn put_heard(
     }
 }
 
+/// Appends the record of a device.
 #[tactic(auto, unfolding(crate::specs::DeviceRecord::spelling))]
-fn put_device(out: &mut Vec<u8>, version: RecordVersion, device: &Device) -> Result<(), AllocError>
+pub(crate) fn put_device(
+    out: &mut Vec<u8>,
+    version: RecordVersion,
+    device: &Device,
+) -> Result<(), AllocError>
     ensures written { OnOk result (out.new.items ≡ out.old.items ++ spelling version device.now) }
     ensures in_range { OnOk result (IsDevice version device.now) }
+    ensures keeps { KeepsFront out.old.items out.new.items }
 {
     put_head(out, device)?;
     put_dev_nonce(out, device.last_dev_nonce)?;
@@ -252,38 +264,25 @@ fn put_device(out: &mut Vec<u8>, version: RecordVersion, device: &Device) -> Res
     Ok(())
 }
 
-/// The bytes of a device's record.
-pub(crate) fn device_bytes(
-    alloc: Global,
-    version: RecordVersion,
-    device: &Device,
-) -> Result<Vec<u8>, AllocError>
-    ensures { IfOk result (λ bytes. (bytes.items ≡ spelling version device.now)
-        × IsDevice version device.now) }
-{
-    let mut bytes = Vec::new(alloc);
-    put_device(&mut bytes, version, device)?;
-    Ok(bytes)
-}
-
 /// Appends the record of a device in version 2, its one spelling, of 58 bytes to
-/// [`LONGEST_RECORD`]. For want of memory it is refused as `OutOfMemory`, and then nothing is
-/// appended.
-pub fn write_device(alloc: Global, device: &Device, out: &mut Vec<u8>) -> Result<(), Refusal>
+/// [`LONGEST_RECORD`]. Each byte is written once, and no memory is taken but for the room of `out`.
+/// For want of that it is refused as `OutOfMemory`, and then nothing is appended.
+pub fn write_device(device: &Device, out: &mut Vec<u8>) -> Result<(), Refusal>
     // What is written is the record of a device that can be read again.
     ensures { MatchResult result
         (λ _. (out.new.items ≡ out.old.items ++ spelling V2 device.now) × IsDevice V2 device.now)
         (λ e. (e ≡ OutOfMemory) × (out.new.items ≡ out.old.items)) }
 {
-    RecordVersion::V2.write_device(alloc, device, out)
+    RecordVersion::V2.write_device(device, out)
 }
 
-/// Appends the record of a device in version 1, its one spelling, of 50 to 4,180 bytes. For want of
-/// memory it is refused as `OutOfMemory`, and then nothing is appended.
-pub fn write_device_v1(alloc: Global, device: &Device, out: &mut Vec<u8>) -> Result<(), Refusal>
+/// Appends the record of a device in version 1, its one spelling, of 50 to 4,180 bytes. Each byte
+/// is written once, and no memory is taken but for the room of `out`. For want of that it is
+/// refused as `OutOfMemory`, and then nothing is appended.
+pub fn write_device_v1(device: &Device, out: &mut Vec<u8>) -> Result<(), Refusal>
     ensures { MatchResult result
         (λ _. (out.new.items ≡ out.old.items ++ spelling V1 device.now) × IsDevice V1 device.now)
         (λ e. (e ≡ OutOfMemory) × (out.new.items ≡ out.old.items)) }
 {
-    RecordVersion::V1.write_device(alloc, device, out)
+    RecordVersion::V1.write_device(device, out)
 }

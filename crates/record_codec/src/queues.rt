@@ -8,6 +8,7 @@ ghost use Rattle.record_codec.specs.DeviceRecord.{item, item_queue, IsItem};
 ghost use Rattle.record_codec.specs.Parts.{item_of_part, items_of_parts};
 ghost use Rattle.record_codec.specs.Reading.{item_at, item_queue_at, items_at, items_in};
 ghost use Rattle.record_codec.specs.Reading.{mac_queue_at, payload_at};
+ghost use Rattle.record_codec.specs.Writing.{KeepsFront};
 
 use crate::parts::ItemPart;
 use crate::version::RecordVersion;
@@ -127,6 +128,7 @@ pub(crate) fn put_item(out: &mut Vec<u8>, i: &ItemPart<'_>) -> Result<(), AllocE
     requires { length i.now.payload.now ≤ LONGEST_PAYLOAD }
     ensures written { OnOk result (out.new.items ≡ out.old.items ++ item (item_of_part i.now)) }
     ensures in_range { OnOk result (IsItem (item_of_part i.now)) }
+    ensures keeps { KeepsFront out.old.items out.new.items }
 {
     out.extend_from_slice(&i.tag.0.to_be_bytes())?;
     out.push(i.port.get() as u8)?;
@@ -139,6 +141,7 @@ pub(crate) fn put_item(out: &mut Vec<u8>, i: &ItemPart<'_>) -> Result<(), AllocE
 pub(crate) fn put_item_queue(out: &mut Vec<u8>, queue: &ItemQueue) -> Result<(), AllocError>
     ensures written { OnOk result (out.new.items ≡ out.old.items ++ item_queue queue.now) }
     ensures in_range { OnOk result ((length queue.now ≤ 16) × AllByRecursion IsItem queue.now) }
+    ensures keeps { KeepsFront out.old.items out.new.items }
 {
     let items = queue.as_slice();
     out.push(items.len() as u8)?;

@@ -1,5 +1,5 @@
 // The versions of records, and records and changes in each of them.
-ghost use Rattle.std.specs.Prelude.{◌≡◌, ◌≢◌, ◌≤◌, ◌++◌, List, ℕ, MatchOption, MatchResult};
+ghost use Rattle.std.specs.Prelude.{◌≡◌, ◌≢◌, ◌≤◌, ◌++◌, List, ℕ, MatchOption, MatchResult, take};
 ghost use Rattle.lw_types.specs.declared.refusal.Refusal.TheVariants.{OutOfMemory};
 ghost use Rattle.devices.specs.Becoming.{MayBecome};
 ghost use Rattle.record_codec.specs.Answers.{ReadsChange, ReadsRecord};
@@ -7,8 +7,8 @@ ghost use Rattle.record_codec.specs.Change.{IsChangeOf};
 ghost use Rattle.record_codec.specs.DeviceRecord.{spelling, IsDevice};
 ghost use Rattle.record_codec.specs.Version.{longest_mac_queue, newest, version_byte};
 
-use crate::change::{change_between, change_in};
-use crate::device_record::{device_bytes, read_record};
+use crate::change::{change_in, put_change};
+use crate::device_record::{put_device, read_record};
 use devices::{Device, MacQueue};
 use lw_types::Refusal;
 use std::alloc::Global;
@@ -19,6 +19,15 @@ use std::alloc::Global;
 pub enum RecordVersion {
     V1,
     V2,
+}
+
+// Takes back what was appended behind so many bytes, for want of memory.
+fn taken_back(out: &mut Vec<u8>, len: usize) -> Refusal
+    ensures value { result ≡ OutOfMemory }
+    ensures items { out.new.items ≡ take len out.old.items }
+{
+    out.truncate(len);
+    Refusal::OutOfMemory
 }
 
 impl RecordVersion {
@@ -56,22 +65,20 @@ impl RecordVersion {
         }
     }
 
-    /// Appends the record of a device, its one spelling in this version. After an `Err`, which is
-    /// want of memory, nothing was appended.
-    pub fn write_device(
-        self,
-        alloc: Global,
-        device: &Device,
-        out: &mut Vec<u8>,
-    ) -> Result<(), Refusal>
+    /// Appends the record of a device, its one spelling in this version. Each byte is written once,
+    /// and no memory is taken but for the room of `out`. After an `Err`, which is want of that,
+    /// nothing was appended.
+    pub fn write_device(self, device: &Device, out: &mut Vec<u8>) -> Result<(), Refusal>
         ensures { MatchResult result
             (λ _. (out.new.items ≡ out.old.items ++ spelling self device.now)
             × IsDevice self device.now)
             (λ e. (e ≡ OutOfMemory) × (out.new.items ≡ out.old.items)) }
     {
-        let bytes = device_bytes(alloc, self, device)?;
-        out.extend_from_slice(bytes.as_slice())?;
-        Ok(())
+        let len = out.len();
+        match put_device(out, self, device) {
+            Ok(()) => Ok(()),
+            Err(_) => Err(taken_back(out, len)),
+        }
     }
 
     /// The device of a record in this version, which is all of the bytes. Bytes that are no such
@@ -86,11 +93,11 @@ impl RecordVersion {
         }
     }
 
-    /// Appends the change from one record to the next, its one spelling in this version. After an
-    /// `Err`, which is want of memory, nothing was appended.
+    /// Appends the change from one record to the next, its one spelling in this version. Each byte
+    /// is written once, and no memory is taken but for the room of `out`. After an `Err`, which is
+    /// want of that, nothing was appended.
     pub fn write_change(
         self,
-        alloc: Global,
         before: &Device,
         after: &Device,
         out: &mut Vec<u8>,
@@ -101,9 +108,11 @@ impl RecordVersion {
             × IsChangeOf self before.now after.now bytes)
             (λ e. (e ≡ OutOfMemory) × (out.new.items ≡ out.old.items)) }
     {
-        let bytes = change_between(alloc, self, before, after)?;
-        out.extend_from_slice(bytes.as_slice())?;
-        Ok(())
+        let len = out.len();
+        match put_change(out, self, before, after) {
+            Ok(()) => Ok(()),
+            Err(_) => Err(taken_back(out, len)),
+        }
     }
 
     /// The record that a change in this version, which is all of the bytes, makes of the one

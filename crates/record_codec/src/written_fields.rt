@@ -4,6 +4,7 @@ ghost use Rattle.std.specs.Int.{to_be_bytes, w64};
 ghost use Rattle.lw_types.specs.Hex.{IsBytes};
 ghost use Rattle.lw_types.specs.Values.{IsKey};
 ghost use Rattle.byte_fields.specs.Spelling.{counted_bytes, flag};
+ghost use Rattle.record_codec.specs.Writing.{KeepsFront};
 
 use lw_types::{Eui, Key};
 use std::alloc::AllocError;
@@ -12,6 +13,7 @@ use std::alloc::AllocError;
 pub(crate) fn put_eui(out: &mut Vec<u8>, eui: Eui) -> Result<(), AllocError>
     ensures written { OnOk result (out.new.items ≡ out.old.items ++ to_be_bytes w64 eui.0) }
     ensures in_range { eui.0 < 2 ^ 64 }
+    ensures keeps { KeepsFront out.old.items out.new.items }
 {
     out.extend_from_slice(&eui.0.to_be_bytes())
 }
@@ -20,6 +22,7 @@ pub(crate) fn put_eui(out: &mut Vec<u8>, eui: Eui) -> Result<(), AllocError>
 pub(crate) fn put_key(out: &mut Vec<u8>, key: Key) -> Result<(), AllocError>
     ensures written { OnOk result (out.new.items ≡ out.old.items ++ key.0) }
     ensures in_range { IsKey key }
+    ensures keeps { KeepsFront out.old.items out.new.items }
 {
     out.extend_from_slice(&key.0)?;
     Ok(())
@@ -30,6 +33,7 @@ pub(crate) fn put_counted(out: &mut Vec<u8>, bytes: &[u8]) -> Result<(), AllocEr
     requires { length bytes.now ≤ 255 }
     ensures written { OnOk result (out.new.items ≡ out.old.items ++ counted_bytes bytes.now) }
     ensures in_range { IsBytes bytes.now }
+    ensures keeps { KeepsFront out.old.items out.new.items }
 {
     out.push(bytes.len() as u8)?;
     out.extend_from_slice(bytes)?;
@@ -38,7 +42,8 @@ pub(crate) fn put_counted(out: &mut Vec<u8>, bytes: &[u8]) -> Result<(), AllocEr
 
 /// Appends 00 or 01.
 pub(crate) fn put_flag(out: &mut Vec<u8>, is_there: bool) -> Result<(), AllocError>
-    ensures { OnOk result (out.new.items ≡ out.old.items ++ flag is_there) }
+    ensures written { OnOk result (out.new.items ≡ out.old.items ++ flag is_there) }
+    ensures keeps { KeepsFront out.old.items out.new.items }
 {
     out.push(u8::from(is_there))?;
     Ok(())

@@ -1,5 +1,5 @@
 // The groups of a change, appended to the bytes so far.
-ghost use Rattle.std.specs.Prelude.{◌≡◌, ◌++◌, ◌≤◌, ◌<◌, ◌^◌, ℕ, IfOk, IfSome, OnOk, length};
+ghost use Rattle.std.specs.Prelude.{◌≡◌, ◌++◌, ◌≤◌, ◌<◌, ◌^◌, ℕ, IfSome, OnOk, length};
 ghost use Rattle.std.specs.Prelude.{option_map};
 ghost use Rattle.lw_types.specs.Hex.{IsBytes};
 ghost use Rattle.byte_fields.specs.Spelling.{counted_bytes};
@@ -10,6 +10,7 @@ ghost use Rattle.record_codec.specs.Change.{item_change_bytes, mask, nonces_byte
 ghost use Rattle.record_codec.specs.Change.{AreCounters, AreInRange, AreNonces, IsItemChange};
 ghost use Rattle.record_codec.specs.Parts.{groups_of_parts, item_change_of_parts, AreShort};
 ghost use Rattle.record_codec.specs.Parts.{FitVersion, IsShortChange};
+ghost use Rattle.record_codec.specs.Writing.{KeepsFront};
 
 use crate::activation_fields::{
     put_counters, put_granted, put_optional_current, put_optional_session,
@@ -20,10 +21,7 @@ use crate::queues::put_item;
 use crate::version::RecordVersion;
 use crate::written_fields::put_counted;
 use devices::{CurrentSession, MacQueue, Session, Tag};
-use std::alloc::{AllocError, Global};
-
-// The bytes that a change mostly fits into.
-const USUAL_CHANGE: usize = 32;
+use std::alloc::AllocError;
 
 // 1 for a group that is there.
 fn there<T>(group: &Option<T>) -> u8
@@ -50,6 +48,7 @@ fn put_nonces(out: &mut Vec<u8>, nonces: &Option<Nonces>) -> Result<(), AllocErr
     ensures written { OnOk result (out.new.items
         ≡ out.old.items ++ group_bytes nonces_bytes nonces.now) }
     ensures in_range { OnOk result (IfSome nonces.now AreNonces) }
+    ensures keeps { KeepsFront out.old.items out.new.items }
 {
     match nonces {
         None => (),
@@ -68,6 +67,7 @@ fn put_current(
     ensures written { OnOk result (out.new.items
         ≡ out.old.items ++ group_bytes optional_current current.now) }
     ensures in_range { OnOk result (IfSome current.now (λ o. IfSome o IsCurrentSession)) }
+    ensures keeps { KeepsFront out.old.items out.new.items }
 {
     match current {
         None => (),
@@ -80,6 +80,7 @@ fn put_counts(out: &mut Vec<u8>, counters: &Option<Counters>) -> Result<(), Allo
     ensures written { OnOk result (out.new.items
         ≡ out.old.items ++ group_bytes counters_bytes counters.now) }
     ensures in_range { OnOk result (IfSome counters.now AreCounters) }
+    ensures keeps { KeepsFront out.old.items out.new.items }
 {
     match counters {
         None => (),
@@ -92,6 +93,7 @@ fn put_pending(out: &mut Vec<u8>, pending: &Option<Option<Session>>) -> Result<(
     ensures written { OnOk result (out.new.items
         ≡ out.old.items ++ group_bytes optional_session pending.now) }
     ensures in_range { OnOk result (IfSome pending.now (λ o. IfSome o IsSession)) }
+    ensures keeps { KeepsFront out.old.items out.new.items }
 {
     match pending {
         None => (),
@@ -104,6 +106,7 @@ fn put_tag(out: &mut Vec<u8>, awaited: &Option<Option<Tag>>) -> Result<(), Alloc
     ensures written { OnOk result (out.new.items
         ≡ out.old.items ++ group_bytes awaited_bytes awaited.now) }
     ensures in_range { OnOk result (IfSome awaited.now (λ o. IfSome o (λ tag. tag.0 < 2 ^ 32))) }
+    ensures keeps { KeepsFront out.old.items out.new.items }
 {
     match awaited {
         None => (),
@@ -119,6 +122,7 @@ fn put_commands(out: &mut Vec<u8>, commands: &Option<&[u8]>) -> Result<(), Alloc
     ensures in_range { (most : ℕ) → IfSome commands.now (λ bytes. length bytes.now ≤ most)
         → OnOk result (IfSome (option_map (λ bytes. bytes.now) commands.now)
         (λ bytes. IsBytes bytes × (length bytes ≤ most))) }
+    ensures keeps { KeepsFront out.old.items out.new.items }
 {
     match commands {
         None => (),
@@ -133,6 +137,7 @@ fn put_item_change(out: &mut Vec<u8>, added: &ItemChangePart<'_>) -> Result<(), 
     ensures written { OnOk result (out.new.items
         ≡ out.old.items ++ item_change_bytes (item_change_of_parts added.now)) }
     ensures in_range { OnOk result (IsItemChange (item_change_of_parts added.now)) }
+    ensures keeps { KeepsFront out.old.items out.new.items }
 {
     match added {
         None => out.push(0)?,
@@ -150,6 +155,7 @@ fn put_items(out: &mut Vec<u8>, items: &Option<ItemChangePart<'_>>) -> Result<()
         OnOk result (out.new.items ≡ out.old.items ++ group_bytes item_change_bytes change) }
     ensures in_range { OnOk result (IfSome (option_map item_change_of_parts items.now)
         IsItemChange) }
+    ensures keeps { KeepsFront out.old.items out.new.items }
 {
     match items {
         None => (),
@@ -158,9 +164,9 @@ fn put_items(out: &mut Vec<u8>, items: &Option<ItemChangePart<'_>>) -> Result<()
     Ok(())
 }
 
-// Appends the mask of a change and the groups that are there.
+/// Appends the mask of a change and the groups that are there.
 #[tactic(auto, unfolding(crate::specs::Change::change_bytes))]
-fn put_groups(
+pub(crate) fn put_groups(
     out: &mut Vec<u8>,
     version: RecordVersion,
     groups: &GroupParts<'_>,
@@ -170,6 +176,7 @@ fn put_groups(
     ensures written { OnOk result (out.new.items
         ≡ out.old.items ++ change_bytes (groups_of_parts groups.now)) }
     ensures in_range { OnOk result (AreInRange version (groups_of_parts groups.now)) }
+    ensures keeps { KeepsFront out.old.items out.new.items }
 {
     out.push(mask(groups))?;
     put_nonces(out, &groups.nonces)?;
@@ -180,22 +187,4 @@ fn put_groups(
     put_commands(out, &groups.mac_queue)?;
     put_items(out, &groups.items)?;
     Ok(())
-}
-
-impl GroupParts<'_> {
-    /// The bytes of a change: its mask and the groups that are there.
-    pub(crate) fn spelled(
-        &self,
-        alloc: Global,
-        version: RecordVersion,
-    ) -> Result<Vec<u8>, AllocError>
-        requires short { AreShort self.now }
-        requires fit { FitVersion version self.now }
-        ensures { IfOk result (λ bytes. (bytes.items ≡ change_bytes (groups_of_parts self.now))
-            × AreInRange version (groups_of_parts self.now)) }
-    {
-        let mut bytes = Vec::with_capacity(alloc, USUAL_CHANGE)?;
-        put_groups(&mut bytes, version, self)?;
-        Ok(bytes)
-    }
 }

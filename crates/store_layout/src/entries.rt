@@ -1,6 +1,6 @@
 // Entries, written.
-ghost use Rattle.std.specs.Prelude.{◌≡◌, ◌≤◌, ◌*◌, ◌++◌, ℕ, List, IfOk, MatchResult, length};
-ghost use Rattle.std.specs.Prelude.{◌<◌, ◌^◌, ◌∷◌};
+ghost use Rattle.std.specs.Prelude.{◌≡◌, ◌≤◌, ◌<◌, ◌+◌, ◌*◌, ◌^◌, ◌∷◌, [], ◌++◌, ℕ, List};
+ghost use Rattle.std.specs.Prelude.{MatchResult, length, take};
 ghost use Rattle.std.specs.Int.{to_be_bytes, w16};
 ghost use Rattle.lw_types.specs.declared.refusal.Refusal.TheVariants.{OutOfMemory};
 ghost use Rattle.devices.specs.Becoming.{MayBecome};
@@ -14,7 +14,7 @@ use devices::Device;
 use lw_types::Refusal;
 use record_codec::{RecordVersion, laws};
 use sessions::{Batch, Decision, Table};
-use std::alloc::{AllocError, Global};
+use std::alloc::AllocError;
 
 /// The kind of an entry that is a whole record.
 pub(crate) const WHOLE: u8 = 1;
@@ -22,16 +22,16 @@ pub(crate) const WHOLE: u8 = 1;
 /// The kind of an entry that is a change.
 pub(crate) const CHANGED: u8 = 2;
 
+// The bytes of an entry in front of its body: its kind, its slot, and the length of its body.
+const FRONT_LEN: usize = 5;
+
 /// The most bytes of an entry: 5, and those that are reserved for a record.
-pub const LONGEST_ENTRY: usize = 5 + RESERVED_RECORD;
+pub const LONGEST_ENTRY: usize = FRONT_LEN + RESERVED_RECORD;
 
-// The bytes that the entries of a batch mostly fit into.
-const USUAL_ENTRIES: usize = 1024;
-
-/// Appends the entry of the whole record at a slot. After an `Err`, which is want of memory,
-/// nothing was appended.
+/// Appends the entry of the whole record at a slot. Each byte of the record is written once, and no
+/// memory is taken but for the room of `out`. After an `Err`, which is want of that, nothing was
+/// appended.
 pub fn put_entry(
-    alloc: Global,
     version: RecordVersion,
     slot: u16,
     device: &Device,
@@ -42,17 +42,20 @@ pub fn put_entry(
         × IsEntry version (Whole slot device.now))
         (λ e. (e ≡ OutOfMemory) × (out.new.items ≡ out.old.items)) }
 {
-    let mut record = Vec::new(alloc);
-    version.write_device(alloc, device, &mut record)?;
     laws::records_are_short();
-    let bytes = entry_bytes(alloc, WHOLE, slot, record.as_slice())?;
-    out.extend_from_slice(bytes.as_slice())?;
-    Ok(())
+    let at = out.len();
+    put_front(out, WHOLE, slot)?;
+    match version.write_device(device, out) {
+        Ok(()) => {
+            set_length(out, at);
+            Ok(())
+        }
+        Err(_) => Err(taken_back(out, at)),
+    }
 }
 
 // Appends the entry of the change from one record to another. After an `Err` nothing was appended.
 fn put_change(
-    alloc: Global,
     version: RecordVersion,
     slot: u16,
     before: &Device,
@@ -67,32 +70,56 @@ fn put_change(
         × IsChangeOf version before.now after.now change)
         (λ e. (e ≡ OutOfMemory) × (out.new.items ≡ out.old.items)) }
 {
-    let mut change = Vec::new(alloc);
-    version.write_change(alloc, before, after, &mut change)?;
     laws::changes_are_short();
-    let bytes = entry_bytes(alloc, CHANGED, slot, change.as_slice())?;
-    out.extend_from_slice(bytes.as_slice())?;
-    Ok(())
+    let at = out.len();
+    put_front(out, CHANGED, slot)?;
+    match version.write_change(before, after, out) {
+        Ok(()) => {
+            set_length(out, at);
+            Ok(())
+        }
+        Err(_) => Err(taken_back(out, at)),
+    }
 }
 
-// The bytes of an entry: its kind, slot and length, and its body.
-fn entry_bytes(alloc: Global, kind: u8, slot: u16, body: &[u8]) -> Result<Vec<u8>, AllocError>
-    requires { length body.now < 2 ^ 16 }
-    ensures { IfOk result (λ bytes. bytes.items
-        ≡ kind ∷ (to_be_bytes w16 slot ++ (to_be_bytes w16 (length body.now) ++ body.now))) }
+// Takes back what was appended behind so many bytes, for want of memory.
+fn taken_back(out: &mut Vec<u8>, len: usize) -> Refusal
+    ensures value { result ≡ OutOfMemory }
+    ensures items { out.new.items ≡ take len out.old.items }
+{
+    out.truncate(len);
+    Refusal::OutOfMemory
+}
+
+// Appends the kind and the slot of an entry, and a length of 0.
+fn put_front(out: &mut Vec<u8>, kind: u8, slot: u16) -> Result<(), AllocError>
+    ensures { MatchResult result
+        (λ _. out.new.items ≡ out.old.items ++ kind ∷ (to_be_bytes w16 slot ++ 0 ∷ 0 ∷ []))
+        (λ _. out.new.items ≡ out.old.items) }
 {
     let [s1, s0] = slot.to_be_bytes();
-    let [l1, l0] = (body.len() as u16).to_be_bytes();
-    let mut bytes = Vec::with_capacity(alloc, 5 + body.len())?;
-    bytes.extend_from_slice(&[kind, s1, s0, l1, l0])?;
-    bytes.extend_from_slice(body)?;
-    Ok(bytes)
+    out.extend_from_slice(&[kind, s1, s0, 0, 0])
+}
+
+// Sets the length of the last entry, which begins at `at`: its body is all that stands behind its
+// front.
+fn set_length(out: &mut Vec<u8>, at: usize)
+    requires front { at + FRONT_LEN ≤ length out.old.items }
+    requires short { length out.old.items < at + FRONT_LEN + 2 ^ 16 }
+    ensures { (before body : List ℕ) (kind slot : ℕ) → length before ≡ at
+        → out.old.items ≡ before ++ kind ∷ (to_be_bytes w16 slot ++ 0 ∷ 0 ∷ body)
+        → out.new.items
+        ≡ before ++ kind ∷ (to_be_bytes w16 slot ++ (to_be_bytes w16 (length body) ++ body)) }
+{
+    // It stands behind the kind and the slot.
+    let [l1, l0] = ((out.len() - at - FRONT_LEN) as u16).to_be_bytes();
+    out[at + 3] = l1;
+    out[at + 4] = l0;
 }
 
 // Appends the entry of a decision: the record that it leaves, where it found none, else the change.
 // After an `Err` nothing was appended.
 fn put_decision(
-    alloc: Global,
     version: RecordVersion,
     decision: &Decision,
     out: &mut Vec<u8>,
@@ -104,39 +131,33 @@ fn put_decision(
 {
     sessions::laws::a_decision_is_a_step();
     match &decision.before {
-        None => put_entry(alloc, version, decision.slot, &decision.after, out),
-        Some(before) => put_change(alloc, version, decision.slot, before, &decision.after, out),
+        None => put_entry(version, decision.slot, &decision.after, out),
+        Some(before) => put_change(version, decision.slot, before, &decision.after, out),
     }
 }
 
-/// The entries of a batch, one for each decision, in order.
-pub fn batch_entries(
-    alloc: Global,
-    version: RecordVersion,
-    batch: &Batch,
-) -> Result<Vec<u8>, Refusal>
+/// Appends the entries of a batch, one for each decision, in order. Each byte of a record is
+/// written once, and no memory is taken but for the room of `out`. After an `Err`, which is want of
+/// that, a beginning of them was appended.
+pub fn put_batch(version: RecordVersion, batch: &Batch, out: &mut Vec<u8>) -> Result<(), Refusal>
     ensures entries { MatchResult result
-        (λ bytes. SpellsEntriesOf version batch.now bytes.items)
+        (λ _. (bytes : List ℕ) × (out.new.items ≡ out.old.items ++ bytes)
+        × SpellsEntriesOf version batch.now bytes
+        × (length bytes ≤ length batch.now * LONGEST_ENTRY))
         (λ e. e ≡ OutOfMemory) }
-    ensures short { IfOk result (λ bytes. length bytes.items ≤ length batch.now * LONGEST_ENTRY) }
 {
     crate::laws::entries_are_short();
     crate::laws::decisions_replay();
-    let mut bytes = Vec::with_capacity(alloc, USUAL_ENTRIES)?;
     for decision in batch.as_slice() {
-        put_decision(alloc, version, decision, &mut bytes)?;
+        put_decision(version, decision, out)?;
     }
-    Ok(bytes)
+    Ok(())
 }
 
 /// Appends the entries of a table: the record of each device under its slot, in order of slots.
-/// After an `Err`, which is want of memory, a beginning of them was appended.
-pub fn put_table(
-    alloc: Global,
-    version: RecordVersion,
-    table: &Table,
-    out: &mut Vec<u8>,
-) -> Result<(), Refusal>
+/// Each byte of a record is written once, and no memory is taken but for the room of `out`. After
+/// an `Err`, which is want of that, a beginning of them was appended.
+pub fn put_table(version: RecordVersion, table: &Table, out: &mut Vec<u8>) -> Result<(), Refusal>
     ensures { MatchResult result
         (λ _. (out.new.items ≡ out.old.items ++ entries version (entries_of_table table.now))
         × AreEntries version (entries_of_table table.now))
@@ -146,7 +167,7 @@ pub fn put_table(
     let _slots = table.slots();
     let mut slot = 0;
     for device in table.devices() {
-        put_entry(alloc, version, slot, device, out)?;
+        put_entry(version, slot, device, out)?;
         slot += 1;
     }
     Ok(())

@@ -6,7 +6,7 @@ pub mod laws;
 mod replaying;
 mod superblock;
 
-pub use entries::{LONGEST_ENTRY, batch_entries, put_entry, put_table};
+pub use entries::{LONGEST_ENTRY, put_batch, put_entry, put_table};
 pub use record_codec::RecordVersion;
 pub use replaying::replay;
 pub use superblock::{JOURNAL_ROOM, RESERVED_ENTRY, Superblock};

@@ -1,14 +1,22 @@
 use Rattle.std.proofs.Common.{ℕ, ◌≤◌, arith}
 use Rattle.devices.specs.declared.mac_queue.TheConstants.MacQueue.{MOST as LONGEST_MAC_QUEUE}
+use Rattle.record_codec.specs.DeviceRecord.{spelling}
 use Rattle.record_codec.specs.Version.{longest_mac_queue}
 use Rattle.record_codec.specs.declared.version.RecordVersion.{RecordVersion}
 use Rattle.record_codec.specs.declared.version.RecordVersion.TheVariants.{V1, V2}
+use Rattle.record_codec.proofs.Loop.{seven_written}
 use Rattle.record_codec.proofs.device_record.put_device.Goals as goal
 
 -- each version has room for a queue
 has_room : (v : RecordVersion) (len : ℕ) → len ≤ LONGEST_MAC_QUEUE → len ≤ longest_mac_queue v
 has_room V1 len few = omega arith
 has_room V2 len few = few
+
+pub returns-clause-written : goal.returns-clause-written
+unfolding spelling
+returns-clause-written c =
+    let queue = rw c.as_slice.ensures.bytes at c.in_ok-put_counted.ensures.written in
+    seven_written _ _ _ _ _ _ _ _ _ _ _ _ _ _ _ c.in_ok-put_head.ensures.written c.in_ok-put_dev_nonce.ensures.written c.in_ok-put_activation.ensures.written c.in_ok-put_awaited.ensures.written queue c.in_ok-put_item_queue.ensures.written c.in_ok-put_heard.ensures.written
 
 pub returns-clause-in_range : goal.returns-clause-in_range
 returns-clause-in_range c =

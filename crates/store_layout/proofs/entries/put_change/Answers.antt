@@ -1,22 +1,21 @@
-use Rattle.std.proofs.Common.{◌≡◌, ◌∙◌, ◌∷◌, ◌++◌, ℕ, List, length, ap, arith}
+use Rattle.std.proofs.Common.{◌≡◌, ◌∙◌, [], ◌∷◌, ◌++◌, ℕ, List, length, ap, append_assoc, arith, length-append}
 use Rattle.std.specs.Int.{to_be_bytes, w16}
-use Rattle.store_layout.specs.Entries.{entry}
-use Rattle.store_layout.specs.Entries.EntryValue.{Changed}
 use Rattle.store_layout.proofs.entries.put_change.Goals as goal
 
-pub entry_bytes-requires : goal.entry_bytes-requires
-entry_bytes-requires c =
-    let of = c.in_ok-write_change.ensures in
-    let spelled : c.as_slice.result.now ≡ of.0 = c.as_slice.ensures.value ∙ (of.1 ∙ ap (λ (l : List ℕ). l ++ of.0) c.new-change.ensures.items) in
+pub set_length-requires-clause-short : goal.set_length-requires-clause-short
+set_length-requires-clause-short c =
+    let of = c.in-Ok.ensures in
     let short = c.changes_are_short.ensures.most c.args.version c.args.before.now c.args.after.now of.0 of.2 in
-    let long = ap length spelled in
-    omega arith
+    let front = ap length c.in_ok-put_front.ensures in
+    let whole = ap length of.1 in
+    omega (arith, length-append {A = ℕ})
 
-pub returns : goal.returns
-returns c =
-    let of = c.in_ok-write_change.ensures in
-    let spelled : c.as_slice.result.now ≡ of.0 = c.as_slice.ensures.value ∙ (of.1 ∙ ap (λ (l : List ℕ). l ++ of.0) c.new-change.ensures.items) in
+pub returns-in-Ok : goal.returns-in-Ok
+returns-in-Ok c =
+    let of = c.in-Ok.ensures in
+    let old = c.args.out.now.items in
     let short = c.changes_are_short.ensures.most c.args.version c.args.before.now c.args.after.now of.0 of.2 in
-    let word : List ℕ → List ℕ = λ r. 2 ∷ (to_be_bytes w16 c.args.slot ++ (to_be_bytes w16 (length r) ++ r)) in
-    let bytes : c.as_slice-2.result.now ≡ entry c.args.version (Changed c.args.slot of.0) = c.as_slice-2.ensures.value ∙ (c.in_ok-bytes.ensures ∙ ap word spelled) in
-    (of.0, c.in_ok-extend_from_slice.ensures.items ∙ ap (λ b. c.args.out.now.items ++ b) bytes, (c.ranges.slot.fits, omega (arith, short)), of.2)
+    let at : length old ≡ c.len-at.result = omega arith in
+    let whole : c.write_change.new.out.items ≡ old ++ 2 ∷ (to_be_bytes w16 c.args.slot ++ 0 ∷ 0 ∷ of.0) =
+    of.1 ∙ ap (λ (l : List ℕ). l ++ of.0) c.in_ok-put_front.ensures ∙ append_assoc old (2 ∷ (to_be_bytes w16 c.args.slot ++ 0 ∷ 0 ∷ [])) of.0 in
+    (of.0, c.set_length.ensures old of.0 2 c.args.slot at whole, (c.ranges.slot.fits, omega arith), of.2)
