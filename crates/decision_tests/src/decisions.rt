@@ -2,6 +2,7 @@
 // it leaves, as lines for the application and frames for the gateway, and the record is compared
 // whole.
 mod channels;
+mod counts;
 mod fcnt;
 mod joins;
 mod loads;
@@ -37,13 +38,14 @@ fn rows_of(table: u8) -> &'static [Row] {
         9 => stories::STORIES,
         10 => joins::JOINS,
         11 => channels::CHANNELS,
+        12 => counts::COUNTS,
         _ => queueing::QUEUED,
     }
 }
 
 #[test]
 fn a_command_leaves_a_record_and_effects(rt: HostRuntime) {
-    for table in 0..13 {
+    for table in 0..14 {
         for row in rows_of(table) {
             assert!(rt;
                 row.holds(rt.alloc()) == Ok(true),

@@ -4,7 +4,7 @@ use crate::tables::{alone, filled};
 use devices::{
     Activation, Application, AskedBytes, Channels, Command, CurrentSession, Device, Effect,
     Hearing, Item, ItemQueue, MacQueue, MacQueueing, NextDown, Payload, Port, Provisioning,
-    Queueing, Rx1Offset, Tag,
+    Queueing, Rx1Offset, Tag, UplinkCount,
 };
 use gateway_wire::Emission;
 use lw_types::{Eui, JoinNonce, Reception, Refusal, read_hex, write_hex};
@@ -49,6 +49,8 @@ pub(crate) struct State {
     pub awaited: Option<u32>,
     pub mac_queue: Option<&'static str>,
     pub items: Items,
+    /// How many uplinks were counted.
+    pub heard: u64,
 }
 
 /// The device that joins was provisioned, to slot 0.
@@ -67,6 +69,7 @@ pub(crate) const FRESH: State = State {
     awaited: None,
     mac_queue: None,
     items: Items::Ports(0),
+    heard: 0,
 };
 
 /// How a gateway heard a frame: its number above B0, the data rate, SNR and RSSI. No two of B0 to
@@ -208,6 +211,7 @@ impl State {
         let activation = self.activation().ok_or(Refusal::Damaged)?;
         let mac_queue = mac_queue(alloc, self.mac_queue.unwrap_or(""))?;
         let items = self.items.queue(alloc)?;
+        let heard = UplinkCount::new(self.heard).ok_or(Refusal::Damaged)?;
         let mut device = Device::provisioned(alloc, &provisioned);
         device.rx1_offset = rx1_offset;
         device.last_dev_nonce = self.last_dev_nonce;
@@ -215,6 +219,7 @@ impl State {
         device.awaited = awaited(self.awaited);
         device.mac_queue = mac_queue;
         device.items = items;
+        device.heard = heard;
         Ok(device)
     }
 

@@ -1,7 +1,8 @@
 -- The record that the network keeps of a device.
-use Rattle.std.specs.Prelude.{None, []}
+use Rattle.std.specs.Prelude.{ℕ, ◌+◌, nat_lt, if◌then◌else◌, None, []}
 use Rattle.devices.specs.declared.command.Provisioning.{Provisioning}
 use Rattle.devices.specs.declared.device.Device.{Device}
+use Rattle.devices.specs.declared.TheConstants.{LAST_HEARD}
 use Rattle.devices.specs.Activation.{no_grants}
 
 -- the record of a device that was just provisioned: nothing granted, awaited, queued or heard
@@ -21,3 +22,7 @@ new_device p =
       items = [];
       heard = 0;
     }
+
+-- the count of uplinks after one more: at its end it stays
+abbrev pub one_more_heard : ℕ → ℕ
+one_more_heard heard = if nat_lt heard LAST_HEARD then heard + 1 else heard

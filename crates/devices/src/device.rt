@@ -3,8 +3,8 @@ ghost use Rattle.std.specs.Prelude.{◌≡◌, ◌↔◌, IsTrue, MatchResult};
 ghost use Rattle.lw_types.specs.declared.refusal.Refusal.TheVariants.{OutOfMemory};
 
 use crate::{
-    Activation, Application, ItemQueue, MacQueue, Provisioning, Rx1Offset, RxDelay, Tag,
-    UplinkCount,
+    Activation, Application, ItemQueue, LAST_HEARD, MacQueue, Provisioning, Rx1Offset, RxDelay,
+    Tag, UplinkCount,
 };
 use lw_types::{Eui, Key, Refusal};
 use std::alloc::Global;
@@ -31,7 +31,7 @@ pub struct Device {
 }
 
 impl Device {
-    ghost use Rattle.devices.specs.Device.{new_device};
+    ghost use Rattle.devices.specs.Device.{new_device, one_more_heard};
 
     /// The record of a device that was just provisioned. Takes no memory.
     pub fn provisioned(alloc: Global, provisioning: &Provisioning) -> Self
@@ -50,6 +50,16 @@ impl Device {
             mac_queue: MacQueue::empty(alloc),
             items: ItemQueue::empty(alloc),
             heard: UplinkCount::new(0).unwrap(),
+        }
+    }
+
+    /// One more uplink is counted, unless the count is at its end, where it stays.
+    pub fn hear_one_more(&mut self)
+        ensures { self.new ≡ record self.old { heard = one_more_heard self.old.heard } }
+    {
+        let heard = self.heard.get();
+        if heard < LAST_HEARD {
+            self.heard = UplinkCount::new(heard + 1).unwrap();
         }
     }
 

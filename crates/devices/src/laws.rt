@@ -1,6 +1,6 @@
 //! The ranges of the types: each is what its name says, and no neighbour is let in or left out.
 //! Which copy of a frame is the best one, and that addresses lead to their devices.
-ghost use Rattle.std.specs.Prelude.{◌≡◌, ◌≤◌, ◌<◌, ◌^◌, ◌↔◌, ℕ, IsTrue, List, [], MatchOption};
+ghost use Rattle.std.specs.Prelude.{◌≡◌, ◌≤◌, ◌<◌, ◌-◌, ◌^◌, ◌↔◌, ℕ, IsTrue, List, [], MatchOption};
 ghost use Rattle.std.specs.Prelude.{Some, SomeIff};
 ghost use Rattle.devices.specs.declared.heard.Hearing.{Hearing};
 ghost use Rattle.devices.specs.Address.{dev_addr, slot_at};
@@ -63,11 +63,11 @@ pub fn uplinks_are_counted_to_the_last(number: u64) -> Option<UplinkCount>
 /// What a device's queues, a decision's effects and a frame's copies have room for, and where the
 /// count of uplinks ends.
 pub fn limits_are_these()
-    ensures mac_queue { MacQueue.MOST ≡ 64 }
+    ensures mac_queue { MacQueue.MOST ≡ 128 }
     ensures items { ItemQueue.MOST ≡ 16 }
     ensures effects { Effects.MOST ≡ 4 }
     ensures copies { Hearings.MOST ≡ 32 }
-    ensures heard { LAST_HEARD ≡ 0 }
+    ensures heard { LAST_HEARD ≡ 2 ^ 63 - 1 }
 {}
 
 /// The best of the copies of a frame: one of them, unless there are none, such that no other was

@@ -47,7 +47,7 @@ pub type NextDown = Ranged<0, 4_294_967_296>;
 pub type UplinkCount = Ranged<0, LAST_HEARD>;
 
 /// Where the count of a device's uplinks ends: it stays there.
-pub const LAST_HEARD: u64 = 0;
+pub const LAST_HEARD: u64 = (1 << 63) - 1;
 
 /// The bytes that an application hands in, of any number.
 pub type AskedBytes = Bytes<{ usize::MAX }>;

@@ -13,7 +13,7 @@ use std::alloc::{AllocError, Global};
 use std::marker::Model;
 
 /// Whole MAC commands that an application may queue, LinkADRReq, DutyCycleReq and DevStatusReq
-/// (TS001-1.0.4 §5), one after another in at most 64 bytes. In contracts it is the list of the
+/// (TS001-1.0.4 §5), one after another in at most 128 bytes. In contracts it is the list of the
 /// bytes.
 pub struct MacQueue {
     bytes: Vec<u8>,
@@ -40,7 +40,7 @@ impl Model for MacQueue {
 
 impl MacQueue {
     /// The most bytes that wait.
-    pub const MOST: usize = 64;
+    pub const MOST: usize = 128;
 
     /// No commands. Takes no memory.
     pub fn empty(alloc: Global) -> Self
@@ -51,7 +51,7 @@ impl MacQueue {
         }
     }
 
-    /// These bytes, where they are at most 64 and are whole commands that may be queued; else the
+    /// These bytes, where they are at most 128 and are whole commands that may be queued; else the
     /// vector back.
     pub fn new(bytes: Vec<u8>) -> Result<Self, Vec<u8>>
         ensures { MatchResult result
@@ -124,7 +124,7 @@ impl MacQueue {
         self.bytes.is_empty()
     }
 
-    /// The bytes of the commands, at most 64.
+    /// The bytes of the commands, at most 128.
     pub fn as_slice(&self) -> &[u8]
         ensures bytes { result.now ≡ self.now }
         ensures few { length self.now ≤ Self.MOST }

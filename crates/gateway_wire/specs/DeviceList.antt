@@ -17,9 +17,10 @@ session_words None rest = codes "-" ∷ codes "-" ∷ codes "-" ∷ rest
 session_words (Some current) rest =
     decimal current.session.join_nonce ∷ decimal current.last_up ∷ decimal current.next_down ∷ rest
 
--- the current session, and how many items wait
+-- the current session, how many items wait, and how many uplinks were counted
 abbrev pub traffic_words : Device → List (List ℕ)
-traffic_words d = session_words d.activation.current (decimal (length d.items) ∷ [])
+traffic_words d =
+    session_words d.activation.current (decimal (length d.items) ∷ decimal d.heard ∷ [])
 
 -- slot, DevEUI, last JoinNonce granted (0 for none), and the traffic
 abbrev pub device_line : ℕ → Device → List ℕ

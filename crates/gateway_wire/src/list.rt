@@ -34,8 +34,8 @@ fn last_line(alloc: Global, count: usize, seq: u64) -> Result<String, AllocError
     Ok(text)
 }
 
-// Slot, DevEUI, last JoinNonce granted, the current session with its counters, and how many items
-// wait.
+// Slot, DevEUI, last JoinNonce granted, the current session with its counters, how many items wait,
+// and how many uplinks were counted.
 #[tactic(auto, unfolding(lw_types::specs::Words::line_of))]
 fn device_line(alloc: Global, slot: usize, device: &Device) -> Result<String, AllocError>
     ensures { IfOk result (λ text. string_bytes text ≡ device_line slot device.now) }
@@ -47,7 +47,7 @@ fn device_line(alloc: Global, slot: usize, device: &Device) -> Result<String, Al
     Ok(text)
 }
 
-// The current session with its counters, and how many items wait.
+// The current session with its counters, how many items wait, and how many uplinks were counted.
 #[derive(Clone, Copy)]
 struct Traffic<'a>(&'a Device);
 
@@ -61,12 +61,13 @@ impl fmt::Display for Traffic<'_> {
     #[tactic(auto, unfolding(lw_types::specs::Words::line_of))]
     fn fmt<W: fmt::Write>(&self, f: &mut fmt::Formatter<W>) -> fmt::Result {
         let items = self.0.items.as_slice().len();
+        let heard = self.0.heard.get();
         match self.0.activation.current() {
-            None => write!(f, "- - - {items}"),
+            None => write!(f, "- - - {items} {heard}"),
             Some(current) => {
                 let nonce = current.session.join_nonce.get();
                 let (last_up, next_down) = (current.last_up, current.next_down.get());
-                write!(f, "{nonce} {last_up} {next_down} {items}")
+                write!(f, "{nonce} {last_up} {next_down} {items} {heard}")
             }
         }
     }

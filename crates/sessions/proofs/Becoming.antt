@@ -1,10 +1,13 @@
 -- The record that a command leaves is one that its device may have after the record before.
-use Rattle.std.proofs.Common.{◌≡◌, ◌&&◌, ◌==◌, ◌^◌, ◌+◌, ℕ, Bool, true, false, cond, List, [], ◌∷◌, length, Option, Some, None, Ok, inl, inr, nat_lt, refl, subst}
+use Rattle.std.proofs.Common.{◌≡◌, ◌&&◌, ◌==◌, ◌^◌, ◌+◌, ℕ, Bool, true, false, cond, List, [], ◌∷◌, length, Option, Some, None, Ok, inl, inr, nat_lt, refl, subst, sym}
+use Rattle.std.proofs.lemmas.Bool.{ltb-true}
 use Rattle.std.specs.Option.{IfSome}
 use Rattle.lw_types.specs.declared.refusal.Refusal.TheVariants.{BadMac, BadPort, DevEuiTaken, MacQueueFull, QueueFull, Repeat, TooLong, UnknownDevEui}
 use Rattle.devices.specs.Activation.{Grants}
 use Rattle.devices.specs.declared.Tag.{Tag}
-use Rattle.devices.specs.Becoming.{AreItemsAfter, MayBecome}
+use Rattle.devices.specs.declared.TheConstants.{LAST_HEARD}
+use Rattle.devices.specs.Becoming.{AreItemsAfter, IsHeardAfter, MayBecome}
+use Rattle.devices.specs.Device.{one_more_heard}
 use Rattle.devices.specs.DeviceStep.{DeviceStep, device_step}
 use Rattle.devices.specs.MacQueue.{may_queue}
 use Rattle.devices.specs.declared.command.Command.{Command}
@@ -15,11 +18,12 @@ use Rattle.devices.specs.declared.activation.CurrentSession.{CurrentSession}
 use Rattle.devices.specs.declared.device.Device.{Device}
 use Rattle.devices.specs.declared.effect.Effect.{Effect}
 use Rattle.devices.specs.declared.heard.Hearing.{Hearing}
+use Rattle.devices.specs.declared.mac_queue.TheConstants.MacQueue.{MOST as LONGEST_MAC_QUEUE}
 use Rattle.devices.specs.declared.queue.Item.{Item}
 use Rattle.downlinks.specs.Load.{is_due, item_of, items_behind}
 use Rattle.downlinks.specs.Reply.{acknowledgement_step, answer_step}
 use Rattle.downlinks.specs.declared.load.Demand.{Demand}
-use Rattle.uplinks.specs.Accepted.{demand_of, session_after, uplink_step, with_uplink}
+use Rattle.uplinks.specs.Accepted.{demand_of, heard_after, session_after, uplink_step, with_uplink}
 use Rattle.uplinks.specs.Step.{step_in_session}
 use Rattle.uplinks.specs.declared.fit.Fit.{Fit}
 use Rattle.uplinks.specs.declared.fit.Fit.TheVariants.{Again, First, Next}
@@ -66,7 +70,7 @@ queue_mac-follows : (d : Device) (q : MacQueueing) (o : DeviceStep) → queue_ma
 queue_mac-follows d q o is =
     let theirs = where_true (is_theirs q.application q.dev_eui d) (if_commands d q.commands) UnknownDevEui o is in
     let whole = where_true (may_queue q.commands) (if_mac_room d q.commands) BadMac o theirs.1 in
-    let room = where_false (nat_lt 64 (length d.mac_queue + length q.commands)) (Ok (commands_queued d q.commands)) MacQueueFull o whole.1 in
+    let room = where_false (nat_lt LONGEST_MAC_QUEUE (length d.mac_queue + length q.commands)) (Ok (commands_queued d q.commands)) MacQueueFull o whole.1 in
     subst (Follows d) (ok_is (commands_queued d q.commands) o room) (commanded d q.commands)
 
 -- ---- a device is answered
@@ -99,12 +103,37 @@ acknowledgement-follows net_id slot d c best =
     sent-follows d (c.next_down == 2 ^ 32) _ _
     (kept d _ _ _ _ _ (inl refl))
 
+-- no answer is counted
+sent-heard : (d : Device) (spent : Bool) (effects : List Effect) (sent : DeviceStep) → sent.device.heard ≡ d.heard → (cond spent (device_step d effects) sent).device.heard ≡ d.heard
+sent-heard d true effects sent same = refl
+sent-heard d false effects sent same = same
+
+due-heard : (d : Device) (due : Bool) (o : DeviceStep) → o.device.heard ≡ d.heard → (cond due o (device_step d [])).device.heard ≡ d.heard
+due-heard d true o same = same
+due-heard d false o same = refl
+
+answer-heard : (net_id slot : ℕ) (d : Device) (c : CurrentSession) (asked : Demand) → (answer_step net_id slot d c asked).device.heard ≡ d.heard
+answer-heard net_id slot d c asked = due-heard d (is_due d asked) _ (sent-heard d (c.next_down == 2 ^ 32) _ _ refl)
+
 -- ---- uplinks
+
+one_more : (heard : ℕ) → IsHeardAfter heard (one_more_heard heard)
+one_more heard = at (nat_lt heard LAST_HEARD) refl
+  where
+    at : (b : Bool) → nat_lt heard LAST_HEARD ≡ b → IsHeardAfter heard (cond b (heard + 1) heard)
+    at true before = inr (ltb-true heard LAST_HEARD before, refl)
+    at false before = inl refl
+
+heard-follows : (fit : Fit) (heard : ℕ) → IsHeardAfter heard (heard_after fit heard)
+heard-follows (First s counter) heard = one_more heard
+heard-follows (Next c counter) heard = one_more heard
+heard-follows (Again c) heard = inl refl
 
 taken-follows : (net_id slot : ℕ) (d : Device) (fit : Fit) (u : declared.Uplink) (copies : ℕ) (best : Hearing) → Follows d (uplink_step net_id slot d fit u copies best)
 taken-follows net_id slot d fit u copies best =
     let c : CurrentSession = session_after fit in
-    let answered = answer-follows net_id slot (with_uplink d fit) c (demand_of c u copies best) in
+    let asked : Demand = demand_of c u copies best in
+    let answered = answer-follows net_id slot (with_uplink d fit) c asked in
     let p = answered.provisioned in
     record {
       provisioned = record {
@@ -116,7 +145,7 @@ taken-follows net_id slot d fit u copies best =
         rx_delay = p.rx_delay;
       };
       items = answered.items;
-      heard = answered.heard;
+      heard = subst (IsHeardAfter d.heard) (sym (answer-heard net_id slot (with_uplink d fit) c asked)) (heard-follows fit d.heard);
     }
 
 fitted-follows : (net_id slot : ℕ) (d : Device) (u : declared.Uplink) (copies : ℕ) (best : Hearing) (fit : Fit) (o : DeviceStep) → step_in_session net_id slot d u copies best fit ≡ Ok o

@@ -7,6 +7,7 @@ use Rattle.devices.specs.MacQueue.{may_queue}
 use Rattle.devices.specs.declared.command.MacQueueing.{MacQueueing}
 use Rattle.devices.specs.declared.command.Queueing.{Queueing}
 use Rattle.devices.specs.declared.device.Device.{Device}
+use Rattle.devices.specs.declared.mac_queue.TheConstants.MacQueue.{MOST as LONGEST_MAC_QUEUE}
 use Rattle.sessions.specs.Marks.{marks_of}
 use Rattle.devices.specs.DeviceStep.{DeviceStep}
 use Rattle.sessions.specs.Queueing.{commands_queued, if_commands, if_mac_room, if_port, if_room, if_short, is_theirs, item_queued, queue_at, queue_mac_at}
@@ -42,6 +43,6 @@ pub queue_mac-ok : (d : Device) (q : MacQueueing) (o : DeviceStep) → queue_mac
 queue_mac-ok d q o is =
     let theirs = where_true (is_theirs q.application q.dev_eui d) (if_commands d q.commands) UnknownDevEui o is in
     let whole = where_true (may_queue q.commands) (if_mac_room d q.commands) BadMac o theirs.1 in
-    let room = where_false (nat_lt 64 (length d.mac_queue + length q.commands)) (Ok (commands_queued d q.commands)) MacQueueFull o whole.1 in
+    let room = where_false (nat_lt LONGEST_MAC_QUEUE (length d.mac_queue + length q.commands)) (Ok (commands_queued d q.commands)) MacQueueFull o whole.1 in
     subst (IsQueued d q.dev_eui) (ok_is (commands_queued d q.commands) o room)
     (record { asked = asked_so q.application q.dev_eui d theirs.0; named = refl; same = refl; unmarked = refl })

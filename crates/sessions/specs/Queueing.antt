@@ -10,6 +10,7 @@ use Rattle.devices.specs.DeviceStep.{DeviceStep, device_step, report_effects}
 use Rattle.devices.specs.declared.command.Queueing.{Queueing}
 use Rattle.devices.specs.declared.command.MacQueueing.{MacQueueing}
 use Rattle.devices.specs.declared.device.Device.{Device}
+use Rattle.devices.specs.declared.mac_queue.TheConstants.MacQueue.{MOST as LONGEST_MAC_QUEUE}
 use Rattle.devices.specs.declared.queue.Item.{Item}
 use Rattle.devices.specs.declared.effect.Report.TheVariants.{Queued, MacQueued}
 use Rattle.uplinks.specs.Accepted.{is_application}
@@ -56,10 +57,10 @@ abbrev pub commands_queued : Device → List ℕ → DeviceStep
 commands_queued d commands =
     device_step (with_commands d commands) (report_effects d (MacQueued commands))
 
--- at most 64 bytes wait
+-- no more bytes wait than a queue has room for
 abbrev pub if_mac_room : Device → List ℕ → Result DeviceStep Refusal
 if_mac_room d commands =
-    if nat_lt 64 (length d.mac_queue + length commands)
+    if nat_lt LONGEST_MAC_QUEUE (length d.mac_queue + length commands)
     then Err MacQueueFull
     else Ok (commands_queued d commands)
 

@@ -7,6 +7,7 @@ use Rattle.frame_crypt.specs.Frames.{crypted_payload}
 use Rattle.mac_commands.specs.Reading.{asks_link_check, reported_bytes}
 use Rattle.phy_payload.specs.declared.contents.PortPayload.{PortPayload}
 use Rattle.devices.specs.Activation.{Grants, with_last_up, with_current}
+use Rattle.devices.specs.Device.{one_more_heard}
 use Rattle.devices.specs.DeviceStep.{DeviceStep, device_step, report_effects}
 use Rattle.devices.specs.declared.activation.CurrentSession.{CurrentSession}
 use Rattle.devices.specs.declared.device.Device.{Device}
@@ -35,9 +36,21 @@ grants_after g (First s counter) = with_current g s counter
 grants_after g (Next c counter) = with_last_up g c counter
 grants_after g (Again c) = g
 
--- the device's record with the uplink's session and counter; no item is awaited any more
+-- how many uplinks of the device are counted after an uplink: one that comes again isn't one more
+abbrev pub heard_after : Fit → ℕ → ℕ
+heard_after (First s counter) heard = one_more_heard heard
+heard_after (Next c counter) heard = one_more_heard heard
+heard_after (Again c) heard = heard
+
+-- the device's record with the uplink's session and counter, and one uplink more where it is new; no
+-- item is awaited any more
 abbrev pub with_uplink : Device → Fit → Device
-with_uplink d fit = record d { activation = grants_after d.activation fit; awaited = None }
+with_uplink d fit =
+    record d {
+      activation = grants_after d.activation fit;
+      awaited = None;
+      heard = heard_after fit d.heard;
+    }
 
 -- ---- the item that was awaited
 

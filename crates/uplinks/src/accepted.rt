@@ -83,15 +83,22 @@ impl Fit {
         }
     }
 
-    // The device keeps the uplink's session and counter, and awaits no item any more.
+    // The uplink is counted where it is new. The device keeps its session and counter, and awaits no
+    // item any more.
     fn enter(&self, device: &mut Device)
         requires { IsOf device.old.activation self.now }
         ensures { device.new ≡ with_uplink device.old self.now }
     {
         device.awaited = None;
         match *self {
-            Fit::First { session, counter } => device.activation.begin(session, counter),
-            Fit::Next { session, counter } => device.activation.advance(session, counter),
+            Fit::First { session, counter } => {
+                device.hear_one_more();
+                device.activation.begin(session, counter);
+            }
+            Fit::Next { session, counter } => {
+                device.hear_one_more();
+                device.activation.advance(session, counter);
+            }
             Fit::Again { .. } => {}
         }
     }

@@ -128,6 +128,7 @@ pub(super) const CHANNELS: &[Row] = &[
             last_dev_nonce: Some(2),
             join_nonce: 2,
             in_use: Some(SECOND),
+            heard: 2,
             ..FRESH
         },
     },
@@ -151,6 +152,7 @@ pub(super) const CHANNELS: &[Row] = &[
         after: State {
             last_up: 1,
             waiting_channels: Channels::Three,
+            heard: 2,
             ..WAITING
         },
     },

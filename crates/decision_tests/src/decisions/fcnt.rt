@@ -14,6 +14,7 @@ pub(super) const COUNTERS: &[Row] = &[
         wanted: "up 1112131415161718 1 65536 1 AB 1 00000000000000B1 868100000 5 -20 -95",
         after: State {
             last_up: 65_536,
+            heard: 2,
             ..IN_USE
         },
     },
@@ -26,6 +27,7 @@ pub(super) const COUNTERS: &[Row] = &[
         wanted: "up 1112131415161718 1 65535 1 AB 1 00000000000000B1 868100000 5 -20 -95",
         after: State {
             last_up: 65_535,
+            heard: 2,
             ..IN_USE
         },
     },
@@ -38,6 +40,7 @@ pub(super) const COUNTERS: &[Row] = &[
         wanted: "up 1112131415161718 1 4294967295 1 AB 1 00000000000000B1 868100000 5 -20 -95",
         after: State {
             last_up: 4_294_967_295,
+            heard: 2,
             ..IN_USE
         },
     },

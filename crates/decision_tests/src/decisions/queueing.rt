@@ -31,11 +31,6 @@ pub(super) const ITEM: Asked = Asked {
 };
 
 // DevStatusReq, so many.
-const SIXES_63: &str = concat!(
-    "0606060606060606060606060606060606060606060606060606060606060606060606060606060606060606",
-    "06060606060606060606060606060606060606",
-);
-
 const SIXES_64: &str = concat!(
     "0606060606060606060606060606060606060606060606060606060606060606060606060606060606060606",
     "0606060606060606060606060606060606060606",
@@ -44,6 +39,24 @@ const SIXES_64: &str = concat!(
 const SIXES_65: &str = concat!(
     "0606060606060606060606060606060606060606060606060606060606060606060606060606060606060606",
     "060606060606060606060606060606060606060606",
+);
+
+const SIXES_127: &str = concat!(
+    "0606060606060606060606060606060606060606060606060606060606060606060606060606060606060606",
+    "0606060606060606060606060606060606060606060606060606060606060606060606060606060606060606",
+    "060606060606060606060606060606060606060606060606060606060606060606060606060606",
+);
+
+const SIXES_128: &str = concat!(
+    "0606060606060606060606060606060606060606060606060606060606060606060606060606060606060606",
+    "0606060606060606060606060606060606060606060606060606060606060606060606060606060606060606",
+    "06060606060606060606060606060606060606060606060606060606060606060606060606060606",
+);
+
+const SIXES_129: &str = concat!(
+    "0606060606060606060606060606060606060606060606060606060606060606060606060606060606060606",
+    "0606060606060606060606060606060606060606060606060606060606060606060606060606060606060606",
+    "0606060606060606060606060606060606060606060606060606060606060606060606060606060606",
 );
 
 const SIXES_300: &str = concat!(
@@ -134,28 +147,42 @@ pub(super) const QUEUED: &[Row] = &[
             ..FIFTY
         },
     },
-    // up to 64 bytes of them
-    Row {
-        before: FIFTY,
-        comes: Comes::Mac(3, 50, SIXES_64),
-        wanted: concat!(
-            "macqueued 0000000000000032 060606060606060606060606060606060606060606060606060606060",
-            "60606060606060606060606060606060606060606060606060606060606060606060606",
-        ),
-        after: State {
-            mac_queue: Some(SIXES_64),
-            ..FIFTY
-        },
-    },
+    // up to 128 bytes of them
     Row {
         before: State {
-            mac_queue: Some(SIXES_63),
+            mac_queue: Some(SIXES_64),
             ..FIFTY
         },
         comes: Comes::Mac(3, 50, "06"),
         wanted: "macqueued 0000000000000032 06",
         after: State {
-            mac_queue: Some(SIXES_64),
+            mac_queue: Some(SIXES_65),
+            ..FIFTY
+        },
+    },
+    Row {
+        before: FIFTY,
+        comes: Comes::Mac(3, 50, SIXES_128),
+        wanted: concat!(
+            "macqueued 0000000000000032 060606060606060606060606060606060606060606060606060606060",
+            "606060606060606060606060606060606060606060606060606060606060606060606060606060606060",
+            "606060606060606060606060606060606060606060606060606060606060606060606060606060606060",
+            "6060606060606060606060606060606",
+        ),
+        after: State {
+            mac_queue: Some(SIXES_128),
+            ..FIFTY
+        },
+    },
+    Row {
+        before: State {
+            mac_queue: Some(SIXES_127),
+            ..FIFTY
+        },
+        comes: Comes::Mac(3, 50, "06"),
+        wanted: "macqueued 0000000000000032 06",
+        after: State {
+            mac_queue: Some(SIXES_128),
             ..FIFTY
         },
     },
@@ -164,13 +191,15 @@ pub(super) const QUEUED: &[Row] = &[
             mac_queue: Some("06"),
             ..FIFTY
         },
-        comes: Comes::Mac(3, 50, SIXES_63),
+        comes: Comes::Mac(3, 50, SIXES_127),
         wanted: concat!(
             "macqueued 0000000000000032 060606060606060606060606060606060606060606060606060606060",
-            "606060606060606060606060606060606060606060606060606060606060606060606",
+            "606060606060606060606060606060606060606060606060606060606060606060606060606060606060",
+            "606060606060606060606060606060606060606060606060606060606060606060606060606060606060",
+            "60606060606060606060606060606",
         ),
         after: State {
-            mac_queue: Some(SIXES_64),
+            mac_queue: Some(SIXES_128),
             ..FIFTY
         },
     },
@@ -279,20 +308,20 @@ pub(super) const REFUSALS: &[Refused] = &[
     (FIFTY, Comes::Mac(3, 50, "0500000000"), Refusal::BadMac),
     // a LinkCheckAns behind a DevStatusReq
     (FIFTY, Comes::Mac(3, 50, "06020A01"), Refusal::BadMac),
-    // no more than 64 bytes of commands wait; what is no command is told first
-    (FIFTY, Comes::Mac(3, 50, SIXES_65), Refusal::MacQueueFull),
+    // no more than 128 bytes of commands wait; what is no command is told first
+    (FIFTY, Comes::Mac(3, 50, SIXES_129), Refusal::MacQueueFull),
     (FIFTY, Comes::Mac(3, 50, SIXES_300), Refusal::MacQueueFull),
     (
         State {
             mac_queue: Some("06"),
             ..FIFTY
         },
-        Comes::Mac(3, 50, SIXES_64),
+        Comes::Mac(3, 50, SIXES_128),
         Refusal::MacQueueFull,
     ),
     (
         State {
-            mac_queue: Some(SIXES_63),
+            mac_queue: Some(SIXES_127),
             ..FIFTY
         },
         Comes::Mac(3, 50, "0606"),
@@ -300,7 +329,7 @@ pub(super) const REFUSALS: &[Refused] = &[
     ),
     (
         State {
-            mac_queue: Some(SIXES_64),
+            mac_queue: Some(SIXES_128),
             ..FIFTY
         },
         Comes::Mac(3, 50, "06"),
@@ -308,7 +337,7 @@ pub(super) const REFUSALS: &[Refused] = &[
     ),
     (
         State {
-            mac_queue: Some(SIXES_64),
+            mac_queue: Some(SIXES_128),
             ..FIFTY
         },
         Comes::Mac(3, 50, "02"),

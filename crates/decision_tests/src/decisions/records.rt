@@ -20,24 +20,25 @@ const SAME_ADDRESS: Grant = (
     ),
 );
 
-/// The first session is in use and has had its uplink 0, and nothing waits.
+/// The first session is in use and has had its uplink 0, which is counted, and nothing waits.
 pub(super) const IN_USE: State = State {
     join_nonce: 1,
     in_use: Some(FIRST_SESSION),
+    heard: 1,
     ..FRESH
 };
 
 /// The same after the uplink 1.
 pub(super) const HEARD: State = State {
     last_up: 1,
+    heard: 2,
     ..IN_USE
 };
 
 /// The same after a downlink too.
 pub(super) const ANSWERED: State = State {
-    last_up: 1,
     next_down: 1,
-    ..IN_USE
+    ..HEARD
 };
 
 /// The first session is in use, and the one with the same address waits for its first uplink.
@@ -47,9 +48,10 @@ pub(super) const WAITING: State = State {
     ..IN_USE
 };
 
-/// The session that waited is in use after its uplink 0.
+/// The session that waited is in use after its uplink 0, which is counted too.
 pub(super) const SWITCHED: State = State {
     join_nonce: 8193,
     in_use: Some(SAME_ADDRESS),
+    heard: 2,
     ..FRESH
 };

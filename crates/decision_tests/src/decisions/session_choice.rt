@@ -59,6 +59,7 @@ pub(super) const SESSIONS: &[Row] = &[
         after: State {
             last_up: 8,
             next_down: 4,
+            heard: 2,
             ..WAITING
         },
     },
@@ -72,6 +73,7 @@ pub(super) const SESSIONS: &[Row] = &[
         wanted: "up 1112131415161718 1 20000 1 AB 1 00000000000000B1 868100000 5 -20 -95",
         after: State {
             last_up: 20_000,
+            heard: 2,
             ..WAITING
         },
     },

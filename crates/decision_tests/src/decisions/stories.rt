@@ -69,6 +69,7 @@ pub(super) const STORIES: &[Row] = &[
         after: State {
             last_up: 2,
             next_down: 2,
+            heard: 3,
             ..IN_USE
         },
     },
@@ -76,6 +77,7 @@ pub(super) const STORIES: &[Row] = &[
         before: State {
             last_up: 2,
             next_down: 2,
+            heard: 3,
             ..IN_USE
         },
         comes: Comes::Frame("80010000542002000DA24BCD"),
@@ -83,6 +85,7 @@ pub(super) const STORIES: &[Row] = &[
         after: State {
             last_up: 2,
             next_down: 3,
+            heard: 3,
             ..IN_USE
         },
     },
@@ -90,6 +93,7 @@ pub(super) const STORIES: &[Row] = &[
         before: State {
             last_up: 2,
             next_down: 3,
+            heard: 3,
             ..IN_USE
         },
         comes: Comes::Frame("400100005420030010A5798F"),
@@ -97,6 +101,7 @@ pub(super) const STORIES: &[Row] = &[
         after: State {
             last_up: 3,
             next_down: 3,
+            heard: 4,
             ..IN_USE
         },
     },
@@ -135,6 +140,7 @@ pub(super) const STORIES: &[Row] = &[
         after: State {
             last_up: 1,
             next_down: 2,
+            heard: 3,
             ..SWITCHED
         },
     },
@@ -161,6 +167,7 @@ pub(super) const STORIES: &[Row] = &[
         after: State {
             last_up: 2,
             next_down: SPENT,
+            heard: 3,
             ..IN_USE
         },
     },
@@ -168,6 +175,7 @@ pub(super) const STORIES: &[Row] = &[
         before: State {
             last_up: 2,
             next_down: SPENT,
+            heard: 3,
             ..IN_USE
         },
         comes: Comes::Frame("80010000540002008073840A"),
@@ -175,6 +183,7 @@ pub(super) const STORIES: &[Row] = &[
         after: State {
             last_up: 2,
             next_down: SPENT,
+            heard: 3,
             ..IN_USE
         },
     },
@@ -182,6 +191,7 @@ pub(super) const STORIES: &[Row] = &[
         before: State {
             last_up: 2,
             next_down: SPENT,
+            heard: 3,
             ..IN_USE
         },
         comes: Comes::Frame("400100005400030001A2EBC83CA6"),
@@ -189,6 +199,7 @@ pub(super) const STORIES: &[Row] = &[
         after: State {
             last_up: 3,
             next_down: SPENT,
+            heard: 4,
             ..IN_USE
         },
     },
