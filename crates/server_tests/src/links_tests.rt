@@ -78,7 +78,7 @@ fn a_device_joins_over_loopback(rt: HostRuntime) {
     );
     assert!(rt; talked.is_ok_and(|is_so| is_so));
     assert!(rt; ended);
-    let list = "0 1112131415161718 1 - - - 0\ndevices 1 seq 2\n";
+    let list = "0 1112131415161718 1 - - - 0 0\ndevices 1 seq 2\n";
     assert!(rt; lists(&rt, alloc, file, &done(list)));
     remove(&rt, file);
 }
