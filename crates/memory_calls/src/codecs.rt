@@ -119,10 +119,10 @@ const PENDING: &str = concat!(
     "DDDDDDDDDDDDDDDDDDDDDDDDDDDDDDDD",
 );
 
-// A tag that is awaited, and 64 commands.
+// A tag that is awaited, and 128 commands.
 const AWAITED: &str = "0100000009";
 
-const COMMANDS: usize = 64;
+const COMMANDS: usize = 128;
 
 // An item for port 7, unconfirmed, and its longest payload.
 const ITEM: &str = "000000090700F2";
@@ -146,7 +146,7 @@ fn add(
     Ok(())
 }
 
-// The largest record: both sessions, a tag, 64 commands, and 16 of the longest items.
+// The largest record: both sessions, a tag, 128 commands, and 16 of the longest items.
 fn largest_record(alloc: Global) -> Result<Vec<u8>, Refusal> {
     let mut bytes = Vec::new(alloc);
     add(alloc, &mut bytes, FRONT, 0, 0)?;
@@ -164,7 +164,7 @@ fn largest_record(alloc: Global) -> Result<Vec<u8>, Refusal> {
 }
 
 // The largest change of the record of a device that was just provisioned: both nonces, both
-// sessions, a tag, 64 commands, and an item that is added.
+// sessions, a tag, 128 commands, and an item that is added.
 fn largest_change(alloc: Global) -> Result<Vec<u8>, Refusal> {
     let mut bytes = Vec::new(alloc);
     add(alloc, &mut bytes, "7B010002000002", 0, 0)?;
