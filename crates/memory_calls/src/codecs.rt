@@ -153,7 +153,7 @@ fn largest_record(alloc: Global) -> Result<Vec<u8>, Refusal> {
     add(alloc, &mut bytes, CURRENT, 0, 0)?;
     add(alloc, &mut bytes, PENDING, 0, 0)?;
     add(alloc, &mut bytes, AWAITED, 0, 0)?;
-    add(alloc, &mut bytes, "40", 0x06, COMMANDS)?;
+    add(alloc, &mut bytes, "80", 0x06, COMMANDS)?;
     add(alloc, &mut bytes, "10", 0, 0)?;
     for _ in 0..ITEMS {
         add(alloc, &mut bytes, ITEM, 0xEE, PAYLOAD)?;
@@ -164,14 +164,14 @@ fn largest_record(alloc: Global) -> Result<Vec<u8>, Refusal> {
 }
 
 // The largest change of the record of a device that was just provisioned: both nonces, both
-// sessions, a tag, 128 commands, and an item that is added.
+// sessions, a tag, 128 commands, an item that is added, and one more uplink that is counted.
 fn largest_change(alloc: Global) -> Result<Vec<u8>, Refusal> {
     let mut bytes = Vec::new(alloc);
-    add(alloc, &mut bytes, "7B010002000002", 0, 0)?;
+    add(alloc, &mut bytes, "FB010002000002", 0, 0)?;
     add(alloc, &mut bytes, CURRENT, 0, 0)?;
     add(alloc, &mut bytes, PENDING, 0, 0)?;
     add(alloc, &mut bytes, AWAITED, 0, 0)?;
-    add(alloc, &mut bytes, "40", 0x06, COMMANDS)?;
+    add(alloc, &mut bytes, "80", 0x06, COMMANDS)?;
     add(alloc, &mut bytes, "01", 0, 0)?;
     add(alloc, &mut bytes, ITEM, 0xEE, PAYLOAD)?;
     Ok(bytes)
