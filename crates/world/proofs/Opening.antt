@@ -10,16 +10,17 @@ use Rattle.devices.specs.declared.command.Command.{Command}
 use Rattle.world.specs.Folding.{RunLaws}
 use Rattle.session_core.specs.State.{new_decisions}
 use Rattle.store.specs.Image.{HoldsTable}
-use Rattle.store.specs.State.{StoreState, IsSettled}
+use Rattle.store.specs.State.{StoreState, IsOpened, IsSettled}
 use Rattle.world.specs.declared.place.Place.{Place}
 use Rattle.world.specs.declared.place.Place.TheVariants.{Open, Closed, Crashing}
 use Rattle.world.specs.declared.answer.Answer.{Answer}
 use Rattle.world.specs.declared.answer.Answer.TheVariants as answers
 use Rattle.world.specs.declared.step.Step.TheVariants as steps
-use Rattle.world.specs.Course.{Origin, Course, decided_commands, after_opening, course_after, table_from, number_from, effects_from}
+use Rattle.world.specs.Course.{Origin, Course, beginning, decided_commands, after_opening, course_after, table_from, number_from, effects_from}
 use Rattle.world.specs.Answers.{Leaves, AnswersCrash}
 use Rattle.world.specs.Commits.{at_rest}
 use Rattle.world.specs.Sound.{HasDisk}
+use Rattle.world.specs.Tells.{IsOpenedFrom}
 use Rattle.sessions.specs.Marks.{IsSubsequence}
 use Rattle.world.specs.Follows.{FollowsPlace, IsLife, Survives}
 use Rattle.world.proofs.Calling.{held}
@@ -56,6 +57,31 @@ life_opened origin c kept n s leaves n_is settled healthy table seq holds =
       under_way = record { behind = []; flights_are = refl; fit = tt; last = (refl, (tt, (settled, refl))) };
       healthy = healthy;
       survives = λ image p. (take (n - origin.number) (decided_commands c), refl, held s.table _ s.seq _ image table_is seq_is (holds image p));
+    }
+
+-- the life that begins a course, with a store that is there
+pub life_begun : (origin : Origin) (s : StoreState) → IsSettled s → s.failed ≡ false → s.table ≡ origin.table → s.seq ≡ origin.number
+    → EveryImage s.log.disk (HoldsTable s.table s.seq) → IsLife origin (beginning origin) s (new_decisions s.table s.seq) at_rest
+life_begun origin s settled healthy table number holds =
+    let seq : s.seq ≡ number_from origin [] = omega (arith, number) in
+    record {
+      table = table;
+      seq = seq;
+      base = table;
+      number = omega (arith, number);
+      untaken = refl;
+      made = refl;
+      under_way = record { behind = []; flights_are = refl; fit = tt; last = (refl, (tt, (settled, refl))) };
+      healthy = healthy;
+      survives = λ image p. ([], refl, held s.table origin.table s.seq (number_from origin []) image table seq (holds image p));
+    }
+
+-- a store that was opened has what the disk held
+pub opened_from : (content : List ℕ) (s : StoreState) → IsOpened content s → EveryImage s.log.disk (HoldsTable s.table s.seq) → IsOpenedFrom content s.log.disk
+opened_from content s opened images =
+    record {
+      same = opened.same;
+      keeps = λ t seq holds image p. let only = opened.only t seq holds in held s.table t s.seq seq image (sym only.0) (sym only.1) (images image p);
     }
 
 -- an opening is refused for these two reasons, where others are ruled out

@@ -10,6 +10,7 @@ use gateway_wire::Emission;
 use lw_types::{NetId, Refusal};
 use std::alloc::Global;
 use std::mem;
+use store::Store;
 
 /// A simulated network server over all its lives: a store on a disk, the core that decides on its
 /// table, what is begun, and the effects that were released.
@@ -22,14 +23,21 @@ pub struct World<D: Sim> {
 }
 
 impl<D: Sim + Drop> World<D> {
-    ghost use Rattle.std.specs.Prelude.{◌≢◌, IfOk, IfErr, MatchResult, length};
+    ghost use Rattle.std.specs.Prelude.{◌≢◌, ◌+◌, ℕ, List, false, IfOk, IfErr, MatchResult, length};
     ghost use Rattle.lw_types.specs.declared.refusal.Refusal.TheVariants.{DeviceFailed};
+    ghost use Rattle.lw_types.specs.declared.refusal.Refusal.TheVariants.{OutOfMemory};
+    ghost use Rattle.devices.specs.declared.mark.Mark.{Mark};
     ghost use Rattle.disk.specs.Outlook.Outlook.{AllSucceed};
-    ghost use Rattle.store.specs.Faults.{IsFormatRefusal};
+    ghost use Rattle.disk.specs.State.{NothingOpen};
+    ghost use Rattle.sessions.specs.Table.{TableState};
+    ghost use Rattle.store.specs.Faults.{IsFault, IsFormatRefusal};
+    ghost use Rattle.store.specs.Image.{HoldsTable};
+    ghost use Rattle.store.specs.State.{store_state, disk_of, IsSettled};
     ghost use Rattle.world.specs.declared.step.Step.TheVariants as steps;
     ghost use Rattle.world.specs.Calls.{AreCallsAt, ForetellsAt, outlook_after_opening};
-    ghost use Rattle.world.specs.Tells.{PlaceTellsRoom, CrashesTo, LeavesImage};
-    ghost use Rattle.world.specs.Course.{Origin, Course, beginning, new_store, effects_from};
+    ghost use Rattle.world.specs.Tells.{PlaceTellsRoom, CrashesTo, IsOpenedFrom, LeavesImage};
+    ghost use Rattle.world.specs.Course.{Origin, Course, adopted, beginning, new_store};
+    ghost use Rattle.world.specs.Course.{effects_from};
     ghost use Rattle.sessions.specs.Marks.{IsSubsequence};
     ghost use Rattle.world.specs.Follows.{Follows, Moves, Survives};
     ghost use Rattle.world.specs.Sound.{IsSoundWorld, HasDisk};
@@ -47,6 +55,56 @@ impl<D: Sim + Drop> World<D> {
         ensures refused { IfErr result (IsFormatRefusal slots (length (D.state disk).content)) }
     {
         let store = store::format(alloc, disk, net_id, slots)?;
+        match World::of_store(alloc, store) {
+            Ok(world) => Ok(world),
+            Err((_, refusal)) => Err(refusal),
+        }
+    }
+
+    /// A world with the store that this disk holds, in records of whatever version. Its course
+    /// begins with the table and the number that are held, whatever marks were used up before.
+    /// Refused as [`store::open_back`] is, and with `OutOfMemory`; then the disk comes back, and
+    /// where nothing of it was open, it holds whatever table it held.
+    pub fn adopt(alloc: Global, disk: D) -> Result<Self, (D, Refusal)>
+        ensures sound { IfOk result (IsSoundWorld D.state) }
+        ensures holds { IfOk result (λ _. (t : TableState) × ((seq : ℕ)
+            × HoldsTable t seq (D.state disk).content)) }
+        ensures course { IfOk result (λ world. (t : TableState) (seq : ℕ) (marks : List Mark)
+            → HoldsTable t seq (D.state disk).content
+            → Follows D.state (adopted t seq marks) (beginning (adopted t seq marks)) world) }
+        ensures calls { IfOk result (λ world. AreCallsAt D.failures D.outlook
+            (record { failed = D.failures disk; coming = outlook_after_opening (D.outlook disk) })
+            world.place) }
+        ensures refused { IfErr result (λ e. e.1 ≢ DeviceFailed → e.1 ≢ OutOfMemory
+            → IsFault (D.state disk).content e.1) }
+        ensures device { IfErr result (λ e. (e.1 ≡ DeviceFailed
+            → D.failures e.0 ≡ D.failures disk + 1)
+            × (e.1 ≢ DeviceFailed → D.failures e.0 ≡ D.failures disk)) }
+        ensures unarmed { D.outlook disk ≡ AllSucceed
+            → IfErr result (λ e. (e.1 ≢ DeviceFailed) × (D.outlook e.0 ≡ AllSucceed)) }
+        ensures kept { NothingOpen (D.state disk)
+            → IfErr result (λ e. IsOpenedFrom (D.state disk).content (D.state e.0)) }
+    {
+        store::laws::a_settled_store_is_on_its_disk();
+        match store::open_back(alloc, disk) {
+            Ok(store) => World::of_store(alloc, store),
+            Err(refused) => Err(refused),
+        }
+    }
+
+    // A world that begins with this store.
+    fn of_store(alloc: Global, store: Store<D>) -> Result<Self, (D, Refusal)>
+        ensures sound { IfOk result (IsSoundWorld D.state) }
+        ensures course { (store_state D.state store).failed ≡ false
+            → IsSettled (store_state D.state store)
+            → IfOk result (λ world. (origin : Origin)
+            → (store_state D.state store).table ≡ origin.table
+            → (store_state D.state store).seq ≡ origin.number
+            → Follows D.state origin (beginning origin) world) }
+        ensures same { IfOk result
+            (λ world. (now : D) → HasDisk world.place now → now ≡ disk_of store) }
+        ensures refused { IfErr result (λ e. (e.0 ≡ disk_of store) × (e.1 ≡ OutOfMemory)) }
+    {
         store::laws::a_settled_store_is_on_its_disk();
         dedup::laws::no_copies_no_windows();
         match Life::new(alloc, store) {
@@ -55,7 +113,7 @@ impl<D: Sim + Drop> World<D> {
                 released: Vec::new(alloc),
                 emitted: 0,
             }),
-            Err((_, refusal)) => Err(refusal),
+            Err(refused) => Err(refused),
         }
     }
 

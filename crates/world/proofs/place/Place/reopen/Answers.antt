@@ -1,5 +1,4 @@
 use Rattle.std.proofs.Common.{refl, subst, sym}
-use Rattle.store.specs.Image.{HoldsTable}
 use Rattle.store.specs.State.{disk_of, store_state}
 use Rattle.world.specs.declared.answer.Answer.TheVariants as answers
 use Rattle.world.specs.declared.step.Step.TheVariants as steps
@@ -8,7 +7,7 @@ use Rattle.world.specs.Course.{table_from, number_from}
 use Rattle.world.specs.Follows.{Survives}
 use Rattle.world.specs.Tells.{IsOpenedFrom}
 use Rattle.world.proofs.Known.{none_failed, opening_passed, opening_told}
-use Rattle.world.proofs.Opening.{content_permitted, two_reasons}
+use Rattle.world.proofs.Opening.{content_permitted, opened_from, two_reasons}
 use Rattle.world.proofs.place.Place.reopen.Goals as goal
 
 pub returns-in-Ok-clause-course : goal.returns-in-Ok-clause-course
@@ -68,13 +67,8 @@ returns-in-Ok-clause-from g c nothing_open now there =
     let content = (state c.args.disk).content in
     let opened = c.in-Ok.ensures.made.opened g.met.D.Sim.is_honest in
     let s = store_state state c.in-Ok.store in
-    subst (λ d. IsOpenedFrom content (state d)) (sym (c.begin.ensures.same now there)) (record {
-      same = opened.same;
-      keeps = λ t seq holds image p.
-          let only = opened.only t seq holds in
-          subst (λ u. HoldsTable u seq image) (sym only.0)
-          (subst (λ n. HoldsTable s.table n image) (sym only.1) (c.a_settled_store_is_on_its_disk.ensures s opened.settled image p));
-    })
+    subst (λ d. IsOpenedFrom content (state d)) (sym (c.begin.ensures.same now there))
+    (opened_from content s opened (c.a_settled_store_is_on_its_disk.ensures s opened.settled))
 
 pub returns-in-Err-clause-from : goal.returns-in-Err-clause-from
 returns-in-Err-clause-from g c nothing_open now there =
