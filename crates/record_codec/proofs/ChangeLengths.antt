@@ -68,8 +68,8 @@ most_parts v before after bytes h =
     let few : length (mask c ∷ group_text c) ≤ 347 + longest_mac_queue v = omega arith in
     rw h.3 few
 
-pub most_change : (version : RecordVersion) (before after : Device) (bytes : List ℕ) → IsChangeOf version before after bytes → length bytes ≤ 411
-most_change V1 before after bytes h = most_parts V1 before after bytes h
+pub most_change : (version : RecordVersion) (before after : Device) (bytes : List ℕ) → IsChangeOf version before after bytes → length bytes ≤ 475
+most_change V1 before after bytes h = let few = most_parts V1 before after bytes h in omega arith
 most_change V2 before after bytes h = most_parts V2 before after bytes h
 
 pub most_change_v1 : (before after : Device) (bytes : List ℕ) → IsChangeOf V1 before after bytes → length bytes ≤ 411

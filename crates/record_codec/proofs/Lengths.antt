@@ -111,9 +111,9 @@ has_parts v queue count d h few heard =
 pub has_spelling_v1 : (d : Device) → IsDevice V1 d → Has 50 4180 (spelling V1 d)
 has_spelling_v1 d h = has_parts V1 64 0 d h h.mac_queue.1 (omega arith, omega arith)
 
-pub has_spelling_v2 : (d : Device) → IsDevice V2 d → Has 58 4188 (spelling V2 d)
-has_spelling_v2 d h = has_parts V2 64 8 d h h.mac_queue.1 (omega arith, omega arith)
+pub has_spelling_v2 : (d : Device) → IsDevice V2 d → Has 58 4252 (spelling V2 d)
+has_spelling_v2 d h = has_parts V2 128 8 d h h.mac_queue.1 (omega arith, omega arith)
 
-pub has_spelling : (v : RecordVersion) (d : Device) → IsDevice v d → Has 50 4188 (spelling v d)
+pub has_spelling : (v : RecordVersion) (d : Device) → IsDevice v d → Has 50 4252 (spelling v d)
 has_spelling V1 d h = let long = has_spelling_v1 d h in let least = long.0 in let most = long.1 in (omega arith, omega arith)
 has_spelling V2 d h = let long = has_spelling_v2 d h in let least = long.0 in let most = long.1 in (omega arith, omega arith)

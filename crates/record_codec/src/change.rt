@@ -12,6 +12,7 @@ ghost use Rattle.record_codec.specs.declared.version.RecordVersion.TheVariants.{
 ghost use Rattle.record_codec.specs.Answers.{ReadsChange};
 ghost use Rattle.record_codec.specs.Change.{IsChangeOf, IsCurrentGroup, IsGroup, IsGrown};
 ghost use Rattle.record_codec.specs.Change.{IsItemGroup};
+ghost use Rattle.record_codec.specs.DeviceRecord.{IsOf, IsOfV1};
 ghost use Rattle.record_codec.specs.ChangeReading.{change_read, current_after, device_after};
 ghost use Rattle.record_codec.specs.ChangeReading.{grants_after, heard_after, items_after, IsNew};
 ghost use Rattle.record_codec.specs.ChangeReading.{HasRoomToGrow, IsNewCurrent, IsNewItems};
@@ -22,7 +23,7 @@ ghost use Rattle.record_codec.specs.Writing.{KeepsFront};
 
 use crate::groups::read_groups;
 use crate::parts::{Counters, GroupParts, ItemChangePart, ItemPart, Nonces};
-use crate::version::RecordVersion;
+use crate::version::{RecordVersion, taken_back};
 use crate::written_groups::put_groups;
 use byte_fields::FieldReader;
 use devices::{
@@ -34,7 +35,7 @@ use std::alloc::{AllocError, Global};
 
 /// The most bytes of a change of version 2: that of a device which gets another current session and
 /// a pending one, a full MAC queue, and an item of 242 bytes.
-pub const LONGEST_CHANGE: usize = 411;
+pub const LONGEST_CHANGE: usize = 475;
 
 // ---- from one record to another
 
@@ -140,14 +141,15 @@ fn has_grown(before: &Device, after: &Device) -> bool
     before.heard != after.heard
 }
 
-/// Appends the change from one record to the next.
-pub(crate) fn put_change(
+// Appends the change from one record to the next.
+fn put_change(
     out: &mut Vec<u8>,
     version: RecordVersion,
     before: &Device,
     after: &Device,
 ) -> Result<(), AllocError>
-    requires { MayBecome before.now after.now }
+    requires step { MayBecome before.now after.now }
+    requires told { IsOf version after.now }
     ensures written { OnOk result ((bytes : List ℕ) × (out.new.items ≡ out.old.items ++ bytes)
         × IsChangeOf version before.now after.now bytes) }
     ensures keeps { KeepsFront out.old.items out.new.items }
@@ -166,6 +168,28 @@ pub(crate) fn put_change(
     put_groups(out, version, &groups)
 }
 
+// Appends the change from one record to the next, its one spelling in a version. After an `Err`
+// nothing was appended.
+fn write_in(
+    version: RecordVersion,
+    before: &Device,
+    after: &Device,
+    out: &mut Vec<u8>,
+) -> Result<(), Refusal>
+    requires step { MayBecome before.now after.now }
+    requires told { IsOf version after.now }
+    ensures { MatchResult result
+        (λ _. (bytes : List ℕ) × (out.new.items ≡ out.old.items ++ bytes)
+        × IsChangeOf version before.now after.now bytes)
+        (λ e. (e ≡ OutOfMemory) × (out.new.items ≡ out.old.items)) }
+{
+    let len = out.len();
+    match put_change(out, version, before, after) {
+        Ok(()) => Ok(()),
+        Err(_) => Err(taken_back(out, len)),
+    }
+}
+
 /// Appends the change from one record to the next in version 2, its one spelling, of 1 byte to
 /// [`LONGEST_CHANGE`]. Each byte is written once, and no memory is taken but for the room of `out`.
 /// For want of that it is refused as `OutOfMemory`, and then nothing is appended.
@@ -176,20 +200,22 @@ pub fn write_change(before: &Device, after: &Device, out: &mut Vec<u8>) -> Resul
         × IsChangeOf V2 before.now after.now bytes)
         (λ e. (e ≡ OutOfMemory) × (out.new.items ≡ out.old.items)) }
 {
-    RecordVersion::V2.write_change(before, after, out)
+    write_in(RecordVersion::V2, before, after, out)
 }
 
-/// Appends the change from one record to the next in version 1, its one spelling, of 1 to 411
-/// bytes. Each byte is written once, and no memory is taken but for the room of `out`.
-/// For want of that it is refused as `OutOfMemory`, and then nothing is appended.
+/// Appends the change from one record to the next in version 1, where that tells all of the next,
+/// its one spelling, of 1 to 411 bytes. Each byte is written once, and no memory is taken but for
+/// the room of `out`. For want of that it is refused as `OutOfMemory`, and then nothing is
+/// appended.
 pub fn write_change_v1(before: &Device, after: &Device, out: &mut Vec<u8>) -> Result<(), Refusal>
-    requires { MayBecome before.now after.now }
+    requires step { MayBecome before.now after.now }
+    requires told { IsOfV1 after.now }
     ensures { MatchResult result
         (λ _. (bytes : List ℕ) × (out.new.items ≡ out.old.items ++ bytes)
         × IsChangeOf V1 before.now after.now bytes)
         (λ e. (e ≡ OutOfMemory) × (out.new.items ≡ out.old.items)) }
 {
-    RecordVersion::V1.write_change(before, after, out)
+    write_in(RecordVersion::V1, before, after, out)
 }
 
 // ---- from a change to the record

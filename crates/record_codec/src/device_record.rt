@@ -7,7 +7,7 @@ ghost use Rattle.byte_fields.specs.Reading.{Gives, GivesSeen};
 ghost use Rattle.mac_commands.specs.Queueable.{AreQueueable};
 ghost use Rattle.record_codec.specs.Answers.{ReadsRecord};
 ghost use Rattle.record_codec.specs.DeviceRecord.{awaited_bytes, dev_nonce, head, heard_bytes};
-ghost use Rattle.record_codec.specs.DeviceRecord.{spelling, HeadIsInRange, IsDevice, IsHeardIn};
+ghost use Rattle.record_codec.specs.DeviceRecord.{spelling, HeadIsInRange, IsDevice, IsOf, IsOfV1};
 ghost use Rattle.record_codec.specs.Parts.{device_of_parts};
 ghost use Rattle.record_codec.specs.Reading.{awaited_at, device_at, flagged_at, heard_at, items_at};
 ghost use Rattle.record_codec.specs.Reading.{record_at, IsNoRecord};
@@ -16,11 +16,12 @@ ghost use Rattle.record_codec.specs.declared.version.RecordVersion.TheVariants.{
 
 use crate::activation_fields::{put_activation, read_activation};
 use crate::queues::{ItemParts, put_item_queue, read_items, read_mac_queue};
-use crate::version::RecordVersion;
+use crate::version::{RecordVersion, taken_back};
 use crate::written_fields::{put_counted, put_eui, put_flag, put_key};
 use byte_fields::FieldReader;
 use devices::{
-    Activation, Application, Device, ItemQueue, MacQueue, Rx1Offset, RxDelay, Tag, UplinkCount,
+    Activation, Application, Device, ItemQueue, LAST_HEARD, MacQueue, Rx1Offset, RxDelay, Tag,
+    UplinkCount,
 };
 use lw_types::{Eui, Key, Refusal};
 use mac_commands::are_queueable;
@@ -64,7 +65,7 @@ fn read_heard(fields: &mut FieldReader<'_>, version: RecordVersion) -> Option<Up
 
 /// The most bytes of a record of version 2: that of a device with two sessions, a full MAC queue,
 /// and 16 items of 242 bytes. One of version 1 has at most 4,180.
-pub const LONGEST_RECORD: usize = 4_188;
+pub const LONGEST_RECORD: usize = 4_252;
 
 /// A record whose fields are there and in their ranges. What takes memory is still in the bytes.
 #[derive(Clone, Copy)]
@@ -233,7 +234,7 @@ fn put_heard(
     heard: UplinkCount,
 ) -> Result<(), AllocError>
     ensures written { OnOk result (out.new.items ≡ out.old.items ++ heard_bytes version heard) }
-    ensures in_range { OnOk result (IsHeardIn version heard) }
+    ensures most { heard ≤ LAST_HEARD }
     ensures keeps { KeepsFront out.old.items out.new.items }
 {
     let number = heard.get();
@@ -243,13 +244,10 @@ fn put_heard(
     }
 }
 
-/// Appends the record of a device.
+// Appends the record of a device.
 #[tactic(auto, unfolding(crate::specs::DeviceRecord::spelling))]
-pub(crate) fn put_device(
-    out: &mut Vec<u8>,
-    version: RecordVersion,
-    device: &Device,
-) -> Result<(), AllocError>
+fn put_device(out: &mut Vec<u8>, version: RecordVersion, device: &Device) -> Result<(), AllocError>
+    requires { IsOf version device.now }
     ensures written { OnOk result (out.new.items ≡ out.old.items ++ spelling version device.now) }
     ensures in_range { OnOk result (IsDevice version device.now) }
     ensures keeps { KeepsFront out.old.items out.new.items }
@@ -264,6 +262,22 @@ pub(crate) fn put_device(
     Ok(())
 }
 
+// Appends the record of a device, its one spelling in a version. After an `Err` nothing was
+// appended.
+fn write_in(version: RecordVersion, device: &Device, out: &mut Vec<u8>) -> Result<(), Refusal>
+    requires { IsOf version device.now }
+    ensures { MatchResult result
+        (λ _. (out.new.items ≡ out.old.items ++ spelling version device.now)
+        × IsDevice version device.now)
+        (λ e. (e ≡ OutOfMemory) × (out.new.items ≡ out.old.items)) }
+{
+    let len = out.len();
+    match put_device(out, version, device) {
+        Ok(()) => Ok(()),
+        Err(_) => Err(taken_back(out, len)),
+    }
+}
+
 /// Appends the record of a device in version 2, its one spelling, of 58 bytes to
 /// [`LONGEST_RECORD`]. Each byte is written once, and no memory is taken but for the room of `out`.
 /// For want of that it is refused as `OutOfMemory`, and then nothing is appended.
@@ -273,16 +287,17 @@ pub fn write_device(device: &Device, out: &mut Vec<u8>) -> Result<(), Refusal>
         (λ _. (out.new.items ≡ out.old.items ++ spelling V2 device.now) × IsDevice V2 device.now)
         (λ e. (e ≡ OutOfMemory) × (out.new.items ≡ out.old.items)) }
 {
-    RecordVersion::V2.write_device(device, out)
+    write_in(RecordVersion::V2, device, out)
 }
 
-/// Appends the record of a device in version 1, its one spelling, of 50 to 4,180 bytes. Each byte
-/// is written once, and no memory is taken but for the room of `out`. For want of that it is
-/// refused as `OutOfMemory`, and then nothing is appended.
+/// Appends the record in version 1 of a device of which that tells all, its one spelling, of 50 to
+/// 4,180 bytes. Each byte is written once, and no memory is taken but for the room of `out`. For
+/// want of that it is refused as `OutOfMemory`, and then nothing is appended.
 pub fn write_device_v1(device: &Device, out: &mut Vec<u8>) -> Result<(), Refusal>
+    requires { IsOfV1 device.now }
     ensures { MatchResult result
         (λ _. (out.new.items ≡ out.old.items ++ spelling V1 device.now) × IsDevice V1 device.now)
         (λ e. (e ≡ OutOfMemory) × (out.new.items ≡ out.old.items)) }
 {
-    RecordVersion::V1.write_device(device, out)
+    write_in(RecordVersion::V1, device, out)
 }

@@ -1,14 +1,11 @@
 // The versions of records, and records and changes in each of them.
-ghost use Rattle.std.specs.Prelude.{◌≡◌, ◌≢◌, ◌≤◌, ◌++◌, List, ℕ, MatchOption, MatchResult, take};
+ghost use Rattle.std.specs.Prelude.{◌≡◌, ◌≢◌, ◌≤◌, MatchOption, take};
 ghost use Rattle.lw_types.specs.declared.refusal.Refusal.TheVariants.{OutOfMemory};
-ghost use Rattle.devices.specs.Becoming.{MayBecome};
 ghost use Rattle.record_codec.specs.Answers.{ReadsChange, ReadsRecord};
-ghost use Rattle.record_codec.specs.Change.{IsChangeOf};
-ghost use Rattle.record_codec.specs.DeviceRecord.{spelling, IsDevice};
 ghost use Rattle.record_codec.specs.Version.{longest_mac_queue, newest, version_byte};
 
-use crate::change::{change_in, put_change};
-use crate::device_record::{put_device, read_record};
+use crate::change::change_in;
+use crate::device_record::read_record;
 use devices::{Device, MacQueue};
 use lw_types::Refusal;
 use std::alloc::Global;
@@ -21,8 +18,8 @@ pub enum RecordVersion {
     V2,
 }
 
-// Takes back what was appended behind so many bytes, for want of memory.
-fn taken_back(out: &mut Vec<u8>, len: usize) -> Refusal
+/// Takes back what was appended behind so many bytes, for want of memory.
+pub(crate) fn taken_back(out: &mut Vec<u8>, len: usize) -> Refusal
     ensures value { result ≡ OutOfMemory }
     ensures items { out.new.items ≡ take len out.old.items }
 {
@@ -65,22 +62,6 @@ impl RecordVersion {
         }
     }
 
-    /// Appends the record of a device, its one spelling in this version. Each byte is written once,
-    /// and no memory is taken but for the room of `out`. After an `Err`, which is want of that,
-    /// nothing was appended.
-    pub fn write_device(self, device: &Device, out: &mut Vec<u8>) -> Result<(), Refusal>
-        ensures { MatchResult result
-            (λ _. (out.new.items ≡ out.old.items ++ spelling self device.now)
-            × IsDevice self device.now)
-            (λ e. (e ≡ OutOfMemory) × (out.new.items ≡ out.old.items)) }
-    {
-        let len = out.len();
-        match put_device(out, self, device) {
-            Ok(()) => Ok(()),
-            Err(_) => Err(taken_back(out, len)),
-        }
-    }
-
     /// The device of a record in this version, which is all of the bytes. Bytes that are no such
     /// record are refused as `Damaged`, whether or not there is memory. For want of memory a record
     /// is refused as `OutOfMemory`.
@@ -90,28 +71,6 @@ impl RecordVersion {
         match read_record(self, bytes) {
             Some(parts) => parts.device(alloc),
             None => Err(Refusal::Damaged),
-        }
-    }
-
-    /// Appends the change from one record to the next, its one spelling in this version. Each byte
-    /// is written once, and no memory is taken but for the room of `out`. After an `Err`, which is
-    /// want of that, nothing was appended.
-    pub fn write_change(
-        self,
-        before: &Device,
-        after: &Device,
-        out: &mut Vec<u8>,
-    ) -> Result<(), Refusal>
-        requires { MayBecome before.now after.now }
-        ensures { MatchResult result
-            (λ _. (bytes : List ℕ) × (out.new.items ≡ out.old.items ++ bytes)
-            × IsChangeOf self before.now after.now bytes)
-            (λ e. (e ≡ OutOfMemory) × (out.new.items ≡ out.old.items)) }
-    {
-        let len = out.len();
-        match put_change(out, self, before, after) {
-            Ok(()) => Ok(()),
-            Err(_) => Err(taken_back(out, len)),
         }
     }
 

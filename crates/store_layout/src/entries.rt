@@ -1,10 +1,11 @@
-// Entries, written.
+// Entries, written. Those of earlier versions are read alone.
 ghost use Rattle.std.specs.Prelude.{◌≡◌, ◌≤◌, ◌<◌, ◌+◌, ◌*◌, ◌^◌, ◌∷◌, [], ◌++◌, ℕ, List};
 ghost use Rattle.std.specs.Prelude.{MatchResult, length, take};
 ghost use Rattle.std.specs.Int.{to_be_bytes, w16};
 ghost use Rattle.lw_types.specs.declared.refusal.Refusal.TheVariants.{OutOfMemory};
 ghost use Rattle.devices.specs.Becoming.{MayBecome};
 ghost use Rattle.record_codec.specs.Change.{IsChangeOf};
+ghost use Rattle.record_codec.specs.Version.{newest};
 ghost use Rattle.store_layout.specs.Entries.{AreEntries, EntryValue, IsEntry, IsEntryOf};
 ghost use Rattle.store_layout.specs.Entries.{SpellsEntriesOf, entries, entries_of_table, entry};
 ghost use Rattle.store_layout.specs.Entries.EntryValue.{Changed, Whole};
@@ -12,7 +13,7 @@ ghost use Rattle.store_layout.specs.Entries.EntryValue.{Changed, Whole};
 use crate::superblock::RESERVED_RECORD;
 use devices::Device;
 use lw_types::Refusal;
-use record_codec::{RecordVersion, laws};
+use record_codec::{laws, write_change, write_device};
 use sessions::{Batch, Decision, Table};
 use std::alloc::AllocError;
 
@@ -28,24 +29,19 @@ const FRONT_LEN: usize = 5;
 /// The most bytes of an entry: 5, and those that are reserved for a record.
 pub const LONGEST_ENTRY: usize = FRONT_LEN + RESERVED_RECORD;
 
-/// Appends the entry of the whole record at a slot. Each byte of the record is written once, and no
-/// memory is taken but for the room of `out`. After an `Err`, which is want of that, nothing was
-/// appended.
-pub fn put_entry(
-    version: RecordVersion,
-    slot: u16,
-    device: &Device,
-    out: &mut Vec<u8>,
-) -> Result<(), Refusal>
+/// Appends the entry of the whole record at a slot, in the newest version. Each byte of the record
+/// is written once, and no memory is taken but for the room of `out`. After an `Err`, which is want
+/// of that, nothing was appended.
+pub fn put_entry(slot: u16, device: &Device, out: &mut Vec<u8>) -> Result<(), Refusal>
     ensures { MatchResult result
-        (λ _. (out.new.items ≡ out.old.items ++ entry version (Whole slot device.now))
-        × IsEntry version (Whole slot device.now))
+        (λ _. (out.new.items ≡ out.old.items ++ entry newest (Whole slot device.now))
+        × IsEntry newest (Whole slot device.now))
         (λ e. (e ≡ OutOfMemory) × (out.new.items ≡ out.old.items)) }
 {
     laws::records_are_short();
     let at = out.len();
     put_front(out, WHOLE, slot)?;
-    match version.write_device(device, out) {
+    match write_device(device, out) {
         Ok(()) => {
             set_length(out, at);
             Ok(())
@@ -55,25 +51,19 @@ pub fn put_entry(
 }
 
 // Appends the entry of the change from one record to another. After an `Err` nothing was appended.
-fn put_change(
-    version: RecordVersion,
-    slot: u16,
-    before: &Device,
-    after: &Device,
-    out: &mut Vec<u8>,
-) -> Result<(), Refusal>
+fn put_change(slot: u16, before: &Device, after: &Device, out: &mut Vec<u8>) -> Result<(), Refusal>
     requires { MayBecome before.now after.now }
     ensures { MatchResult result
         (λ _. (change : List ℕ)
-        × (out.new.items ≡ out.old.items ++ entry version (Changed slot change))
-        × IsEntry version (Changed slot change)
-        × IsChangeOf version before.now after.now change)
+        × (out.new.items ≡ out.old.items ++ entry newest (Changed slot change))
+        × IsEntry newest (Changed slot change)
+        × IsChangeOf newest before.now after.now change)
         (λ e. (e ≡ OutOfMemory) × (out.new.items ≡ out.old.items)) }
 {
     laws::changes_are_short();
     let at = out.len();
     put_front(out, CHANGED, slot)?;
-    match version.write_change(before, after, out) {
+    match write_change(before, after, out) {
         Ok(()) => {
             set_length(out, at);
             Ok(())
@@ -119,55 +109,51 @@ fn set_length(out: &mut Vec<u8>, at: usize)
 
 // Appends the entry of a decision: the record that it leaves, where it found none, else the change.
 // After an `Err` nothing was appended.
-fn put_decision(
-    version: RecordVersion,
-    decision: &Decision,
-    out: &mut Vec<u8>,
-) -> Result<(), Refusal>
+fn put_decision(decision: &Decision, out: &mut Vec<u8>) -> Result<(), Refusal>
     ensures { MatchResult result
-        (λ _. (e : EntryValue) × (out.new.items ≡ out.old.items ++ entry version e)
-        × IsEntry version e × IsEntryOf version decision.now e)
+        (λ _. (e : EntryValue) × (out.new.items ≡ out.old.items ++ entry newest e)
+        × IsEntry newest e × IsEntryOf newest decision.now e)
         (λ e. (e ≡ OutOfMemory) × (out.new.items ≡ out.old.items)) }
 {
     sessions::laws::a_decision_is_a_step();
     match &decision.before {
-        None => put_entry(version, decision.slot, &decision.after, out),
-        Some(before) => put_change(version, decision.slot, before, &decision.after, out),
+        None => put_entry(decision.slot, &decision.after, out),
+        Some(before) => put_change(decision.slot, before, &decision.after, out),
     }
 }
 
-/// Appends the entries of a batch, one for each decision, in order. Each byte of a record is
-/// written once, and no memory is taken but for the room of `out`. After an `Err`, which is want of
-/// that, a beginning of them was appended.
-pub fn put_batch(version: RecordVersion, batch: &Batch, out: &mut Vec<u8>) -> Result<(), Refusal>
+/// Appends the entries of a batch in the newest version, one for each decision, in order. Each byte
+/// of a record is written once, and no memory is taken but for the room of `out`. After an `Err`,
+/// which is want of that, a beginning of them was appended.
+pub fn put_batch(batch: &Batch, out: &mut Vec<u8>) -> Result<(), Refusal>
     ensures entries { MatchResult result
         (λ _. (bytes : List ℕ) × (out.new.items ≡ out.old.items ++ bytes)
-        × SpellsEntriesOf version batch.now bytes
+        × SpellsEntriesOf newest batch.now bytes
         × (length bytes ≤ length batch.now * LONGEST_ENTRY))
         (λ e. e ≡ OutOfMemory) }
 {
     crate::laws::entries_are_short();
     crate::laws::decisions_replay();
     for decision in batch.as_slice() {
-        put_decision(version, decision, out)?;
+        put_decision(decision, out)?;
     }
     Ok(())
 }
 
-/// Appends the entries of a table: the record of each device under its slot, in order of slots.
-/// Each byte of a record is written once, and no memory is taken but for the room of `out`. After
-/// an `Err`, which is want of that, a beginning of them was appended.
-pub fn put_table(version: RecordVersion, table: &Table, out: &mut Vec<u8>) -> Result<(), Refusal>
+/// Appends the entries of a table in the newest version: the record of each device under its slot,
+/// in order of slots. Each byte of a record is written once, and no memory is taken but for the
+/// room of `out`. After an `Err`, which is want of that, a beginning of them was appended.
+pub fn put_table(table: &Table, out: &mut Vec<u8>) -> Result<(), Refusal>
     ensures { MatchResult result
-        (λ _. (out.new.items ≡ out.old.items ++ entries version (entries_of_table table.now))
-        × AreEntries version (entries_of_table table.now))
+        (λ _. (out.new.items ≡ out.old.items ++ entries newest (entries_of_table table.now))
+        × AreEntries newest (entries_of_table table.now))
         (λ e. e ≡ OutOfMemory) }
 {
     // A table has at most 4,096 slots.
     let _slots = table.slots();
     let mut slot = 0;
     for device in table.devices() {
-        put_entry(version, slot, device, out)?;
+        put_entry(slot, device, out)?;
         slot += 1;
     }
     Ok(())

@@ -10,7 +10,7 @@ use gate_log::{OPEN, RECORDS_AT};
 use lw_types::{NetId, Refusal};
 use sessions::Slots;
 
-/// The bytes that are reserved for a record, or for a change of one. The largest record has 4,188;
+/// The bytes that are reserved for a record, or for a change of one. The largest record has 4,252;
 /// the others are left to later versions of records.
 pub(crate) const RESERVED_RECORD: usize = 4_300;
 

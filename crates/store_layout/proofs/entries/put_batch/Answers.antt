@@ -2,6 +2,7 @@ use Rattle.std.proofs.Common.{◌≡◌, ◌+◌, ◌++◌, ◌∷◌, [], ℕ, 
 use Rattle.std.proofs.lemmas.List.{append-nil, take_all, take_more}
 use Rattle.sessions.specs.declared.decision.Decision.{Decision}
 use Rattle.record_codec.specs.declared.version.RecordVersion.{RecordVersion}
+use Rattle.record_codec.specs.Version.{newest}
 use Rattle.store_layout.specs.Entries.{AreEntries, AreEntriesOf, EntryValue, IsEntry, IsEntryOf, SpellsEntriesOf, entries, entry}
 use Rattle.store_layout.proofs.entries.put_batch.Goals as goal
 
@@ -26,7 +27,7 @@ loop-decision-init c = ([], sym (append-nil c.args.out.now.items), record { valu
 pub loop-decision-preserved : goal.loop-decision-preserved
 loop-decision-preserved c =
     let l = c.loop-decision in
-    let v = c.args.version in
+    let v = newest in
     let ds = c.as_slice-decision-items.result.now in
     let d = c.decision-item.result in
     let done = take l.decision-index ds in
@@ -48,7 +49,7 @@ loop-decision-preserved c =
 
 pub returns : goal.returns
 returns c =
-    let v = c.args.version in
+    let v = newest in
     let items = c.as_slice-decision-items.result.now in
     let l = c.loop-decision in
     let so = l.invariant.2 in

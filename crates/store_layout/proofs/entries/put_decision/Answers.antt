@@ -8,6 +8,7 @@ use Rattle.devices.specs.declared.device.Device.{Device}
 use Rattle.record_codec.specs.declared.version.RecordVersion.{RecordVersion}
 use Rattle.record_codec.specs.Change.{IsChangeOf}
 use Rattle.sessions.specs.declared.decision.Decision.{Decision}
+use Rattle.record_codec.specs.Version.{newest}
 use Rattle.store_layout.specs.Entries.{EntryValue, IsEntry, IsEntryOf, entry}
 use Rattle.store_layout.specs.Entries.EntryValue.{Changed, Whole}
 use Rattle.store_layout.proofs.entries.put_decision.Goals as goal
@@ -35,8 +36,8 @@ module _ (v : RecordVersion) (d : Decision) (old new : List ℕ) where
   change_put (Err e) before some refused = refused
 
 pub returns-in-None : goal.returns-in-None
-returns-in-None c = whole_put c.args.version c.args.decision.now c.args.out.now.items c.put_entry.new.out.items c.put_entry.result c.in-None.is c.put_entry.ensures
+returns-in-None c = whole_put newest c.args.decision.now c.args.out.now.items c.put_entry.new.out.items c.put_entry.result c.in-None.is c.put_entry.ensures
 
 pub returns-in-Some : goal.returns-in-Some
 returns-in-Some c =
-    change_put c.args.version c.args.decision.now c.args.out.now.items c.put_change.new.out.items c.put_change.result c.in-Some.before c.in-Some.is c.put_change.ensures
+    change_put newest c.args.decision.now c.args.out.now.items c.put_change.new.out.items c.put_change.result c.in-Some.before c.in-Some.is c.put_change.ensures

@@ -1,4 +1,5 @@
 use Rattle.std.proofs.Common.{◌≡◌, ◌+◌, ◌++◌, ℕ, suc, drop, ap, arith, subst}
+use Rattle.record_codec.specs.Version.{newest}
 use Rattle.store_layout.specs.Entries.{AreEntries, entries, entries_from}
 use Rattle.store_layout.proofs.Tables.{each_more, put_more}
 use Rattle.store_layout.proofs.entries.put_table.Goals as goal
@@ -6,7 +7,7 @@ use Rattle.store_layout.proofs.entries.put_table.Goals as goal
 pub loop-device-preserved : goal.loop-device-preserved
 loop-device-preserved c =
     let l = c.loop-device in
-    let v = c.args.version in
+    let v = newest in
     let devices = c.devices-device-items.result.now in
     let device = c.device-item.result in
     let left = drop (l.device-index + 1) devices in
