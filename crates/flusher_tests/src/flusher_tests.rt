@@ -7,7 +7,7 @@ use lw_types::{Eui, Refusal};
 use sessions::{Batch, Table};
 use std::alloc::Global;
 use store::{Store, open};
-use store_layout::{RecordVersion, put_entry};
+use store_layout::put_entry;
 use test_stores::devices_under_test::{
     JOINER, JOINER_KEY, add, bringing, busy_joiner, heard_frame, joining,
 };
@@ -362,7 +362,7 @@ pub fn records(alloc: Global, count: u8) -> Result<Vec<u8>, Refusal> {
     let device = busy_joiner(alloc)?;
     let mut bytes = Vec::new(alloc);
     for _ in 0..count {
-        put_entry(RecordVersion::V2, 0, &device, &mut bytes)?;
+        put_entry(0, &device, &mut bytes)?;
     }
     Ok(bytes)
 }

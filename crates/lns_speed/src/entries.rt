@@ -6,7 +6,7 @@ use lw_types::Refusal;
 use sessions::{Batch, Decision};
 use std::alloc::Global;
 use std::io;
-use store_layout::{RecordVersion, put_batch, put_entry};
+use store_layout::{put_batch, put_entry};
 
 /// The slots of the table in which it is decided.
 const SLOTS: u16 = 8;
@@ -47,16 +47,11 @@ pub fn tell_entries(rt: &impl Eprint, alloc: Global) -> io::Result<()> {
 fn lengths(alloc: Global, what: Decided) -> Result<(usize, usize), Refusal> {
     let decision = decide(alloc, what)?;
     let mut whole = Vec::new(alloc);
-    put_entry(
-        RecordVersion::V2,
-        decision.slot,
-        &decision.after,
-        &mut whole,
-    )?;
+    put_entry(decision.slot, &decision.after, &mut whole)?;
     let mut batch = Batch::new(alloc)?;
     batch.push(decision);
     let mut change = Vec::new(alloc);
-    put_batch(RecordVersion::V2, &batch, &mut change)?;
+    put_batch(&batch, &mut change)?;
     Ok((change.len(), whole.len()))
 }
 

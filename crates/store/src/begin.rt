@@ -12,7 +12,6 @@ use crate::commit::Commit;
 use crate::{Begun, LARGEST_BATCH, Store};
 use disk::Disk;
 use lw_types::Refusal;
-use record_codec::NEWEST;
 use sessions::{Batch, Decision, PlacedBatch};
 use std::alloc::Global;
 use store_layout::{laws, put_batch};
@@ -99,7 +98,7 @@ impl<D: Disk> Store<D> {
     {
         let count = commit.batch.len() as u16;
         let mut bytes = gate_log::Begun::buffer(alloc, USUAL_ENTRIES)?;
-        put_batch(NEWEST, &commit.batch, &mut bytes)?;
+        put_batch(&commit.batch, &mut bytes)?;
         let phase = gate_log::Begun::new(bytes, commit.last, count)?;
         Ok(Begun { phase, commit })
     }

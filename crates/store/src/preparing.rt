@@ -124,7 +124,7 @@ fn records_of(alloc: Global, table: &Table) -> Result<Vec<u8>, Refusal>
     laws::entries_are_short();
     let most = table.devices().len() * LONGEST_ENTRY;
     let mut bytes = gate_log::Checkpoint::buffer(alloc, most)?;
-    put_table(NEWEST, table, &mut bytes)?;
+    put_table(table, &mut bytes)?;
     Ok(bytes)
 }
 

@@ -7,7 +7,7 @@ use lw_types::{Eui, Refusal, read_hex};
 use sessions::{Batch, Table};
 use std::alloc::Global;
 use store::{Store, open};
-use store_layout::{RecordVersion, put_batch};
+use store_layout::put_batch;
 use test_stores::devices_under_test::{JOINER, add, heard, joining, new_table};
 use test_stores::images_under_test::{OLD_FRONT, add_batch_of, checkpoint_of, disk_of};
 use test_stores::stores_under_test::{ALL, GATE_B, begin_commit, opened, put};
@@ -168,7 +168,7 @@ fn entries(alloc: Global) -> Result<Vec<u8>, Refusal> {
     add(alloc, &mut table, 0, &mut batch, joining()?)?;
     add_changes(alloc, &mut table, &mut batch)?;
     let mut entries = Vec::new(alloc);
-    put_batch(RecordVersion::V2, &batch, &mut entries)?;
+    put_batch(&batch, &mut entries)?;
     Ok(entries)
 }
 

@@ -4,7 +4,7 @@ use disk::{MemDisk, Sim};
 use lw_types::{Eui, Refusal};
 use std::alloc::Global;
 use store::{Store, open};
-use store_layout::{RecordVersion, put_entry};
+use store_layout::put_entry;
 use test_stores::devices_under_test::{busy_device, idle_device};
 use test_stores::images_under_test::{add_batch_of, checkpoint_of, disk_of};
 use test_stores::stores_under_test::{ALL, LEN, found, opened, store_after, take};
@@ -108,7 +108,7 @@ fn device_of(alloc: Global, entry: &Entry) -> Result<Device, Refusal> {
 fn add_entries(alloc: Global, bytes: &mut Vec<u8>, entries: &[Entry]) -> Result<(), Refusal> {
     for entry in entries {
         let device = device_of(alloc, entry)?;
-        put_entry(RecordVersion::V2, entry.0, &device, bytes)?;
+        put_entry(entry.0, &device, bytes)?;
     }
     Ok(())
 }
