@@ -144,14 +144,14 @@ IsHeardIn V2 n = n ≤ LAST_HEARD
 
 -- a device of which version 1 tells all: no uplink is counted, and at most 64 bytes of MAC commands
 -- wait
-pub record IsOfV1 (d : Device) : Type 0 where
+pub record IsToldByV1 (d : Device) : Type 0 where
   pub heard : d.heard ≡ 0
   pub mac_queue : length d.mac_queue ≤ longest_mac_queue V1
 
 -- a device of which a version tells all; version 2 does of each
-abbrev pub IsOf : RecordVersion → Device → Type 0
-IsOf V1 d = IsOfV1 d
-IsOf V2 d = Unit {0}
+abbrev pub IsToldBy : RecordVersion → Device → Type 0
+IsToldBy V1 d = IsToldByV1 d
+IsToldBy V2 d = Unit {0}
 
 -- a device that has a record in a version: its fields are in their ranges. In the newest version
 -- each device of a program has one

@@ -12,7 +12,7 @@ ghost use Rattle.record_codec.specs.declared.version.RecordVersion.TheVariants.{
 ghost use Rattle.record_codec.specs.Answers.{ReadsChange};
 ghost use Rattle.record_codec.specs.Change.{IsChangeOf, IsCurrentGroup, IsGroup, IsGrown};
 ghost use Rattle.record_codec.specs.Change.{IsItemGroup};
-ghost use Rattle.record_codec.specs.DeviceRecord.{IsOf, IsOfV1};
+ghost use Rattle.record_codec.specs.DeviceRecord.{IsToldBy, IsToldByV1};
 ghost use Rattle.record_codec.specs.ChangeReading.{change_read, current_after, device_after};
 ghost use Rattle.record_codec.specs.ChangeReading.{grants_after, heard_after, items_after, IsNew};
 ghost use Rattle.record_codec.specs.ChangeReading.{HasRoomToGrow, IsNewCurrent, IsNewItems};
@@ -149,7 +149,7 @@ fn put_change(
     after: &Device,
 ) -> Result<(), AllocError>
     requires step { MayBecome before.now after.now }
-    requires told { IsOf version after.now }
+    requires told { IsToldBy version after.now }
     ensures written { OnOk result ((bytes : List ℕ) × (out.new.items ≡ out.old.items ++ bytes)
         × IsChangeOf version before.now after.now bytes) }
     ensures keeps { KeepsFront out.old.items out.new.items }
@@ -177,7 +177,7 @@ fn write_in(
     out: &mut Vec<u8>,
 ) -> Result<(), Refusal>
     requires step { MayBecome before.now after.now }
-    requires told { IsOf version after.now }
+    requires told { IsToldBy version after.now }
     ensures { MatchResult result
         (λ _. (bytes : List ℕ) × (out.new.items ≡ out.old.items ++ bytes)
         × IsChangeOf version before.now after.now bytes)
@@ -209,7 +209,7 @@ pub fn write_change(before: &Device, after: &Device, out: &mut Vec<u8>) -> Resul
 /// appended.
 pub fn write_change_v1(before: &Device, after: &Device, out: &mut Vec<u8>) -> Result<(), Refusal>
     requires step { MayBecome before.now after.now }
-    requires told { IsOfV1 after.now }
+    requires told { IsToldByV1 after.now }
     ensures { MatchResult result
         (λ _. (bytes : List ℕ) × (out.new.items ≡ out.old.items ++ bytes)
         × IsChangeOf V1 before.now after.now bytes)

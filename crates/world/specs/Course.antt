@@ -45,8 +45,8 @@ abbrev pub new_store : ℕ → ℕ → Origin
 new_store net_id slots = record { table = empty_table net_id slots; number = 0; marks = [] }
 
 -- a store that was there, with the marks that were used up before
-abbrev pub adopted : TableState → ℕ → List Mark → Origin
-adopted t seq marks = record { table = t; number = seq; marks = marks }
+abbrev pub adopted_store : TableState → ℕ → List Mark → Origin
+adopted_store t seq marks = record { table = t; number = seq; marks = marks }
 
 -- the table, the number and the effects of these commands
 abbrev pub table_from : Origin → List Command → TableState

@@ -36,7 +36,7 @@ impl<D: Sim + Drop> World<D> {
     ghost use Rattle.world.specs.declared.step.Step.TheVariants as steps;
     ghost use Rattle.world.specs.Calls.{AreCallsAt, ForetellsAt, outlook_after_opening};
     ghost use Rattle.world.specs.Tells.{PlaceTellsRoom, CrashesTo, IsOpenedFrom, LeavesImage};
-    ghost use Rattle.world.specs.Course.{Origin, Course, adopted, beginning, new_store};
+    ghost use Rattle.world.specs.Course.{Origin, Course, adopted_store, beginning, new_store};
     ghost use Rattle.world.specs.Course.{effects_from};
     ghost use Rattle.sessions.specs.Marks.{IsSubsequence};
     ghost use Rattle.world.specs.Follows.{Follows, Moves, Survives};
@@ -71,7 +71,7 @@ impl<D: Sim + Drop> World<D> {
             × HoldsTable t seq (D.state disk).content)) }
         ensures course { IfOk result (λ world. (t : TableState) (seq : ℕ) (marks : List Mark)
             → HoldsTable t seq (D.state disk).content
-            → Follows D.state (adopted t seq marks) (beginning (adopted t seq marks)) world) }
+            → Follows D.state (adopted_store t seq marks) (beginning (adopted_store t seq marks)) world) }
         ensures calls { IfOk result (λ world. AreCallsAt D.failures D.outlook
             (record { failed = D.failures disk; coming = outlook_after_opening (D.outlook disk) })
             world.place) }

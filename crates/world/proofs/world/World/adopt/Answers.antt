@@ -4,7 +4,7 @@ use Rattle.disk.specs.Outlook.Outlook.{AllSucceed}
 use Rattle.lw_types.specs.Refusal.{number_of}
 use Rattle.store.specs.State.{disk_of, store_state}
 use Rattle.world.specs.Calls.{AreRecordedCalls, outlook_after_opening}
-use Rattle.world.specs.Course.{adopted}
+use Rattle.world.specs.Course.{adopted_store}
 use Rattle.world.specs.Tells.{IsOpenedFrom}
 use Rattle.world.proofs.Known.{formatted_known}
 use Rattle.world.proofs.Opening.{opened_from}
@@ -21,7 +21,7 @@ returns-in-Ok-clause-course g c =
     let made = c.in-Ok.ensures.made in
     let opened = made.opened g.met.D.Sim.is_honest in
     IfOk-weaker c.of_store.result _ _
-    (λ world begun t seq marks holds. let only = opened.only t seq holds in begun (adopted t seq marks) (sym only.0) (sym only.1))
+    (λ world begun t seq marks holds. let only = opened.only t seq holds in begun (adopted_store t seq marks) (sym only.0) (sym only.1))
     (c.of_store.ensures.course made.healthy.0 opened.settled)
 
 pub returns-in-Ok-clause-calls : goal.returns-in-Ok-clause-calls
