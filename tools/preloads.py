@@ -6,8 +6,8 @@ import shutil
 import subprocess
 
 # Only one thread of the program reads, writes and syncs at places of a file. Of all such calls the
-# one of the number FAILING_CALL fails, a write when half of it is written, and in that of the number
-# KILLING_CALL the program is killed, in the middle of a write, too. The first SLOW_SYNCS
+# one of the number FAILING_CALL fails, a write when half of it is written, and in that of the
+# number KILLING_CALL the program is killed, in the middle of a write, too. The first SLOW_SYNCS
 # syncs take SLOW_MS and SLOW_MICROS longer. Each write and sync that succeeds is added to the file
 # CALL_LOG: its kind, w or s, its place (8 bytes) and length (4) in the machine's order, its bytes.
 CALLS = r"""

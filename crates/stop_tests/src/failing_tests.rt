@@ -1,5 +1,5 @@
-// Each device call of a script fails, reads too. What is answered then is what a plain model answers
-// where the failure comes at that step; and a crash behind it loses nothing.
+// Each device call of a script fails, reads too. What is answered then is what a plain model
+// answers where the failure comes at that step; and a crash behind it loses nothing.
 use crate::plays::{MAKING, SCRIPTS, SLOTS, are_left, images, played, steps_of};
 use disk::Sim;
 use lw_types::Refusal;
@@ -101,8 +101,8 @@ fn are_all(failed: &[usize], letters: &str) -> bool {
     true
 }
 
-// Whether each device call of a script, which ends with a crash to the image of a letter and a list,
-// fails as it has to.
+// Whether each device call of a script, which ends with a crash to the image of a letter and a
+// list, fails as it has to.
 fn is_answered(alloc: Global, letters: &str, image: &str) -> Result<bool, Refusal> {
     let letters = format!(in alloc; "{letters}{image}l")?;
     let failed = failed_steps(alloc, &steps_of(alloc, &letters)?)?;

@@ -1,5 +1,5 @@
-//! Tests of stops: behind each step of a script, and at each of its device calls. What is opened then
-//! is beside a plain reader of images, and what is answered beside a plain model of worlds.
+//! Tests of stops: behind each step of a script, and at each of its device calls. What is opened
+//! then is beside a plain reader of images, and what is answered beside a plain model of worlds.
 #![tactic(auto)]
 
 #[cfg(test)]

@@ -11,8 +11,8 @@ use world::Step;
 // More calls than an opening makes.
 const MOST: u64 = 100;
 
-// Whether a crash to this image leaves what an opening found whose device call of this number failed;
-// none where it was opened.
+// Whether a crash to this image leaves what an opening found whose device call of this number
+// failed; none where it was opened.
 fn is_settled(
     alloc: Global,
     steps: &[Step],

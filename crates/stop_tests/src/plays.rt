@@ -9,8 +9,8 @@ use std::alloc::Global;
 use store::{Store, open};
 use world::{Answer, Step, World, run};
 
-/// Scripts of two areas and of chains: the first run, with checkpoints of four calls and of six; one
-/// that is cut and begun again; two batches that share a sync; and a join, which is written as
+/// Scripts of two areas and of chains: the first run, with checkpoints of four calls and of six;
+/// one that is cut and begun again; two batches that share a sync; and a join, which is written as
 /// changes.
 pub(crate) const SCRIPTS: &[&str] = &[
     "aTccccrepccccpcccccc",
@@ -32,8 +32,8 @@ pub(crate) fn steps_of(alloc: Global, letters: &str) -> Result<Vec<Step>, Refusa
     Ok(steps)
 }
 
-/// The images that a stop may leave: what was there, what was written, open gates, and at each place
-/// its low eight bits.
+/// The images that a stop may leave: what was there, what was written, open gates, and at each
+/// place its low eight bits.
 pub(crate) fn images(alloc: Global) -> Result<Vec<Image>, Refusal> {
     let len = new_disk(alloc, SLOTS)?.content().len();
     let mut low = Vec::with_capacity(alloc, len)?;

@@ -42,8 +42,8 @@ heard_after (First s counter) heard = one_more_heard heard
 heard_after (Next c counter) heard = one_more_heard heard
 heard_after (Again c) heard = heard
 
--- the device's record with the uplink's session and counter, and one uplink more where it is new; no
--- item is awaited any more
+-- the device's record with the uplink's session and counter, and one uplink more where it is new;
+-- no item is awaited any more
 abbrev pub with_uplink : Device → Fit → Device
 with_uplink d fit =
     record d {

@@ -83,8 +83,8 @@ impl Fit {
         }
     }
 
-    // The uplink is counted where it is new. The device keeps its session and counter, and awaits no
-    // item any more.
+    // The uplink is counted where it is new. The device keeps its session and counter, and awaits
+    // no item any more.
     fn enter(&self, device: &mut Device)
         requires { IsOf device.old.activation self.now }
         ensures { device.new ≡ with_uplink device.old self.now }

@@ -71,7 +71,8 @@ impl<D: Sim + Drop> World<D> {
             × HoldsTable t seq (D.state disk).content)) }
         ensures course { IfOk result (λ world. (t : TableState) (seq : ℕ) (marks : List Mark)
             → HoldsTable t seq (D.state disk).content
-            → Follows D.state (adopted_store t seq marks) (beginning (adopted_store t seq marks)) world) }
+            → Follows D.state (adopted_store t seq marks)
+            (beginning (adopted_store t seq marks)) world) }
         ensures calls { IfOk result (λ world. AreCallsAt D.failures D.outlook
             (record { failed = D.failures disk; coming = outlook_after_opening (D.outlook disk) })
             world.place) }

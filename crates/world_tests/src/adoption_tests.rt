@@ -107,7 +107,16 @@ fn found_after(
 #[test]
 fn a_crash_behind_an_adoption_leaves_what_was_there(rt: HostRuntime) {
     let alloc = rt.alloc();
-    assert_eq!(rt; found_after(alloc, "aTccccr", "bTccc", &Image::Old), Ok((5, 1, 1)));
-    assert_eq!(rt; found_after(alloc, "aTccccr", "bTccc", &Image::New), Ok((5, 2, 2)));
-    assert_eq!(rt; found_after(alloc, "aTccccr", "bTcccc", &Image::Old), Ok((6, 2, 2)));
+    assert_eq!(rt;
+        found_after(alloc, "aTccccr", "bTccc", &Image::Old),
+        Ok((5, 1, 1))
+    );
+    assert_eq!(rt;
+        found_after(alloc, "aTccccr", "bTccc", &Image::New),
+        Ok((5, 2, 2))
+    );
+    assert_eq!(rt;
+        found_after(alloc, "aTccccr", "bTcccc", &Image::Old),
+        Ok((6, 2, 2))
+    );
 }

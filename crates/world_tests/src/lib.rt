@@ -1,5 +1,5 @@
-//! Tests of worlds, beside a plain model, and of the public call of `headline`. They stand above those
-//! crates, so that each of these is proved once.
+//! Tests of worlds, beside a plain model, and of the public call of `headline`. They stand above
+//! those crates, so that each of these is proved once.
 #![tactic(auto)]
 
 #[cfg(test)]
