@@ -13,14 +13,14 @@ use Rattle.world.specs.declared.answer.Answer.{Answer}
 use Rattle.world.specs.declared.step.Step.{Step}
 use Rattle.world.specs.declared.world.World.{World}
 
--- A world with a new store made these steps, answered so. Its disk then crashed to this image, and
--- the store was opened of what was left. Whatever a crash could have left of that disk holds what a
--- beginning of the decided commands leads to, one that holds every command whose batch was
--- released.
+-- A world whose course began here made these steps, answered so. Its disk then crashed to this
+-- image, and the store was opened of what was left. Whatever a crash could have left of that disk
+-- holds what a beginning of the decided commands leads to, one that holds every command whose batch
+-- was released.
 pub record IsOpenedAfterCrash {D : Type 0} (laws : Ghosts D) (origin : Origin) (steps : List Step)
     (answers : List Answer) (image : Image) (store : StoreState) : Type 0 where
   pub first : World D laws
-  pub formatted : Follows laws.state origin (beginning origin) first
+  pub begun : Follows laws.state origin (beginning origin) first
   pub last : World D laws
   pub made : MakesSteps laws first steps answers last
   pub disk : D

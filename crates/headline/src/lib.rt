@@ -1,14 +1,20 @@
 //! What may be concluded of whole runs, in the words of their lists of steps alone.
 #![tactic(auto)]
 
-ghost use Rattle.std.specs.Prelude.{◌≡◌, ◌≢◌, IfOk, IfErr, length};
+ghost use Rattle.std.specs.Prelude.{◌≡◌, ◌≢◌, ◌++◌, ℕ, List, All, IfOk, IfErr, length};
+ghost use Rattle.devices.specs.declared.mark.Mark.{Mark};
 ghost use Rattle.disk.specs.Outlook.Outlook.{AllSucceed};
 ghost use Rattle.lw_types.specs.declared.refusal.Refusal.TheVariants.{DeviceFailed, OutOfMemory};
-ghost use Rattle.store.specs.Faults.{IsFormatRefusal};
+ghost use Rattle.sessions.specs.Marks.{AreDistinct, Covers, HasUsedUp, marks_of};
+ghost use Rattle.sessions.specs.Table.{TableState};
+ghost use Rattle.store.specs.Faults.{IsFault, IsFormatRefusal};
+ghost use Rattle.store.specs.Image.{HoldsTable};
 ghost use Rattle.store.specs.State.{store_state};
 ghost use Rattle.world.specs.Answers.{AreRight};
-ghost use Rattle.world.specs.Calls.{AreForetold, outlook_after_opening};
-ghost use Rattle.world.specs.Course.{beginning, course_of, new_store};
+ghost use Rattle.world.specs.Calls.{AreCallsAt, AreForetold, CallRecord, outlook_after_opening};
+ghost use Rattle.world.specs.Course.{Origin, adopted, beginning, course_of, new_store};
+ghost use Rattle.world.specs.Follows.{Follows};
+ghost use Rattle.world.specs.Sound.{IsSoundWorld};
 ghost use Rattle.headline.specs.Crash.{IsOpenedAfterCrash};
 ghost use Rattle.headline.specs.Failing.{ArmsNothing};
 ghost use Rattle.headline.specs.Recovers.{NoMarkTwice, Recovers};
@@ -31,7 +37,7 @@ use world::{Answer, Step, World, run};
 /// image would have done, and it has the table and the number that a beginning of the decided
 /// commands leaves. That beginning holds every command of which an effect has left. And over all
 /// lives no mark was used up twice by what has left: no JoinNonce of a device stands in two
-/// accepts.
+/// accepts. The table covers these marks, so that a world may adopt this store with them.
 pub fn crash_after<D: Sim + Drop>(
     alloc: Global,
     disk: D,
@@ -58,10 +64,107 @@ pub fn crash_after<D: Sim + Drop>(
     ensures once { IfOk result (λ found. NoMarkTwice (new_store net_id slots)
         (course_of (new_store net_id slots) (beginning (new_store net_id slots)) steps.now
         found.0.items)) }
+    ensures covered { IfOk result (λ found. HasUsedUp (store_state D.state found.1).table
+        (marks_of (course_of (new_store net_id slots) (beginning (new_store net_id slots)) steps.now
+        found.0.items).left)) }
+{
+    sessions::laws::no_mark_stands_twice();
+    let world = World::format(alloc, disk, net_id, slots)?;
+    crash_from(alloc, world, steps, image)
+}
+
+/// The same of a world that begins with the store on this disk, in records of whatever version. A
+/// refusal is `OutOfMemory`, `DeviceFailed`, or that of [`World::adopt`] for what the disk holds.
+///
+/// Where it isn't refused, the disk held a table and a number, and each clause of [`crash_after`]
+/// is said of a course that begins with them. Of all marks that were used up before, where they are
+/// distinct and that table covers them, and of those of what has left since, none stands twice, and
+/// the table that is recovered covers them all. So one adoption may follow another.
+pub fn crash_after_adoption<D: Sim + Drop>(
+    alloc: Global,
+    disk: D,
+    steps: &[Step],
+    image: &Image,
+) -> Result<(Vec<Answer>, Store<D>), Refusal>
+    ensures holds { IfOk result (λ _. (t : TableState) × ((seq : ℕ)
+        × HoldsTable t seq (D.state disk).content)) }
+    ensures answers { IfOk result (λ found. (t : TableState) (seq : ℕ) (marks : List Mark)
+        → HoldsTable t seq (D.state disk).content
+        → AreRight (adopted t seq marks) (beginning (adopted t seq marks)) steps.now
+        found.0.items) }
+    ensures calls { IfOk result (λ found. AreForetold
+        (record { failed = D.failures disk; coming = outlook_after_opening (D.outlook disk) })
+        steps.now found.0.items) }
+    ensures crash { IfOk result (λ found. (t : TableState) (seq : ℕ) (marks : List Mark)
+        → HoldsTable t seq (D.state disk).content
+        → IsOpenedAfterCrash D.Disk (adopted t seq marks) steps.now found.0.items image.now
+        (store_state D.state found.1)) }
+    ensures recovers { IfOk result (λ found. (t : TableState) (seq : ℕ) (marks : List Mark)
+        → HoldsTable t seq (D.state disk).content
+        → Recovers (adopted t seq marks)
+        (course_of (adopted t seq marks) (beginning (adopted t seq marks)) steps.now found.0.items)
+        (store_state D.state found.1).table (store_state D.state found.1).seq) }
+    ensures refused { IfErr result (λ e. e ≢ DeviceFailed → e ≢ OutOfMemory
+        → IsFault (D.state disk).content e) }
+    ensures unarmed { D.outlook disk ≡ AllSucceed → ArmsNothing steps.now
+        → IfErr result (λ e. e ≢ DeviceFailed) }
+    ensures once { IfOk result (λ found. (t : TableState) (seq : ℕ) (marks : List Mark)
+        → HoldsTable t seq (D.state disk).content
+        → All (λ m. Covers t m) marks → AreDistinct marks
+        → NoMarkTwice (adopted t seq marks)
+        (course_of (adopted t seq marks) (beginning (adopted t seq marks)) steps.now
+        found.0.items)) }
+    ensures covered { IfOk result (λ found. (t : TableState) (seq : ℕ) (marks : List Mark)
+        → HoldsTable t seq (D.state disk).content
+        → All (λ m. Covers t m) marks → AreDistinct marks
+        → HasUsedUp (store_state D.state found.1).table (marks ++ marks_of
+        (course_of (adopted t seq marks) (beginning (adopted t seq marks)) steps.now
+        found.0.items).left)) }
+{
+    store::laws::what_is_held_is_sound();
+    match World::adopt(alloc, disk) {
+        Ok(world) => crash_from(alloc, world, steps, image),
+        Err((_, refusal)) => Err(refusal),
+    }
+}
+
+// Takes the steps on a world, lets its disk crash to this image at the end, and opens the store:
+// what is said of the course, for each place where it may have begun.
+fn crash_from<D: Sim + Drop>(
+    alloc: Global,
+    mut world: World<D>,
+    steps: &[Step],
+    image: &Image,
+) -> Result<(Vec<Answer>, Store<D>), Refusal>
+    requires { IsSoundWorld D.state world }
+    ensures answers { IfOk result (λ found. (origin : Origin)
+        → Follows D.state origin (beginning origin) world
+        → AreRight origin (beginning origin) steps.now found.0.items) }
+    ensures calls { IfOk result (λ found. (calls : CallRecord)
+        → AreCallsAt D.failures D.outlook calls world.place
+        → AreForetold calls steps.now found.0.items) }
+    ensures crash { IfOk result (λ found. (origin : Origin)
+        → Follows D.state origin (beginning origin) world
+        → IsOpenedAfterCrash D.Disk origin steps.now found.0.items image.now
+        (store_state D.state found.1)) }
+    ensures recovers { IfOk result (λ found. (origin : Origin)
+        → Follows D.state origin (beginning origin) world
+        → Recovers origin (course_of origin (beginning origin) steps.now found.0.items)
+        (store_state D.state found.1).table (store_state D.state found.1).seq) }
+    ensures used { IfOk result (λ found. (origin : Origin)
+        → Follows D.state origin (beginning origin) world
+        → HasUsedUp origin.table origin.marks
+        → HasUsedUp (store_state D.state found.1).table (origin.marks ++ marks_of
+        (course_of origin (beginning origin) steps.now found.0.items).left)) }
+    ensures refused { IfErr result (λ e. (origin : Origin)
+        → Follows D.state origin (beginning origin) world
+        → e ≢ DeviceFailed → e ≢ OutOfMemory → ⊥) }
+    ensures unarmed { IfErr result (λ e. (calls : CallRecord)
+        → AreCallsAt D.failures D.outlook calls world.place → calls.coming ≡ AllSucceed
+        → ArmsNothing steps.now → e ≢ DeviceFailed) }
 {
     world::laws::what_a_crash_leaves();
     sessions::laws::no_mark_stands_twice();
-    let mut world = World::format(alloc, disk, net_id, slots)?;
     match run(&mut world, alloc, steps) {
         Ok(answers) => {
             let mut disk = world.close();

@@ -1,95 +1,47 @@
-use Rattle.std.proofs.Common.{◌≡◌, ◌∙◌, Result, Ok, Err, IfErr, ap, subst, sym}
-use Rattle.std.specs.Result.{IsErrAnd}
-use Rattle.lw_types.specs.declared.refusal.Refusal.{Refusal}
-use Rattle.disk.specs.Outlook.Outlook.{AllSucceed}
-use Rattle.world.specs.Calls.{CallRecord, IsKnownOutlook, calls_of, outlook_after_opening}
-use Rattle.world.specs.Course.{beginning, course_of, new_store, table_from, number_from}
-use Rattle.sessions.specs.Table.{effects_of}
-use Rattle.headline.proofs.Calm.{stays_calm}
+use Rattle.std.proofs.Common.{ap}
+use Rattle.std.proofs.lemmas.Result.{IfErr-weaker, IfOk-weaker}
+use Rattle.world.specs.Calls.{CallRecord, outlook_after_opening}
+use Rattle.world.specs.Course.{new_store}
 use Rattle.headline.proofs.crash_after.Goals as goal
 
-pub returns-in_ok-store-in-Ok-clause-answers : goal.returns-in_ok-store-in-Ok-clause-answers
-returns-in_ok-store-in-Ok-clause-answers g c =
+pub returns-clause-answers : goal.returns-clause-answers
+returns-clause-answers g c =
     let origin = new_store c.args.net_id c.args.slots in
-    (c.in-Ok.ensures.course origin (beginning origin) c.in_ok-world.ensures.course).0
+    IfOk-weaker c.crash_from.result _ _ (λ found answers. answers origin c.in_ok-world.ensures.course) c.crash_from.ensures.answers
 
-pub returns-in_ok-store-in-Ok-clause-calls : goal.returns-in_ok-store-in-Ok-clause-calls
-returns-in_ok-store-in-Ok-clause-calls g c =
+pub returns-clause-calls : goal.returns-clause-calls
+returns-clause-calls g c =
     let calls : CallRecord = record { failed = g.D.Disk.failures c.args.disk; coming = outlook_after_opening (g.D.Disk.outlook c.args.disk) } in
-    (c.in-Ok.ensures.calls calls c.in_ok-world.ensures.calls).0
+    IfOk-weaker c.crash_from.result _ _ (λ found foretold. foretold calls c.in_ok-world.ensures.calls) c.crash_from.ensures.calls
 
-pub returns-in_ok-store-in-Ok-clause-crash : goal.returns-in_ok-store-in-Ok-clause-crash
-returns-in_ok-store-in-Ok-clause-crash g c =
+pub returns-clause-crash : goal.returns-clause-crash
+returns-clause-crash g c =
     let origin = new_store c.args.net_id c.args.slots in
-    let course = course_of origin (beginning origin) c.args.steps.now c.in-Ok.answers.items in
-    let followed = (c.in-Ok.ensures.course origin (beginning origin) c.in_ok-world.ensures.course).1 in
-    record {
-      first = c.in_ok-world.world;
-      formatted = c.in_ok-world.ensures.course;
-      last = c.run.new.world;
-      made = c.in-Ok.ensures.steps;
-      disk = c.close-disk.result;
-      at = c.close-disk.ensures.disk;
-      survives = (c.close-disk.ensures.course origin course followed).0;
-      left = (g.D.Disk.state c.crash.new.self).content;
-      crashed = c.crash.ensures.image;
-      permitted = c.crash.ensures.permitted;
-      opened = c.in_ok-store-in-Ok.ensures.opened g.met.D.Sim.is_honest;
-    }
+    IfOk-weaker c.crash_from.result _ _ (λ found opened. opened origin c.in_ok-world.ensures.course) c.crash_from.ensures.crash
 
-pub returns-in_ok-store-in-Ok-clause-recovers : goal.returns-in_ok-store-in-Ok-clause-recovers
-returns-in_ok-store-in-Ok-clause-recovers g c =
+pub returns-clause-recovers : goal.returns-clause-recovers
+returns-clause-recovers g c =
     let origin = new_store c.args.net_id c.args.slots in
-    let course = course_of origin (beginning origin) c.args.steps.now c.in-Ok.answers.items in
-    let followed = (c.in-Ok.ensures.course origin (beginning origin) c.in_ok-world.ensures.course).1 in
-    let closed = c.close-disk.ensures.course origin course followed in
-    let found = closed.0 (g.D.Disk.state c.crash.new.self).content c.crash.ensures.permitted in
-    let opened = c.in_ok-store-in-Ok.ensures.opened g.met.D.Sim.is_honest in
-    let only = opened.only (table_from origin found.0) (number_from origin found.0) found.2 in
-    let laws = c.what_a_crash_leaves.ensures in
-    record {
-      kept = found.0;
-      beginning = laws.beginning course found.0 found.1;
-      released = laws.settled course found.0 found.1;
-      left = laws.left origin course course.left found.0 found.1 closed.1;
-      table_is = sym only.0;
-      number_is = sym only.1;
-    }
+    IfOk-weaker c.crash_from.result _ _ (λ found recovers. recovers origin c.in_ok-world.ensures.course) c.crash_from.ensures.recovers
 
-pub returns-in_ok-store-in-Ok-clause-once : goal.returns-in_ok-store-in-Ok-clause-once
-returns-in_ok-store-in-Ok-clause-once g c =
+pub returns-clause-refused : goal.returns-clause-refused
+returns-clause-refused g c =
     let origin = new_store c.args.net_id c.args.slots in
-    let course = course_of origin (beginning origin) c.args.steps.now c.in-Ok.answers.items in
-    let followed = (c.in-Ok.ensures.course origin (beginning origin) c.in_ok-world.ensures.course).1 in
-    let closed = c.close-disk.ensures.course origin course followed in
-    c.no_mark_stands_twice.ensures.part (effects_of origin.table course.settled) course.left closed.1
-    (c.no_mark_stands_twice.ensures.from_empty c.args.net_id c.args.slots course.settled)
+    IfErr-weaker c.crash_from.result _ _ (λ e none device memory. absurd (none origin c.in_ok-world.ensures.course device memory)) c.crash_from.ensures.refused
 
--- what holds of the refusal holds of the answer that it becomes
-refused_with : {T : Type 0} (P : Refusal → Type 0) (r : Result T Refusal) (e : Refusal) → IsErrAnd r (λ y. y ≡ e) → P e → IfErr r P
-refused_with P (Ok x) e is p = absurd is
-refused_with P (Err y) e is p = subst P (sym is) p
+pub returns-clause-unarmed : goal.returns-clause-unarmed
+returns-clause-unarmed g c all nothing =
+    let calls : CallRecord = record { failed = g.D.Disk.failures c.args.disk; coming = outlook_after_opening (g.D.Disk.outlook c.args.disk) } in
+    IfErr-weaker c.crash_from.result _ _ (λ e calm. calm calls c.in_ok-world.ensures.calls (ap outlook_after_opening all) nothing) c.crash_from.ensures.unarmed
 
-pub returns-in_err-store-in-Ok-clause-refused : goal.returns-in_err-store-in-Ok-clause-refused
-returns-in_err-store-in-Ok-clause-refused g c =
+pub returns-clause-once : goal.returns-clause-once
+returns-clause-once g c =
     let origin = new_store c.args.net_id c.args.slots in
-    let course = course_of origin (beginning origin) c.args.steps.now c.in-Ok.answers.items in
-    let followed = (c.in-Ok.ensures.course origin (beginning origin) c.in_ok-world.ensures.course).1 in
-    let closed = c.close-disk.ensures.course origin course followed in
-    let found = closed.0 (g.D.Disk.state c.crash.new.self).content c.crash.ensures.permitted in
-    let r = c.from_residual-in_err-store-in-Ok in
-    refused_with _ r.result c.in_err-store-in-Ok.field-0.0 r.ensures.1
-    (λ device memory.
-    absurd ((c.in_err-store-in-Ok.ensures.refused g.met.D.Sim.is_honest device memory).none (table_from origin found.0) (number_from origin found.0) found.2))
+    let before = c.no_mark_stands_twice.ensures.at_first c.args.net_id c.args.slots in
+    IfOk-weaker c.crash_from.result _ _ (λ found used. (used origin c.in_ok-world.ensures.course before).distinct) c.crash_from.ensures.used
 
-pub returns-in_err-store-in-Ok-clause-unarmed : goal.returns-in_err-store-in-Ok-clause-unarmed
-returns-in_err-store-in-Ok-clause-unarmed g c = λ all nothing.
-    let outlook = g.D.Disk.outlook in
-    let calls : CallRecord = record { failed = g.D.Disk.failures c.args.disk; coming = outlook_after_opening (outlook c.args.disk) } in
-    let steps = c.args.steps.now in
-    let answers = c.in-Ok.answers.items in
-    let calm : (calls_of calls steps answers).coming ≡ AllSucceed = stays_calm calls steps answers nothing (ap outlook_after_opening all) in
-    let known = ((c.in-Ok.ensures.calls calls c.in_ok-world.ensures.calls).1 c.close-disk.result c.close-disk.ensures.disk).known in
-    let closed : outlook c.close-disk.result ≡ AllSucceed = subst (λ o. IsKnownOutlook o (outlook c.close-disk.result)) calm known in
-    let r = c.from_residual-in_err-store-in-Ok in
-    refused_with _ r.result c.in_err-store-in-Ok.field-0.0 r.ensures.1 (c.in_err-store-in-Ok.ensures.unarmed (c.crash.ensures.outlook ∙ closed))
+pub returns-clause-covered : goal.returns-clause-covered
+returns-clause-covered g c =
+    let origin = new_store c.args.net_id c.args.slots in
+    let before = c.no_mark_stands_twice.ensures.at_first c.args.net_id c.args.slots in
+    IfOk-weaker c.crash_from.result _ _ (λ found used. used origin c.in_ok-world.ensures.course before) c.crash_from.ensures.used
