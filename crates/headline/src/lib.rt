@@ -12,7 +12,7 @@ ghost use Rattle.store.specs.Image.{HoldsTable};
 ghost use Rattle.store.specs.State.{store_state};
 ghost use Rattle.world.specs.Answers.{AreRight};
 ghost use Rattle.world.specs.Calls.{AreCallsAt, AreForetold, CallRecord, outlook_after_opening};
-ghost use Rattle.world.specs.Course.{Origin, adopted, beginning, course_of, new_store};
+ghost use Rattle.world.specs.Course.{Origin, adopted_store, beginning, course_of, new_store};
 ghost use Rattle.world.specs.Follows.{Follows};
 ghost use Rattle.world.specs.Sound.{IsSoundWorld};
 ghost use Rattle.headline.specs.Crash.{IsOpenedAfterCrash};
@@ -90,20 +90,20 @@ pub fn crash_after_adoption<D: Sim + Drop>(
         × HoldsTable t seq (D.state disk).content)) }
     ensures answers { IfOk result (λ found. (t : TableState) (seq : ℕ) (marks : List Mark)
         → HoldsTable t seq (D.state disk).content
-        → AreRight (adopted t seq marks) (beginning (adopted t seq marks)) steps.now
+        → AreRight (adopted_store t seq marks) (beginning (adopted_store t seq marks)) steps.now
         found.0.items) }
     ensures calls { IfOk result (λ found. AreForetold
         (record { failed = D.failures disk; coming = outlook_after_opening (D.outlook disk) })
         steps.now found.0.items) }
     ensures crash { IfOk result (λ found. (t : TableState) (seq : ℕ) (marks : List Mark)
         → HoldsTable t seq (D.state disk).content
-        → IsOpenedAfterCrash D.Disk (adopted t seq marks) steps.now found.0.items image.now
+        → IsOpenedAfterCrash D.Disk (adopted_store t seq marks) steps.now found.0.items image.now
         (store_state D.state found.1)) }
     ensures recovers { IfOk result (λ found. (t : TableState) (seq : ℕ) (marks : List Mark)
         → HoldsTable t seq (D.state disk).content
-        → Recovers (adopted t seq marks)
-        (course_of (adopted t seq marks) (beginning (adopted t seq marks)) steps.now found.0.items)
-        (store_state D.state found.1).table (store_state D.state found.1).seq) }
+        → Recovers (adopted_store t seq marks)
+        (course_of (adopted_store t seq marks) (beginning (adopted_store t seq marks)) steps.now
+        found.0.items) (store_state D.state found.1).table (store_state D.state found.1).seq) }
     ensures refused { IfErr result (λ e. e ≢ DeviceFailed → e ≢ OutOfMemory
         → IsFault (D.state disk).content e) }
     ensures unarmed { D.outlook disk ≡ AllSucceed → ArmsNothing steps.now
@@ -111,14 +111,14 @@ pub fn crash_after_adoption<D: Sim + Drop>(
     ensures once { IfOk result (λ found. (t : TableState) (seq : ℕ) (marks : List Mark)
         → HoldsTable t seq (D.state disk).content
         → All (λ m. Covers t m) marks → AreDistinct marks
-        → NoMarkTwice (adopted t seq marks)
-        (course_of (adopted t seq marks) (beginning (adopted t seq marks)) steps.now
+        → NoMarkTwice (adopted_store t seq marks)
+        (course_of (adopted_store t seq marks) (beginning (adopted_store t seq marks)) steps.now
         found.0.items)) }
     ensures covered { IfOk result (λ found. (t : TableState) (seq : ℕ) (marks : List Mark)
         → HoldsTable t seq (D.state disk).content
         → All (λ m. Covers t m) marks → AreDistinct marks
         → HasUsedUp (store_state D.state found.1).table (marks ++ marks_of
-        (course_of (adopted t seq marks) (beginning (adopted t seq marks)) steps.now
+        (course_of (adopted_store t seq marks) (beginning (adopted_store t seq marks)) steps.now
         found.0.items).left)) }
 {
     store::laws::what_is_held_is_sound();

@@ -1,7 +1,7 @@
 use Rattle.std.proofs.Common.{[], ap}
 use Rattle.std.proofs.lemmas.Result.{IfErr-weaker, IfOk-weaker}
 use Rattle.world.specs.Calls.{CallRecord, outlook_after_opening}
-use Rattle.world.specs.Course.{adopted}
+use Rattle.world.specs.Course.{adopted_store}
 use Rattle.headline.proofs.crash_after_adoption.Goals as goal
 
 pub returns-in-Ok-clause-holds : goal.returns-in-Ok-clause-holds
@@ -9,7 +9,7 @@ returns-in-Ok-clause-holds g c = IfOk-weaker c.crash_from.result _ _ (λ found a
 
 pub returns-in-Ok-clause-answers : goal.returns-in-Ok-clause-answers
 returns-in-Ok-clause-answers g c =
-    IfOk-weaker c.crash_from.result _ _ (λ found answers t seq marks holds. answers (adopted t seq marks) (c.in-Ok.ensures.course t seq marks holds)) c.crash_from.ensures.answers
+    IfOk-weaker c.crash_from.result _ _ (λ found answers t seq marks holds. answers (adopted_store t seq marks) (c.in-Ok.ensures.course t seq marks holds)) c.crash_from.ensures.answers
 
 pub returns-in-Ok-clause-calls : goal.returns-in-Ok-clause-calls
 returns-in-Ok-clause-calls g c =
@@ -18,17 +18,17 @@ returns-in-Ok-clause-calls g c =
 
 pub returns-in-Ok-clause-crash : goal.returns-in-Ok-clause-crash
 returns-in-Ok-clause-crash g c =
-    IfOk-weaker c.crash_from.result _ _ (λ found opened t seq marks holds. opened (adopted t seq marks) (c.in-Ok.ensures.course t seq marks holds)) c.crash_from.ensures.crash
+    IfOk-weaker c.crash_from.result _ _ (λ found opened t seq marks holds. opened (adopted_store t seq marks) (c.in-Ok.ensures.course t seq marks holds)) c.crash_from.ensures.crash
 
 pub returns-in-Ok-clause-recovers : goal.returns-in-Ok-clause-recovers
 returns-in-Ok-clause-recovers g c =
-    IfOk-weaker c.crash_from.result _ _ (λ found recovers t seq marks holds. recovers (adopted t seq marks) (c.in-Ok.ensures.course t seq marks holds)) c.crash_from.ensures.recovers
+    IfOk-weaker c.crash_from.result _ _ (λ found recovers t seq marks holds. recovers (adopted_store t seq marks) (c.in-Ok.ensures.course t seq marks holds)) c.crash_from.ensures.recovers
 
 pub returns-in-Ok-clause-refused : goal.returns-in-Ok-clause-refused
 returns-in-Ok-clause-refused g c =
     let held = c.in-Ok.ensures.holds in
     let begun = c.in-Ok.ensures.course held.0 held.1.0 [] held.1.1 in
-    IfErr-weaker c.crash_from.result _ _ (λ e none device memory. absurd (none (adopted held.0 held.1.0 []) begun device memory)) c.crash_from.ensures.refused
+    IfErr-weaker c.crash_from.result _ _ (λ e none device memory. absurd (none (adopted_store held.0 held.1.0 []) begun device memory)) c.crash_from.ensures.refused
 
 pub returns-in-Ok-clause-unarmed : goal.returns-in-Ok-clause-unarmed
 returns-in-Ok-clause-unarmed g c all nothing =
@@ -40,7 +40,7 @@ returns-in-Ok-clause-once g c =
     let content = (g.D.Disk.state c.args.disk).content in
     IfOk-weaker c.crash_from.result _ _
     (λ found used t seq marks holds covered distinct.
-    (used (adopted t seq marks) (c.in-Ok.ensures.course t seq marks holds)
+    (used (adopted_store t seq marks) (c.in-Ok.ensures.course t seq marks holds)
     (record { sound = c.what_is_held_is_sound.ensures t seq content holds; covered = covered; distinct = distinct })).distinct)
     c.crash_from.ensures.used
 
@@ -49,6 +49,6 @@ returns-in-Ok-clause-covered g c =
     let content = (g.D.Disk.state c.args.disk).content in
     IfOk-weaker c.crash_from.result _ _
     (λ found used t seq marks holds covered distinct.
-    used (adopted t seq marks) (c.in-Ok.ensures.course t seq marks holds)
+    used (adopted_store t seq marks) (c.in-Ok.ensures.course t seq marks holds)
     (record { sound = c.what_is_held_is_sound.ensures t seq content holds; covered = covered; distinct = distinct }))
     c.crash_from.ensures.used
