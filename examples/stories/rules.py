@@ -254,7 +254,7 @@ def failing_disk(it):
         ("take 64", "idle"),
     ):
         it.line(line, answer)
-    it.line("list", f"0 {METER} 2 2 16383 1 0", f"devices 1 seq {durable}")
+    it.line("list", f"0 {METER} 2 2 16383 1 0 11", f"devices 1 seq {durable}")
     it.say(
         "A call of the disk fails (40), and after that the store takes nothing (41) until it is "
         "opened again. The first opening fails too, and all is idle; the second has what was "
