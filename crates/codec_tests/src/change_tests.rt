@@ -1,15 +1,19 @@
 // Changes of records.
 ghost use Rattle.std.specs.Prelude.{◌≡◌, IfSome, OnSome};
-ghost use Rattle.devices.specs.Becoming.{AreItemsAfter, AreProvisionedAlike, MayBecome};
+ghost use Rattle.devices.specs.Becoming.{AreItemsAfter, AreProvisionedAlike, IsHeardAfter};
+ghost use Rattle.devices.specs.Becoming.{MayBecome};
 
 use crate::fixtures::{self, DEVICE, items, new_device, session};
 use Items::{Added, AddedLong, Leaves, Same};
+use RecordVersion::{V1, V2};
 use devices::{
     Activation, Channels, CurrentSession, Device, Item, ItemQueue, MacQueue, NextDown, Payload,
-    Port, Tag,
+    Port, Tag, UplinkCount,
 };
 use lw_types::{JoinNonce, Refusal, read_hex};
-use record_codec::{LONGEST_CHANGE, read_change, read_change_v1, write_change, write_change_v1};
+use record_codec::{
+    LONGEST_CHANGE, RecordVersion, read_change, read_change_v1, write_change, write_change_v1,
+};
 use std::alloc::Global;
 
 // What a record has besides its items and what its device was provisioned with.
@@ -278,6 +282,15 @@ fn change_items(alloc: Global, queue: &mut ItemQueue, items: &Items) -> Option<(
     }
 }
 
+// One more uplink is counted, where the count isn't at its end.
+fn count(heard: &mut UplinkCount) -> Option<()>
+    ensures { OnSome result (IsHeardAfter heard.old heard.new) }
+{
+    let more = heard.get() + 1;
+    *heard = UplinkCount::new(more)?;
+    Some(())
+}
+
 // The record with other numbers and items.
 fn with_change(alloc: Global, before: &Device, after: &Numbers, items: &Items) -> Option<Device>
     ensures { IfSome result (λ after. MayBecome before.now after) }
@@ -287,6 +300,18 @@ fn with_change(alloc: Global, before: &Device, after: &Numbers, items: &Items) -
     };
     let mut device = with_numbers(alloc, copy, after)?;
     change_items(alloc, &mut device.items, items)?;
+    Some(device)
+}
+
+// The record with other numbers, and one uplink more.
+fn with_one_more(alloc: Global, before: &Device, after: &Numbers) -> Option<Device>
+    ensures { IfSome result (λ after. MayBecome before.now after) }
+{
+    let Ok(copy) = before.copy() else {
+        return None;
+    };
+    let mut device = with_numbers(alloc, copy, after)?;
+    count(&mut device.heard)?;
     Some(device)
 }
 
@@ -428,33 +453,70 @@ const STEPS: &[Step] = &[
     ),
 ];
 
-// What is there when the change is written behind 9 in version 1, and behind that in version 2.
-fn written(alloc: Global, before: &Device, after: &Device) -> Option<(Vec<u8>, Vec<u8>)>
+// Appends the change in version 1, where that tells all of the record.
+fn put_old_change(before: &Device, after: &Device, out: &mut Vec<u8>) -> Result<(), Refusal>
     requires { MayBecome before.now after.now }
 {
-    let mut first = [9].to_vec(alloc).ok()?;
-    write_change_v1(before, after, &mut first).ok()?;
-    let mut second = [9].to_vec(alloc).ok()?;
-    write_change(before, after, &mut second).ok()?;
-    Some((first, second))
+    if after.heard.get() == 0 && after.mac_queue.as_slice().len() <= 64 {
+        write_change_v1(before, after, out)
+    } else {
+        Err(Refusal::Damaged)
+    }
 }
 
-// Whether the bytes are read as the change to this record in both versions.
-fn is_read(alloc: Global, before: &Device, after: &Device, bytes: &[u8]) -> Option<bool> {
-    let first = read_change_v1(alloc, before, bytes).ok()?;
-    let second = read_change(alloc, before, bytes).ok()?;
-    Some(first == *after && second == *after)
+fn put_change(
+    version: RecordVersion,
+    before: &Device,
+    after: &Device,
+    out: &mut Vec<u8>,
+) -> Result<(), Refusal>
+    requires { MayBecome before.now after.now }
+{
+    match version {
+        V1 => put_old_change(before, after, out),
+        V2 => write_change(before, after, out),
+    }
 }
 
-// Whether the change is written so behind 9, and read back, in both versions.
+fn read(
+    alloc: Global,
+    version: RecordVersion,
+    before: &Device,
+    bytes: &[u8],
+) -> Result<Device, Refusal> {
+    match version {
+        V1 => read_change_v1(alloc, before, bytes),
+        V2 => read_change(alloc, before, bytes),
+    }
+}
+
+// The bytes of the change, which is written behind 9 and read back.
+fn change_of(
+    alloc: Global,
+    version: RecordVersion,
+    before: &Device,
+    after: &Device,
+) -> Option<Vec<u8>>
+    requires { MayBecome before.now after.now }
+{
+    let mut out = [9].to_vec(alloc).ok()?;
+    put_change(version, before, after, &mut out).ok()?;
+    let bytes = out.as_slice().strip_prefix(&[9])?;
+    if read(alloc, version, before, bytes).ok()? == *after {
+        bytes.to_vec(alloc).ok()
+    } else {
+        None
+    }
+}
+
+// Whether the change has these bytes in both versions.
 fn is_change(alloc: Global, step: &Step) -> Option<bool> {
     let (numbers, waiting, others, items, words) = step;
     let before = found(alloc, numbers, *waiting)?;
     let after = with_change(alloc, &before, others, items)?;
     let wanted = spelled(alloc, words)?;
-    let (first, second) = written(alloc, &before, &after)?;
-    let is_written = first.as_slice().strip_prefix(&[9]) == Some(wanted.as_slice());
-    Some(is_written && second == first && is_read(alloc, &before, &after, &wanted)?)
+    let first = change_of(alloc, V1, &before, &after)?;
+    Some(first == wanted && change_of(alloc, V2, &before, &after)? == wanted)
 }
 
 #[test]
@@ -464,28 +526,122 @@ fn a_change_is_what_differs(rt: HostRuntime) {
     }
 }
 
-const LONGEST: Numbers = Numbers {
+// Uplinks that are counted: a record with this count, the numbers after it, and the bytes of the
+// change to those and one uplink more.
+const COUNTED: &[(Numbers, u64, Numbers, &str)] = &[
+    (IN_USE, 0, IN_USE, "80"),
+    (IN_USE, 0, UPLINK, "84 00000006 0000000000000003"),
+    (
+        JOINED,
+        4_294_967_296,
+        FIRST_UPLINK,
+        "8A 01 000001 AA*16 BB*16 00000000 0000000000000000 00",
+    ),
+    (
+        IN_USE,
+        9_223_372_036_854_775_806,
+        UPLINK,
+        "84 00000006 0000000000000003",
+    ),
+];
+
+// Whether the change to these numbers and one uplink more has these bytes.
+fn is_counted(alloc: Global, row: &(Numbers, u64, Numbers, &str)) -> Option<bool> {
+    let (numbers, heard, others, words) = row;
+    let mut before = found(alloc, numbers, 0)?;
+    before.heard = UplinkCount::new(*heard)?;
+    let after = with_one_more(alloc, &before, others)?;
+    Some(change_of(alloc, V2, &before, &after)? == spelled(alloc, words)?)
+}
+
+#[test]
+fn a_count_that_grows_is_bit_7(rt: HostRuntime) {
+    for row in COUNTED {
+        assert!(rt; is_counted(rt.alloc(), row) == Some(true), "{}", row.1);
+    }
+}
+
+// A count at its end, where it stays: the change of an uplink, in version 2.
+fn stays(alloc: Global) -> Option<bool> {
+    let mut before = found(alloc, &IN_USE, 0)?;
+    before.heard = UplinkCount::new(END)?;
+    let after = with_change(alloc, &before, &UPLINK, &Same)?;
+    let wanted = spelled(alloc, "04 00000006 0000000000000003")?;
+    Some(change_of(alloc, V2, &before, &after)? == wanted)
+}
+
+#[test]
+fn a_count_stays_at_its_end(rt: HostRuntime) {
+    assert!(rt; stays(rt.alloc()) == Some(true));
+}
+
+const LONGEST_OF_1: Numbers = Numbers {
     mac_queue: &[6; 64],
     ..ALL
 };
 
-// How long the longest change is behind 9 in each version.
-fn longest(alloc: Global) -> Option<(usize, usize)> {
+const LONGEST_OF_2: Numbers = Numbers {
+    mac_queue: &[6; 128],
+    ..ALL
+};
+
+// How long the change to these numbers and an item of 242 bytes is.
+fn len_of(alloc: Global, version: RecordVersion, after: &Numbers) -> Option<usize> {
     let before = found(alloc, &IN_USE, 0)?;
-    let after = with_change(alloc, &before, &LONGEST, &AddedLong)?;
-    let (first, second) = written(alloc, &before, &after)?;
-    let (_, bytes) = second.split_first()?;
-    if is_read(alloc, &before, &after, bytes)? {
-        Some((first.len(), second.len()))
-    } else {
-        None
+    let after = with_change(alloc, &before, after, &AddedLong)?;
+    Some(change_of(alloc, version, &before, &after)?.len())
+}
+
+#[test]
+fn a_change_has_at_most_411_or_475_bytes(rt: HostRuntime) {
+    assert!(rt; LONGEST_CHANGE == 475);
+    assert!(rt; len_of(rt.alloc(), V1, &LONGEST_OF_1) == Some(411));
+    assert!(rt; len_of(rt.alloc(), V2, &LONGEST_OF_1) == Some(411));
+    assert!(rt; len_of(rt.alloc(), V2, &LONGEST_OF_2) == Some(475));
+}
+
+// The end of a count.
+const END: u64 = 9_223_372_036_854_775_807;
+
+// A record with this count, bytes of a change of it in a version, and the count after it or as what
+// they are refused.
+const READ: &[(RecordVersion, u64, &str, Result<u64, Refusal>)] = &[
+    (V1, 0, "80", Err(Refusal::Damaged)),
+    (V1, 5, "80", Err(Refusal::Damaged)),
+    (V2, 0, "80", Ok(1)),
+    (V2, END - 1, "80", Ok(END)),
+    (V2, END, "80", Err(Refusal::Damaged)),
+    (V2, END, "00", Ok(END)),
+    (V1, 0, "20 40 06*64", Ok(0)),
+    (V1, 0, "20 41 06*65", Err(Refusal::Damaged)),
+    (V1, 0, "20 80 06*128", Err(Refusal::Damaged)),
+    (V2, 0, "20 41 06*65", Ok(0)),
+    (V2, 0, "20 80 06*128", Ok(0)),
+    (V2, 0, "20 81 06*129", Err(Refusal::Damaged)),
+];
+
+// The count after a change of such a record.
+fn count_after(
+    alloc: Global,
+    version: RecordVersion,
+    heard: u64,
+    words: &str,
+) -> Option<Result<u64, Refusal>> {
+    let mut before = found(alloc, &IN_USE, 0)?;
+    before.heard = UplinkCount::new(heard)?;
+    let bytes = spelled(alloc, words)?;
+    match read(alloc, version, &before, bytes.as_slice()) {
+        Ok(after) => Some(Ok(after.heard.get())),
+        Err(refusal) => Some(Err(refusal)),
     }
 }
 
 #[test]
-fn a_change_has_at_most_411_bytes(rt: HostRuntime) {
-    assert!(rt; LONGEST_CHANGE == 411);
-    assert!(rt; longest(rt.alloc()) == Some((1 + 411, 1 + 411)));
+fn each_version_has_its_counts_and_queues(rt: HostRuntime) {
+    for (version, heard, words, wanted) in READ {
+        let after = count_after(rt.alloc(), *version, *heard, words);
+        assert!(rt; after == Some(*wanted), "{version:?} {heard} {words}");
+    }
 }
 
 // A record with so many items, and bytes that are no change of it in either version. The count of
@@ -629,7 +785,7 @@ const FAULTS: &[Fault] = &[
         "a MAC command that may not be queued",
     ),
     (IN_USE, 0, "20 02 06", "a MAC queue that is cut short"),
-    (IN_USE, 0, "20 41 06*65", "65 bytes of MAC commands"),
+    (IN_USE, 0, "20 81 06*129", "129 bytes of MAC commands"),
     (IN_USE, 0, "40 00", "an item that leaves an empty queue"),
     (
         IN_USE,
@@ -664,7 +820,8 @@ const FAULTS: &[Fault] = &[
 // What such bytes are refused in version 1, and in version 2.
 fn refused(alloc: Global, fault: &Fault) -> Option<(Refusal, Refusal)> {
     let (numbers, waiting, words, _) = fault;
-    let before = found(alloc, numbers, *waiting)?;
+    let mut before = found(alloc, numbers, *waiting)?;
+    before.heard = UplinkCount::new(END)?;
     let bytes = spelled(alloc, words)?;
     let first = read_change_v1(alloc, &before, bytes.as_slice()).err()?;
     let second = read_change(alloc, &before, bytes.as_slice()).err()?;

@@ -43,7 +43,7 @@ fn may_wait(alloc: Global, bytes: &[u8]) -> Option<bool> {
 }
 
 fn is_made(alloc: Global, bytes: &[u8]) -> bool {
-    if !are_queueable(bytes) || bytes.len() > 64 {
+    if !are_queueable(bytes) || bytes.len() > 128 {
         return false;
     }
     match MacQueue::from_slice(alloc, bytes) {
@@ -57,8 +57,8 @@ const QUEUES: &[(&[u8], bool)] = &[
     (&[0x03, 0x50, 0x07, 0x00, 0x01], true),
     (&[0x06, 0x04, 0x0F, 0x06], true),
     (&[0x06, 0x04, 0x0F], true),
-    (&[0x06; 64], true),
-    (&[0x06; 65], false),
+    (&[0x06; 128], true),
+    (&[0x06; 129], false),
     (&[0x03, 0x50, 0x07, 0x00], false),
     (&[0x04], false),
     (&[0x02], false),

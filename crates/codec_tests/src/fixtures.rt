@@ -3,7 +3,8 @@ use devices::{
     Application, Channels, CurrentSession, Device, Downlink, Item, NextDown, Payload, Port,
     Provisioning, ReceiveWindows, Rx1Offset, RxDelay, Session, SessionName, Tag,
 };
-use lw_types::{Eui, JoinNonce, Key, PhyPayload, read_hex, write_hex};
+use lw_types::{Eui, JoinNonce, Key, PhyPayload, Refusal, read_hex, write_hex};
+use record_codec::write_device_v1;
 use std::alloc::Global;
 
 pub const DEVICE: Eui = Eui(0x1112_1314_1516_1718);
@@ -98,6 +99,15 @@ pub fn items(alloc: Global, count: u32, len: usize) -> Option<Vec<Item>> {
         }
     }
     Some(items)
+}
+
+// Appends the record in version 1 of a device of which that tells all.
+pub fn put_old_record(device: &Device, out: &mut Vec<u8>) -> Result<(), Refusal> {
+    if device.heard.get() == 0 && device.mac_queue.as_slice().len() <= 64 {
+        write_device_v1(device, out)
+    } else {
+        Err(Refusal::Damaged)
+    }
 }
 
 // Whether bytes have this text as hex.

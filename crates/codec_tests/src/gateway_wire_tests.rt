@@ -5,6 +5,7 @@ use crate::fixtures::{
 use devices::{
     Activation, Application, AskedBytes, Command, Copies, Device, Downlink, Effect, ItemQueue,
     MacQueueing, Mark, Payload, Port, Queueing, ReceiveWindows, Report, Rx1Offset, RxDelay, Tag,
+    UplinkCount,
 };
 use gateway_wire::{
     Emission, Request, app_line, gateway_bytes, list_text, next_ranged, next_value, read_line,
@@ -495,7 +496,7 @@ fn words_are_values(rt: HostRuntime) {
     assert!(rt; nothing.is_none());
 }
 
-// A device with a session in use and one item.
+// A device with a session in use and one item, whose count of uplinks is at its end.
 fn busy(alloc: Global) -> Option<Device> {
     let activation = Activation::new(JoinNonce::new(5), Some(current(3, 70)?), None)?;
     let Ok(items) = ItemQueue::new(items(alloc, 1, 1)?) else {
@@ -504,6 +505,7 @@ fn busy(alloc: Global) -> Option<Device> {
     let mut device = new_device(alloc, Eui(0xAB))?;
     device.activation = activation;
     device.items = items;
+    device.heard = UplinkCount::new(9_223_372_036_854_775_807)?;
     Some(device)
 }
 
@@ -518,10 +520,10 @@ fn is_listed(alloc: Global, table: &Table, seq: u64, text: &str) -> bool {
 // The lists of a table with no device, with one, and with two.
 const LISTS: [&str; 3] = [
     "devices 0 seq 0\n",
-    "0 1112131415161718 0 - - - 0\ndevices 1 seq 1\n",
+    "0 1112131415161718 0 - - - 0 0\ndevices 1 seq 1\n",
     concat!(
-        "0 1112131415161718 0 - - - 0\n",
-        "1 00000000000000AB 5 3 70 4294967296 1\n",
+        "0 1112131415161718 0 - - - 0 0\n",
+        "1 00000000000000AB 5 3 70 4294967296 1 9223372036854775807\n",
         "devices 2 seq 18446744073709551615\n",
     ),
 ];

@@ -1,10 +1,8 @@
-use crate::fixtures::{DEVICE, current, items, new_device, session};
+use crate::fixtures::{DEVICE, current, items, new_device, put_old_record, session};
 use RecordVersion::{V1, V2};
-use devices::{Activation, Channels, Device, ItemQueue, MacQueue, Tag};
+use devices::{Activation, Channels, Device, ItemQueue, MacQueue, Tag, UplinkCount};
 use lw_types::{JoinNonce, Refusal, read_hex};
-use record_codec::{
-    NEWEST, RecordVersion, read_device, read_device_v1, write_device, write_device_v1,
-};
+use record_codec::{NEWEST, RecordVersion, read_device, read_device_v1, write_device};
 use std::alloc::Global;
 
 // The record of a device that was just provisioned: 50 bytes in version 1, and all 58 in version 2.
@@ -97,7 +95,7 @@ fn written(
         return None;
     };
     let answer = match version {
-        V1 => write_device_v1(device, &mut out),
+        V1 => put_old_record(device, &mut out),
         V2 => write_device(device, &mut out),
     };
     match answer {
@@ -131,25 +129,57 @@ fn a_new_device_has_50_or_58_bytes(rt: HostRuntime) {
     assert!(rt; is_brought(rt.alloc()) == Some(true));
 }
 
-// How many bytes the device's record has in version 1 and in version 2.
-fn lens_of(alloc: Global, has: &Has) -> Option<(usize, usize)> {
+// How many bytes the device's record has in a version.
+fn len_of(alloc: Global, version: RecordVersion, has: &Has) -> Option<usize> {
     let device = device(alloc, has)?;
-    let first = record_of(alloc, V1, &device)?;
-    let second = record_of(alloc, V2, &device)?;
-    Some((first.len(), second.len()))
+    Some(record_of(alloc, version, &device)?.len())
 }
 
-// A pending session takes 35 bytes more; the last record is the largest.
-const LENGTHS: &[(Has, (usize, usize))] = &[
-    (Has::Pending, (85, 93)),
-    (Has::All(&[6, 4, 0], 1, 2), (144, 152)),
-    (Has::All(&[6; 64], 16, 242), (4180, 4188)),
+// A pending session takes 35 bytes more; the last record of each version is its largest.
+const LENGTHS: &[(RecordVersion, Has, usize)] = &[
+    (V1, Has::Pending, 85),
+    (V1, Has::All(&[6, 4, 0], 1, 2), 144),
+    (V1, Has::All(&[6; 64], 16, 242), 4180),
+    (V2, Has::Pending, 93),
+    (V2, Has::All(&[6, 4, 0], 1, 2), 152),
+    (V2, Has::All(&[6; 64], 16, 242), 4188),
+    (V2, Has::All(&[6; 128], 16, 242), 4252),
 ];
 
 #[test]
 fn devices_are_read_back(rt: HostRuntime) {
-    for (has, wanted) in LENGTHS {
-        assert!(rt; lens_of(rt.alloc(), has) == Some(*wanted), "{wanted:?}");
+    for (version, has, wanted) in LENGTHS {
+        let len = len_of(rt.alloc(), *version, has);
+        assert!(rt; len == Some(*wanted), "{version:?} {wanted}");
+    }
+}
+
+// Counts of uplinks, and the bytes at the end of the record of a new device with such a count.
+const COUNTS: &[(u64, [u8; 8])] = &[
+    (0, [0; 8]),
+    (1, [0, 0, 0, 0, 0, 0, 0, 1]),
+    (0x0102_0304_0506_0708, [1, 2, 3, 4, 5, 6, 7, 8]),
+    (
+        9_223_372_036_854_775_807,
+        [0x7F, 0xFF, 0xFF, 0xFF, 0xFF, 0xFF, 0xFF, 0xFF],
+    ),
+];
+
+// Whether the record of a new device with this count ends so, and is read back.
+fn ends_with(alloc: Global, heard: u64, bytes: &[u8; 8]) -> Option<bool> {
+    let mut device = new_device(alloc, DEVICE)?;
+    device.heard = UplinkCount::new(heard)?;
+    let record = record_of(alloc, V2, &device)?;
+    Some(record.as_slice().strip_prefix(&PROVISIONED[..50]) == Some(bytes.as_slice()))
+}
+
+#[test]
+fn uplinks_are_counted_at_the_end(rt: HostRuntime) {
+    for (heard, bytes) in COUNTS {
+        assert!(rt;
+            ends_with(rt.alloc(), *heard, bytes) == Some(true),
+            "{heard}"
+        );
     }
 }
 
@@ -194,8 +224,8 @@ const FAULTS: &[(RecordVersion, usize, u8, usize, &str)] = &[
     (V2, 43, 3, 58, "flag of the tag in version 2"),
     (V2, 48, 1, 58, "a MAC queue of no command in version 2"),
     (V2, 49, 1, 58, "an item that is cut short in version 2"),
-    (V2, 57, 1, 58, "a count above the last"),
     (V2, 50, 0x80, 58, "a count of 2^63"),
+    (V2, 50, 0xFF, 58, "a count above that"),
     (V2, 58, 0, 59, "a byte more in version 2"),
     (V2, 57, 0, 57, "a byte less in version 2"),
     (V2, 50, 0, 50, "a record of version 1"),
@@ -237,20 +267,27 @@ fn queue_refused(alloc: Global, version: RecordVersion, waiting: u8) -> Option<R
     read(alloc, version, record.as_slice()).err()
 }
 
-// How many commands wait, and whether a record of either version has so many.
-const QUEUES: &[(u8, bool)] = &[(1, true), (64, true), (65, false), (255, false)];
+// How many commands wait, and whether a record of a version has so many.
+const QUEUES: &[(RecordVersion, u8, bool)] = &[
+    (V1, 1, true),
+    (V1, 64, true),
+    (V1, 65, false),
+    (V1, 128, false),
+    (V1, 255, false),
+    (V2, 1, true),
+    (V2, 65, true),
+    (V2, 128, true),
+    (V2, 129, false),
+    (V2, 255, false),
+];
 
 #[test]
-fn a_mac_queue_has_at_most_64_bytes(rt: HostRuntime) {
-    for (waiting, has) in QUEUES {
+fn a_mac_queue_has_at_most_64_or_128_bytes(rt: HostRuntime) {
+    for (version, waiting, has) in QUEUES {
         let wanted = if *has { None } else { Some(Refusal::Damaged) };
         assert!(rt;
-            queue_refused(rt.alloc(), V1, *waiting) == wanted,
-            "{waiting}"
-        );
-        assert!(rt;
-            queue_refused(rt.alloc(), V2, *waiting) == wanted,
-            "{waiting}"
+            queue_refused(rt.alloc(), *version, *waiting) == wanted,
+            "{version:?} {waiting}"
         );
     }
 }

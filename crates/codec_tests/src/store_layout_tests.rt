@@ -1,6 +1,6 @@
 ghost use Rattle.std.specs.Prelude.{◌<◌, length};
 
-use crate::fixtures::{new_device, provisioning};
+use crate::fixtures::{new_device, provisioning, put_old_record};
 use RecordVersion::{V1, V2};
 use devices::Command;
 use lw_types::{Eui, NetId, Refusal};
@@ -65,21 +65,20 @@ fn another_superblock_is_refused(rt: HostRuntime) {
     }
 }
 
-// Whether the entry of a device, with a record of so many bytes, stands behind a byte.
-fn has_entry(alloc: Global, version: RecordVersion, len: u8) -> Result<bool, Refusal> {
+// Whether the entry of a device, with a record of 58 bytes, stands behind a byte.
+fn has_entry(alloc: Global) -> Result<bool, Refusal> {
     let mut bytes = [7].to_vec(alloc)?;
     let device = new_device(alloc, Eui(0x1112131415161718)).ok_or(Refusal::Damaged)?;
-    put_entry(version, 0x0102, &device, &mut bytes)?;
+    put_entry(0x0102, &device, &mut bytes)?;
     let front = [
-        7, 1, 1, 2, 0, len, 0x11, 0x12, 0x13, 0x14, 0x15, 0x16, 0x17, 0x18,
+        7, 1, 1, 2, 0, 58, 0x11, 0x12, 0x13, 0x14, 0x15, 0x16, 0x17, 0x18,
     ];
-    Ok(bytes.len() == 1 + 5 + usize::from(len) && bytes.starts_with(&front))
+    Ok(bytes.len() == 1 + 5 + 58 && bytes.starts_with(&front))
 }
 
 #[test]
 fn an_entry_has_its_layout(rt: HostRuntime) {
-    assert!(rt; has_entry(rt.alloc(), V1, 50) == Ok(true));
-    assert!(rt; has_entry(rt.alloc(), V2, 58) == Ok(true));
+    assert!(rt; has_entry(rt.alloc()) == Ok(true));
 }
 
 // A table of network 00002A without devices.
@@ -124,12 +123,26 @@ fn add_all(alloc: Global, table: &mut Table, batch: &mut Batch, count: u64) -> R
     Ok(())
 }
 
+// The entries of these provisionings, as a store of version 1 has them: the kind, the slot, a length
+// of 50 bytes, and the record.
+fn put_old_batch(decisions: &[Decision], bytes: &mut Vec<u8>) -> Result<(), Refusal> {
+    for decision in decisions {
+        let [s1, s0] = decision.slot.to_be_bytes();
+        bytes.extend_from_slice(&[1, s1, s0, 0, 50])?;
+        put_old_record(&decision.after, bytes)?;
+    }
+    Ok(())
+}
+
 // The entries of a batch of so many provisionings.
 fn entries(alloc: Global, version: RecordVersion, count: u64) -> Result<Vec<u8>, Refusal> {
     let mut batch = Batch::new(alloc)?;
     add_all(alloc, &mut new_table(alloc, 64)?, &mut batch, count)?;
     let mut bytes = Vec::new(alloc);
-    put_batch(version, &batch, &mut bytes)?;
+    match version {
+        V1 => put_old_batch(batch.as_slice(), &mut bytes)?,
+        V2 => put_batch(&batch, &mut bytes)?,
+    }
     Ok(bytes)
 }
 
