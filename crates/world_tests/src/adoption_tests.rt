@@ -2,10 +2,11 @@
 use crate::answers::tell;
 use crate::rows::add_line;
 use disk::{Image, MemDisk};
-use lw_types::Refusal;
+use lw_types::{Refusal, read_hex};
 use plain_world::letters::add_letters;
 use plain_world::worlds::{net_id, new_disk};
 use std::alloc::Global;
+use test_stores::images_under_test::{OLD_FRONT, add_batch_of, disk_of};
 use world::{Answer, Step, World, run};
 
 const SLOTS: u64 = 3;
@@ -52,12 +53,9 @@ JTccccr1Tccccree 12l -> listed 2 3
 JTccccr1Tccccree 2Tccccrpccccol -> listed 2 3
 ";
 
-// Whether the last answer behind the letters tells this.
-fn adopts_so(alloc: Global, row: &str) -> Result<bool, Refusal> {
-    let (letters, told) = row.split_once(" -> ").ok_or(Refusal::BadMessage)?;
-    let (before, behind) = letters.split_once(' ').ok_or(Refusal::BadMessage)?;
-    let before = if before == "-" { "" } else { before };
-    let answers = answers_behind(alloc, left(alloc, before)?, behind)?;
+// Whether a world that adopts a disk tells this in its last answer to the letters.
+fn tells_so(alloc: Global, disk: MemDisk, letters: &str, told: &str) -> Result<bool, Refusal> {
+    let answers = answers_behind(alloc, disk, letters)?;
     let (mut came, mut due) = (Vec::new(alloc), Vec::new(alloc));
     add_line(&mut due, told)?;
     let last = answers.last().ok_or(Refusal::Damaged)?;
@@ -67,10 +65,54 @@ fn adopts_so(alloc: Global, row: &str) -> Result<bool, Refusal> {
     Ok(came == due)
 }
 
+fn adopts_so(alloc: Global, row: &str) -> Result<bool, Refusal> {
+    let (letters, told) = row.split_once(" -> ").ok_or(Refusal::BadMessage)?;
+    let (before, behind) = letters.split_once(' ').ok_or(Refusal::BadMessage)?;
+    let before = if before == "-" { "" } else { before };
+    tells_so(alloc, left(alloc, before)?, behind, told)
+}
+
 #[test]
 fn a_world_goes_on_with_the_store_of_another(rt: HostRuntime) {
     for row in ADOPTED.trim_end().split('\n') {
         assert_eq!(rt; adopts_so(rt.alloc(), row), Ok(true), "{row}");
+    }
+}
+
+// The entry of a new device in version 1.
+const OLD_ENTRY: &str = concat!(
+    "0100000032",
+    "000000000000000101020304050607082B7E151628AED2A6ABF7158809CF4F3C",
+    "030001000000000000000000000000000000",
+);
+
+// The disk of an older program, which has that device.
+fn old_disk(alloc: Global) -> Result<MemDisk, Refusal> {
+    let mut bytes = OLD_FRONT.to_vec(alloc)?;
+    add_batch_of(&mut bytes, (1, 1), &read_hex(alloc, OLD_ENTRY)?)?;
+    disk_of(alloc, bytes)
+}
+
+// What a list behind the letters tells, of a world that adopts that disk.
+const TAKEN_OVER: &[(&str, &str)] = &[
+    ("l", "listed - 1"),
+    ("ol", "listed - 1"),
+    ("JTccccr1Tccccrol", "listed - 3"),
+    ("JTccccrpccccccol", "listed - 2"),
+];
+
+fn takes_over(alloc: Global, letters: &str, told: &str) -> Result<bool, Refusal> {
+    tells_so(alloc, old_disk(alloc)?, letters, told)
+}
+
+#[test]
+fn a_world_goes_on_with_the_store_of_an_older_program(rt: HostRuntime) {
+    for (letters, told) in TAKEN_OVER {
+        assert_eq!(rt;
+            takes_over(rt.alloc(), letters, told),
+            Ok(true),
+            "{letters}"
+        );
     }
 }
 
