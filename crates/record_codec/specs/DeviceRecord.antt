@@ -149,9 +149,9 @@ pub record IsOfV1 (d : Device) : Type 0 where
   pub mac_queue : length d.mac_queue ≤ longest_mac_queue V1
 
 -- a device of which a version tells all; version 2 does of each
-abbrev pub IsOf : RecordVersion → Device → Type 0
-IsOf V1 d = IsOfV1 d
-IsOf V2 d = Unit {0}
+abbrev pub IsToldBy : RecordVersion → Device → Type 0
+IsToldBy V1 d = IsOfV1 d
+IsToldBy V2 d = Unit {0}
 
 -- a device that has a record in a version: its fields are in their ranges. In the newest version
 -- each device of a program has one

@@ -12,11 +12,11 @@ ghost use Rattle.record_codec.specs.declared.version.RecordVersion.TheVariants.{
 ghost use Rattle.record_codec.specs.Answers.{ReadsChange};
 ghost use Rattle.record_codec.specs.Change.{IsChangeOf, IsCurrentGroup, IsGroup, IsGrown};
 ghost use Rattle.record_codec.specs.Change.{IsItemGroup};
-ghost use Rattle.record_codec.specs.DeviceRecord.{IsOf, IsOfV1};
 ghost use Rattle.record_codec.specs.ChangeReading.{change_read, current_after, device_after};
 ghost use Rattle.record_codec.specs.ChangeReading.{grants_after, heard_after, items_after, IsNew};
 ghost use Rattle.record_codec.specs.ChangeReading.{HasRoomToGrow, IsNewCurrent, IsNewItems};
 ghost use Rattle.record_codec.specs.ChangeReading.{IsNewTo, IsNoChange};
+ghost use Rattle.record_codec.specs.DeviceRecord.{IsOfV1, IsToldBy};
 ghost use Rattle.record_codec.specs.Parts.{groups_of_parts, item_change_of_parts, AreShort};
 ghost use Rattle.record_codec.specs.Parts.{IsShortChange};
 ghost use Rattle.record_codec.specs.Writing.{KeepsFront};
@@ -149,7 +149,7 @@ fn put_change(
     after: &Device,
 ) -> Result<(), AllocError>
     requires step { MayBecome before.now after.now }
-    requires told { IsOf version after.now }
+    requires told { IsToldBy version after.now }
     ensures written { OnOk result ((bytes : List ℕ) × (out.new.items ≡ out.old.items ++ bytes)
         × IsChangeOf version before.now after.now bytes) }
     ensures keeps { KeepsFront out.old.items out.new.items }
@@ -177,7 +177,7 @@ fn write_in(
     out: &mut Vec<u8>,
 ) -> Result<(), Refusal>
     requires step { MayBecome before.now after.now }
-    requires told { IsOf version after.now }
+    requires told { IsToldBy version after.now }
     ensures { MatchResult result
         (λ _. (bytes : List ℕ) × (out.new.items ≡ out.old.items ++ bytes)
         × IsChangeOf version before.now after.now bytes)

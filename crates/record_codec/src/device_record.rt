@@ -7,7 +7,8 @@ ghost use Rattle.byte_fields.specs.Reading.{Gives, GivesSeen};
 ghost use Rattle.mac_commands.specs.Queueable.{AreQueueable};
 ghost use Rattle.record_codec.specs.Answers.{ReadsRecord};
 ghost use Rattle.record_codec.specs.DeviceRecord.{awaited_bytes, dev_nonce, head, heard_bytes};
-ghost use Rattle.record_codec.specs.DeviceRecord.{spelling, HeadIsInRange, IsDevice, IsOf, IsOfV1};
+ghost use Rattle.record_codec.specs.DeviceRecord.{spelling, HeadIsInRange, IsDevice, IsOfV1};
+ghost use Rattle.record_codec.specs.DeviceRecord.{IsToldBy};
 ghost use Rattle.record_codec.specs.Parts.{device_of_parts};
 ghost use Rattle.record_codec.specs.Reading.{awaited_at, device_at, flagged_at, heard_at, items_at};
 ghost use Rattle.record_codec.specs.Reading.{record_at, IsNoRecord};
@@ -247,7 +248,7 @@ fn put_heard(
 // Appends the record of a device.
 #[tactic(auto, unfolding(crate::specs::DeviceRecord::spelling))]
 fn put_device(out: &mut Vec<u8>, version: RecordVersion, device: &Device) -> Result<(), AllocError>
-    requires { IsOf version device.now }
+    requires { IsToldBy version device.now }
     ensures written { OnOk result (out.new.items ≡ out.old.items ++ spelling version device.now) }
     ensures in_range { OnOk result (IsDevice version device.now) }
     ensures keeps { KeepsFront out.old.items out.new.items }
@@ -265,7 +266,7 @@ fn put_device(out: &mut Vec<u8>, version: RecordVersion, device: &Device) -> Res
 // Appends the record of a device, its one spelling in a version. After an `Err` nothing was
 // appended.
 fn write_in(version: RecordVersion, device: &Device, out: &mut Vec<u8>) -> Result<(), Refusal>
-    requires { IsOf version device.now }
+    requires { IsToldBy version device.now }
     ensures { MatchResult result
         (λ _. (out.new.items ≡ out.old.items ++ spelling version device.now)
         × IsDevice version device.now)

@@ -2,7 +2,7 @@ use Rattle.std.proofs.Common.{◌≤◌, length}
 use Rattle.devices.specs.declared.TheConstants.{LAST_HEARD}
 use Rattle.devices.specs.declared.device.Device.{Device}
 use Rattle.devices.specs.declared.mac_queue.TheConstants.MacQueue.{MOST as LONGEST_MAC_QUEUE}
-use Rattle.record_codec.specs.DeviceRecord.{spelling, IsHeardIn, IsOf}
+use Rattle.record_codec.specs.DeviceRecord.{spelling, IsHeardIn, IsToldBy}
 use Rattle.record_codec.specs.Version.{longest_mac_queue}
 use Rattle.record_codec.specs.declared.version.RecordVersion.{RecordVersion}
 use Rattle.record_codec.specs.declared.version.RecordVersion.TheVariants.{V1, V2}
@@ -10,11 +10,11 @@ use Rattle.record_codec.proofs.Loop.{seven_written}
 use Rattle.record_codec.proofs.device_record.put_device.Goals as goal
 
 -- a version that tells all of a device has room for its queue, and its count
-has_room : (v : RecordVersion) (d : Device) → IsOf v d → length d.mac_queue ≤ LONGEST_MAC_QUEUE → length d.mac_queue ≤ longest_mac_queue v
+has_room : (v : RecordVersion) (d : Device) → IsToldBy v d → length d.mac_queue ≤ LONGEST_MAC_QUEUE → length d.mac_queue ≤ longest_mac_queue v
 has_room V1 d told few = told.mac_queue
 has_room V2 d told few = few
 
-has_count : (v : RecordVersion) (d : Device) → IsOf v d → d.heard ≤ LAST_HEARD → IsHeardIn v d.heard
+has_count : (v : RecordVersion) (d : Device) → IsToldBy v d → d.heard ≤ LAST_HEARD → IsHeardIn v d.heard
 has_count V1 d told most = told.heard
 has_count V2 d told most = most
 
