@@ -124,7 +124,7 @@ fn refused(alloc: Global) -> Result<(Refusal, bool), Refusal> {
             let _ = world.close();
             Err(Refusal::Damaged)
         }
-        Err((disk, refusal)) => Ok((refusal, disk.content() == [0; 1000])),
+        Err((disk, refusal)) => Ok((refusal, disk.content() == [0; 1000].as_slice())),
     }
 }
 
