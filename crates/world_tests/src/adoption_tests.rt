@@ -19,8 +19,9 @@ fn steps_of(alloc: Global, letters: &str) -> Result<Vec<Step>, Refusal> {
 
 // The disk that a new world leaves behind these letters.
 fn left(alloc: Global, letters: &str) -> Result<MemDisk, Refusal> {
+    let steps = steps_of(alloc, letters)?;
     let mut world = World::format(alloc, new_disk(alloc, SLOTS)?, net_id()?, SLOTS)?;
-    let answers = run(&mut world, alloc, &steps_of(alloc, letters)?);
+    let answers = run(&mut world, alloc, &steps);
     let disk = world.close();
     let _ = answers?;
     Ok(disk)
@@ -28,11 +29,12 @@ fn left(alloc: Global, letters: &str) -> Result<MemDisk, Refusal> {
 
 // What a world answers to these letters that has adopted a disk.
 fn answers_behind(alloc: Global, disk: MemDisk, letters: &str) -> Result<Vec<Answer>, Refusal> {
+    let steps = steps_of(alloc, letters)?;
     let mut world = match World::adopt(alloc, disk) {
         Ok(world) => world,
         Err((_, refusal)) => return Err(refusal),
     };
-    let answers = run(&mut world, alloc, &steps_of(alloc, letters)?);
+    let answers = run(&mut world, alloc, &steps);
     let _ = world.close();
     answers
 }
