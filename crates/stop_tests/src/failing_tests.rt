@@ -12,6 +12,9 @@ const MOST: u64 = 100;
 
 // Whether a store is made where the device call of this number fails.
 fn is_made(alloc: Global, failing: u64) -> Result<bool, Refusal> {
+    if failing == 0 {
+        return Err(Refusal::OutOfStep);
+    }
     let mut disk = new_disk(alloc, SLOTS)?;
     disk.arm(failing);
     match store::format(alloc, disk, net_id()?, SLOTS) {

@@ -19,6 +19,9 @@ fn is_settled(
     failing: u64,
     image: &Image,
 ) -> Result<Option<bool>, Refusal> {
+    if failing == 0 {
+        return Err(Refusal::OutOfStep);
+    }
     let (_, mut disk) = played(alloc, steps, 0)?;
     let found = found_in(disk.content());
     disk.arm(failing);
