@@ -47,10 +47,13 @@ const ONE_AREA: &[(usize, Answers)] = &[
     (114, [0, 0, 0, 0]),
     (116, [0, 44, 44, 44]),
     (117, [44, 44, 44, 44]),
-    // No DevNonce; what was granted; no session, no tag, empty queues, and no uplink counted.
+    // No DevNonce; what was granted; no session, no tag, empty queues; and how many uplinks were
+    // counted, below 2^63.
     (120, [0, 44, 44, 44]),
     (123, [0, 0, 0, 0]),
-    (140, [0, 44, 44, 44]),
+    (132, [0, 44, 44, 44]),
+    (133, [0, 0, 44, 44]),
+    (140, [0, 0, 0, 0]),
     // The gate behind the batch, and what doesn't count.
     (141, [0, 0, 44, 0]),
     (200, [0, 0, 0, 0]),
