@@ -3,6 +3,8 @@
 #![tactic(auto)]
 
 #[cfg(test)]
+mod change_faults_tests;
+#[cfg(test)]
 mod change_tests;
 #[cfg(test)]
 mod devices_tests;

@@ -123,8 +123,8 @@ fn add_all(alloc: Global, table: &mut Table, batch: &mut Batch, count: u64) -> R
     Ok(())
 }
 
-// The entries of these provisionings, as a store of version 1 has them: the kind, the slot, a length
-// of 50 bytes, and the record.
+// The entries of these provisionings, as a store of version 1 has them: the kind, the slot, a
+// length of 50 bytes, and the record.
 fn put_old_batch(decisions: &[Decision], bytes: &mut Vec<u8>) -> Result<(), Refusal> {
     for decision in decisions {
         let [s1, s0] = decision.slot.to_be_bytes();
