@@ -158,7 +158,12 @@ class Seen:
             it.take_accept(frame)
             it.sent, it.rests_until = [], time.monotonic() + REST
             keys = session_keys(it.app_key, join_nonce, network.NET_ID, it.dev_nonce)
-            self.keys[network.address(it.slot, join_nonce)] = ((it.dev_eui, join_nonce), keys)
+            address = int.from_bytes(fields[6:10], "little")
+            # the line that tells the slot may come later, or be lost
+            if it.slot is not None:
+                due = network.address(it.slot, join_nonce)
+                self.expect(f"the DevAddr of {it.dev_eui}", address, due)
+            self.keys[address] = ((it.dev_eui, join_nonce), keys)
             return
         self.wrong(f"an accept that no device opens: {frame.hex().upper()}")
 
