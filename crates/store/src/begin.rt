@@ -27,8 +27,9 @@ impl<D: Disk> Store<D> {
     /// exactly where the batch is no legal continuation of the durable table, and with
     /// `OutOfMemory` for want of memory, where it is one. A refusal gives the batch up and leaves
     /// the store and the disk. All the memory that the commit needs is taken here. No record is
-    /// copied, each byte of the batch is written once, and the cost doesn't grow with the number of
-    /// devices.
+    /// copied; the batch's entries are appended straight to the bytes that go to the disk, which
+    /// move only where they outgrow the usual room of 1,024. The cost doesn't grow with the number
+    /// of devices.
     pub fn begin(&mut self, alloc: Global, batch: Batch) -> Result<Begun, Refusal>
         requires roomy { IsRoomy (store_state D.state self.old) }
         ensures same { store_state D.state self.new ≡ store_state D.state self.old }
