@@ -2,37 +2,14 @@
 # name, `command`, before it reads this file.
 # shellcheck shell=sh disable=SC2154
 
-# The crates that a program stands on, and itself, lowest first.
-crates_of() {
-    awk -v program="$1" '
-        { sub(/#.*/, "") }
-        !/:/ { next }
-        { name = $1; sub(/:$/, "", name); $1 = ""; below[name] = $0 }
-        function visit(name,    i, n, names) {
-            if (seen[name]++ || !(name in below)) return
-            n = split(below[name], names, " ")
-            for (i = 1; i <= n; i++) visit(names[i])
-            print name
-        }
-        END { visit(program) }
-    ' "$root/crates.txt"
-}
-
-# is_fresh FILE CRATE: whether what was made of a crate is there, and no source that it stands on
-# has changed since.
-is_fresh() {
-    [ -f "$1" ] || return 1
-    # shellcheck disable=SC2046 # one word a folder
-    changed=$(cd "$root" && find crates.txt $(crates_of "$2" | sed 's|^|crates/|') \
-        \( -name out -o -name must-fail \) -prune -o \
-        \( -type d -path 'crates/*/*' -o -name '*.rt' -o -name '*.antt' -o -name crates.txt \) \
-        -newer "$1" -print)
-    [ -z "$changed" ]
+# asked WORD..: what tools/commands.py answers to these words.
+asked() {
+    python3 -B "$root/tools/commands.py" "$@"
 }
 
 # Whether a program was proved and built of the sources as they are.
 is_built() {
-    [ -x "$root/crates/$1/out/$1" ] && is_fresh "$root/crates/$1/out/$1" "$1"
+    asked is_built "$1"
 }
 
 # take_words TEXT [WORD]..: a command's words: none, or -h or --help, which prints the text.
@@ -55,19 +32,6 @@ run_unproved() {
     # shellcheck disable=SC3045 # dash has it too
     ulimit -c 0
     exec "$unproved" "$@"
-}
-
-# Of which commit the sources of a crate are, and those that it stands on.
-commit_of() {
-    commit=$(git -C "$root" rev-parse --verify HEAD 2>/dev/null) || commit=
-    if [ -z "$commit" ]; then
-        echo "a commit that isn't known"
-        return
-    fi
-    # shellcheck disable=SC2046 # one word a folder
-    changed=$(cd "$root" && git status --porcelain -- crates.txt \
-        $(crates_of "$1" | sed 's|^|crates/|'))
-    echo "commit $commit${changed:+, with changes}"
 }
 
 # stop STATUS TEXT..

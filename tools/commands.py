@@ -1,6 +1,8 @@
-"""What the commands in Python share: their words and help, how they end, the crates, and how
-much may run at once."""
+"""What the commands share: their words and help, how they end, the crates, whether a program is
+built of the sources as they are, and how much may run at once. bin/programs.sh asks it by a word:
+is_fresh, is_built or commit_of."""
 import argparse
+import importlib
 import os
 import re
 import shutil
@@ -10,6 +12,9 @@ import sys
 
 ROOT = os.path.dirname(os.path.dirname(os.path.realpath(__file__)))
 NAME = os.path.basename(sys.argv[0])
+SOURCES = (".rt", ".antt")
+# What each crate costs, as tools/gate-costs found it.
+COSTS = f"{ROOT}/tools/costs.txt"
 # What a check may take, in bytes; most take less.
 MEMORY = 4 << 30
 
@@ -83,19 +88,65 @@ def below(crate, named):
     return found
 
 
-# Calls a function of bin/programs.sh; the words behind are its own.
-BY_SHELL = ["sh", "-c", 'root=$1; shift; . "$root/bin/programs.sh"; "$@"', "sh", ROOT]
+def minutes():
+    """The processor minutes of each crate's proof from nothing, as they were found."""
+    with open(COSTS, encoding="utf-8") as file:
+        rows = [line.split() for line in file if not line.startswith(("#", "crate ", "all "))]
+    return {row[0]: float(row[1]) for row in rows if row[1:] and row[1] != "-"}
 
 
-def by_shell(words):
-    """Whether a call of bin/programs.sh succeeds."""
-    return subprocess.run([*BY_SHELL, *words], check=False).returncode == 0
+def crates_of(program):
+    """The crates that a program stands on, lowest first, and itself."""
+    return [*below(program, libraries(lines())), program]
 
 
-def told_by_shell(words):
-    """What a call of bin/programs.sh prints."""
-    how = {"stdout": subprocess.PIPE, "text": True, "check": True}
-    return subprocess.run([*BY_SHELL, *words], **how).stdout.strip()
+def sources_of(crate):
+    """Each folder below a crate's own, and each source in it."""
+    top = f"{ROOT}/crates/{crate}"
+    for folder, folders, files in os.walk(top):
+        folders[:] = [it for it in folders if it not in ("out", "must-fail")]
+        if folder != top:
+            yield folder
+        yield from (f"{folder}/{it}" for it in files if it.endswith(SOURCES))
+
+
+def is_fresh(made, crate):
+    """Whether what was made of a crate is there, and no source that it stands on is newer."""
+    try:
+        at = os.stat(made).st_mtime_ns
+    except FileNotFoundError:
+        return False
+    sources = (it for below in crates_of(crate) for it in sources_of(below))
+    return all(os.stat(it).st_mtime_ns <= at for it in (f"{ROOT}/crates.txt", *sources))
+
+
+def is_built(crate):
+    """Whether a program was proved and built of the sources as they are."""
+    made = f"{ROOT}/crates/{crate}/out/{crate}"
+    return os.access(made, os.X_OK) and is_fresh(made, crate)
+
+
+def commit_of(program):
+    """Of which commit the sources of a program are."""
+    how = {"stdout": subprocess.PIPE, "stderr": subprocess.DEVNULL, "text": True, "check": False}
+    git = ["git", "-C", ROOT]
+    commit = subprocess.run([*git, "rev-parse", "--verify", "HEAD"], **how).stdout.strip()
+    if not commit:
+        return "a commit that isn't known"
+    paths = ["crates.txt", *(f"crates/{it}" for it in crates_of(program))]
+    changed = subprocess.run([*git, "status", "--porcelain", "--", *paths], **how).stdout
+    return f"commit {commit}" + ", with changes" * bool(changed)
+
+
+def by_word(text, package):
+    """Does what the first word names: a module of this package, with its own text and main."""
+    words = Words(text)
+    words.add_argument("word", metavar="WORD", choices=package.WORDS)
+    name = words.parse_args(sys.argv[1:2]).word
+    global NAME
+    NAME = f"{NAME} {name}"
+    sys.argv[:2] = [NAME]
+    end_with(importlib.import_module(f"{package.__name__}.{name}").main)
 
 
 def number_in(file, pattern):
@@ -118,3 +169,15 @@ def lanes():
     if limit and used is not None:
         free.append(limit - used)
     return max(1, min(len(os.sched_getaffinity(0)), min(free) // MEMORY))
+
+
+def answer(word, *words):
+    """Answers bin/programs.sh: by a status, or by a line."""
+    told = {"is_fresh": is_fresh, "is_built": is_built, "commit_of": commit_of}[word](*words)
+    if isinstance(told, str):
+        print(told)
+    return 0 if told else 1
+
+
+if __name__ == "__main__":
+    end_with(lambda: answer(*sys.argv[1:]))

@@ -1,5 +1,4 @@
-#!/usr/bin/env python3
-"""lnsd-speed [--program FILE] [--folder DIR] [--out FILE] [--rate N] [--seconds N] [--jobs N]
+"""speed server [--program FILE] [--folder DIR] [--out FILE] [--rate N] [--seconds N] [--jobs N]
 [--no-peers]: how fast lnsd is, on the loopback of this machine and a real file with real syncs,
 with 4,096 devices, 8 gateways and 4 applications.
 
@@ -12,7 +11,7 @@ with 4,096 devices, 8 gateways and 4 applications.
 - beside it, the syncs of the same file system, and the durable commits of PostgreSQL and SQLite.
 
 A line tells each figure, with what was aimed at; the last line is 'N passed, M failed', of the
-aims. --out FILE has all of it as JSON, from which tools/lnsd-plot draws.
+aims. --out FILE has all of it as JSON, from which tools/speed page draws.
 
 --program FILE  the program; crates/lnsd/out/lnsd otherwise
 --folder DIR    where stores and databases lie, for the time of the run (the repository)
@@ -25,11 +24,10 @@ Status: 0; 1 where an aim was missed or the run failed; 2 for a word that it doe
 there is no program. --help prints this."""
 import os
 import sys
-from pathlib import Path
 
-sys.dont_write_bytecode = True
-ROOT = Path(__file__).resolve().parents[1]
-sys.path[:0] = [str(ROOT / "examples")]
+from commands import ROOT
+
+sys.path[:0] = [f"{ROOT}/examples"]
 
 import json
 import select
@@ -38,10 +36,13 @@ import time
 
 import commands
 import lnsd.load
-import lnsd.peers
 import lnsd.store
 import lnsd.words
-from lnsd.measure import (
+from server import wire
+from server.links import Application, Ended, Silent
+from server.program import Failed, Program
+from speeds import peers
+from speeds.measure import (
     Probe,
     by_command,
     idle,
@@ -53,9 +54,6 @@ from lnsd.measure import (
     syncs,
     told,
 )
-from server import wire
-from server.links import Application, Ended, Silent
-from server.program import Failed, Program
 
 # the C library's allocator, as bin/lnsd sets it
 ALLOCATOR = {"MALLOC_ARENA_MAX": "1", "MALLOC_MMAP_THRESHOLD_": "1048576"}
@@ -111,7 +109,7 @@ def ended(run, program, links, name):
     is_other = came != (0, "", "dropped 0\nfaulted 0\n")
     run.aim(f"{name}: another end than dropped 0, faulted 0", int(is_other), 0, "")
     if is_other:
-        print(f"lnsd-speed: it ended with {came}")
+        print(f"speed server: it ended with {came}")
     run.tell(f"{name}: its end behind that of the last input", f"{took} ms")
 
 
@@ -140,7 +138,7 @@ def load(run, program, links, frames, first, count, rate):
     run.aim(f"{name}: lost", outcome.sent - len(outcome.waits), 0, "")
     run.aim(f"{name}: wrong lines", len(outcome.wrong), 0, "")
     for it in outcome.wrong[:3]:
-        print(f"lnsd-speed: a line that shouldn't have come: {it}")
+        print(f"speed server: a line that shouldn't have come: {it}")
     return found
 
 
@@ -322,11 +320,11 @@ def full_load(run, program, found):
 
 def peers(run):
     """The databases."""
-    found = run.figures["peers"] = {"sqlite": lnsd.peers.sqlite(run.given.folder, PEER_SECONDS)}
+    found = run.figures["peers"] = {"sqlite": peers.sqlite(run.given.folder, PEER_SECONDS)}
     try:
-        found["postgresql"] = lnsd.peers.postgres(run.given.folder, PEER_SECONDS)
-    except lnsd.peers.Missing as why:
-        print(f"lnsd-speed: {why}")
+        found["postgresql"] = peers.postgres(run.given.folder, PEER_SECONDS)
+    except peers.Missing as why:
+        print(f"speed server: {why}")
         run.missed += 1
     told = [("SQLite, 1 client", found["sqlite"])]
     clients = found.get("postgresql", {}).get("clients", {})
@@ -350,7 +348,7 @@ def measured(run):
         if not run.given.no_peers:
             peers(run)
     except (Failed, Ended, Silent, ValueError) as why:
-        print(f"lnsd-speed: {why}")
+        print(f"speed server: {why}")
         run.missed += 1
     run.figures["syncs_after"] = syncs(folder)
     for name in ("syncs_before", "syncs_after"):
@@ -360,7 +358,7 @@ def measured(run):
 
 def main():
     words = lnsd.words.of_program(__doc__)
-    words.add_argument("--folder", type=lnsd.words.folder, metavar="DIR", default=str(ROOT))
+    words.add_argument("--folder", type=lnsd.words.folder, metavar="DIR", default=ROOT)
     words.add_argument("--out", metavar="FILE")
     words.add_argument("--rate", type=lnsd.words.number(101, 5000), default=4000, metavar="N")
     words.add_argument("--seconds", type=lnsd.words.number(1, 600), default=20, metavar="N")
@@ -379,7 +377,3 @@ def main():
             file.write("\n")
     print(f"{run.met} passed, {run.missed} failed")
     return 1 if run.missed else 0
-
-
-if __name__ == "__main__":
-    commands.end_with(main)

@@ -1,6 +1,5 @@
-#!/usr/bin/env python3
-"""edit-costs CRATE [EDIT..]: what each must-fail edit of a crate costs beyond a check that finds
-nothing to do, in processor seconds, and what the prover said first. Run `rt check --jobs 1` in the
+"""gate-costs edits CRATE [EDIT..]: what each must-fail edit of a crate costs beyond a check that
+finds nothing to do, in processor seconds, and what the prover said first. Run `rt check --jobs 1` in the
 crate first: the edits are tried over a copy of the work that it kept, as the merge gate tries them
 over its own.
 
@@ -15,10 +14,8 @@ import importlib.util
 import os
 import resource
 import shutil
-import sys
 import tempfile
 
-sys.dont_write_bytecode = True
 import commands
 from commands import ROOT, stop
 
@@ -81,7 +78,3 @@ def main():
         cost = f"{spent - nothing:6.1f} {search:6.1f}"
         print(f"{cost}  {label}: {said[-1][:18]}; {told[:150]}", flush=True)
     return 0
-
-
-if __name__ == "__main__":
-    commands.end_with(main)

@@ -1,7 +1,7 @@
-"""The figures of tools/lnsd-speed as a page has them."""
+"""The figures of tools/speed server as a page has them."""
 import json
 
-BEGIN, END = "<!-- figures, by tools/lnsd-plot -->", "<!-- end of the figures -->"
+BEGIN, END = "<!-- figures, by tools/speed page -->", "<!-- end of the figures -->"
 
 
 def rows_of(cells):

@@ -1,5 +1,4 @@
-#!/usr/bin/env python3
-"""chain-speed [--program FILE] [--folder DIR] [--times N]: how much sooner decisions are durable
+"""speed chains [--program FILE] [--folder DIR] [--times N]: how much sooner decisions are durable
 where batches are committed in chains, by how long a sync of the disk takes. It runs `lns-speed
 chains`, on a file in a folder (the current one), with syncs that take 0, 0.5, 1, 2 and 5 ms longer
 than they do, N times each (once), and prints the median of what it tells: decisions a second with
@@ -20,10 +19,8 @@ import os
 import re
 import statistics
 import subprocess
-import sys
 import tempfile
 
-sys.dont_write_bytecode = True
 import commands
 import preloads
 from commands import ROOT, stop
@@ -42,7 +39,7 @@ def program_of(given):
         if not (os.path.isfile(given) and os.access(given, os.X_OK)):
             stop(f"{given} is no program")
         return os.path.abspath(given)
-    if not commands.by_shell(["is_built", "lns_speed"]):
+    if not commands.is_built("lns_speed"):
         stop("the proved lns-speed isn't built of these sources: run bin/build lns-speed")
     return f"{ROOT}/crates/lns_speed/out/lns_speed"
 
@@ -100,7 +97,3 @@ def main():
             passed, failed = passed + sum(aims), failed + aims.count(False)
     print(f"{passed} passed, {failed} failed")
     return 1 if failed else 0
-
-
-if __name__ == "__main__":
-    commands.end_with(main)

@@ -1,6 +1,5 @@
-#!/usr/bin/env python3
-"""slow-proofs CRATE..: the five dearest functions of each crate's last `rt check --jobs 1` from
-nothing, by the megabytes that the prover keeps of them, and their seconds.
+"""gate-costs functions CRATE..: the five dearest functions of each crate's last `rt check --jobs 1`
+from nothing, by the megabytes that the prover keeps of them, and their seconds.
 
 The prover keeps a file for each module that it has checked, so the time between two files is that
 of a module. It says as much of the machine's load as of the function; the size of the files
@@ -14,7 +13,6 @@ import re
 import sys
 from collections import Counter, defaultdict
 
-sys.dont_write_bytecode = True
 import commands
 from commands import ROOT
 
@@ -59,14 +57,10 @@ def main():
         found = dearest(crate)
         if not found:
             why = "no check of it kept anything: run rt check --jobs 1 there"
-            print(f"slow-proofs: {crate}: {why}", file=sys.stderr)
+            print(f"{commands.NAME}: {crate}: {why}", file=sys.stderr)
             lacking = 1
         for name, parts, seconds in found:
             most = ", ".join(f"{part} {size / 1e6:.1f}" for part, size in parts.most_common(2))
             size = f"{sum(parts.values()) / 1e6:5.1f} MB"
             print(f"{crate}: {size}, {seconds:4.1f} s {re.sub('^proofs[.]', '', name)} ({most})")
     return lacking
-
-
-if __name__ == "__main__":
-    commands.end_with(main)

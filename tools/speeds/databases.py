@@ -1,7 +1,7 @@
-#!/usr/bin/env python3
-"""lnsd-peers [--seconds N] [--folder DIR]: how many durable commits a second, one row an uplink,
-PostgreSQL makes with 1 and with 16 clients, and SQLite in WAL mode with synchronous=FULL, on the
-file system of a folder (the current one), for 5 or N seconds each. Both keep their own settings.
+"""speed databases [--seconds N] [--folder DIR]: how many durable commits a second, one row an
+uplink, PostgreSQL makes with 1 and with 16 clients, and SQLite in WAL mode with synchronous=FULL,
+on the file system of a folder (the current one), for 5 or N seconds each. Both keep their own
+settings.
 
 It installs nothing. PostgreSQL is Debian's package postgresql; SQLite is that of Python.
 
@@ -9,10 +9,9 @@ Status: 0; 1 where one of them isn't here or failed; 2 for a word that it doesn'
 prints this."""
 import sys
 
-sys.dont_write_bytecode = True
 import commands
-import lnsd.peers
 import lnsd.words
+from speeds import peers
 
 
 def told(name, of):
@@ -25,16 +24,12 @@ def main():
     words.add_argument("--seconds", type=lnsd.words.number(1, 600), default=5, metavar="N")
     words.add_argument("--folder", type=lnsd.words.folder, default=".", metavar="DIR")
     given = words.parse_args()
-    told("SQLite, 1 client", lnsd.peers.sqlite(given.folder, given.seconds))
+    told("SQLite, 1 client", peers.sqlite(given.folder, given.seconds))
     try:
-        found = lnsd.peers.postgres(given.folder, given.seconds)
-    except lnsd.peers.Missing as why:
-        print(f"lnsd-peers: {why}", file=sys.stderr)
+        found = peers.postgres(given.folder, given.seconds)
+    except peers.Missing as why:
+        print(f"{commands.NAME}: {why}", file=sys.stderr)
         return 1
     for count, of in found["clients"].items():
         told(f"PostgreSQL {found['server_version']}, {count} clients", of)
     return 0
-
-
-if __name__ == "__main__":
-    commands.end_with(main)

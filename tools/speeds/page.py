@@ -1,8 +1,7 @@
-#!/usr/bin/env python3
-"""lnsd-plot [--page FILE] RESULTS PNG: draws what tools/lnsd-speed measured (its --out): how long
-uplinks take beyond their window, beside two syncs of the same disk; and durable commits a second,
-of lnsd and of the databases. With --page it also puts the figures into that page, as docs/SPEED.md
-has them, between two lines that say so.
+"""speed page [--page FILE] RESULTS PNG: draws what tools/speed server measured (its --out): how
+long uplinks take beyond their window, beside two syncs of the same disk; and durable commits a
+second, of lnsd and of the databases. With --page it also puts the figures into that page, as
+docs/SPEED.md has them, between two lines that say so.
 
 It draws by matplotlib (Debian: python3-matplotlib), or else by gnuplot (Debian: gnuplot-nox), and
 installs neither.
@@ -12,14 +11,12 @@ it doesn't take. --help prints this."""
 import os
 import shutil
 import subprocess
-import sys
 import tempfile
 
-sys.dont_write_bytecode = True
 import json
 
 import commands
-import lnsd.table
+from speeds import table
 
 os.environ.setdefault("MPLCONFIGDIR", tempfile.gettempdir())
 try:
@@ -125,9 +122,9 @@ def main():
             found = json.load(file)
         curves(found), bars(found)
         if given.page:
-            lnsd.table.put(given.page, given.results)
+            table.put(given.page, given.results)
     except (ValueError, KeyError, TypeError, AttributeError):
-        told = f"{given.results} has no results of a whole run of lnsd-speed"
+        told = f"{given.results} has no results of a whole run of speed server"
         commands.stop(f"{told}, or {given.page} no place for them" if given.page else told, 1)
     if matplotlib:
         by_matplotlib(found, given.png)
@@ -137,7 +134,3 @@ def main():
         why = "it draws by matplotlib or gnuplot, and neither is here"
         commands.stop(f"{why}: apt-get install python3-matplotlib, or gnuplot-nox", 1)
     return 0
-
-
-if __name__ == "__main__":
-    commands.end_with(main)

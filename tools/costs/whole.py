@@ -1,8 +1,7 @@
-#!/usr/bin/env python3
-"""gate-times [--beside COMMIT] [CRATE..]: runs the merge gate, all of it anew, and prints what it
-cost, crate by crate, as the table of docs/GATE_COSTS.md; with names, for these crates and those
-below. What this machine kept of earlier gates is passed over (rt ci --anew, in a kit that keeps
-anything), so the times are those of a clean clone on a new machine.
+"""gate-costs whole [--beside COMMIT] [--keep | CRATE..]: runs the merge gate, all of it anew, and
+prints what it cost, crate by crate; with names, for these crates and those below. What this machine
+kept of earlier gates is passed over (rt ci --anew, in a kit that keeps anything), so the times are
+those of a clean clone on a new machine.
 
 Times are processor minutes: of a crate's proof from nothing, of the proof with its tests, and of
 its edits. They are read four times a second from the processes that the gate starts, so the last
@@ -12,16 +11,16 @@ itself says goes to out/gate.log, and its last line is repeated here.
   --beside COMMIT  the gate of a clone of that commit runs beside it, each with half of the
                    processors, and the last line tells how many times as much this one took: on
                    virtual machines only what runs at the same time can be compared
+  --keep           writes the table to tools/costs.txt, where it passed: by it bin/build says how
+                   long it will take, and docs/GATE_COSTS.md speaks of it
 
 Status: the gate's own; 2 for a word that it doesn't take; 127 where rt isn't there. --help prints
 this."""
 import os
 import subprocess
-import sys
 import tempfile
 import time
 
-sys.dont_write_bytecode = True
 import commands
 from commands import ROOT
 
@@ -135,19 +134,29 @@ def clone_of(commit, room):
 
 def table(spent):
     """The lines of the table: a crate each, and the sums."""
-    yield "| Crate | Proof | With tests | Edits |\n|---|---|---|---|"
+    yield f"{'crate':<16} {'proof':>6} {'tests':>6} {'edits':>6}"
     for crate in commands.lines():
         row = [spent.get((crate, kind)) for kind in KINDS]
-        yield f"| `{crate}` | {' | '.join('-' if it is None else f'{it / 60:.1f}' for it in row)} |"
+        yield f"{crate:<16} {' '.join('     -' if it is None else f'{it / 60:6.1f}' for it in row)}"
     sums = [sum(it for (_, kind), it in spent.items() if kind == each) / 60 for each in KINDS]
-    yield f"| all | {' | '.join(f'{it:.1f}' for it in sums)} |"
+    yield f"{'all':<16} {' '.join(f'{it:6.1f}' for it in sums)}"
+
+
+def keep(told):
+    """Puts the table where bin/build reads it."""
+    with open(commands.COSTS, "w", encoding="utf-8") as file:
+        file.write(f"# Processor minutes, by tools/gate-costs whole --keep, {time.strftime('%F')}.\n")
+        file.write("\n".join(told) + "\n")
 
 
 def main():
     words = commands.Words(__doc__)
     words.add_argument("--beside", metavar="COMMIT")
+    words.add_argument("--keep", action="store_true")
     words.add_argument("crates", nargs="*", metavar="CRATE", type=commands.crate)
     given = words.parse_args()
+    if given.keep and given.crates:
+        commands.stop("it keeps the whole table alone")
     commands.need_rt()
     os.makedirs(f"{ROOT}/out", exist_ok=True)
     with tempfile.TemporaryDirectory() as room:
@@ -163,13 +172,12 @@ def main():
         finally:
             for it in gates:
                 it.stop()
-    print("\n".join(table(gates[0].spent())), end="\n\n")
+    told = list(table(gates[0].spent()))
+    print("\n".join(told), end="\n\n")
+    if given.keep and not gates[0].status:
+        keep(told)
     print(f"on {os.cpu_count()} processors, {gates[0].told()}")
     for it in gates[1:]:
         print(f"beside it {given.beside}, {it.told()}")
         print(f"{gates[0].minutes / it.minutes:.2f} times {given.beside}")
     return gates[0].status
-
-
-if __name__ == "__main__":
-    commands.end_with(main)
