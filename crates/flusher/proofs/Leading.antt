@@ -1,16 +1,21 @@
 -- Lives that go on by several cycles, one after another.
 use denote.Param.Always.{always_mut, mut_next}
 use denote.Param.Members.{Called, Mut}
-use Rattle.std.proofs.Common.{◌≡◌, ◌∙◌, ◌++◌, List, [], ◌∷◌, flat_map, ap, refl, subst, sym, append_assoc, append-nil}
+use Rattle.std.proofs.Common.{◌≡◌, ◌∙◌, ◌++◌, ℕ, List, [], ◌∷◌, Result, Ok, map, flat_map, ap, refl, subst, sym, append_assoc, append-nil}
+use Rattle.std.proofs.lemmas.List.{map-append}
 use Rattle.std.specs.List.{FoldsTo}
 use Rattle.devices.specs.declared.effect.Effect.{Effect}
+use Rattle.disk.specs.declared.disk.Disk.{Ghosts}
+use Rattle.lw_types.specs.declared.refusal.Refusal.{Refusal}
 use Rattle.sessions.specs.Decision.{commands_of}
 use Rattle.sessions.specs.Table.{TableState, fold_of}
 use Rattle.sessions.specs.declared.decision.Decision.{Decision}
 use Rattle.store.specs.State.{StoreState}
-use Rattle.flusher.specs.Chain.{LeaveInOrder}
+use Rattle.store.specs.declared.store.Store.{Store}
+use Rattle.flusher.specs.Chain.{FeedGives, IsChain, LeaveInOrder}
 use Rattle.flusher.specs.Lived.{HaveLed, LeadOn}
 use Rattle.flusher.specs.Lives.{LifeEvent, Lives, lives_after, lives_after_all}
+use Rattle.flusher.specs.Serving.{MakeChains}
 
 pub all_then : (t : TableState) (lives : Lives) (events : List LifeEvent) (event : LifeEvent)
     → lives_after_all t lives (events ++ event ∷ []) ≡ lives_after t (lives_after_all t lives events) event
@@ -65,3 +70,40 @@ pub leaves_callable : {C V : Type 0} (effects : V → List Effect) (g : Mut C (V
 leaves_callable effects g t [] p q is h = subst (always_mut g) (sym is) h
 leaves_callable effects g t (batch ∷ batches) p q (v, (next, (all, (made, rest)))) h =
     leaves_callable effects g (fold_of t (commands_of batch)) batches next q rest (mut_next g p (v, tt) tt next next made refl h)
+
+-- one chain more behind those that were made
+pub chains_then : {D F C V : Type 0} (disk : Ghosts D) (gives : FeedGives F) (effects : V → List Effect) (call : C → V → C → Type 0) (most : ℕ)
+    (old mid new : Store D disk) (p q r : F) (x y z : C) (answers : List (Result ℕ Refusal)) (answer : Result ℕ Refusal)
+    → MakeChains disk gives effects call most old mid p q x y answers
+    → IsChain disk gives effects call most mid new q r y z answer
+    → MakeChains disk gives effects call most old new p r x z (answers ++ answer ∷ [])
+chains_then disk gives effects call most old mid new p q r x y z [] answer (same, (same_feed, same_out)) chain = (
+  new,
+  (
+    r,
+    (
+      z,
+      (
+        subst (λ s. IsChain disk gives effects call most s new p r x z answer) same
+            (subst (λ f. IsChain disk gives effects call most mid new f r x z answer) same_feed
+            (subst (λ o. IsChain disk gives effects call most mid new q r o z answer) same_out chain)),
+        (refl, (refl, refl)),
+      ),
+    ),
+  ),
+)
+chains_then disk gives effects call most old mid new p q r x y z (a ∷ answers) answer (s, (f, (o, (first, rest)))) chain =
+    (s, (f, (o, (first, chains_then disk gives effects call most s mid new f q r o y z answers answer rest chain))))
+
+abbrev as_answer : ℕ → Result ℕ Refusal
+as_answer count = Ok count
+
+-- the same of chains that had so many decisions
+pub counts_then : {D F C V : Type 0} (disk : Ghosts D) (gives : FeedGives F) (effects : V → List Effect) (call : C → V → C → Type 0) (most : ℕ)
+    (old mid new : Store D disk) (p q r : F) (x y z : C) (counts : List ℕ) (count : ℕ)
+    → MakeChains disk gives effects call most old mid p q x y (map (λ n. Ok n) counts)
+    → IsChain disk gives effects call most mid new q r y z (Ok count)
+    → MakeChains disk gives effects call most old new p r x z (map (λ n. Ok n) (counts ++ count ∷ []))
+counts_then disk gives effects call most old mid new p q r x y z counts count made chain =
+    subst (MakeChains disk gives effects call most old new p r x z) (sym (map-append as_answer counts (count ∷ [])))
+    (chains_then disk gives effects call most old mid new p q r x y z (map (λ n. Ok n) counts) (Ok count) made chain)
