@@ -1,12 +1,13 @@
 //! What follows from the definitions of several lives alone. The functions do nothing: their
 //! contracts are the laws.
 ghost use Rattle.std.specs.Prelude.{◌≡◌, ℕ, Bool, List};
-ghost use Rattle.disk.specs.State.{IsPermitted};
-ghost use Rattle.flusher.specs.Lived.{HaveLed};
+ghost use Rattle.disk.specs.State.{EveryImage, IsPermitted, State};
+ghost use Rattle.flusher.specs.Lived.{AreOnDisk, HaveLed};
 ghost use Rattle.flusher.specs.Lives.{LifeEvent, Lives, beginning, lives_after, lives_of};
 ghost use Rattle.sessions.specs.Marks.{AreOnce, IsSound, IsSubsequence};
 ghost use Rattle.sessions.specs.Table.{TableState, effects_of, empty_table};
-ghost use Rattle.store.specs.State.{StoreState, IsOpened, IsSettled};
+ghost use Rattle.store.specs.Image.{HoldsTable};
+ghost use Rattle.store.specs.State.{StoreState, IsOpened, IsSettled, StillHolds};
 
 use crate::MOST_EFFECTS;
 
@@ -16,13 +17,27 @@ pub fn limits_are_these()
 {}
 
 /// Lives begin with a store on which nothing is under way, as one that was formatted or opened, and
-/// go on where an image is opened that a crash may have left of its disk ([`store::open`]).
+/// go on where an image is opened that a crash may have left of its disk ([`store::open`]). The same
+/// of a disk alone, which a store leaves where it is closed: also where the opening is refused, by
+/// what [`store::open_back`] says of the disk that comes back then.
 pub fn lives_go_on()
     ensures begun { (s : StoreState) → IsSettled s → HaveLed beginning s.table s.seq s }
     ensures opened { (lives : Lives) (t : TableState) (number : ℕ) (s opened : StoreState)
         (left : List ℕ) → HaveLed lives t number s → IsPermitted s.log.disk left
         → IsOpened left opened
         → (found : Bool) × HaveLed (lives_after t lives (LifeEvent.Opened found)) t number opened }
+    ensures begun_on { (t : TableState) (number : ℕ) (disk : State)
+        → EveryImage disk (HoldsTable t number) → AreOnDisk beginning t number disk }
+    ensures closed { (lives : Lives) (t : TableState) (number : ℕ) (s : StoreState)
+        → HaveLed lives t number s → AreOnDisk lives t number s.log.disk }
+    ensures opened_from { (lives : Lives) (t : TableState) (number : ℕ) (disk : State)
+        (opened : StoreState) (left : List ℕ) → AreOnDisk lives t number disk
+        → IsPermitted disk left → IsOpened left opened
+        → (found : Bool) × HaveLed (lives_after t lives (LifeEvent.Opened found)) t number opened }
+    ensures refused { (lives : Lives) (t : TableState) (number : ℕ) (disk back : State)
+        (left : List ℕ) → AreOnDisk lives t number disk → IsPermitted disk left
+        → StillHolds left back
+        → (found : Bool) × AreOnDisk (lives_after t lives (LifeEvent.Opened found)) t number back }
 {
     sessions::laws::composing();
     store::laws::a_settled_store_is_on_its_disk();
