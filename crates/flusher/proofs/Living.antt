@@ -3,9 +3,11 @@ use Rattle.std.proofs.Common.{◌≡◌, ◌⊎◌, ◌∙◌, ◌+◌, ◌++◌
 use Rattle.std.proofs.lemmas.List.{length-map}
 use Rattle.devices.specs.declared.command.Command.{Command}
 use Rattle.disk.specs.State.{EveryImage, IsPermitted, State}
+use Rattle.lw_types.specs.declared.refusal.Refusal.{Refusal}
 use Rattle.sessions.specs.Decision.{commands_of}
 use Rattle.sessions.specs.Table.{TableState, fold_of}
 use Rattle.sessions.specs.declared.decision.Decision.{Decision}
+use Rattle.store.specs.Faults.{IsFault}
 use Rattle.store.specs.Image.{HoldsTable}
 use Rattle.store.specs.State.{StoreState, IsOpened, IsSettled, StillHolds}
 use Rattle.flusher.specs.Cycle.{Commits, HoldsWithOrWithout}
@@ -183,3 +185,11 @@ refuses lives t number disk back left are permitted still =
     let at = crashes lives t number disk left are permitted in
     let found = lives_after t lives (Opened at.0) in
     (at.0, λ image p. inl (still (fold_of t found.durable) (number + length found.durable) at.1.1 image p))
+
+-- never since there were no store
+pub no_fault : (lives : Lives) (t : TableState) (number : ℕ) (disk : State) (left : List ℕ) (e : Refusal) → AreOnDisk lives t number disk
+    → IsPermitted disk left → ¬ (IsFault left e)
+no_fault lives t number disk left e are permitted fault = elim (are left permitted) [
+  | inl h ↦ fault.none (fold_of t lives.durable) (number + length lives.durable) h
+  | inr h ↦ fault.none (fold_of t (lives.durable ++ lives.torn)) (number + length (lives.durable ++ lives.torn)) h
+]

@@ -4,8 +4,10 @@ ghost use Rattle.std.specs.Prelude.{◌≡◌, ℕ, Bool, List};
 ghost use Rattle.disk.specs.State.{EveryImage, IsPermitted, State};
 ghost use Rattle.flusher.specs.Lived.{AreOnDisk, HaveLed};
 ghost use Rattle.flusher.specs.Lives.{LifeEvent, Lives, beginning, lives_after, lives_of};
+ghost use Rattle.lw_types.specs.declared.refusal.Refusal.{Refusal};
 ghost use Rattle.sessions.specs.Marks.{AreOnce, IsSound, IsSubsequence};
 ghost use Rattle.sessions.specs.Table.{TableState, effects_of, empty_table};
+ghost use Rattle.store.specs.Faults.{IsFault};
 ghost use Rattle.store.specs.Image.{HoldsTable};
 ghost use Rattle.store.specs.State.{StoreState, IsOpened, IsSettled, StillHolds};
 
@@ -19,7 +21,8 @@ pub fn limits_are_these()
 /// Lives begin with a store on which nothing is under way, as one that was formatted or opened, and
 /// go on where an image is opened that a crash may have left of its disk ([`store::open`]). The same
 /// of a disk alone, which a store leaves where it is closed: also where the opening is refused, by
-/// what [`store::open_back`] says of the disk that comes back then.
+/// what [`store::open_back`] says of the disk that comes back then. It is refused for want of memory
+/// or by the device alone, never since there were no store (`no_fault`).
 pub fn lives_go_on()
     ensures begun { (s : StoreState) → IsSettled s → HaveLed beginning s.table s.seq s }
     ensures opened { (lives : Lives) (t : TableState) (number : ℕ) (s opened : StoreState)
@@ -38,6 +41,9 @@ pub fn lives_go_on()
         (left : List ℕ) → AreOnDisk lives t number disk → IsPermitted disk left
         → StillHolds left back
         → (found : Bool) × AreOnDisk (lives_after t lives (LifeEvent.Opened found)) t number back }
+    ensures no_fault { (lives : Lives) (t : TableState) (number : ℕ) (disk : State)
+        (left : List ℕ) (e : Refusal) → AreOnDisk lives t number disk → IsPermitted disk left
+        → ¬ (IsFault left e) }
 {
     sessions::laws::composing();
     store::laws::a_settled_store_is_on_its_disk();

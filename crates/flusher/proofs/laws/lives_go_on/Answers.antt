@@ -1,4 +1,4 @@
-use Rattle.flusher.proofs.Living.{begins, begins_on, closes, opens, opens_from, refuses}
+use Rattle.flusher.proofs.Living.{begins, begins_on, closes, no_fault, opens, opens_from, refuses}
 use Rattle.flusher.proofs.laws.lives_go_on.Goals as goal
 
 pub returns-clause-begun : goal.returns-clause-begun
@@ -20,3 +20,6 @@ returns-clause-opened_from c lives t number disk opened left are permitted is =
 
 pub returns-clause-refused : goal.returns-clause-refused
 returns-clause-refused c lives t number disk back left are permitted still = refuses lives t number disk back left are permitted still
+
+pub returns-clause-no_fault : goal.returns-clause-no_fault
+returns-clause-no_fault c lives t number disk left e are permitted = no_fault lives t number disk left e are permitted
