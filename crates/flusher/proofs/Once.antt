@@ -1,5 +1,5 @@
 -- No mark leaves twice over several lives.
-use Rattle.std.proofs.Common.{◌≡◌, ◌++◌, ◌+◌, ℕ, List, flat_map, inl, inr, length, refl, sym, subst}
+use Rattle.std.proofs.Common.{◌≡◌, ◌++◌, ◌+◌, ℕ, List, flat_map, inl, inr, length, sym, subst, ◌∷◌, [], true}
 use Rattle.devices.specs.declared.command.Command.{Command}
 use Rattle.devices.specs.declared.effect.Effect.{Effect}
 use Rattle.devices.specs.declared.mark.Mark.{Mark}
@@ -7,13 +7,14 @@ use Rattle.disk.specs.State.{State}
 use Rattle.sessions.specs.Marks.{HasUsedUp, IsSubsequence, marks_of}
 use Rattle.sessions.specs.Table.{TableState, effects_of, fold_of}
 use Rattle.flusher.specs.Lived.{AreOnDisk, GoOnFrom}
-use Rattle.flusher.specs.Lives.{beginning, lives_of}
+use Rattle.flusher.specs.Lives.{LifeEvent, Lives, beginning, lives_of}
+use Rattle.flusher.specs.Lives.LifeEvent.{Opened}
 use Rattle.flusher.specs.OverLives.{LeaveOnce}
-use Rattle.flusher.proofs.Lasting.{PartLaws, part_after_all}
+use Rattle.flusher.proofs.Leading.{all_then}
 
--- the laws of sessions that this stands on
+-- the laws that this stands on
 pub record OnceLaws : Type 0 where
-  pub parts : PartLaws
+  pub part : (t : TableState) (events : List LifeEvent) → IsSubsequence (lives_of t events).left (effects_of t (lives_of t events).durable)
   pub after : (t : TableState) (marks : List Mark) (commands : List Command) → HasUsedUp t marks
       → HasUsedUp (fold_of t commands) (marks ++ marks_of (effects_of t commands))
   pub what_left : (t : TableState) (marks : List Mark) (effects left : List Effect) → IsSubsequence left effects → HasUsedUp t (marks ++ marks_of effects)
@@ -36,11 +37,11 @@ leave_once {C} {V} effects call laws t number marks old disk p q before begun go
     let calls = a.1.1.0 in
     let all = flat_map effects calls in
     let left : lives.left ≡ all = a.1.1.1.0 in
-    let part : IsSubsequence all (effects_of t lives.durable) =
-    subst (λ l. IsSubsequence l (effects_of t lives.durable)) left (part_after_all laws.parts t beginning a.0 refl) in
+    let part : IsSubsequence all (effects_of t lives.durable) = subst (λ l. IsSubsequence l (effects_of t lives.durable)) left (laws.part t a.0) in
+    let found : IsSubsequence lives.left (effects_of t (lives.durable ++ lives.torn)) =
+    subst (λ (l : Lives). IsSubsequence l.left (effects_of t l.durable)) (all_then t beginning a.0 (Opened true)) (laws.part t (a.0 ++ Opened true ∷ [])) in
     let with_torn : IsSubsequence all (effects_of t (lives.durable ++ lives.torn)) =
-    subst (λ l. IsSubsequence all l) (sym (laws.parts.composed t lives.durable lives.torn))
-    (laws.parts.longer all (effects_of t lives.durable) (effects_of (fold_of t lives.durable) lives.torn) part) in
+    subst (λ l. IsSubsequence l (effects_of t (lives.durable ++ lives.torn))) left found in
     record {
       events = a.0;
       calls = calls;

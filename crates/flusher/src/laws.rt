@@ -53,7 +53,7 @@ pub fn lives_go_on()
 /// effects of the commands that the store has, from its beginning on.
 ///
 /// These lives are those that [`crate::chain`] moves on (`lives`), by an event for each of its
-/// batches, and [`lives_go_on`] an opening.
+/// batches, and [`lives_go_on`] an opening: [`crate::flush_over_lives`] says it of both.
 pub fn no_mark_leaves_twice()
     ensures part { (t : TableState) (events : List LifeEvent)
         → IsSubsequence (lives_of t events).left (effects_of t (lives_of t events).durable) }

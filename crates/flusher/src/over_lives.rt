@@ -81,8 +81,7 @@ pub fn flush_over_lives<D: Sim, F: Feed, C: FnMut(Vec<Released>)>(
         (D.state result) out.old out.new }
 {
     laws::lives_go_on();
-    sessions::laws::composing();
-    sessions::laws::parts_of_longer_lists();
+    laws::no_mark_leaves_twice();
     sessions::laws::no_mark_stands_twice();
     store::laws::what_is_held_is_sound();
     let mut disk = disk;

@@ -49,11 +49,7 @@ returns-clause-once g c t number marks held covered distinct =
     let old = g.D.Disk.state c.args.disk in
     leave_once effects step
     (record {
-      parts = record {
-        composed = c.composing.ensures.effects;
-        longer = c.parts_of_longer_lists.ensures.longer;
-        extended = c.parts_of_longer_lists.ensures.extended;
-      };
+      part = c.no_mark_leaves_twice.ensures.part;
       after = c.no_mark_stands_twice.ensures.after;
       what_left = c.no_mark_stands_twice.ensures.what_left;
     })
