@@ -27,7 +27,7 @@ use Rattle.store.specs.declared.under_way.UnderWay.TheVariants.{Begun, Written, 
 use Rattle.flusher.specs.declared.room.Room.{Room}
 use Rattle.flusher.specs.Calls.{IsUntouched, LastFailed, NoneFailed}
 use Rattle.flusher.specs.Chain.HasBroken.{FeedRefused, HadNoRoom, WasUncommitted}
-use Rattle.flusher.specs.Chain.{GivesAll, FeedGives, HasBroken, HasEnded, IsChain, IsChainOfSome, IsFollowRefusal, LeaveInOrder, NoneFollows, decisions_in, store_behind, store_behind_opened}
+use Rattle.flusher.specs.Chain.{GivesAll, FeedGives, HasBroken, HasEnded, IsChainOfSome, IsFollowRefusal, LeaveInOrder, NoneFollows, decisions_in, store_behind, store_behind_opened}
 use Rattle.flusher.specs.Cycle.{Commits, HoldsWithOrWithout, IsUncommitted}
 use Rattle.flusher.proofs.Calling.{calls_then, none_then, one_call}
 use Rattle.flusher.proofs.Chains.{FoldLaws, batches_of}

@@ -1,16 +1,25 @@
 -- Lives that go on by several cycles, one after another.
 use denote.Param.Always.{always_mut, mut_next}
 use denote.Param.Members.{Called, Mut}
-use Rattle.std.proofs.Common.{◌≡◌, ◌∙◌, ◌++◌, List, [], ◌∷◌, flat_map, ap, refl, subst, sym, append_assoc, append-nil}
+use Rattle.std.proofs.Common.{◌≡◌, ◌∙◌, ◌++◌, ℕ, List, [], ◌∷◌, Bool, true, false, Result, Ok, Err, length, ◌<◌, map, flat_map, ap, refl, subst, sym, append_assoc, append-nil}
+use Rattle.std.proofs.lemmas.List.{map-append}
 use Rattle.std.specs.List.{FoldsTo}
+use Rattle.std.specs.Result.{IsErrAnd}
 use Rattle.devices.specs.declared.effect.Effect.{Effect}
+use Rattle.disk.specs.declared.disk.Disk.{Ghosts}
+use Rattle.lw_types.specs.declared.refusal.Refusal.{Refusal}
 use Rattle.sessions.specs.Decision.{commands_of}
 use Rattle.sessions.specs.Table.{TableState, fold_of}
 use Rattle.sessions.specs.declared.decision.Decision.{Decision}
 use Rattle.store.specs.State.{StoreState}
-use Rattle.flusher.specs.Chain.{LeaveInOrder}
-use Rattle.flusher.specs.Lived.{HaveLed, LeadOn}
+use Rattle.store.specs.declared.store.Store.{Store}
+use Rattle.flusher.specs.Chain.{FeedGives, IsChain, LeaveInOrder}
+use Rattle.flusher.specs.Lived.{GoOnFrom, HaveLed, IsKnownOfLives, LeadOn}
 use Rattle.flusher.specs.Lives.{LifeEvent, Lives, lives_after, lives_after_all}
+use Rattle.flusher.specs.Lives.LifeEvent.{Opened}
+use Rattle.flusher.specs.OverLives.{AreFlusherLives, IsFlusherLife, MakeUpTo}
+use Rattle.flusher.specs.Serving.{MakeChains}
+use Rattle.flusher.specs.declared.over_lives.FlusherLife.{FlusherLife}
 
 pub all_then : (t : TableState) (lives : Lives) (events : List LifeEvent) (event : LifeEvent)
     → lives_after_all t lives (events ++ event ∷ []) ≡ lives_after t (lives_after_all t lives events) event
@@ -19,8 +28,8 @@ all_then t lives (e ∷ events) event = all_then t (lives_after t lives e) event
 
 module _ {C V : Type 0} (effects : V → List Effect) (call : C → V → C → Type 0) where
   -- nothing has happened yet
-  pub nothing_yet : (s : StoreState) (old : C) → LeadOn effects call s s old old
-  nothing_yet s old t number lives led = ([], (led, ([], (sym (append-nil lives.left), refl))))
+  pub at_once : (here : IsKnownOfLives) (old : C) → GoOnFrom effects call here here old old
+  at_once here old t number lives led = ([], (led, ([], (sym (append-nil lives.left), refl))))
 
   all_more : (t : TableState) (lives : Lives) (events more : List LifeEvent)
       → lives_after_all t lives (events ++ more) ≡ lives_after_all t (lives_after_all t lives events) more
@@ -35,9 +44,10 @@ module _ {C V : Type 0} (effects : V → List Effect) (call : C → V → C → 
   folds_more p q r [] more is folds = subst (λ x. FoldsTo call x more r) (sym is) folds
   folds_more p q r (c ∷ calls) more (next, first, rest) folds = (next, first, folds_more next q r calls more rest folds)
 
-  -- what led there, and what led on from there
-  pub lead_then : (s mid there : StoreState) (p q r : C) → LeadOn effects call s mid p q → LeadOn effects call mid there q r → LeadOn effects call s there p r
-  lead_then s mid there p q r first second t number lives led =
+  -- lives that came there, and went on from there
+  pub go_then : (here mid there : IsKnownOfLives) (p q r : C) → GoOnFrom effects call here mid p q → GoOnFrom effects call mid there q r
+      → GoOnFrom effects call here there p r
+  go_then here mid there p q r first second t number lives led =
       let a = first t number lives led in
       let b = second t number (lives_after_all t lives a.0) a.1.0 in
       let both = all_more t lives a.0 b.0 in
@@ -45,7 +55,7 @@ module _ {C V : Type 0} (effects : V → List Effect) (call : C → V → C → 
       let more = b.1.1.0 in (
         a.0 ++ b.0,
         (
-          subst (λ l. HaveLed l t number there) (sym both) b.1.0,
+          subst (λ l. there l t number) (sym both) b.1.0,
           (
             calls ++ more,
             (
@@ -59,9 +69,111 @@ module _ {C V : Type 0} (effects : V → List Effect) (call : C → V → C → 
         ),
       )
 
+  -- what is known there says something else too
+  pub go_weaker : (here mid there : IsKnownOfLives) (p q : C) → ((lives : Lives) (t : TableState) (number : ℕ) → mid lives t number → there lives t number)
+      → GoOnFrom effects call here mid p q → GoOnFrom effects call here there p q
+  go_weaker here mid there p q weaker first t number lives led =
+      let a = first t number lives led in (a.0, (weaker (lives_after_all t lives a.0) t number a.1.0, a.1.1))
+
+  nothing_left : (t : TableState) (lives : Lives) (found : Bool) → (lives_after t lives (Opened found)).left ≡ lives.left ++ []
+  nothing_left t lives true = sym (append-nil lives.left)
+  nothing_left t lives false = sym (append-nil lives.left)
+
+  -- an opening, by which nothing left
+  pub open_on : (here there : IsKnownOfLives) (o : C)
+      → ((lives : Lives) (t : TableState) (number : ℕ) → here lives t number → (found : Bool) × there (lives_after t lives (Opened found)) t number)
+      → GoOnFrom effects call here there o o
+  open_on here there o opening t number lives led =
+      let a = opening lives t number led in (Opened a.0 ∷ [], (a.1, ([], (nothing_left t lives a.0, refl))))
+
+  -- the same of lives that led a store there
+  pub nothing_yet : (s : StoreState) (old : C) → LeadOn effects call s s old old
+  nothing_yet s old = at_once (λ lives t number. HaveLed lives t number s) old
+
+  pub lead_then : (s mid there : StoreState) (p q r : C) → LeadOn effects call s mid p q → LeadOn effects call mid there q r → LeadOn effects call s there p r
+  lead_then s mid there p q r first second =
+      go_then (λ lives t number. HaveLed lives t number s) (λ lives t number. HaveLed lives t number mid) (λ lives t number. HaveLed lives t number there)
+      p q r first second
+
 -- a closure to which effects left can be called again
 pub leaves_callable : {C V : Type 0} (effects : V → List Effect) (g : Mut C (V × Unit {0}) (Unit {0})) (t : TableState) (batches : List (List Decision)) (p q : C)
     → LeaveInOrder effects (λ before released after. Called g before (released, tt) tt after) t batches p q → always_mut g p → always_mut g q
 leaves_callable effects g t [] p q is h = subst (always_mut g) (sym is) h
 leaves_callable effects g t (batch ∷ batches) p q (v, (next, (all, (made, rest)))) h =
     leaves_callable effects g (fold_of t (commands_of batch)) batches next q rest (mut_next g p (v, tt) tt next next made refl h)
+
+-- one chain more behind those that were made
+pub chains_then : {D F C V : Type 0} (disk : Ghosts D) (gives : FeedGives F) (effects : V → List Effect) (call : C → V → C → Type 0) (most : ℕ)
+    (old mid new : Store D disk) (p q r : F) (x y z : C) (answers : List (Result ℕ Refusal)) (answer : Result ℕ Refusal)
+    → MakeChains disk gives effects call most old mid p q x y answers
+    → IsChain disk gives effects call most mid new q r y z answer
+    → MakeChains disk gives effects call most old new p r x z (answers ++ answer ∷ [])
+chains_then disk gives effects call most old mid new p q r x y z [] answer (same, (same_feed, same_out)) chain = (
+  new,
+  (
+    r,
+    (
+      z,
+      (
+        subst (λ s. IsChain disk gives effects call most s new p r x z answer) same
+            (subst (λ f. IsChain disk gives effects call most mid new f r x z answer) same_feed
+            (subst (λ o. IsChain disk gives effects call most mid new q r o z answer) same_out chain)),
+        (refl, (refl, refl)),
+      ),
+    ),
+  ),
+)
+chains_then disk gives effects call most old mid new p q r x y z (a ∷ answers) answer (s, (f, (o, (first, rest)))) chain =
+    (s, (f, (o, (first, chains_then disk gives effects call most s mid new f q r o y z answers answer rest chain))))
+
+abbrev as_answer : ℕ → Result ℕ Refusal
+as_answer count = Ok count
+
+-- the same of chains that had so many decisions
+pub counts_then : {D F C V : Type 0} (disk : Ghosts D) (gives : FeedGives F) (effects : V → List Effect) (call : C → V → C → Type 0) (most : ℕ)
+    (old mid new : Store D disk) (p q r : F) (x y z : C) (counts : List ℕ) (count : ℕ)
+    → MakeChains disk gives effects call most old mid p q x y (map (λ n. Ok n) counts)
+    → IsChain disk gives effects call most mid new q r y z (Ok count)
+    → MakeChains disk gives effects call most old new p r x z (map (λ n. Ok n) (counts ++ count ∷ []))
+counts_then disk gives effects call most old mid new p q r x y z counts count made chain =
+    subst (MakeChains disk gives effects call most old new p r x z) (sym (map-append as_answer counts (count ∷ [])))
+    (chains_then disk gives effects call most old mid new p q r x y z (map (λ n. Ok n) counts) (Ok count) made chain)
+
+-- so many chains, and one that was refused
+pub refused_then : {D F C V : Type 0} (disk : Ghosts D) (gives : FeedGives F) (effects : V → List Effect) (call : C → V → C → Type 0) (most chains : ℕ)
+    (old mid new : Store D disk) (p q r : F) (x y z : C) (counts : List ℕ) (result : Result (Unit {0}) Refusal) (e : Refusal)
+    → IsErrAnd result (λ answered. answered ≡ e) → length counts < chains
+    → MakeChains disk gives effects call most old mid p q x y (map (λ n. Ok n) counts)
+    → IsChain disk gives effects call most mid new q r y z (Err e)
+    → MakeUpTo disk gives effects call most chains old new p r x z result
+refused_then disk gives effects call most chains old mid new p q r x y z counts (Ok done) e is few made chain = absurd is
+refused_then disk gives effects call most chains old mid new p q r x y z counts (Err answered) e is few made chain = record {
+  counts = counts;
+  many = few;
+  made = chains_then disk gives effects call most old mid new p q r x y z (map (λ n. Ok n) counts) (Err answered) made
+      (subst (λ a. IsChain disk gives effects call most mid new q r y z (Err a)) (sym is) chain);
+}
+
+-- one life more behind those that there were
+pub lives_then : {D F C V : Type 0} (disk : Ghosts D) (gives : FeedGives F) (effects : V → List Effect) (call : C → V → C → Type 0)
+    (old mid new : D) (p q r : F) (x y z : C) (lives : List FlusherLife) (life : FlusherLife)
+    → AreFlusherLives disk gives effects call lives old mid p q x y
+    → IsFlusherLife disk gives effects call life mid new q r y z
+    → AreFlusherLives disk gives effects call (lives ++ life ∷ []) old new p r x z
+lives_then disk gives effects call old mid new p q r x y z [] life (same, (same_feed, same_out)) is = (
+  new,
+  (
+    r,
+    (
+      z,
+      (
+        subst (λ d. IsFlusherLife disk gives effects call life d new p r x z) same
+            (subst (λ f. IsFlusherLife disk gives effects call life mid new f r x z) same_feed
+            (subst (λ o. IsFlusherLife disk gives effects call life mid new q r o z) same_out is)),
+        (refl, (refl, refl)),
+      ),
+    ),
+  ),
+)
+lives_then disk gives effects call old mid new p q r x y z (l ∷ lives) life (d, (f, (o, (first, rest)))) is =
+    (d, (f, (o, (first, lives_then disk gives effects call d mid new f q r o y z lives life rest is))))

@@ -7,5 +7,6 @@ pub mod Leading
 pub mod Leaving
 pub mod Links
 pub mod Living
+pub mod Once
 pub mod Single
 pub mod Starts

@@ -1,15 +1,17 @@
 -- Lives that go on, by what a cycle or an opening did.
-use Rattle.std.proofs.Common.{◌≡◌, ◌∙◌, ◌+◌, ◌++◌, ℕ, List, [], Bool, true, false, MatchBool, length, inl, inr, ap, refl, subst, sym, arith, length-append}
+use Rattle.std.proofs.Common.{◌≡◌, ◌⊎◌, ◌∙◌, ◌+◌, ◌++◌, ℕ, List, [], Bool, true, false, MatchBool, length, inl, inr, ap, refl, subst, sym, arith, length-append}
 use Rattle.std.proofs.lemmas.List.{length-map}
 use Rattle.devices.specs.declared.command.Command.{Command}
-use Rattle.disk.specs.State.{EveryImage, IsPermitted}
+use Rattle.disk.specs.State.{EveryImage, IsPermitted, State}
+use Rattle.lw_types.specs.declared.refusal.Refusal.{Refusal}
 use Rattle.sessions.specs.Decision.{commands_of}
 use Rattle.sessions.specs.Table.{TableState, fold_of}
 use Rattle.sessions.specs.declared.decision.Decision.{Decision}
+use Rattle.store.specs.Faults.{IsFault}
 use Rattle.store.specs.Image.{HoldsTable}
-use Rattle.store.specs.State.{StoreState, IsOpened, IsSettled}
+use Rattle.store.specs.State.{StoreState, IsOpened, IsSettled, StillHolds}
 use Rattle.flusher.specs.Cycle.{Commits, HoldsWithOrWithout}
-use Rattle.flusher.specs.Lived.{HaveLed, HoldsWithTorn}
+use Rattle.flusher.specs.Lived.{AreOnDisk, HaveLed, HoldsFold, HoldsWithTorn}
 use Rattle.flusher.specs.Lives.{Lives, beginning, lives_after}
 use Rattle.flusher.specs.Lives.LifeEvent.{Opened, Released, Torn}
 use Rattle.flusher.proofs.Holding.{held_along}
@@ -127,3 +129,67 @@ begins on_disk s settled = record {
   images = λ image p. inl (on_disk s settled image p);
   settled = either_way s.failed (refl, settled);
 }
+
+-- ---- the same of a disk alone
+
+-- a disk that holds a table begins a life
+pub begins_on : (t : TableState) (number : ℕ) (disk : State) → EveryImage disk (HoldsTable t number) → AreOnDisk beginning t number disk
+begins_on t number disk images image p =
+    let same : number + length {A = Command} [] ≡ number = omega arith in
+    inl (subst (λ n. HoldsTable t n image) (sym same) (images image p))
+
+-- a store was closed
+pub closes : AreComposed → (lives : Lives) (t : TableState) (number : ℕ) (s : StoreState) → HaveLed lives t number s → AreOnDisk lives t number s.log.disk
+closes composed lives t number s led image p = by (led.images image p)
+  where
+    by : HoldsWithTorn s lives.torn image → HoldsFold t number lives.durable image ⊎ HoldsFold t number (lives.durable ++ lives.torn) image
+    by (inl h) = inl (subst (λ n. HoldsTable (fold_of t lives.durable) n image) led.seq (subst (λ u. HoldsTable u s.seq image) led.table h))
+    by (inr h) =
+        let both = length-append lives.durable lives.torn in
+        let before = led.seq in
+        let count : s.seq + length lives.torn ≡ number + length (lives.durable ++ lives.torn) = omega (arith, both, before) in
+        let table : fold_of s.table lives.torn ≡ fold_of t (lives.durable ++ lives.torn) =
+        ap (λ u. fold_of u lives.torn) led.table ∙ sym (composed t lives.durable lives.torn) in
+        inr (subst (λ n. HoldsTable (fold_of t (lives.durable ++ lives.torn)) n image) count (subst (λ u. HoldsTable u (s.seq + length lives.torn) image) table h))
+
+-- what a crash left holds one of both
+crashes : (lives : Lives) (t : TableState) (number : ℕ) (disk : State) (left : List ℕ) → AreOnDisk lives t number disk → IsPermitted disk left
+    → (found : Bool) × (((lives_after t lives (Opened found)).torn ≡ []) × HoldsFold t number (lives_after t lives (Opened found)).durable left)
+crashes lives t number disk left are permitted = by (are left permitted)
+  where
+    by : HoldsFold t number lives.durable left ⊎ HoldsFold t number (lives.durable ++ lives.torn) left
+        → (found : Bool) × (((lives_after t lives (Opened found)).torn ≡ []) × HoldsFold t number (lives_after t lives (Opened found)).durable left)
+    by (inl h) = (false, (refl, h))
+    by (inr h) = (true, (refl, h))
+
+-- and it was opened
+pub opens_from : IsOnDisk → (lives : Lives) (t : TableState) (number : ℕ) (disk : State) (s : StoreState) (left : List ℕ) → AreOnDisk lives t number disk
+    → IsPermitted disk left → IsOpened left s → (found : Bool) × HaveLed (lives_after t lives (Opened found)) t number s
+opens_from on_disk lives t number disk s left are permitted opened =
+    let at = crashes lives t number disk left are permitted in
+    let found = lives_after t lives (Opened at.0) in
+    let is = opened.only (fold_of t found.durable) (number + length found.durable) at.1.1 in (
+      at.0,
+      record {
+        table = sym is.0;
+        seq = sym is.1;
+        images = λ image p. inl (on_disk s opened.settled image p);
+        settled = either_way s.failed (at.1.0, opened.settled);
+      },
+    )
+
+-- or it wasn't
+pub refuses : (lives : Lives) (t : TableState) (number : ℕ) (disk back : State) (left : List ℕ) → AreOnDisk lives t number disk
+    → IsPermitted disk left → StillHolds left back → (found : Bool) × AreOnDisk (lives_after t lives (Opened found)) t number back
+refuses lives t number disk back left are permitted still =
+    let at = crashes lives t number disk left are permitted in
+    let found = lives_after t lives (Opened at.0) in
+    (at.0, λ image p. inl (still (fold_of t found.durable) (number + length found.durable) at.1.1 image p))
+
+-- never since there were no store
+pub no_fault : (lives : Lives) (t : TableState) (number : ℕ) (disk : State) (left : List ℕ) (e : Refusal) → AreOnDisk lives t number disk
+    → IsPermitted disk left → ¬ (IsFault left e)
+no_fault lives t number disk left e are permitted fault = elim (are left permitted) [
+  | inl h ↦ fault.none (fold_of t lives.durable) (number + length lives.durable) h
+  | inr h ↦ fault.none (fold_of t (lives.durable ++ lives.torn)) (number + length (lives.durable ++ lives.torn)) h
+]

@@ -5,5 +5,6 @@ pub mod Feed
 pub mod Lived
 pub mod Lives
 pub mod OneCycle
+pub mod OverLives
 pub mod Released
 pub mod Serving

@@ -3,7 +3,7 @@ use Rattle.std.specs.Prelude.{◌≡◌, ◌⊎◌, ◌+◌, ◌++◌, ℕ, List
 use Rattle.std.specs.List.{FoldsTo}
 use Rattle.devices.specs.declared.command.Command.{Command}
 use Rattle.devices.specs.declared.effect.Effect.{Effect}
-use Rattle.disk.specs.State.{EveryImage}
+use Rattle.disk.specs.State.{EveryImage, State}
 use Rattle.sessions.specs.Table.{TableState, fold_of}
 use Rattle.store.specs.Image.{HoldsTable}
 use Rattle.store.specs.State.{StoreState, IsSettled}
@@ -28,17 +28,38 @@ pub record HaveLed (lives : Lives) (t : TableState) (number : ℕ) (s : StoreSta
 abbrev pub GoOn : TableState → Lives → Lives → Type 0
 GoOn t lives next = (next ≡ lives) ⊎ ((event : LifeEvent) × (next ≡ lives_after t lives event))
 
--- Whatever lives led a store here have led it there, by one event after another; and what left
--- besides was given away in calls, in order, by which the one who takes it came from `old` to
--- `new`.
-abbrev pub LeadOn : {C V : Type 0} → (V → List Effect) → (C → V → C → Type 0) → StoreState
-    → StoreState → C → C → Type 0
-LeadOn {C} {V} effects call here there old new =
-    (t : TableState) (number : ℕ) (lives : Lives) → HaveLed lives t number here
-    → (events : List LifeEvent) × (HaveLed (lives_after_all t lives events) t number there
+-- an image holds the fold of these commands, and its number
+abbrev pub HoldsFold : TableState → ℕ → List Command → List ℕ → Type 0
+HoldsFold t number commands image = HoldsTable (fold_of t commands) (number + length commands) image
+
+-- Whatever a crash leaves of this disk holds the fold of what is durable in these lives, without
+-- what is torn or with it.
+abbrev pub AreOnDisk : Lives → TableState → ℕ → State → Type 0
+AreOnDisk lives t number disk =
+    EveryImage disk (λ image. HoldsFold t number lives.durable image
+    ⊎ HoldsFold t number (lives.durable ++ lives.torn) image)
+
+-- what may be known of lives that began with a table and a number
+abbrev pub IsKnownOfLives : Type 1
+IsKnownOfLives = Lives → TableState → ℕ → Type 0
+
+-- Whatever lives came here have come there, by one event after another; and what left besides was
+-- given away in calls, in order, by which the one who takes it came from `old` to `new`.
+abbrev pub GoOnFrom : {C V : Type 0} → (V → List Effect) → (C → V → C → Type 0) → IsKnownOfLives
+    → IsKnownOfLives → C → C → Type 0
+GoOnFrom {C} {V} effects call here there old new =
+    (t : TableState) (number : ℕ) (lives : Lives) → here lives t number
+    → (events : List LifeEvent) × (there (lives_after_all t lives events) t number
     × ((calls : List V)
     × (((lives_after_all t lives events).left ≡ lives.left ++ flat_map effects calls)
     × FoldsTo call old calls new)))
+
+-- the same of lives that led a store here, and have led it there
+abbrev pub LeadOn : {C V : Type 0} → (V → List Effect) → (C → V → C → Type 0) → StoreState
+    → StoreState → C → C → Type 0
+LeadOn effects call here there old new =
+    GoOnFrom effects call (λ lives t number. HaveLed lives t number here)
+    (λ lives t number. HaveLed lives t number there) old new
 
 -- The same where one event at most leads on: what left besides was given away at once.
 abbrev pub LeadsOn : {C V : Type 0} → (V → List Effect) → (C → V → C → Type 0) → StoreState

@@ -1,8 +1,29 @@
--- How a server's chains end.
-use Rattle.std.specs.Prelude.{ℕ, Result, Ok, Err}
+-- A server's chains.
+use Rattle.std.specs.Prelude.{◌≡◌, ◌++◌, ℕ, List, [], ◌∷◌, map, Result, Ok, Err}
+use Rattle.devices.specs.declared.effect.Effect.{Effect}
+use Rattle.disk.specs.declared.disk.Disk.{Ghosts}
 use Rattle.lw_types.specs.declared.refusal.Refusal.{Refusal}
+use Rattle.store.specs.declared.store.Store.{Store}
+use Rattle.flusher.specs.Chain.{FeedGives, IsChain}
+
+-- Chains that are answered so, one after another: each goes on with the store, the feed and the
+-- closure that the one before it left.
+abbrev pub MakeChains : {D F C V : Type 0} (disk : Ghosts D) → FeedGives F → (V → List Effect)
+    → (C → V → C → Type 0) → ℕ → Store D disk → Store D disk → F → F → C → C
+    → List (Result ℕ Refusal) → Type 0
+MakeChains disk gives effects call most old new old_feed new_feed old_out new_out [] =
+    (new ≡ old) × ((new_feed ≡ old_feed) × (new_out ≡ old_out))
+MakeChains {D} {F} {C} {V} disk gives effects call most old new old_feed new_feed old_out new_out
+    (answer ∷ answers) =
+    (store : Store D disk) × ((feed : F) × ((out : C)
+    × (IsChain disk gives effects call most old store old_feed feed old_out out answer
+    × MakeChains disk gives effects call most store new feed new_feed out new_out answers)))
 
 -- how the last of them is answered: it had no batch, or was refused so
 abbrev pub last_answer : Result (Unit {0}) Refusal → Result ℕ Refusal
 last_answer (Ok done) = Ok 0
 last_answer (Err e) = Err e
+
+-- how all of them are answered: those before the last one had so many decisions
+abbrev pub answers_of : List ℕ → Result (Unit {0}) Refusal → List (Result ℕ Refusal)
+answers_of counts result = map (λ count. Ok count) counts ++ last_answer result ∷ []

@@ -1,12 +1,15 @@
 //! What follows from the definitions of several lives alone. The functions do nothing: their
 //! contracts are the laws.
 ghost use Rattle.std.specs.Prelude.{◌≡◌, ℕ, Bool, List};
-ghost use Rattle.disk.specs.State.{IsPermitted};
-ghost use Rattle.flusher.specs.Lived.{HaveLed};
+ghost use Rattle.disk.specs.State.{EveryImage, IsPermitted, State};
+ghost use Rattle.flusher.specs.Lived.{AreOnDisk, HaveLed};
 ghost use Rattle.flusher.specs.Lives.{LifeEvent, Lives, beginning, lives_after, lives_of};
+ghost use Rattle.lw_types.specs.declared.refusal.Refusal.{Refusal};
 ghost use Rattle.sessions.specs.Marks.{AreOnce, IsSound, IsSubsequence};
 ghost use Rattle.sessions.specs.Table.{TableState, effects_of, empty_table};
-ghost use Rattle.store.specs.State.{StoreState, IsOpened, IsSettled};
+ghost use Rattle.store.specs.Faults.{IsFault};
+ghost use Rattle.store.specs.Image.{HoldsTable};
+ghost use Rattle.store.specs.State.{StoreState, IsOpened, IsSettled, StillHolds};
 
 use crate::MOST_EFFECTS;
 
@@ -16,13 +19,31 @@ pub fn limits_are_these()
 {}
 
 /// Lives begin with a store on which nothing is under way, as one that was formatted or opened, and
-/// go on where an image is opened that a crash may have left of its disk ([`store::open`]).
+/// go on where an image is opened that a crash may have left of its disk ([`store::open`]). The same
+/// of a disk alone, which a store leaves where it is closed: also where the opening is refused, by
+/// what [`store::open_back`] says of the disk that comes back then. It is refused for want of memory
+/// or by the device alone, never since there were no store (`no_fault`).
 pub fn lives_go_on()
     ensures begun { (s : StoreState) → IsSettled s → HaveLed beginning s.table s.seq s }
     ensures opened { (lives : Lives) (t : TableState) (number : ℕ) (s opened : StoreState)
         (left : List ℕ) → HaveLed lives t number s → IsPermitted s.log.disk left
         → IsOpened left opened
         → (found : Bool) × HaveLed (lives_after t lives (LifeEvent.Opened found)) t number opened }
+    ensures begun_on { (t : TableState) (number : ℕ) (disk : State)
+        → EveryImage disk (HoldsTable t number) → AreOnDisk beginning t number disk }
+    ensures closed { (lives : Lives) (t : TableState) (number : ℕ) (s : StoreState)
+        → HaveLed lives t number s → AreOnDisk lives t number s.log.disk }
+    ensures opened_from { (lives : Lives) (t : TableState) (number : ℕ) (disk : State)
+        (opened : StoreState) (left : List ℕ) → AreOnDisk lives t number disk
+        → IsPermitted disk left → IsOpened left opened
+        → (found : Bool) × HaveLed (lives_after t lives (LifeEvent.Opened found)) t number opened }
+    ensures refused { (lives : Lives) (t : TableState) (number : ℕ) (disk back : State)
+        (left : List ℕ) → AreOnDisk lives t number disk → IsPermitted disk left
+        → StillHolds left back
+        → (found : Bool) × AreOnDisk (lives_after t lives (LifeEvent.Opened found)) t number back }
+    ensures no_fault { (lives : Lives) (t : TableState) (number : ℕ) (disk : State)
+        (left : List ℕ) (e : Refusal) → AreOnDisk lives t number disk → IsPermitted disk left
+        → ¬ (IsFault left e) }
 {
     sessions::laws::composing();
     store::laws::a_settled_store_is_on_its_disk();
@@ -32,7 +53,7 @@ pub fn lives_go_on()
 /// effects of the commands that the store has, from its beginning on.
 ///
 /// These lives are those that [`crate::chain`] moves on (`lives`), by an event for each of its
-/// batches, and [`lives_go_on`] an opening.
+/// batches, and [`lives_go_on`] an opening: [`crate::flush_over_lives`] says it of both.
 pub fn no_mark_leaves_twice()
     ensures part { (t : TableState) (events : List LifeEvent)
         → IsSubsequence (lives_of t events).left (effects_of t (lives_of t events).durable) }

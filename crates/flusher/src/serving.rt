@@ -1,10 +1,9 @@
 // A flusher's cycles, one after another.
 ghost use Rattle.std.specs.Global.{Global};
-ghost use Rattle.std.specs.Prelude.{true, ◌≡◌, OnOk, Vec};
-ghost use Rattle.flusher.specs.Chain.{IsChain};
+ghost use Rattle.std.specs.Prelude.{true, ◌≡◌, ℕ, List, OnOk, Vec};
 ghost use Rattle.flusher.specs.Lived.{LeadOn};
 ghost use Rattle.flusher.specs.Released.{effects_of_all};
-ghost use Rattle.flusher.specs.Serving.{last_answer};
+ghost use Rattle.flusher.specs.Serving.{MakeChains, answers_of};
 ghost use Rattle.store.specs.State.{store_state};
 
 use crate::{ChainLength, Feed, Released, chain};
@@ -16,7 +15,8 @@ use store::Store;
 
 /// Repeats [`chain`], of at most 64 batches, until one is refused, or until `done` answers true
 /// after one without a batch. It waits nowhere itself: `done` is where the flusher waits.
-/// Each chain is as `chain` says, so of the batch that was refused no effect left. It need not
+/// Each chain is as `chain` says, and goes on with what the one before it left: no batch is taken
+/// between them and no effect leaves. Of the batch that was refused no effect left. It need not
 /// return.
 pub fn serve<R: Wait, D: Disk, F: Feed, C: FnMut(Vec<Released>), S: FnMut() -> bool>(
     rt: &R,
@@ -34,12 +34,12 @@ pub fn serve<R: Wait, D: Disk, F: Feed, C: FnMut(Vec<Released>), S: FnMut() -> b
         effects_of_all released.items) (λ before released after. C.step before released tt after)
         (store_state D.state store.old) (store_state D.state store.new) out.old out.new }
 
-    // It ends with the refusal of its last chain, or behind one without a batch, where `done` says
-    // so.
-    ensures last { (before : _) × ((asked : F) × ((given : C) × IsChain D.Disk F.gives
+    // Its chains, in order, from what it was given to what it leaves. It ends with the refusal of
+    // the last one, or behind one without a batch, where `done` says so.
+    ensures chains { (counts : List ℕ) × MakeChains D.Disk F.gives
         (λ (released : Vec Released Global). effects_of_all released.items)
         (λ before released after. C.step before released tt after) 64
-        before store.new asked feed.new given out.new (last_answer result))) }
+        store.old store.new feed.old feed.new out.old out.new (answers_of counts result) }
     ensures done { OnOk result ((before : S) × S.step before true done.new) }
 {
     for _ in rt.forever() {

@@ -75,7 +75,8 @@ fn add_batches(
     Ok(())
 }
 
-fn batches(alloc: Global, signs: &str) -> Result<StoredBatches, Refusal> {
+/// The batches of these signs.
+pub fn batches(alloc: Global, signs: &str) -> Result<StoredBatches, Refusal> {
     let mut batches = Vec::new(alloc);
     add_batches(alloc, &mut new_table(alloc, 64)?, &mut batches, signs)?;
     Ok(StoredBatches::new(alloc, batches))

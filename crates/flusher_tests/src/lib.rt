@@ -7,4 +7,6 @@ mod chains_tests;
 #[cfg(test)]
 mod flusher_tests;
 #[cfg(test)]
+mod over_lives_tests;
+#[cfg(test)]
 mod store_pairs_tests;

@@ -1,6 +1,6 @@
 use denote.Param.Always.{always_mut, mut_next}
 use denote.Param.Members.{Called}
-use Rattle.std.proofs.Common.{Vec, ℕ, ◌≡◌, List, rules, Result, subst, sym}
+use Rattle.std.proofs.Common.{Vec, ℕ, ◌≡◌, ◌++◌, ◌∷◌, [], List, map, rules, Result, Ok, refl, subst, sym}
 use Rattle.devices.specs.declared.effect.Effect.{Effect}
 use Rattle.disk.specs.declared.disk.Disk.{Ghosts}
 use Rattle.lw_types.specs.declared.refusal.Refusal.{Refusal}
@@ -10,7 +10,7 @@ use Rattle.store.specs.declared.store.Store.{Store}
 use Rattle.flusher.specs.Released.{effects_of_all}
 use Rattle.flusher.specs.declared.released.Released.{Released}
 use Rattle.flusher.specs.Chain.{FeedGives, IsChain}
-use Rattle.flusher.proofs.Leading.{nothing_yet, leaves_callable, lead_then}
+use Rattle.flusher.proofs.Leading.{chains_then, counts_then, nothing_yet, leaves_callable, lead_then}
 use Rattle.flusher.proofs.serving.serve.Goals as goal
 use Rattle.flusher.proofs.serving.serve.Goals.{else-branch-eq0-via-then-branch-eq0+else-done, else-branch-eq0-via-else-branch-eq0}
 
@@ -32,9 +32,12 @@ loop-init g c = (
   c.requires.out,
   (
     c.requires.done,
-    λ honest.
-        nothing_yet (λ (released : Vec Released Global). effects_of_all released.items) (λ before released after. Called g.C.FnMut before (released, tt) tt after)
-        (store_state g.D.Disk.state c.args.store.now) c.args.out.now,
+    (
+      λ honest.
+          nothing_yet (λ (released : Vec Released Global). effects_of_all released.items) (λ before released after. Called g.C.FnMut before (released, tt) tt after)
+          (store_state g.D.Disk.state c.args.store.now) c.args.out.now,
+      ([], (refl, (refl, refl))),
+    ),
   ),
 )
 
@@ -42,13 +45,13 @@ pub returns-in_err-chain-clause-lives : goal.returns-in_err-chain-clause-lives
 returns-in_err-chain-clause-lives g c = λ honest.
     lead_then (λ (released : Vec Released Global). effects_of_all released.items) (λ before released after. Called g.C.FnMut before (released, tt) tt after)
     (store_state g.D.Disk.state c.args.store.now) (store_state g.D.Disk.state c.loop.store) (store_state g.D.Disk.state c.chain.new.store)
-    c.args.out.now c.loop.out c.chain.new.out (c.loop.invariant.1.1 honest) (c.chain.ensures.lives honest)
+    c.args.out.now c.loop.out c.chain.new.out (c.loop.invariant.1.1.0 honest) (c.chain.ensures.lives honest)
 
 pub returns-then-done-clause-lives : goal.returns-then-done-clause-lives
 returns-then-done-clause-lives g c = λ honest.
     lead_then (λ (released : Vec Released Global). effects_of_all released.items) (λ before released after. Called g.C.FnMut before (released, tt) tt after)
     (store_state g.D.Disk.state c.args.store.now) (store_state g.D.Disk.state c.loop.store) (store_state g.D.Disk.state c.chain.new.store)
-    c.args.out.now c.loop.out c.chain.new.out (c.loop.invariant.1.1 honest) (c.chain.ensures.lives honest)
+    c.args.out.now c.loop.out c.chain.new.out (c.loop.invariant.1.1.0 honest) (c.chain.ensures.lives honest)
 
 pub loop-preserved : goal.loop-preserved
 loop-preserved g c = (
@@ -58,27 +61,36 @@ loop-preserved g c = (
       | else-branch-eq0-via-then-branch-eq0+else-done w ↦ mut_next g.S.FnMut _ _ _ _ _ w.done.ensures (sym w.done-is) c.loop.invariant.1.0
       | else-branch-eq0-via-else-branch-eq0 w ↦ subst (always_mut g.S.FnMut) (sym w.done-is) c.loop.invariant.1.0
     ],
-    λ honest.
-        lead_then (λ (released : Vec Released Global). effects_of_all released.items) (λ before released after. Called g.C.FnMut before (released, tt) tt after)
-        (store_state g.D.Disk.state c.args.store.now) (store_state g.D.Disk.state c.loop.store) (store_state g.D.Disk.state c.chain.new.store)
-        c.args.out.now c.loop.out c.chain.new.out (c.loop.invariant.1.1 honest) (c.chain.ensures.lives honest),
+    (
+      λ honest.
+          lead_then (λ (released : Vec Released Global). effects_of_all released.items) (λ before released after. Called g.C.FnMut before (released, tt) tt after)
+          (store_state g.D.Disk.state c.args.store.now) (store_state g.D.Disk.state c.loop.store) (store_state g.D.Disk.state c.chain.new.store)
+          c.args.out.now c.loop.out c.chain.new.out (c.loop.invariant.1.1.0 honest) (c.chain.ensures.lives honest),
+      (
+        c.loop.invariant.1.1.1.0 ++ c.in_ok-chain.field-0 ∷ [],
+        counts_then g.D.Disk g.F.Feed.gives (λ (released : Vec Released Global). effects_of_all released.items)
+            (λ before released after. Called g.C.FnMut before (released, tt) tt after) 64 c.args.store.now c.loop.store c.chain.new.store
+            c.args.feed.now c.loop.feed c.chain.new.feed c.args.out.now c.loop.out c.chain.new.out c.loop.invariant.1.1.1.0
+            c.in_ok-chain.field-0 c.loop.invariant.1.1.1.1 (last_as c.served.ensures refl c.in_ok-chain.ensures.chain),
+      ),
+    ),
   ),
 )
 
-pub returns-in_err-chain-clause-last : goal.returns-in_err-chain-clause-last
-returns-in_err-chain-clause-last g c = (
-  c.loop.store,
-  (
-    c.loop.feed,
-    (c.loop.out, last_as c.served.ensures (search rules) c.in_err-chain.ensures.chain),
-  ),
+pub returns-in_err-chain-clause-chains : goal.returns-in_err-chain-clause-chains
+returns-in_err-chain-clause-chains g c = (
+  c.loop.invariant.1.1.1.0,
+  chains_then g.D.Disk g.F.Feed.gives (λ (released : Vec Released Global). effects_of_all released.items)
+      (λ before released after. Called g.C.FnMut before (released, tt) tt after) 64 c.args.store.now c.loop.store c.chain.new.store
+      c.args.feed.now c.loop.feed c.chain.new.feed c.args.out.now c.loop.out c.chain.new.out (map (λ count. Ok count) c.loop.invariant.1.1.1.0)
+      _ c.loop.invariant.1.1.1.1 (last_as c.served.ensures (search rules) c.in_err-chain.ensures.chain),
 )
 
-pub returns-then-done-clause-last : goal.returns-then-done-clause-last
-returns-then-done-clause-last g c = (
-  c.loop.store,
-  (
-    c.loop.feed,
-    (c.loop.out, last_as c.served.ensures (search rules) c.in_ok-chain.ensures.chain),
-  ),
+pub returns-then-done-clause-chains : goal.returns-then-done-clause-chains
+returns-then-done-clause-chains g c = (
+  c.loop.invariant.1.1.1.0,
+  chains_then g.D.Disk g.F.Feed.gives (λ (released : Vec Released Global). effects_of_all released.items)
+      (λ before released after. Called g.C.FnMut before (released, tt) tt after) 64 c.args.store.now c.loop.store c.chain.new.store
+      c.args.feed.now c.loop.feed c.chain.new.feed c.args.out.now c.loop.out c.chain.new.out (map (λ count. Ok count) c.loop.invariant.1.1.1.0)
+      _ c.loop.invariant.1.1.1.1 (last_as c.served.ensures (search rules) c.in_ok-chain.ensures.chain),
 )

@@ -1,10 +1,11 @@
--- Both closures can be called again, and lives have led the store here.
+-- Both closures can be called again, lives have led the store here, and chains have.
 use denote.Param.Always.{always_mut}
 use denote.Param.Members.{Called}
-use Rattle.std.proofs.Common.{Vec, Global}
+use Rattle.std.proofs.Common.{Vec, Global, ℕ, List, Ok, map}
 use Rattle.store.specs.State.{store_state}
 use Rattle.flusher.specs.Lived.{LeadOn}
 use Rattle.flusher.specs.Released.{effects_of_all}
+use Rattle.flusher.specs.Serving.{MakeChains}
 use Rattle.flusher.specs.declared.released.Released.{Released}
 use Rattle.flusher.proofs.serving.serve.Given as goal
 
@@ -12,6 +13,8 @@ abbrev pub invariant-loop : goal.invariant-loop
 invariant-loop g l =
     always_mut g.C.FnMut l.out
     × (always_mut g.S.FnMut l.done
-    × (g.D.Disk.honest
+    × ((g.D.Disk.honest
     → LeadOn (λ (released : Vec Released Global). effects_of_all released.items) (λ before released after. Called g.C.FnMut before (released, tt) tt after)
-    (store_state g.D.Disk.state l.fn.store) (store_state g.D.Disk.state l.store) l.fn.out l.out))
+    (store_state g.D.Disk.state l.fn.store) (store_state g.D.Disk.state l.store) l.fn.out l.out)
+    × ((counts : List ℕ) × MakeChains g.D.Disk g.F.Feed.gives (λ (released : Vec Released Global). effects_of_all released.items)
+    (λ before released after. Called g.C.FnMut before (released, tt) tt after) 64 l.fn.store l.store l.fn.feed l.feed l.fn.out l.out (map (λ count. Ok count) counts))))
