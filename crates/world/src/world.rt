@@ -31,6 +31,7 @@ impl<D: Sim + Drop> World<D> {
     ghost use Rattle.disk.specs.Outlook.{IsArmed};
     ghost use Rattle.disk.specs.Outlook.Outlook.{AllSucceed, FailsAfter};
     ghost use Rattle.disk.specs.State.{NothingOpen};
+    ghost use Rattle.flusher.specs.Released.{effects_of_all};
     ghost use Rattle.sessions.specs.Table.{TableState};
     ghost use Rattle.store.specs.Faults.{IsFault, IsFormatRefusal};
     ghost use Rattle.store.specs.Image.{HoldsTable};
@@ -206,21 +207,23 @@ impl<D: Sim + Drop> World<D> {
         }
     }
 
-    /// Ends the world: what is under way is lost, and the disk comes back. Whatever a crash leaves
-    /// of it holds the fold of a beginning of the decided commands, with every one of which an
-    /// effect has left.
-    pub fn close(self) -> D
+    /// Ends the world: what is under way is lost, and the disk comes back with the effects that were
+    /// released over all lives, in order. Whatever a crash leaves of that disk holds the fold of a
+    /// beginning of the decided commands, with every one of which an effect has left.
+    pub fn close(self) -> (D, Vec<Released>)
         requires { IsSoundWorld D.state self }
-        ensures disk { HasDisk self.place result }
+        ensures disk { HasDisk self.place result.0 }
+        ensures released { result.1 ≡ self.released }
         ensures course { (origin : Origin) (c : Course) → Follows D.state origin c self
-            → Survives origin c (D.state result)
-            × IsSubsequence c.left (effects_from origin c.settled) }
+            → Survives origin c (D.state result.0)
+            × ((c.left ≡ effects_of_all result.1.items)
+            × IsSubsequence c.left (effects_from origin c.settled)) }
     {
         let World {
             place,
-            released: _,
+            released,
             emitted: _,
         } = self;
-        place.end()
+        (place.end(), released)
     }
 }
