@@ -1,6 +1,5 @@
-use Rattle.std.proofs.Common.{◌≡◌, ◌++◌, ◌∙◌, ap, subst, sym}
+use Rattle.std.proofs.Common.{◌++◌, ◌∙◌, ap, subst, sym}
 use Rattle.disk.specs.Crash.{IsCrashed}
-use Rattle.disk.specs.Outlook.Outlook.{AllSucceed, FailsAfter}
 use Rattle.disk.specs.State.{IsPermitted}
 use Rattle.sessions.specs.Marks.{HasUsedUp, marks_of}
 use Rattle.world.specs.Course.{effects_from, table_from, number_from}
