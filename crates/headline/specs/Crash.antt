@@ -34,7 +34,4 @@ pub record IsOpenedAfterCrash {D : Type 0} (laws : Ghosts D) (origin : Origin) (
   pub at : HasDisk last.place disk
   pub survives : Survives origin (course_of origin (beginning origin) steps answers)
       (laws.state disk)
-  pub left : List ℕ
-  pub crashed : IsCrashed image (laws.state disk) left
-  pub permitted : IsPermitted (laws.state disk) left
-  pub opened : IsOpened left store
+  pub opened : IsOpenedOf image (laws.state disk) store

@@ -24,7 +24,6 @@ returns-in-Ok-open_after-clause-crash g c origin begun =
     let course = course_of origin (beginning origin) c.args.steps.now c.in-Ok.answers.items in
     let followed = (c.in-Ok.ensures.course origin (beginning origin) begun).1 in
     let there = some_disk state last.place (length last.released.items) (vec_capacity last.released) c.in-Ok.ensures.sound in
-    let found = c.in-Ok-open_after.ensures.crash there.0 there.1 in
     record {
       first = c.args.world;
       begun = begun;
@@ -33,10 +32,7 @@ returns-in-Ok-open_after-clause-crash g c origin begun =
       disk = there.0;
       at = there.1;
       survives = disk_survives state origin course last.place there.0 followed.place there.1;
-      left = found.left;
-      crashed = found.crashed;
-      permitted = found.permitted;
-      opened = found.opened;
+      opened = c.in-Ok-open_after.ensures.crash there.0 there.1;
     }
 
 pub returns-in-Ok-open_after-clause-recovers : goal.returns-in-Ok-open_after-clause-recovers
