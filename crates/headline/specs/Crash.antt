@@ -1,7 +1,7 @@
 -- What a store was opened from.
 use Rattle.std.specs.Prelude.{List, ℕ}
 use Rattle.disk.specs.Crash.{IsCrashed}
-use Rattle.disk.specs.State.{IsPermitted}
+use Rattle.disk.specs.State.{IsPermitted, State}
 use Rattle.disk.specs.declared.disk.Disk.{Ghosts}
 use Rattle.disk.specs.declared.sim.Image.{Image}
 use Rattle.store.specs.State.{StoreState, IsOpened}
@@ -12,6 +12,13 @@ use Rattle.world.specs.Stepping.{MakesSteps}
 use Rattle.world.specs.declared.answer.Answer.{Answer}
 use Rattle.world.specs.declared.step.Step.{Step}
 use Rattle.world.specs.declared.world.World.{World}
+
+-- A disk crashed to this image, and the store was opened of what was left.
+pub record IsOpenedOf (image : Image) (before : State) (store : StoreState) : Type 0 where
+  pub left : List ℕ
+  pub crashed : IsCrashed image before left
+  pub permitted : IsPermitted before left
+  pub opened : IsOpened left store
 
 -- A world whose course began here made these steps, answered so. Its disk then crashed to this
 -- image, and the store was opened of what was left. Whatever a crash could have left of that disk
@@ -27,7 +34,4 @@ pub record IsOpenedAfterCrash {D : Type 0} (laws : Ghosts D) (origin : Origin) (
   pub at : HasDisk last.place disk
   pub survives : Survives origin (course_of origin (beginning origin) steps answers)
       (laws.state disk)
-  pub left : List ℕ
-  pub crashed : IsCrashed image (laws.state disk) left
-  pub permitted : IsPermitted (laws.state disk) left
-  pub opened : IsOpened left store
+  pub opened : IsOpenedOf image (laws.state disk) store

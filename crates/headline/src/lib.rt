@@ -1,9 +1,11 @@
 //! What may be concluded of whole runs, in the words of their lists of steps alone.
 #![tactic(auto)]
 
-ghost use Rattle.std.specs.Prelude.{◌≡◌, ◌≢◌, ◌++◌, ℕ, List, All, IfOk, IfErr, length};
+ghost use Rattle.std.specs.Prelude.{◌≡◌, ◌≢◌, ◌⊎◌, ◌++◌, ℕ, List, All, IfOk, IfErr, IsErrAnd};
+ghost use Rattle.std.specs.Prelude.{length};
 ghost use Rattle.devices.specs.declared.mark.Mark.{Mark};
-ghost use Rattle.disk.specs.Outlook.Outlook.{AllSucceed};
+ghost use Rattle.disk.specs.Outlook.Outlook.{AllSucceed, FailsAfter};
+ghost use Rattle.flusher.specs.Released.{effects_of_all};
 ghost use Rattle.lw_types.specs.declared.refusal.Refusal.TheVariants.{DeviceFailed, OutOfMemory};
 ghost use Rattle.sessions.specs.Marks.{AreDistinct, Covers, HasUsedUp, marks_of};
 ghost use Rattle.sessions.specs.Table.{TableState};
@@ -12,14 +14,16 @@ ghost use Rattle.store.specs.Image.{HoldsTable};
 ghost use Rattle.store.specs.State.{store_state};
 ghost use Rattle.world.specs.Answers.{AreRight};
 ghost use Rattle.world.specs.Calls.{AreCallsAt, AreForetold, CallRecord, outlook_after_opening};
-ghost use Rattle.world.specs.Course.{Origin, adopted_store, beginning, course_of, new_store};
+ghost use Rattle.world.specs.Course.{Course, Origin, adopted_store, beginning, course_of};
+ghost use Rattle.world.specs.Course.{new_store};
 ghost use Rattle.world.specs.Follows.{Follows};
-ghost use Rattle.world.specs.Sound.{IsSoundWorld};
-ghost use Rattle.headline.specs.Crash.{IsOpenedAfterCrash};
+ghost use Rattle.world.specs.Sound.{HasDisk, IsSoundWorld};
+ghost use Rattle.headline.specs.Crash.{IsOpenedAfterCrash, IsOpenedOf};
 ghost use Rattle.headline.specs.Failing.{ArmsNothing};
 ghost use Rattle.headline.specs.Recovers.{NoMarkTwice, Recovers};
 
 use disk::{Image, Sim};
+use flusher::Released;
 use lw_types::{NetId, Refusal};
 use std::alloc::Global;
 use store::Store;
@@ -128,6 +132,46 @@ pub fn crash_after_adoption<D: Sim + Drop>(
     }
 }
 
+/// Ends a world: lets its disk crash to this image, and opens the store of what is left. With the
+/// store come the effects that were released over all lives, in order. A refusal is `OutOfMemory`
+/// or `DeviceFailed`, and then all is let go; `DeviceFailed` never comes where all calls of the
+/// disk were to succeed, and comes where the next one was to fail.
+///
+/// Whatever course the world has followed, what came with the store is what has left in it, and the
+/// store has the table and the number that a beginning of its decided commands leaves, which holds
+/// every command whose batch was released. Where no mark was used up twice before, none was by what
+/// has left, and the table covers them all.
+pub fn open_after<D: Sim + Drop>(
+    alloc: Global,
+    world: World<D>,
+    image: &Image,
+) -> Result<(Vec<Released>, Store<D>), Refusal>
+    requires { IsSoundWorld D.state world }
+    ensures released { IfOk result (λ found. found.0 ≡ world.released) }
+    ensures crash { (before : D) → HasDisk world.place before → IfOk result
+        (λ found. IsOpenedOf image.now (D.state before) (store_state D.state found.1)) }
+    ensures recovers { (origin : Origin) (c : Course) → Follows D.state origin c world → IfOk result
+        (λ found. (c.left ≡ effects_of_all found.0.items) × Recovers origin c
+        (store_state D.state found.1).table (store_state D.state found.1).seq) }
+    ensures used { (origin : Origin) (c : Course) → Follows D.state origin c world
+        → HasUsedUp origin.table origin.marks → IfOk result
+        (λ found. HasUsedUp (store_state D.state found.1).table
+        (origin.marks ++ marks_of (effects_of_all found.0.items))) }
+    ensures refused { (origin : Origin) (c : Course) → Follows D.state origin c world
+        → IfErr result (λ e. (e ≡ OutOfMemory) ⊎ (e ≡ DeviceFailed)) }
+    ensures unarmed { (before : D) → HasDisk world.place before → D.outlook before ≡ AllSucceed
+        → IfErr result (λ e. e ≢ DeviceFailed) }
+    ensures fails { (before : D) → HasDisk world.place before → D.outlook before ≡ FailsAfter 0
+        → IsErrAnd result (λ e. e ≡ DeviceFailed) }
+{
+    world::laws::what_a_crash_leaves();
+    sessions::laws::no_mark_stands_twice();
+    let (mut disk, released) = world.close();
+    disk.crash(image);
+    let store = store::open(alloc, disk)?;
+    Ok((released, store))
+}
+
 // Takes the steps on a world, lets its disk crash to this image at the end, and opens the store:
 // what is said of the course, for each place where it may have begun.
 fn crash_from<D: Sim + Drop>(
@@ -163,15 +207,11 @@ fn crash_from<D: Sim + Drop>(
         → AreCallsAt D.failures D.outlook calls world.place → calls.coming ≡ AllSucceed
         → ArmsNothing steps.now → e ≢ DeviceFailed) }
 {
-    world::laws::what_a_crash_leaves();
-    sessions::laws::no_mark_stands_twice();
     match run(&mut world, alloc, steps) {
-        Ok(answers) => {
-            let mut disk = world.close();
-            disk.crash(image);
-            let store = store::open(alloc, disk)?;
-            Ok((answers, store))
-        }
+        Ok(answers) => match open_after(alloc, world, image) {
+            Ok((_, store)) => Ok((answers, store)),
+            Err(refusal) => Err(refusal),
+        },
         Err(refusal) => {
             let _ = world.close();
             Err(refusal)

@@ -61,7 +61,7 @@ pub(crate) fn played(
     }
     let mut world = World::format(alloc, disk, net_id()?, SLOTS)?;
     let answers = run(&mut world, alloc, steps);
-    let disk = world.close();
+    let (disk, _) = world.close();
     Ok((answers?, disk))
 }
 

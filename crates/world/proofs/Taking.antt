@@ -1,5 +1,5 @@
 -- What a take does to a course.
-use Rattle.std.proofs.Common.{◌≡◌, ◌≢◌, ◌∙◌, ◌+◌, ◌≤◌, inr, ℕ, zero, suc, Bool, false, List, [], ◌∷◌, ◌++◌, length, take, drop, MatchBool, sym, ap, subst, refl, arith, append_assoc, length-append, take-append-drop}
+use Rattle.std.proofs.Common.{◌≡◌, ◌≢◌, ◌∙◌, ◌+◌, ◌≤◌, inr, ℕ, zero, suc, Bool, false, Err, List, [], ◌∷◌, ◌++◌, length, take, drop, MatchBool, sym, ap, subst, refl, arith, append_assoc, length-append, take-append-drop}
 use Rattle.std.proofs.lemmas.List.{length-map, take-map, drop-map, append-nil}
 use Rattle.lw_types.specs.Refusal.{number_of}
 use Rattle.lw_types.specs.declared.refusal.Refusal.{Refusal}
@@ -26,6 +26,7 @@ use Rattle.world.specs.Course.{Origin, Course, after_take, after_give_up, table_
 use Rattle.world.specs.Answers.{AnswersTake, Beside, Takes}
 use Rattle.world.specs.Commits.{at_rest, flights_of}
 use Rattle.world.specs.Follows.{AreAt, IsHealthy, IsLife, taken_commands}
+use Rattle.world.specs.Tells.{told_by}
 use Rattle.world.proofs.Flights.{flying_begun, leaves_begun, stored_begun}
 
 none_left : {A : Type 0} (xs : List A) → length xs ≡ 0 → xs ≡ []
@@ -241,12 +242,17 @@ moved origin c s s' core core' commit commit' store core_is commit_is f =
     subst (λ s. IsLife origin c s core' commit') (sym store)
     (subst (λ k. IsLife origin c s k commit') (sym core_is) (subst (λ m. IsLife origin c s core m) (sym commit_is) f))
 
-pub only_memory : (e : Refusal) → (e ≢ OutOfMemory → e ≡ OutOfStep) → e ≢ OutOfStep → e ≡ OutOfMemory
-only_memory OutOfMemory step other = refl
-only_memory e step other = absurd (other (step (λ is. let n = ap number_of is in absurd (omega (arith, n)))))
-
-pub no_memory : OutOfStep ≢ OutOfMemory
+no_memory : OutOfStep ≢ OutOfMemory
 no_memory h = let numbers = ap number_of h in absurd (omega (arith, numbers))
+
+-- what is told of a batch that wasn't begun: for want of memory it is given up, else it is out of step
+pub told_so : (e : Refusal) (n : ℕ) (P : Answer → Type 0) → (e ≡ OutOfMemory → P (answers.GivenUp n))
+    → (e ≢ OutOfMemory → (e ≡ OutOfStep) × P (answers.Refused OutOfStep)) → P (told_by (Err e) n)
+told_so OutOfMemory n P lost astray = lost refl
+told_so OutOfStep n P lost astray = (astray no_memory).1
+told_so e n P lost astray =
+    let is = (astray (λ is. let n = ap number_of is in absurd (omega (arith, n)))).0 in
+    let m = ap number_of is in absurd (omega (arith, m))
 
 pub device_memory : DeviceFailed ≡ OutOfMemory → ⊥
 device_memory h = let numbers = ap number_of h in absurd (omega (arith, numbers))

@@ -1,12 +1,13 @@
 -- What a step's answer tells of the disk.
-use Rattle.std.proofs.Common.{◌≡◌, ◌∙◌, sym}
+use Rattle.std.proofs.Common.{◌≡◌, ◌∙◌, ℕ, refl, sym}
 use Rattle.disk.specs.State.{State}
+use Rattle.store.specs.State.{disk_of}
 use Rattle.world.specs.declared.place.Place.{Place}
 use Rattle.world.specs.declared.place.Place.TheVariants.{Open, Closed, Crashing}
 use Rattle.world.specs.declared.step.Step.{Step}
 use Rattle.world.specs.declared.step.Step.TheVariants as steps
 use Rattle.world.specs.Follows.{IsOwn}
-use Rattle.world.specs.Sound.{HasDisk}
+use Rattle.world.specs.Sound.{HasDisk, IsSoundPlace}
 use Rattle.world.specs.Tells.{LeavesImage}
 
 -- a place has one disk
@@ -14,6 +15,13 @@ pub one_disk : {D : Type 0} {g : _} (place : Place D g) (a b : D) → HasDisk pl
 one_disk (Open life) a b first second = first ∙ sym second
 one_disk (Closed d) a b first second = first ∙ sym second
 one_disk Crashing a b first second = absurd first
+
+-- and it has that, where it is sound
+pub some_disk : {D : Type 0} {g : _} (state : D → State) (place : Place D g) (there fit : ℕ) → IsSoundPlace state place there fit
+    → (disk : D) × HasDisk place disk
+some_disk state (Open life) there fit sound = (disk_of life.store, refl)
+some_disk state (Closed d) there fit sound = (d, refl)
+some_disk state Crashing there fit sound = absurd sound
 
 -- a step of a life alone is no crash
 pub no_image : {D : Type 0} {g : _} (state : D → State) (old now : Place D g) (step : Step) → IsOwn step → LeavesImage state old step now

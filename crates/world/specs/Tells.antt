@@ -1,6 +1,6 @@
 -- What a step's answer tells of the disk: a full journal only where it is, how long a checkpoint
 -- takes, and a crash leaves the image that it names.
-use Rattle.std.specs.Prelude.{◌≡◌, ◌<◌, ◌≤◌, ℕ, List, if◌then◌else◌}
+use Rattle.std.specs.Prelude.{◌≡◌, ◌<◌, ◌≤◌, ℕ, List, Result, Ok, Err, if◌then◌else◌}
 use Rattle.lw_types.specs.declared.refusal.Refusal.{Refusal}
 use Rattle.lw_types.specs.declared.refusal.Refusal.TheVariants as refusals
 use Rattle.disk.specs.declared.sim.Image.{Image}
@@ -8,6 +8,7 @@ use Rattle.disk.specs.Crash.{IsCrashed}
 use Rattle.disk.specs.State.{State}
 use Rattle.flusher.specs.declared.room.Room.{Room}
 use Rattle.store.specs.Pairing.{IsRoomyBehind}
+use Rattle.store.specs.declared.phases.Begun.{Begun}
 use Rattle.store.specs.State.{StoreState, store_state, IsOld, IsRoomy, StillHolds}
 use Rattle.store.specs.declared.phases.GateWritten.{GateWritten}
 use Rattle.store.specs.declared.areas.TheConstants.{LAST_GENERATION}
@@ -20,6 +21,12 @@ use Rattle.world.specs.declared.answer.Answer.{Answer}
 use Rattle.world.specs.declared.answer.Answer.TheVariants as answers
 use Rattle.world.specs.declared.step.Step.{Step}
 use Rattle.world.specs.declared.step.Step.TheVariants as steps
+
+-- what is told of so many decisions that were taken, by what the store answered to their batch
+abbrev pub told_by : Result Begun Refusal → ℕ → Answer
+told_by (Ok begun) count = answers.Taken count
+told_by (Err refusals.OutOfStep) count = answers.Refused refusals.OutOfStep
+told_by (Err e) count = answers.GivenUp count
 
 -- A batch is taken only where the journal has room for the largest one, and full is answered only
 -- where it hasn't.

@@ -5,6 +5,7 @@ ghost use Rattle.flusher.specs.declared.room.TheConstants.{MOST_EFFECTS};
 ghost use Rattle.lw_types.specs.declared.refusal.Refusal.TheVariants.{OutOfMemory};
 ghost use Rattle.session_core.specs.Core.{IsLawfulCore};
 ghost use Rattle.session_core.specs.Deciding.{after_taking};
+ghost use Rattle.world.specs.Tells.{told_by};
 
 use crate::commit::{LastCommit, Pipeline};
 use crate::links::Links;
@@ -16,7 +17,7 @@ use session_core::{Core, Most};
 use sessions::Batch;
 use std::alloc::Global;
 use std::mem;
-use store::{GateWritten, Publishing, Store, UnderWay};
+use store::{Begun, GateWritten, Publishing, Store, UnderWay};
 
 /// A store that is open, the core that decides on its table, and what is begun and not released.
 pub(crate) struct Life<D: Sim> {
@@ -171,16 +172,15 @@ impl<D: Sim> Life<D> {
         laws::of_runs();
         let (batch, room) = next_batch(alloc, &mut self.core, most, released)?;
         let count = batch.len();
-        match self.store.begin(alloc, batch) {
+        let begun = self.store.begin(alloc, batch);
+        let answer = batch_answer(&begun, count);
+        match begun {
             Ok(begun) => {
                 self.commits
                     .set(LastCommit::UnderWay(UnderWay::Begun(begun, room)));
-                Ok(Answer::Taken(count))
+                Ok(answer)
             }
-            Err(refusal) => match refusal {
-                Refusal::OutOfStep => Ok(Answer::Refused(refusal)),
-                _ => Ok(Answer::GivenUp(count)),
-            },
+            Err(_) => Ok(answer),
         }
     }
 
@@ -250,7 +250,9 @@ impl<D: Sim> Life<D> {
             }
             Ok((batch, behind)) => {
                 let count = batch.len();
-                match self.store.begin_next(alloc, &opened, batch) {
+                let begun = self.store.begin_next(alloc, &opened, batch);
+                let answer = batch_answer(&begun, count);
+                match begun {
                     Ok(following) => {
                         let both = UnderWay::Following {
                             opened,
@@ -258,15 +260,9 @@ impl<D: Sim> Life<D> {
                             following,
                             behind,
                         };
-                        (both, Answer::Taken(count))
+                        (both, answer)
                     }
-                    Err(refusal) => {
-                        let unchanged = UnderWay::GateWritten(opened, along);
-                        match refusal {
-                            Refusal::OutOfStep => (unchanged, Answer::Refused(refusal)),
-                            _ => (unchanged, Answer::GivenUp(count)),
-                        }
-                    }
+                    Err(_) => (UnderWay::GateWritten(opened, along), answer),
                 }
             }
         }
@@ -417,6 +413,17 @@ fn next_batch(
     released.reserve(2 * MOST_EFFECTS)?;
     let batch = core.take(most)?;
     Ok((batch, room))
+}
+
+// What is told of so many decisions that were taken, by what the store answered to their batch.
+fn batch_answer(begun: &Result<Begun, Refusal>, count: usize) -> Answer
+    ensures { result ≡ told_by begun.now count }
+{
+    match begun {
+        Ok(_) => Answer::Taken(count),
+        Err(Refusal::OutOfStep) => Answer::Refused(Refusal::OutOfStep),
+        Err(_) => Answer::GivenUp(count),
+    }
 }
 
 // Adds effects behind others.

@@ -23,12 +23,15 @@ pub struct World<D: Sim> {
 }
 
 impl<D: Sim + Drop> World<D> {
-    ghost use Rattle.std.specs.Prelude.{◌≢◌, ◌+◌, ℕ, List, false, IfOk, IfErr, MatchResult, length};
+    ghost use Rattle.std.specs.Prelude.{◌≢◌, ◌+◌, ℕ, List, false, IfOk, IfErr, IsErrAnd};
+    ghost use Rattle.std.specs.Prelude.{MatchResult, length};
     ghost use Rattle.lw_types.specs.declared.refusal.Refusal.TheVariants.{DeviceFailed};
     ghost use Rattle.lw_types.specs.declared.refusal.Refusal.TheVariants.{OutOfMemory};
     ghost use Rattle.devices.specs.declared.mark.Mark.{Mark};
-    ghost use Rattle.disk.specs.Outlook.Outlook.{AllSucceed};
+    ghost use Rattle.disk.specs.Outlook.{IsArmed};
+    ghost use Rattle.disk.specs.Outlook.Outlook.{AllSucceed, FailsAfter};
     ghost use Rattle.disk.specs.State.{NothingOpen};
+    ghost use Rattle.flusher.specs.Released.{effects_of_all};
     ghost use Rattle.sessions.specs.Table.{TableState};
     ghost use Rattle.store.specs.Faults.{IsFault, IsFormatRefusal};
     ghost use Rattle.store.specs.Image.{HoldsTable};
@@ -83,6 +86,12 @@ impl<D: Sim + Drop> World<D> {
             × (e.1 ≢ DeviceFailed → D.failures e.0 ≡ D.failures disk)) }
         ensures unarmed { D.outlook disk ≡ AllSucceed
             → IfErr result (λ e. (e.1 ≢ DeviceFailed) × (D.outlook e.0 ≡ AllSucceed)) }
+        ensures fails { D.outlook disk ≡ FailsAfter 0 → IsErrAnd result
+            (λ e. (e.1 ≡ DeviceFailed) × (D.outlook e.0 ≡ AllSucceed)) }
+        ensures armed { IsArmed (D.outlook disk) → MatchResult result
+            (λ world. (now : D) → HasDisk world.place now → IsArmed (D.outlook now))
+            (λ e. (e.1 ≡ DeviceFailed → D.outlook e.0 ≡ AllSucceed)
+            × (e.1 ≢ DeviceFailed → IsArmed (D.outlook e.0))) }
         ensures kept { NothingOpen (D.state disk)
             → IfErr result (λ e. IsOpenedFrom (D.state disk).content (D.state e.0)) }
     {
@@ -118,8 +127,14 @@ impl<D: Sim + Drop> World<D> {
         }
     }
 
-    /// One step.
-    pub(crate) fn step(&mut self, alloc: Global, step: &Step) -> Answer
+    /// Takes one step, and gives its answer. Whatever course the world has followed, the answer is
+    /// right in it, and the world goes on following it (`course`). A call of the disk fails where
+    /// that is due, and nowhere else (`calls`). `Full` comes only where the journal has no room for
+    /// the largest batch, and a batch is taken only where it has; a checkpoint has as many calls as
+    /// the other area's gate wants, and is refused as `Damaged` exactly at the last generation
+    /// (`room_told`). A crash leaves the image that it names (`crashed`). A step is never refused
+    /// as a whole: where its answer is `OutOfMemory` it did what the course says of that answer.
+    pub fn step(&mut self, alloc: Global, step: &Step) -> Answer
         requires { IsSoundWorld D.state self.old }
         ensures sound { IsSoundWorld D.state self.new }
         ensures course { Moves D.state self.old step.now result self.new }
@@ -192,21 +207,23 @@ impl<D: Sim + Drop> World<D> {
         }
     }
 
-    /// Ends the world: what is under way is lost, and the disk comes back. Whatever a crash leaves
-    /// of it holds the fold of a beginning of the decided commands, with every one of which an
-    /// effect has left.
-    pub fn close(self) -> D
+    /// Ends the world: what is under way is lost, and the disk comes back with the effects that were
+    /// released over all lives, in order. Whatever a crash leaves of that disk holds the fold of a
+    /// beginning of the decided commands, with every one of which an effect has left.
+    pub fn close(self) -> (D, Vec<Released>)
         requires { IsSoundWorld D.state self }
-        ensures disk { HasDisk self.place result }
+        ensures disk { HasDisk self.place result.0 }
+        ensures released { result.1 ≡ self.released }
         ensures course { (origin : Origin) (c : Course) → Follows D.state origin c self
-            → Survives origin c (D.state result)
-            × IsSubsequence c.left (effects_from origin c.settled) }
+            → Survives origin c (D.state result.0)
+            × ((c.left ≡ effects_of_all result.1.items)
+            × IsSubsequence c.left (effects_from origin c.settled)) }
     {
         let World {
             place,
-            released: _,
+            released,
             emitted: _,
         } = self;
-        place.end()
+        (place.end(), released)
     }
 }

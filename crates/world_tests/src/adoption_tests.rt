@@ -22,7 +22,7 @@ fn left(alloc: Global, letters: &str) -> Result<MemDisk, Refusal> {
     let steps = steps_of(alloc, letters)?;
     let mut world = World::format(alloc, new_disk(alloc, SLOTS)?, net_id()?, SLOTS)?;
     let answers = run(&mut world, alloc, &steps);
-    let disk = world.close();
+    let (disk, _) = world.close();
     let _ = answers?;
     Ok(disk)
 }

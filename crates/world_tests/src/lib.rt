@@ -9,6 +9,8 @@ mod answers;
 #[cfg(test)]
 mod crash_tests;
 #[cfg(test)]
+mod end_tests;
+#[cfg(test)]
 mod links;
 #[cfg(test)]
 mod many_tests;

@@ -1,4 +1,5 @@
-use Rattle.std.proofs.Common.{rules, ◌≡◌, ◌≢◌, ◌∙◌, inl, List, [], Err, length, ap, refl, subst, sym}
+use Rattle.std.proofs.Common.{◌≡◌, ◌∙◌, inl, List, [], Err, length, ap, refl, subst, sym}
+use Rattle.std.proofs.lemmas.Result.{IfOk-at_ok, MatchResult-at_ok, MatchResult-at_err}
 use Rattle.lw_types.specs.declared.refusal.Refusal.TheVariants.{OutOfMemory}
 use Rattle.sessions.specs.Decision.{IsLegalContinuation}
 use Rattle.sessions.specs.declared.decision.Decision.{Decision}
@@ -8,16 +9,18 @@ use Rattle.store.specs.Pairing.{table_behind}
 use Rattle.store.specs.Phases.{gate_written_sequel}
 use Rattle.store.specs.State.{store_state}
 use Rattle.store.specs.declared.under_way.UnderWay.TheVariants as ways
+use Rattle.world.specs.declared.answer.Answer.{Answer}
 use Rattle.world.specs.declared.answer.Answer.TheVariants as answers
 use Rattle.world.specs.declared.commit.LastCommit.TheVariants as commits
 use Rattle.world.specs.declared.step.Step.TheVariants as steps
 use Rattle.world.specs.Answers.{AnswersNext}
 use Rattle.world.specs.Commits.{alone, at_gate}
 use Rattle.world.specs.Course.{course_after, after_take, after_give_up}
-use Rattle.world.specs.Follows.{FollowsLife, IsLife, IsListening}
+use Rattle.world.specs.Follows.{FollowsLife}
+use Rattle.world.specs.Tells.{told_by}
 use Rattle.world.proofs.Following.{answers_so, follows, follows_astray, follows_lost}
 use Rattle.world.proofs.Listening.{listens-on}
-use Rattle.world.proofs.Taking.{moved, no_memory, only_memory, some_wait, when_healthy}
+use Rattle.world.proofs.Taking.{moved, some_wait, told_so, when_healthy}
 use Rattle.world.proofs.life.Life.follow.Goals as goal
 
 pub returns-then-not-roomy_next-clause-course : goal.returns-then-not-roomy_next-clause-course
@@ -45,20 +48,28 @@ returns-in-Err-clause-course g c origin course f =
       subst (λ k. FollowsLife state origin course (record life { core = k; commits = begun })) (sym took.1) f,
     )
 
-pub returns-in-Ok-begin_next-clause-course : goal.returns-in-Ok-begin_next-clause-course
-returns-in-Ok-begin_next-clause-course g c origin course f =
+pub returns-in-Ok-begun-clause-course : goal.returns-in-Ok-begun-clause-course
+returns-in-Ok-begun-clause-course g c origin course f =
+    let state = g.D.Disk.state in
     let life = c.args.self.now in
     let core = life.core.decisions in
-    let s = store_state g.D.Disk.state life.store in
+    let s = store_state state life.store in
     let most = c.args.most in
+    let count = c.len-count.result in
     let some = λ (none : core.log ≡ []). c.if-untaken-eq0.false (c.untaken.ensures.count ∙ ap (λ (ds : List Decision). length ds) none) in
     let took = c.in-Ok.ensures.taken in
-    let e = c.in-Ok-begin_next.ensures in
-    let begun = alone (commits.UnderWay (ways.Following c.args.opened c.args.along c.in-Ok-begin_next.following c.in-Ok.behind)) in
-    let way = when_healthy s.failed _ _ f.0.healthy e.answer in
+    let following = c.in-Ok-begun.following in
+    let is = c.in-Ok-begun.is in
+    let e = c.begin_next-begun.ensures in
+    let begun = alone (commits.UnderWay (ways.Following c.args.opened c.args.along following c.in-Ok.behind)) in
+    let way = MatchResult-at_ok _ _ following is (when_healthy s.failed _ _ f.0.healthy e.answer) in
     let found =
-    follows c.of_runs.ensures origin course s core most c.args.opened c.args.along f.0 c.in-Ok.ensures.lawful.decisions c.requires.way some c.in-Ok-begin_next.following c.in-Ok.behind
-    c.len-count.result (e.batch ∙ took.0) way.legal e.begun (c.len-count.ensures.len ∙ ap (λ (ds : List Decision). length ds) took.0) in (
+    follows c.of_runs.ensures origin course s core most c.args.opened c.args.along f.0 c.in-Ok.ensures.lawful.decisions c.requires.way some following c.in-Ok.behind
+    count (IfOk-at_ok _ is e.batch ∙ took.0) way.legal (IfOk-at_ok _ is e.begun) (c.len-count.ensures.len ∙ ap (λ (ds : List Decision). length ds) took.0) in
+    let told = c.batch_answer-answer.ensures ∙ ap (λ r. told_by r count) is in
+    subst (λ a. AnswersNext course.flights course most a
+    × FollowsLife state origin (course_after origin course (steps.Next most) a) (record life { core = c.next_batch.new.core; commits = begun }))
+    (sym told) (
       found.0,
       (
         moved origin (after_take course most) s s (after_taking core most) c.next_batch.new.core.decisions begun begun refl (ap (λ (k : CoreState). k.decisions) took.1) refl found.1,
@@ -66,60 +77,38 @@ returns-in-Ok-begin_next-clause-course g c origin course f =
       ),
     )
 
-pub returns-in-OutOfStep-clause-course : goal.returns-in-OutOfStep-clause-course
-returns-in-OutOfStep-clause-course g c origin course f =
+pub returns-in-Err-begun-clause-course : goal.returns-in-Err-begun-clause-course
+returns-in-Err-begun-clause-course g c origin course f =
+    let state = g.D.Disk.state in
     let life = c.args.self.now in
     let core = life.core.decisions in
-    let s = store_state g.D.Disk.state life.store in
+    let s = store_state state life.store in
     let most = c.args.most in
+    let count = c.len-count.result in
+    let refusal = c.in-Err-begun.field-0 in
     let some = λ (none : core.log ≡ []). c.if-untaken-eq0.false (c.untaken.ensures.count ∙ ap (λ (ds : List Decision). length ds) none) in
     let took = c.in-Ok.ensures.taken in
     let begun = at_gate c.args.opened c.args.along in
-    let illegal =
-    (when_healthy s.failed _ _ f.0.healthy c.in-Err-begin_next.ensures.answer (subst (λ e. e ≢ OutOfMemory) (sym c.in-OutOfStep.is) no_memory)).1 in
+    let table = table_behind s c.args.opened in
+    let number = (gate_written_sequel c.args.opened).seq in
+    let told = c.batch_answer-answer.ensures ∙ ap (λ r. told_by r count) c.in-Err-begun.is in
+    let heard =
+    listens-on course (after_give_up course most) life.core c.next_batch.new.core life.links life.links refl refl refl refl (ap (λ (k : CoreState). k.clock) took.1) (ap (λ (k : CoreState). k.windows) took.1) refl f.1 in
+    let goes_on =
+    moved origin (after_give_up course most) s s (after_taking core most) c.next_batch.new.core.decisions begun begun refl (ap (λ (k : CoreState). k.decisions) took.1) refl in
+    let right = λ (a : Answer). AnswersNext course.flights course most a
+    × FollowsLife state origin (course_after origin course (steps.Next most) a) (record life { core = c.next_batch.new.core; commits = begun }) in
+    subst right (sym told)
+    (told_so refusal count right
+    (λ memory.
+    let legal = subst (IsLegalContinuation table number) took.0 (c.begin_next-begun.ensures.memory (c.in-Err-begun.is ∙ ap Err memory)) in
+    let found =
+    follows_lost c.of_runs.ensures origin course s core most c.args.opened c.args.along f.0 c.in-Ok.ensures.lawful.decisions c.requires.way some count legal
+    (c.len-count.ensures.len ∙ ap (λ (ds : List Decision). length ds) took.0) in
+    (found.0, (goes_on found.1, heard)))
+    (λ other.
+    let out_of_step = MatchResult-at_err _ _ refusal c.in-Err-begun.is (when_healthy s.failed _ _ f.0.healthy c.begin_next-begun.ensures.answer) other in
     let found =
     follows_astray c.of_runs.ensures origin course s core most c.args.opened c.args.along f.0 c.in-Ok.ensures.lawful.decisions c.requires.way some c.in-Ok.ensures.asked
-    (λ legal. illegal (subst (IsLegalContinuation (table_behind s c.args.opened) (gate_written_sequel c.args.opened).seq) (sym took.0) legal)) in
-    subst (λ e. AnswersNext course.flights course most (answers.Refused e)
-    × (IsLife origin (course_after origin course (steps.Next most) (answers.Refused e)) s c.next_batch.new.core.decisions begun
-    × IsListening (course_after origin course (steps.Next most) (answers.Refused e)) c.next_batch.new.core life.links))
-    (sym c.in-OutOfStep.is) (
-      found.0,
-      (
-        moved origin (after_give_up course most) s s (after_taking core most) c.next_batch.new.core.decisions begun begun refl (ap (λ (k : CoreState). k.decisions) took.1) refl found.1,
-        listens-on course (after_give_up course most) life.core c.next_batch.new.core life.links life.links refl refl refl refl (ap (λ (k : CoreState). k.clock) took.1) (ap (λ (k : CoreState). k.windows) took.1) refl f.1,
-      ),
-    )
-
-pub returns : goal.returns
-returns g c =
-    let life = c.args.self.now in
-    let core = life.core.decisions in
-    let s = store_state g.D.Disk.state life.store in
-    let most = c.args.most in
-    let took = c.in-Ok.ensures.taken in
-    let begun = at_gate c.args.opened c.args.along in
-    record {
-      way = search rules;
-      room = search rules;
-      released = search rules;
-      commits = search rules;
-      disk = search rules;
-      told = search rules;
-      course = λ origin course f.
-          let some = λ (none : core.log ≡ []). c.if-untaken-eq0.false (c.untaken.ensures.count ∙ ap (λ (ds : List Decision). length ds) none) in
-          let memory =
-          only_memory c.in-Err-begin_next.refusal (λ other. (when_healthy s.failed _ _ f.0.healthy c.in-Err-begin_next.ensures.answer other).0) c.in_default.not-OutOfStep in
-          let legal =
-          subst (IsLegalContinuation (table_behind s c.args.opened) (gate_written_sequel c.args.opened).seq) took.0 (c.begin_next.ensures.memory (c.in-Err-begin_next.is ∙ ap Err memory)) in
-          let found =
-          follows_lost c.of_runs.ensures origin course s core most c.args.opened c.args.along f.0 c.in-Ok.ensures.lawful.decisions c.requires.way some c.len-count.result legal
-          (c.len-count.ensures.len ∙ ap (λ (ds : List Decision). length ds) took.0) in (
-            found.0,
-            (
-              moved origin (after_give_up course most) s s (after_taking core most) c.next_batch.new.core.decisions begun begun refl (ap (λ (k : CoreState). k.decisions) took.1) refl found.1,
-              listens-on course (after_give_up course most) life.core c.next_batch.new.core life.links life.links refl refl refl refl (ap (λ (k : CoreState). k.clock) took.1) (ap (λ (k : CoreState). k.windows) took.1) refl f.1,
-            ),
-          );
-      calls = search rules;
-    }
+    (λ legal. out_of_step.1 (subst (IsLegalContinuation table number) (sym took.0) legal)) in
+    (out_of_step.0, (found.0, (goes_on found.1, heard)))))
