@@ -1,5 +1,6 @@
 pub mod Calling
 pub mod Chains
+pub mod Decided
 pub mod Ends
 pub mod Holding
 pub mod Lasting
@@ -9,3 +10,4 @@ pub mod Links
 pub mod Living
 pub mod Single
 pub mod Starts
+pub mod Turned

@@ -5,6 +5,7 @@
 
 mod chaining;
 mod checkpointing;
+mod core_feed;
 mod cycles;
 mod drawn;
 mod durable;
@@ -15,6 +16,7 @@ mod room;
 mod serving;
 
 pub use chaining::{ChainLength, chain};
+pub use core_feed::{Coming, CoreEvent, CoreFeed, chain_of_core};
 pub use cycles::cycle;
 pub use drawn::Drawn;
 pub use durable::Durable;
