@@ -1,6 +1,7 @@
 -- What a flusher takes of a core continues what it took before.
 use Rattle.std.proofs.Common.{◌≡◌, ◌≢◌, ◌∙◌, ◌+◌, ◌↔◌, ◌⊎◌, ◌<◌, inl, inr, ℕ, Bool, true, false, List, [], ◌∷◌, ◌++◌, length, take, drop, flat_map, Result, Ok, Err, MatchBool, MatchResult, sym, ap, subst, refl, rules, arith, append_assoc, length-append, take-append-drop}
 use Rattle.std.specs.Prelude.{IfErr, OnOk}
+use Rattle.std.proofs.lemmas.Grind.{flat_map-append}
 use Rattle.std.proofs.lemmas.List.{append-nil, map-append}
 use Rattle.lw_types.specs.declared.refusal.Refusal.{Refusal}
 use Rattle.lw_types.specs.declared.refusal.Refusal.TheVariants.{OutOfMemory, OutOfStep, Failed, Damaged, DeviceFailed}
@@ -13,9 +14,9 @@ use Rattle.session_core.specs.Deciding.{after_taking}
 use Rattle.session_core.specs.State.{DecisionsState, IsLawful}
 use Rattle.devices.specs.declared.effect.Effect.{Effect}
 use Rattle.disk.specs.declared.disk.Disk.{Ghosts}
-use Rattle.store.specs.State.{StoreState, store_state}
+use Rattle.store.specs.State.{StoreState, IsSettled, store_state}
 use Rattle.store.specs.declared.store.Store.{Store}
-use Rattle.flusher.specs.Calls.{IsUntouched, LastFailed}
+use Rattle.flusher.specs.Calls.{IsUntouched, LastFailed, NoneFailed}
 use Rattle.flusher.specs.declared.core_feed.CoreFeed.{CoreFeed}
 use Rattle.flusher.specs.Chain.HasBroken.{FeedRefused, HadNoRoom, WasUncommitted, WasUnready}
 use Rattle.flusher.specs.Chain.{FeedGives, GivesAll, HasBroken, HasEnded, IsChain, decisions_in, store_behind}
@@ -100,6 +101,15 @@ module _ (laws : TakingLaws) (s : StoreState) (core next : DecisionsState) (deci
       ((laws.joins core.base (core.opening + core.taken) batch (next.log ++ more)).1 (first, second))
 
 -- ---- several takes
+
+-- batches that were given one after another
+given_then : {F : Type 0} (gives : FeedGives F) (f g h : F) (batches more : List (List Decision)) → GivesAll gives f batches g → GivesAll gives g more h
+    → GivesAll gives f (batches ++ more) h
+given_then gives f g h [] more is given = subst (λ x. GivesAll gives x more h) (sym is) given
+given_then gives f g h (b ∷ batches) more (mid, first, rest) given = (mid, first, given_then gives mid g h batches more rest given)
+
+one_more : (batches : List (List Decision)) (b : List Decision) → decisions_in (batches ++ b ∷ []) ≡ decisions_in batches ++ b
+one_more batches b = flat_map-append (λ batch. batch) batches (b ∷ []) ∙ ap (λ l. decisions_in batches ++ l) (append-nil b)
 
 module _ (laws : TakingLaws) {F : Type 0} (gives : FeedGives F) (core : F → DecisionsState)
     (tells : (f g : F) (answer : Result (List Decision) Refusal) → gives f MOST answer g → (decided : List Decision) × TakesBehind (core f) decided MOST answer (core g)) where
@@ -217,18 +227,6 @@ module _ (laws : TakingLaws) {D C V : Type 0} (disk : Ghosts D) (effects : V →
   so : Came laws core_gives (λ f. f.core.decisions) core_tells (store_state disk.state old) f.core.decisions is.feed.core.decisions is.batches
   so = came laws core_gives (λ f. f.core.decisions) core_tells (store_state disk.state old) f is.batches is.feed is.given from on
 
-  pub commits_decided : CommitsDecided (store_state disk.state old) (store_state disk.state new) f.core.decisions
-  commits_decided =
-      record {
-        decided = so.decided;
-        committed = decisions_in is.batches;
-        waiting = is.feed.core.decisions.log;
-        beginning = so.parts;
-        continues = so.continues;
-        table = is.commits.table;
-        seq = is.commits.seq;
-      }
-
   abbrev EndsSo : Result ℕ Refusal → Type 0
   EndsSo r =
       MatchResult r
@@ -256,3 +254,60 @@ module _ (laws : TakingLaws) {D C V : Type 0} (disk : Ghosts D) (effects : V →
       on_err (Err e) (few, broken) =
           in_step laws core_gives (λ f. f.core.decisions) core_tells most (IsUntouched disk.state old new) (LastFailed disk.failures disk.outlook old new)
           (store_state disk.state old) f.core.decisions is.batches is.torn is.feed g e so broken
+
+  -- behind the batches nothing is torn
+  untorn : is.torn ≡ [] → CommitsDecided disk.honest (store_state disk.state old) (store_state disk.state new) f.core.decisions
+  untorn none =
+      record {
+        decided = so.decided;
+        committed = decisions_in is.batches;
+        torn = is.torn;
+        waiting = is.feed.core.decisions.log;
+        beginning = ap (λ t. decisions_in is.batches ++ (t ++ is.feed.core.decisions.log)) none ∙ so.parts;
+        continues = so.continues;
+        table = is.commits.table;
+        seq = is.commits.seq;
+        images = is.images;
+      }
+
+  with_torn : (next : CoreFeed) → GivesAll core_gives is.feed (is.torn ∷ []) next
+      → CommitsDecided disk.honest (store_state disk.state old) (store_state disk.state new) f.core.decisions
+  with_torn next given =
+      let all = came laws core_gives (λ f. f.core.decisions) core_tells (store_state disk.state old) f (is.batches ++ is.torn ∷ []) next
+      (given_then core_gives f is.feed next is.batches (is.torn ∷ []) is.given given) from on in
+      record {
+        decided = all.decided;
+        committed = decisions_in is.batches;
+        torn = is.torn;
+        waiting = next.core.decisions.log;
+        beginning =
+            sym (append_assoc (decisions_in is.batches) is.torn next.core.decisions.log)
+            ∙ (ap (λ l. l ++ next.core.decisions.log) (sym (one_more is.batches is.torn)) ∙ all.parts);
+        continues = all.continues;
+        table = is.commits.table;
+        seq = is.commits.seq;
+        images = is.images;
+      }
+
+  pub commits_decided : CommitsDecided disk.honest (store_state disk.state old) (store_state disk.state new) f.core.decisions
+  commits_decided = by_end result is.ends
+    where
+      by_break : (e : Refusal) → HasBroken core_gives most (IsUntouched disk.state old new) (LastFailed disk.failures disk.outlook old new)
+          (store_state disk.state old) is.batches is.torn is.feed g e → CommitsDecided disk.honest (store_state disk.state old) (store_state disk.state new) f.core.decisions
+      by_break e (WasUnready same none empty why) = untorn none
+      by_break e (HadNoRoom same none some memory) = untorn none
+      by_break e (FeedRefused ready none refused) = untorn none
+      by_break e (WasUncommitted ready next given uncommitted behind) = with_torn next given
+
+      by_end : (r : Result ℕ Refusal) → EndsSo r → CommitsDecided disk.honest (store_state disk.state old) (store_state disk.state new) f.core.decisions
+      by_end (Ok count) (many, (none, ends)) = untorn none
+      by_end (Err e) (few, broken) = by_break e broken
+
+  pub settles : disk.honest → IsSettled (store_state disk.state old) → OnOk result (IsSettled (store_state disk.state new))
+  settles honest settled = on_ok result is.calls
+    where
+      on_ok : (r : Result ℕ Refusal) → MatchResult r (λ _. NoneFailed disk.failures disk.outlook old new)
+          (λ e. NoneFailed disk.failures disk.outlook old new ⊎ ((e ≡ DeviceFailed) × LastFailed disk.failures disk.outlook old new))
+          → OnOk r (IsSettled (store_state disk.state new))
+      on_ok (Ok count) none = is.settled honest settled none
+      on_ok (Err e) h = tt

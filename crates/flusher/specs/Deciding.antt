@@ -7,7 +7,9 @@ use Rattle.sessions.specs.Table.{fold_of}
 use Rattle.sessions.specs.declared.decision.Decision.{Decision}
 use Rattle.session_core.specs.Deciding.{after_taking}
 use Rattle.session_core.specs.State.{DecisionsState, IsLawful, last_number, now_of}
-use Rattle.store.specs.State.{StoreState}
+use Rattle.disk.specs.State.{EveryImage}
+use Rattle.store.specs.State.{StoreState, IsSettled}
+use Rattle.flusher.specs.Cycle.{HoldsWithOrWithout}
 
 -- a core's decisions, once these more are made
 abbrev pub with_decided : DecisionsState → List Decision → DecisionsState
@@ -33,12 +35,16 @@ pub record GoOnFrom (s : StoreState) (core : DecisionsState) : Type 0 where
   pub seq : core.opening + core.taken ≡ s.seq
 
 -- What a store committed of a core's decisions: of those that waited and those that were decided
--- meanwhile, one after another, the first ones.
-pub record CommitsDecided (old new : StoreState) (core : DecisionsState) : Type 0 where
+-- meanwhile, one after another, the first ones. Whatever a crash leaves holds what the store has
+-- then, or that with the torn ones, which are the next.
+pub record CommitsDecided (honest : Type 0) (old new : StoreState) (core : DecisionsState)
+    : Type 0 where
   pub decided : List Decision
   pub committed : List Decision
+  pub torn : List Decision
   pub waiting : List Decision
-  pub beginning : committed ++ waiting ≡ core.log ++ decided
+  pub beginning : committed ++ (torn ++ waiting) ≡ core.log ++ decided
   pub continues : ContinueAll core.base (core.opening + core.taken) (core.log ++ decided)
   pub table : new.table ≡ fold_of old.table (commands_of committed)
   pub seq : new.seq ≡ old.seq + length committed
+  pub images : honest → IsSettled old → EveryImage new.log.disk (HoldsWithOrWithout new torn)

@@ -1,12 +1,11 @@
 // A core as a feed: what is decided between its takes.
 ghost use Rattle.std.specs.Global.{Global};
-ghost use Rattle.std.specs.Prelude.{◌≡◌, ◌≢◌, IfErr, OnOk, Vec};
-ghost use Rattle.flusher.specs.Chain.{IsChain};
+ghost use Rattle.std.specs.Prelude.{◌≢◌, IfErr, OnOk, Vec};
 ghost use Rattle.flusher.specs.Deciding.{CommitsDecided, GoOnFrom, HasDecided};
 ghost use Rattle.flusher.specs.Released.{effects_of_all};
 ghost use Rattle.lw_types.specs.declared.refusal.Refusal.TheVariants.{OutOfStep};
-ghost use Rattle.session_core.specs.Core.{new_core};
-ghost use Rattle.store.specs.State.{store_state};
+ghost use Rattle.flusher.specs.Lived.{LeadOn};
+ghost use Rattle.store.specs.State.{store_state, IsSettled};
 
 use crate::{ChainLength, Feed, Most, Released, chain};
 use devices::{MacQueueing, Provisioning, Queueing};
@@ -92,8 +91,9 @@ fn play(core: &mut Core, moment: Moment, event: CoreEvent)
 
 /// A [`chain`] of what a core decides, on the store that its decisions go on from. What the store
 /// has then is a beginning of what was decided: of the decisions that waited and those that were
-/// made while the chain took, in order. Never refused with `OutOfStep`: a batch of a core continues
-/// what it gave before.
+/// made while the chain took, in order. So is what a crash leaves, at any moment: where the chain
+/// is refused the batch in doubt is the next one. It is never refused with `OutOfStep`, since a
+/// batch of a core continues what it gave before.
 pub fn chain_of_core<D: Disk, C: FnMut(Vec<Released>)>(
     store: &mut Store<D>,
     feed: &mut CoreFeed,
@@ -103,11 +103,18 @@ pub fn chain_of_core<D: Disk, C: FnMut(Vec<Released>)>(
 ) -> Result<usize, Refusal>
     requires out { C.IsAlwaysCallable out.old }
     requires goes_on { GoOnFrom (store_state D.state store.old) feed.old.core.decisions }
-    ensures decided { CommitsDecided (store_state D.state store.old)
+    ensures decided { CommitsDecided D.honest (store_state D.state store.old)
         (store_state D.state store.new) feed.old.core.decisions }
     ensures goes_on { OnOk result
         (GoOnFrom (store_state D.state store.new) feed.new.core.decisions) }
+    ensures settled { D.honest → IsSettled (store_state D.state store.old)
+        → OnOk result (IsSettled (store_state D.state store.new)) }
     ensures in_step { IfErr result (λ e. e ≢ OutOfStep) }
+
+    // Whatever lives led the store here go on, and what left besides was given to `out`, in order.
+    ensures lives { D.honest → LeadOn (λ (released : Vec Released Global).
+        effects_of_all released.items) (λ before released after. C.step before released tt after)
+        (store_state D.state store.old) (store_state D.state store.new) out.old out.new }
 {
     sessions::laws::folding();
     sessions::laws::joining();
