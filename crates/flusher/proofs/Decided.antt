@@ -1,32 +1,36 @@
 -- What a flusher takes of a core continues what it took before.
 use Rattle.std.proofs.Common.{◌≡◌, ◌≢◌, ◌∙◌, ◌+◌, ◌↔◌, ◌⊎◌, ◌<◌, inl, inr, ℕ, Bool, true, false, List, [], ◌∷◌, ◌++◌, length, take, drop, flat_map, Result, Ok, Err, MatchBool, MatchResult, sym, ap, subst, refl, rules, arith, append_assoc, length-append, take-append-drop}
 use Rattle.std.specs.Prelude.{IfErr, OnOk}
+use Rattle.std.specs.List.{FoldsTo}
 use Rattle.std.proofs.lemmas.Grind.{flat_map-append}
 use Rattle.std.proofs.lemmas.List.{append-nil, map-append}
 use Rattle.lw_types.specs.declared.refusal.Refusal.{Refusal}
 use Rattle.lw_types.specs.declared.refusal.Refusal.TheVariants.{OutOfMemory, OutOfStep, Failed, Damaged, DeviceFailed}
 use Rattle.devices.specs.declared.command.Command.{Command}
 use Rattle.sessions.specs.Decision.{ContinueAll, FitAll, IsLegalContinuation, with_decisions, commands_of}
-use Rattle.sessions.specs.Table.{TableState, fold_of}
+use Rattle.sessions.specs.Table.{TableState, effects_of, fold_of}
 use Rattle.sessions.specs.declared.batch.TheConstants.Batch.{MOST}
 use Rattle.sessions.specs.declared.decision.Decision.{Decision}
 use Rattle.session_core.specs.Deciding.{after_taking}
 use Rattle.session_core.specs.State.{DecisionsState, IsLawful}
 use Rattle.devices.specs.declared.effect.Effect.{Effect}
 use Rattle.disk.specs.declared.disk.Disk.{Ghosts}
-use Rattle.store.specs.State.{StoreState, IsSettled, store_state}
+use Rattle.disk.specs.State.{EveryImage}
+use Rattle.store.specs.State.{StoreState, IsSettled, disk_of, store_state}
 use Rattle.store.specs.declared.store.Store.{Store}
 use Rattle.flusher.specs.Calls.{IsUntouched, LastFailed, NoneFailed}
 use Rattle.flusher.specs.declared.core_feed.CoreFeed.{CoreFeed}
 use Rattle.flusher.specs.Chain.HasBroken.{FeedRefused, HadNoRoom, WasUncommitted, WasUnready}
-use Rattle.flusher.specs.Chain.{FeedGives, GivesAll, HasBroken, HasEnded, IsChain, decisions_in, store_behind}
-use Rattle.flusher.specs.Deciding.{CommitsDecided, GoOnFrom, TakesBehind, with_decided}
+use Rattle.flusher.specs.Chain.{FeedGives, GivesAll, HasBroken, HasEnded, IsChain, LeaveInOrder, decisions_in, store_behind}
+use Rattle.flusher.specs.Cycle.{HoldsWithOrWithout}
+use Rattle.flusher.specs.Deciding.{CommitsDecided, GoOnFrom, StaysInStep, TakesBehind, with_decided}
 
 pub record TakingLaws : Type 0 where
   pub folding : (t : TableState) (ds : List Decision) → FitAll t ds → fold_of t (commands_of ds) ≡ with_decisions t ds
   pub joins : (t : TableState) (seq : ℕ) (first second : List Decision)
       → ContinueAll t seq (first ++ second) ↔ (ContinueAll t seq first × ContinueAll (with_decisions t first) (seq + length first) second)
   pub composing : (t : TableState) (first second : List Command) → fold_of t (first ++ second) ≡ fold_of (fold_of t first) second
+  pub effects : (t : TableState) (first second : List Command) → effects_of t (first ++ second) ≡ effects_of t first ++ effects_of (fold_of t first) second
 
 -- one take
 module _ (laws : TakingLaws) (s : StoreState) (core next : DecisionsState) (decided batch : List Decision) (from : GoOnFrom s core)
@@ -119,6 +123,8 @@ module _ (laws : TakingLaws) {F : Type 0} (gives : FeedGives F) (core : F → De
     pub parts : decisions_in batches ++ new.log ≡ old.log ++ decided
     pub continues : ContinueAll old.base (old.opening + old.taken) (old.log ++ decided)
     pub goes_on : GoOnFrom (store_behind s batches) new
+    pub later : (more : List Decision) → ContinueAll new.base (new.opening + new.taken) (new.log ++ more)
+        → ContinueAll old.base (old.opening + old.taken) (old.log ++ (decided ++ more))
 
   same_store : (s : StoreState) (batches : List (List Decision)) (b : List Decision)
       → fold_of (store_behind s (b ∷ [])).table (commands_of (decisions_in batches)) ≡ (store_behind s (b ∷ batches)).table
@@ -143,6 +149,7 @@ module _ (laws : TakingLaws) {F : Type 0} (gives : FeedGives F) (core : F → De
         parts = sym (append-nil (core f).log);
         continues = subst (λ l. ContinueAll (core f).base ((core f).opening + (core f).taken) l) (sym (append-nil (core f).log)) on;
         goes_on = record { table = from.table; seq = let at = from.seq in omega (arith, at) };
+        later = λ more h. h;
       })
   came s f (b ∷ batches) g (mid, (some, given), rest) from on =
       let told = tells f mid (Ok b) given in
@@ -157,6 +164,9 @@ module _ (laws : TakingLaws) {F : Type 0} (gives : FeedGives F) (core : F → De
             ∙ (ap (λ l. l ++ next.decided) (parts laws s (core f) (core mid) told.0 b from told.1)
             ∙ append_assoc (core f).log told.0 next.decided)));
         continues = later laws s (core f) (core mid) told.0 b from told.1 next.decided next.continues;
+        later = λ more h.
+            subst (λ l. ContinueAll (core f).base ((core f).opening + (core f).taken) ((core f).log ++ l)) (sym (append_assoc told.0 next.decided more))
+            (later laws s (core f) (core mid) told.0 b from told.1 (next.decided ++ more) (next.later more h));
         goes_on =
             record {
               table = next.goes_on.table ∙ same_store s batches b;
@@ -210,6 +220,23 @@ module _ (laws : TakingLaws) {F : Type 0} (gives : FeedGives F) (core : F → De
       let behind = goes_on laws (store_behind s batches) (core f) (core g) told.0 [] so.goes_on told.1 in
       record { table = behind.table ∙ sym table; seq = let at = behind.seq in omega (arith, at, seq) }
 
+-- ---- what leaves
+
+-- the effects of batches are given away in calls, which are all of theirs
+left_in_calls : (laws : TakingLaws) {C V : Type 0} (effects : V → List Effect) (call : C → V → C → Type 0) (t : TableState) (batches : List (List Decision)) (p q : C)
+    → LeaveInOrder effects call t batches p q
+    → (calls : List V) × ((flat_map effects calls ≡ effects_of t (commands_of (decisions_in batches))) × FoldsTo call p calls q)
+left_in_calls laws effects call t [] p q same = ([], (refl, sym same))
+left_in_calls laws effects call t (b ∷ batches) p q (released, (next, (all, (made, rest)))) =
+    let later = left_in_calls laws effects call (fold_of t (commands_of b)) batches next q rest in
+    let lists : commands_of (b ++ decisions_in batches) ≡ commands_of b ++ commands_of (decisions_in batches) =
+    map-append (λ (d : Decision). d.command) b (decisions_in batches) in
+    (released ∷ later.0,
+    (ap (λ l. l ++ flat_map effects later.0) all
+    ∙ (ap (λ l. effects_of t (commands_of b) ++ l) later.1.0
+    ∙ (sym (laws.effects t (commands_of b) (commands_of (decisions_in batches))) ∙ ap (effects_of t) (sym lists))),
+    (next, made, later.1.1)))
+
 -- ---- chains of a core
 
 abbrev core_gives : CoreFeed → ℕ → Result (List Decision) Refusal → CoreFeed → Type 0
@@ -237,14 +264,10 @@ module _ (laws : TakingLaws) {D C V : Type 0} (disk : Ghosts D) (effects : V →
       (LastFailed disk.failures disk.outlook old new)
       (store_state disk.state old) is.batches is.torn is.feed g e)
 
-  pub goes_on_behind : OnOk result (GoOnFrom (store_state disk.state new) g.core.decisions)
-  goes_on_behind = on_ok result is.ends
-    where
-      on_ok : (r : Result ℕ Refusal) → EndsSo r → OnOk r (GoOnFrom (store_state disk.state new) g.core.decisions)
-      on_ok (Ok count) (many, (none, ends)) =
-          ended laws core_gives (λ f. f.core.decisions) core_tells most (store_state disk.state old) (store_state disk.state new) f.core.decisions is.batches is.feed g so
-          is.commits.table is.commits.seq ends
-      on_ok (Err e) h = tt
+  abbrev CallsSo : Result ℕ Refusal → Type 0
+  CallsSo r =
+      MatchResult r (λ _. NoneFailed disk.failures disk.outlook old new)
+      (λ e. NoneFailed disk.failures disk.outlook old new ⊎ ((e ≡ DeviceFailed) × LastFailed disk.failures disk.outlook old new))
 
   pub ends_in_step : IfErr result (λ e. e ≢ OutOfStep)
   ends_in_step = on_err result is.ends
@@ -255,59 +278,88 @@ module _ (laws : TakingLaws) {D C V : Type 0} (disk : Ghosts D) (effects : V →
           in_step laws core_gives (λ f. f.core.decisions) core_tells most (IsUntouched disk.state old new) (LastFailed disk.failures disk.outlook old new)
           (store_state disk.state old) f.core.decisions is.batches is.torn is.feed g e so broken
 
-  -- behind the batches nothing is torn
-  untorn : is.torn ≡ [] → CommitsDecided disk.honest (store_state disk.state old) (store_state disk.state new) f.core.decisions
-  untorn none =
+  given_away : (calls : List V) × ((flat_map effects calls ≡ effects_of (store_state disk.state old).table (commands_of (decisions_in is.batches))) × FoldsTo call p calls q)
+  given_away = left_in_calls laws effects call (store_state disk.state old).table is.batches p q is.leave
+
+  -- what was decided, where so much is torn
+  commits : (decided torn waiting : List Decision) → is.torn ≡ torn → decisions_in is.batches ++ (torn ++ waiting) ≡ f.core.decisions.log ++ decided
+      → ContinueAll f.core.decisions.base (f.core.decisions.opening + f.core.decisions.taken) (f.core.decisions.log ++ decided)
+      → CommitsDecided disk.honest effects call (store_state disk.state old) (store_state disk.state new) f.core.decisions p q
+  commits decided torn waiting torn_is lists continue =
       record {
-        decided = so.decided;
+        decided = decided;
         committed = decisions_in is.batches;
-        torn = is.torn;
-        waiting = is.feed.core.decisions.log;
-        beginning = ap (λ t. decisions_in is.batches ++ (t ++ is.feed.core.decisions.log)) none ∙ so.parts;
-        continues = so.continues;
+        torn = torn;
+        waiting = waiting;
+        beginning = lists;
+        continues = continue;
         table = is.commits.table;
         seq = is.commits.seq;
-        images = is.images;
+        calls = given_away.0;
+        left = given_away.1.0;
+        given = given_away.1.1;
+        images = λ honest settled. subst (λ t. EveryImage (disk.state (disk_of new)) (HoldsWithOrWithout (store_state disk.state new) t)) torn_is (is.images honest settled);
       }
 
+  -- behind the batches nothing is torn
+  untorn : is.torn ≡ [] → CommitsDecided disk.honest effects call (store_state disk.state old) (store_state disk.state new) f.core.decisions p q
+  untorn none = commits so.decided [] is.feed.core.decisions.log none so.parts so.continues
+
   with_torn : (next : CoreFeed) → GivesAll core_gives is.feed (is.torn ∷ []) next
-      → CommitsDecided disk.honest (store_state disk.state old) (store_state disk.state new) f.core.decisions
+      → CommitsDecided disk.honest effects call (store_state disk.state old) (store_state disk.state new) f.core.decisions p q
   with_torn next given =
       let all = came laws core_gives (λ f. f.core.decisions) core_tells (store_state disk.state old) f (is.batches ++ is.torn ∷ []) next
       (given_then core_gives f is.feed next is.batches (is.torn ∷ []) is.given given) from on in
-      record {
-        decided = all.decided;
-        committed = decisions_in is.batches;
-        torn = is.torn;
-        waiting = next.core.decisions.log;
-        beginning =
-            sym (append_assoc (decisions_in is.batches) is.torn next.core.decisions.log)
-            ∙ (ap (λ l. l ++ next.core.decisions.log) (sym (one_more is.batches is.torn)) ∙ all.parts);
-        continues = all.continues;
-        table = is.commits.table;
-        seq = is.commits.seq;
-        images = is.images;
-      }
+      commits all.decided is.torn next.core.decisions.log refl
+      (sym (append_assoc (decisions_in is.batches) is.torn next.core.decisions.log)
+      ∙ (ap (λ l. l ++ next.core.decisions.log) (sym (one_more is.batches is.torn)) ∙ all.parts)) all.continues
 
-  pub commits_decided : CommitsDecided disk.honest (store_state disk.state old) (store_state disk.state new) f.core.decisions
-  commits_decided = by_end result is.ends
+  by_break : (e : Refusal) → HasBroken core_gives most (IsUntouched disk.state old new) (LastFailed disk.failures disk.outlook old new)
+      (store_state disk.state old) is.batches is.torn is.feed g e
+      → CommitsDecided disk.honest effects call (store_state disk.state old) (store_state disk.state new) f.core.decisions p q
+  by_break e (WasUnready same none empty why) = untorn none
+  by_break e (HadNoRoom same none some memory) = untorn none
+  by_break e (FeedRefused ready none refused) = untorn none
+  by_break e (WasUncommitted ready next given uncommitted behind) = with_torn next given
+
+  abbrev InStep : Type 0
+  InStep =
+      StaysInStep disk.honest effects call (store_state disk.state old) (store_state disk.state new) f.core.decisions g.core.decisions p q
+
+  settles : NoneFailed disk.failures disk.outlook old new → disk.honest → IsSettled (store_state disk.state old) → IsSettled (store_state disk.state new)
+  settles none honest settled = is.settled honest settled none
+
+  by_end : is.torn ≡ [] → NoneFailed disk.failures disk.outlook old new → HasEnded core_gives most (store_state disk.state new) is.batches is.feed g → InStep
+  unfolding untorn commits
+  by_end none calls (inl (same, why)) =
+      (untorn none, (refl, (sym (ap (λ (f : CoreFeed). f.core.decisions.log) same),
+      (ended laws core_gives (λ f. f.core.decisions) core_tells most (store_state disk.state old) (store_state disk.state new) f.core.decisions is.batches is.feed g so
+      is.commits.table is.commits.seq (inl (same, why)), settles calls))))
+  by_end none calls (inr (few, given)) =
+      let told = core_tells is.feed g (Ok []) given in
+      let behind = store_behind (store_state disk.state old) is.batches in
+      let more : is.feed.core.decisions.log ++ told.0 ≡ g.core.decisions.log =
+      sym (parts laws behind is.feed.core.decisions g.core.decisions told.0 [] so.goes_on told.1) in
+      (commits (so.decided ++ told.0) [] g.core.decisions.log none
+      (ap (λ l. decisions_in is.batches ++ l) (sym more)
+      ∙ (sym (append_assoc (decisions_in is.batches) is.feed.core.decisions.log told.0)
+      ∙ (ap (λ l. l ++ told.0) so.parts ∙ append_assoc f.core.decisions.log so.decided told.0)))
+      (so.later told.0 told.1.lawful.continues),
+      (refl, (refl,
+      (ended laws core_gives (λ f. f.core.decisions) core_tells most (store_state disk.state old) (store_state disk.state new) f.core.decisions is.batches is.feed g so
+      is.commits.table is.commits.seq (inr (few, given)), settles calls))))
+
+  pub in_step_behind : OnOk result InStep
+  in_step_behind = by_result result is.ends is.calls
     where
-      by_break : (e : Refusal) → HasBroken core_gives most (IsUntouched disk.state old new) (LastFailed disk.failures disk.outlook old new)
-          (store_state disk.state old) is.batches is.torn is.feed g e → CommitsDecided disk.honest (store_state disk.state old) (store_state disk.state new) f.core.decisions
-      by_break e (WasUnready same none empty why) = untorn none
-      by_break e (HadNoRoom same none some memory) = untorn none
-      by_break e (FeedRefused ready none refused) = untorn none
-      by_break e (WasUncommitted ready next given uncommitted behind) = with_torn next given
+      by_result : (r : Result ℕ Refusal) → EndsSo r → CallsSo r → OnOk r InStep
+      by_result (Ok count) (many, (none, ends)) calls = by_end none calls ends
+      by_result (Err e) h calls = tt
 
-      by_end : (r : Result ℕ Refusal) → EndsSo r → CommitsDecided disk.honest (store_state disk.state old) (store_state disk.state new) f.core.decisions
-      by_end (Ok count) (many, (none, ends)) = untorn none
-      by_end (Err e) (few, broken) = by_break e broken
-
-  pub settles : disk.honest → IsSettled (store_state disk.state old) → OnOk result (IsSettled (store_state disk.state new))
-  settles honest settled = on_ok result is.calls
+  pub commits_decided : CommitsDecided disk.honest effects call (store_state disk.state old) (store_state disk.state new) f.core.decisions p q
+  commits_decided = by_result result is.ends is.calls
     where
-      on_ok : (r : Result ℕ Refusal) → MatchResult r (λ _. NoneFailed disk.failures disk.outlook old new)
-          (λ e. NoneFailed disk.failures disk.outlook old new ⊎ ((e ≡ DeviceFailed) × LastFailed disk.failures disk.outlook old new))
-          → OnOk r (IsSettled (store_state disk.state new))
-      on_ok (Ok count) none = is.settled honest settled none
-      on_ok (Err e) h = tt
+      by_result : (r : Result ℕ Refusal) → EndsSo r → CallsSo r
+          → CommitsDecided disk.honest effects call (store_state disk.state old) (store_state disk.state new) f.core.decisions p q
+      by_result (Ok count) (many, (none, ends)) calls = (by_end none calls ends).0
+      by_result (Err e) (few, broken) calls = by_break e broken

@@ -1,11 +1,11 @@
 // A core as a feed: what is decided between its takes.
 ghost use Rattle.std.specs.Global.{Global};
 ghost use Rattle.std.specs.Prelude.{◌≢◌, IfErr, OnOk, Vec};
-ghost use Rattle.flusher.specs.Deciding.{CommitsDecided, GoOnFrom, HasDecided};
+ghost use Rattle.flusher.specs.Deciding.{CommitsDecided, GoOnFrom, HasDecided, StaysInStep};
 ghost use Rattle.flusher.specs.Released.{effects_of_all};
 ghost use Rattle.lw_types.specs.declared.refusal.Refusal.TheVariants.{OutOfStep};
 ghost use Rattle.flusher.specs.Lived.{LeadOn};
-ghost use Rattle.store.specs.State.{store_state, IsSettled};
+ghost use Rattle.store.specs.State.{store_state};
 
 use crate::{ChainLength, Feed, Most, Released, chain};
 use devices::{MacQueueing, Provisioning, Queueing};
@@ -103,12 +103,16 @@ pub fn chain_of_core<D: Disk, C: FnMut(Vec<Released>)>(
 ) -> Result<usize, Refusal>
     requires out { C.IsAlwaysCallable out.old }
     requires goes_on { GoOnFrom (store_state D.state store.old) feed.old.core.decisions }
-    ensures decided { CommitsDecided D.honest (store_state D.state store.old)
-        (store_state D.state store.new) feed.old.core.decisions }
-    ensures goes_on { OnOk result
-        (GoOnFrom (store_state D.state store.new) feed.new.core.decisions) }
-    ensures settled { D.honest → IsSettled (store_state D.state store.old)
-        → OnOk result (IsSettled (store_state D.state store.new)) }
+    ensures decided { CommitsDecided D.honest
+        (λ (released : Vec Released Global). effects_of_all released.items)
+        (λ before released after. C.step before released tt after)
+        (store_state D.state store.old) (store_state D.state store.new)
+        feed.old.core.decisions out.old out.new }
+    ensures whole { OnOk result (StaysInStep D.honest
+        (λ (released : Vec Released Global). effects_of_all released.items)
+        (λ before released after. C.step before released tt after)
+        (store_state D.state store.old) (store_state D.state store.new)
+        feed.old.core.decisions feed.new.core.decisions out.old out.new) }
     ensures in_step { IfErr result (λ e. e ≢ OutOfStep) }
 
     // Whatever lives led the store here go on, and what left besides was given to `out`, in order.

@@ -12,28 +12,20 @@ use Rattle.flusher.specs.Deciding.{TakesBehind}
 use Rattle.flusher.specs.Released.{effects_of_all}
 use Rattle.flusher.specs.declared.core_feed.CoreFeed.{CoreFeed}
 use Rattle.flusher.specs.declared.released.Released.{Released}
-use Rattle.flusher.proofs.Decided.{TakingLaws, commits_decided, ends_in_step, goes_on_behind, settles}
+use Rattle.flusher.proofs.Decided.{TakingLaws, commits_decided, ends_in_step, in_step_behind}
 use Rattle.flusher.proofs.core_feed.chain_of_core.Goals as goal
 
 pub returns-clause-decided : goal.returns-clause-decided
 returns-clause-decided g c =
-    commits_decided (record { folding = c.folding.ensures.table; joins = c.joining.ensures.continues; composing = c.composing.ensures.table })
+    commits_decided (record { folding = c.folding.ensures.table; joins = c.joining.ensures.continues; composing = c.composing.ensures.table; effects = c.composing.ensures.effects })
     g.D.Disk (λ (released : Vec Released Global). effects_of_all released.items)
     (λ (before : g.row.C.Denot) (released : Vec Released Global) (after : g.row.C.Denot). Called g.C.FnMut before (released, tt) tt after)
     c.args.most c.args.store.now c.chain.new.store c.args.feed.now c.chain.new.feed c.args.out.now c.chain.new.out c.chain.result
     c.chain.ensures.chain c.requires.goes_on c.made-made.ensures.lawful.decisions.continues
 
-pub returns-clause-goes_on : goal.returns-clause-goes_on
-returns-clause-goes_on g c =
-    goes_on_behind (record { folding = c.folding.ensures.table; joins = c.joining.ensures.continues; composing = c.composing.ensures.table })
-    g.D.Disk (λ (released : Vec Released Global). effects_of_all released.items)
-    (λ (before : g.row.C.Denot) (released : Vec Released Global) (after : g.row.C.Denot). Called g.C.FnMut before (released, tt) tt after)
-    c.args.most c.args.store.now c.chain.new.store c.args.feed.now c.chain.new.feed c.args.out.now c.chain.new.out c.chain.result
-    c.chain.ensures.chain c.requires.goes_on c.made-made.ensures.lawful.decisions.continues
-
-pub returns-clause-settled : goal.returns-clause-settled
-returns-clause-settled g c =
-    settles (record { folding = c.folding.ensures.table; joins = c.joining.ensures.continues; composing = c.composing.ensures.table })
+pub returns-clause-whole : goal.returns-clause-whole
+returns-clause-whole g c =
+    in_step_behind (record { folding = c.folding.ensures.table; joins = c.joining.ensures.continues; composing = c.composing.ensures.table; effects = c.composing.ensures.effects })
     g.D.Disk (λ (released : Vec Released Global). effects_of_all released.items)
     (λ (before : g.row.C.Denot) (released : Vec Released Global) (after : g.row.C.Denot). Called g.C.FnMut before (released, tt) tt after)
     c.args.most c.args.store.now c.chain.new.store c.args.feed.now c.chain.new.feed c.args.out.now c.chain.new.out c.chain.result
@@ -41,7 +33,7 @@ returns-clause-settled g c =
 
 pub returns-clause-in_step : goal.returns-clause-in_step
 returns-clause-in_step g c =
-    ends_in_step (record { folding = c.folding.ensures.table; joins = c.joining.ensures.continues; composing = c.composing.ensures.table })
+    ends_in_step (record { folding = c.folding.ensures.table; joins = c.joining.ensures.continues; composing = c.composing.ensures.table; effects = c.composing.ensures.effects })
     g.D.Disk (λ (released : Vec Released Global). effects_of_all released.items)
     (λ (before : g.row.C.Denot) (released : Vec Released Global) (after : g.row.C.Denot). Called g.C.FnMut before (released, tt) tt after)
     c.args.most c.args.store.now c.chain.new.store c.args.feed.now c.chain.new.feed c.args.out.now c.chain.new.out c.chain.result
