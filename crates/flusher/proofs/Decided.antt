@@ -23,7 +23,7 @@ use Rattle.flusher.specs.declared.core_feed.CoreFeed.{CoreFeed}
 use Rattle.flusher.specs.Chain.HasBroken.{FeedRefused, HadNoRoom, WasUncommitted, WasUnready}
 use Rattle.flusher.specs.Chain.{FeedGives, GivesAll, HasBroken, HasEnded, IsChain, LeaveInOrder, decisions_in, store_behind}
 use Rattle.flusher.specs.Cycle.{HoldsWithOrWithout}
-use Rattle.flusher.specs.Deciding.{CommitsDecided, GoOnFrom, StaysInStep, TakesBehind, with_decided}
+use Rattle.flusher.specs.Deciding.{CommitsDecided, IsInStep, StaysInStep, TakesBehind, with_decided}
 
 pub record TakingLaws : Type 0 where
   pub folding : (t : TableState) (ds : List Decision) → FitAll t ds → fold_of t (commands_of ds) ≡ with_decisions t ds
@@ -33,7 +33,7 @@ pub record TakingLaws : Type 0 where
   pub effects : (t : TableState) (first second : List Command) → effects_of t (first ++ second) ≡ effects_of t first ++ effects_of (fold_of t first) second
 
 -- one take
-module _ (laws : TakingLaws) (s : StoreState) (core next : DecisionsState) (decided batch : List Decision) (from : GoOnFrom s core)
+module _ (laws : TakingLaws) (s : StoreState) (core next : DecisionsState) (decided batch : List Decision) (from : IsInStep s core)
     (takes : TakesBehind core decided MOST (Ok batch) next) where
   abbrev pub all : List Decision
   all = core.log ++ decided
@@ -56,7 +56,7 @@ module _ (laws : TakingLaws) (s : StoreState) (core next : DecisionsState) (deci
       subst (λ t. ContinueAll t s.seq batch) from.table
       (subst (λ n. ContinueAll core.base n batch) from.seq first)
 
-  pub goes_on : GoOnFrom (store_behind s (batch ∷ [])) next
+  pub goes_on : IsInStep (store_behind s (batch ∷ [])) next
   goes_on =
       record {
         table =
@@ -106,11 +106,10 @@ module _ (laws : TakingLaws) (s : StoreState) (core next : DecisionsState) (deci
 
 -- ---- several takes
 
--- batches that were given one after another
-given_then : {F : Type 0} (gives : FeedGives F) (f g h : F) (batches more : List (List Decision)) → GivesAll gives f batches g → GivesAll gives g more h
-    → GivesAll gives f (batches ++ more) h
-given_then gives f g h [] more is given = subst (λ x. GivesAll gives x more h) (sym is) given
-given_then gives f g h (b ∷ batches) more (mid, first, rest) given = (mid, first, given_then gives mid g h batches more rest given)
+-- steps one after another
+pub folds_then : {S A : Type 0} (step : S → A → S → Type 0) (p q r : S) (xs ys : List A) → FoldsTo step p xs q → FoldsTo step q ys r → FoldsTo step p (xs ++ ys) r
+folds_then step p q r [] ys is more = subst (λ s. FoldsTo step s ys r) (sym is) more
+folds_then step p q r (x ∷ xs) ys (mid, first, rest) more = (mid, first, folds_then step mid q r xs ys rest more)
 
 one_more : (batches : List (List Decision)) (b : List Decision) → decisions_in (batches ++ b ∷ []) ≡ decisions_in batches ++ b
 one_more batches b = flat_map-append (λ batch. batch) batches (b ∷ []) ∙ ap (λ l. decisions_in batches ++ l) (append-nil b)
@@ -122,7 +121,7 @@ module _ (laws : TakingLaws) {F : Type 0} (gives : FeedGives F) (core : F → De
     pub decided : List Decision
     pub parts : decisions_in batches ++ new.log ≡ old.log ++ decided
     pub continues : ContinueAll old.base (old.opening + old.taken) (old.log ++ decided)
-    pub goes_on : GoOnFrom (store_behind s batches) new
+    pub goes_on : IsInStep (store_behind s batches) new
     pub later : (more : List Decision) → ContinueAll new.base (new.opening + new.taken) (new.log ++ more)
         → ContinueAll old.base (old.opening + old.taken) (old.log ++ (decided ++ more))
 
@@ -140,7 +139,7 @@ module _ (laws : TakingLaws) {F : Type 0} (gives : FeedGives F) (core : F → De
       let all = length-append b (decisions_in batches) in
       omega (arith, one, all)
 
-  pub came : (s : StoreState) (f : F) (batches : List (List Decision)) (g : F) → GivesAll gives f batches g → GoOnFrom s (core f)
+  pub came : (s : StoreState) (f : F) (batches : List (List Decision)) (g : F) → GivesAll gives f batches g → IsInStep s (core f)
       → ContinueAll (core f).base ((core f).opening + (core f).taken) (core f).log → Came s (core f) (core g) batches
   came s f [] g is from on =
       subst (λ g. Came s (core f) (core g) []) is
@@ -207,14 +206,14 @@ module _ (laws : TakingLaws) {F : Type 0} (gives : FeedGives F) (core : F → De
       not_uncommitted s.failed _ failure e (may_follow s old f next batches torn so given) uncommitted
 
   -- the core goes on from a store that has these batches
-  on_from : (s : StoreState) (t : StoreState) (core : DecisionsState) → t.table ≡ s.table → t.seq ≡ s.seq → GoOnFrom s core → GoOnFrom t core
+  on_from : (s : StoreState) (t : StoreState) (core : DecisionsState) → t.table ≡ s.table → t.seq ≡ s.seq → IsInStep s core → IsInStep t core
   on_from s t core table seq from = record { table = from.table ∙ sym table; seq = from.seq ∙ sym seq }
 
   pub ended : (most : ℕ) (s new : StoreState) (old : DecisionsState) (batches : List (List Decision)) (f g : F) → Came s old (core f) batches
       → new.table ≡ fold_of s.table (commands_of (decisions_in batches)) → new.seq ≡ s.seq + length (decisions_in batches)
-      → HasEnded gives most new batches f g → GoOnFrom new (core g)
+      → HasEnded gives most new batches f g → IsInStep new (core g)
   ended most s new old batches f g so table seq (inl (same, why)) =
-      subst (λ f. GoOnFrom new (core f)) (sym same) (on_from (store_behind s batches) new (core f) table seq so.goes_on)
+      subst (λ f. IsInStep new (core f)) (sym same) (on_from (store_behind s batches) new (core f) table seq so.goes_on)
   ended most s new old batches f g so table seq (inr (few, given)) =
       let told = tells f g (Ok []) given in
       let behind = goes_on laws (store_behind s batches) (core f) (core g) told.0 [] so.goes_on told.1 in
@@ -249,7 +248,7 @@ core_tells f g answer given = given
 module _ (laws : TakingLaws) {D C V : Type 0} (disk : Ghosts D) (effects : V → List Effect) (call : C → V → C → Type 0) (most : ℕ)
     (old new : Store D disk) (f g : CoreFeed) (p q : C) (result : Result ℕ Refusal)
     (is : IsChain disk core_gives effects call most old new f g p q result)
-    (from : GoOnFrom (store_state disk.state old) f.core.decisions)
+    (from : IsInStep (store_state disk.state old) f.core.decisions)
     (on : ContinueAll f.core.decisions.base (f.core.decisions.opening + f.core.decisions.taken) f.core.decisions.log) where
   so : Came laws core_gives (λ f. f.core.decisions) core_tells (store_state disk.state old) f.core.decisions is.feed.core.decisions is.batches
   so = came laws core_gives (λ f. f.core.decisions) core_tells (store_state disk.state old) f is.batches is.feed is.given from on
@@ -309,7 +308,7 @@ module _ (laws : TakingLaws) {D C V : Type 0} (disk : Ghosts D) (effects : V →
       → CommitsDecided disk.honest effects call (store_state disk.state old) (store_state disk.state new) f.core.decisions p q
   with_torn next given =
       let all = came laws core_gives (λ f. f.core.decisions) core_tells (store_state disk.state old) f (is.batches ++ is.torn ∷ []) next
-      (given_then core_gives f is.feed next is.batches (is.torn ∷ []) is.given given) from on in
+      (folds_then (λ (feed : CoreFeed) (batch : List Decision) (next : CoreFeed). (batch ≢ []) × core_gives feed MOST (Ok batch) next) f is.feed next is.batches (is.torn ∷ []) is.given given) from on in
       commits all.decided is.torn next.core.decisions.log refl
       (sym (append_assoc (decisions_in is.batches) is.torn next.core.decisions.log)
       ∙ (ap (λ l. l ++ next.core.decisions.log) (sym (one_more is.batches is.torn)) ∙ all.parts)) all.continues

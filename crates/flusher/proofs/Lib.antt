@@ -7,6 +7,7 @@ pub mod Lasting
 pub mod Leading
 pub mod Leaving
 pub mod Links
+pub mod Lived
 pub mod Living
 pub mod Single
 pub mod Starts

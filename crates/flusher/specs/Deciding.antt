@@ -33,7 +33,7 @@ pub record TakesBehind (old : DecisionsState) (decided : List Decision) (most : 
       (λ e. (e ≡ OutOfMemory) × (new ≡ with_decided old decided))
 
 -- what is taken next goes on from what the store has
-pub record GoOnFrom (s : StoreState) (core : DecisionsState) : Type 0 where
+pub record IsInStep (s : StoreState) (core : DecisionsState) : Type 0 where
   pub table : core.base ≡ s.table
   pub seq : core.opening + core.taken ≡ s.seq
 
@@ -62,7 +62,7 @@ abbrev pub StaysInStep : {C V : Type 0} → Type 0 → (V → List Effect) → (
     → StoreState → StoreState → DecisionsState → DecisionsState → C → C → Type 0
 StaysInStep honest effects call old new old_core new_core old_out new_out =
     (commits : CommitsDecided honest effects call old new old_core old_out new_out)
-    × ((commits.torn ≡ []) × ((commits.waiting ≡ new_core.log) × (GoOnFrom new new_core
+    × ((commits.torn ≡ []) × ((commits.waiting ≡ new_core.log) × (IsInStep new new_core
     × (honest → IsSettled old → IsSettled new))))
 
 -- ---- lives

@@ -1,7 +1,7 @@
 // A core as a feed: what is decided between its takes.
 ghost use Rattle.std.specs.Global.{Global};
 ghost use Rattle.std.specs.Prelude.{◌≢◌, IfErr, OnOk, Vec};
-ghost use Rattle.flusher.specs.Deciding.{CommitsDecided, GoOnFrom, HasDecided, StaysInStep};
+ghost use Rattle.flusher.specs.Deciding.{CommitsDecided, IsInStep, HasDecided, StaysInStep};
 ghost use Rattle.flusher.specs.Released.{effects_of_all};
 ghost use Rattle.lw_types.specs.declared.refusal.Refusal.TheVariants.{OutOfStep};
 ghost use Rattle.flusher.specs.Lived.{LeadOn};
@@ -102,7 +102,8 @@ pub fn chain_of_core<D: Disk, C: FnMut(Vec<Released>)>(
     out: &mut C,
 ) -> Result<usize, Refusal>
     requires out { C.IsAlwaysCallable out.old }
-    requires goes_on { GoOnFrom (store_state D.state store.old) feed.old.core.decisions }
+    requires goes_on { IsInStep (store_state D.state store.old) feed.old.core.decisions }
+    ensures callable { C.IsAlwaysCallable out.new }
     ensures decided { CommitsDecided D.honest
         (λ (released : Vec Released Global). effects_of_all released.items)
         (λ before released after. C.step before released tt after)

@@ -12,8 +12,14 @@ use Rattle.flusher.specs.Deciding.{TakesBehind}
 use Rattle.flusher.specs.Released.{effects_of_all}
 use Rattle.flusher.specs.declared.core_feed.CoreFeed.{CoreFeed}
 use Rattle.flusher.specs.declared.released.Released.{Released}
+use Rattle.flusher.proofs.Leading.{leaves_callable}
 use Rattle.flusher.proofs.Decided.{TakingLaws, commits_decided, ends_in_step, in_step_behind}
 use Rattle.flusher.proofs.core_feed.chain_of_core.Goals as goal
+
+pub returns-clause-callable : goal.returns-clause-callable
+returns-clause-callable g c =
+    leaves_callable (λ (released : Vec Released Global). effects_of_all released.items) g.C.FnMut _ c.chain.ensures.chain.batches
+    c.args.out.now c.chain.new.out c.chain.ensures.chain.leave c.requires.out
 
 pub returns-clause-decided : goal.returns-clause-decided
 returns-clause-decided g c =
