@@ -1,18 +1,21 @@
 -- Chains of a core one after another, and the crash behind them.
-use Rattle.std.proofs.Common.{◌≡◌, ◌∙◌, ◌+◌, ◌⊎◌, inl, inr, ℕ, List, [], ◌++◌, length, flat_map, sym, ap, subst, refl, arith, append_assoc, length-append}
+use Rattle.std.proofs.Common.{◌≡◌, ◌∙◌, ◌+◌, ◌⊎◌, inl, inr, ℕ, zero, suc, List, [], ◌++◌, length, flat_map, sym, ap, subst, refl, arith, append_assoc, length-append}
 use Rattle.std.specs.List.{FoldsTo}
 use Rattle.std.proofs.lemmas.Grind.{flat_map-append}
-use Rattle.std.proofs.lemmas.List.{append-nil, map-append}
+use Rattle.std.proofs.lemmas.List.{append-nil, length-map, map-append}
+use Rattle.devices.specs.declared.command.Command.{Command}
 use Rattle.devices.specs.declared.effect.Effect.{Effect}
+use Rattle.devices.specs.declared.mark.Mark.{Mark}
 use Rattle.disk.specs.State.{EveryImage, IsPermitted}
 use Rattle.sessions.specs.Decision.{ContinueAll, with_decisions, commands_of}
+use Rattle.sessions.specs.Marks.{HasUsedUp, IsSubsequence, marks_of}
 use Rattle.sessions.specs.Table.{TableState, effects_of, fold_of}
 use Rattle.sessions.specs.declared.decision.Decision.{Decision}
 use Rattle.session_core.specs.State.{DecisionsState, new_decisions}
 use Rattle.store.specs.Image.{HoldsTable}
 use Rattle.store.specs.State.{StoreState, IsOpened, IsSettled}
 use Rattle.flusher.specs.Cycle.{HoldsWithOrWithout}
-use Rattle.flusher.specs.Deciding.{CommitsDecided, IsInStep, KeepsDecided, StaysInStep}
+use Rattle.flusher.specs.Deciding.{CommitsDecided, HaveDecided, IsInStep, KeepsDecided, LeaveInAll, StaysInStep}
 use Rattle.flusher.proofs.Decided.{TakingLaws, folds_then}
 
 module _ {C V : Type 0} (honest : Type 0) (effects : V → List Effect) (call : C → V → C → Type 0) where
@@ -162,3 +165,78 @@ module _ {C V : Type 0} (honest : Type 0) (effects : V → List Effect) (call : 
             left = x.left;
             given = x.given;
           }
+
+  -- ---- all lives together
+
+  record Part (old new : StoreState) (p q : C) : Type 0 where
+    commands : List Command
+    table : new.table ≡ fold_of old.table commands
+    seq : new.seq ≡ old.seq + length commands
+    calls : List V
+    given : FoldsTo call p calls q
+    part : IsSubsequence (flat_map effects calls) (effects_of old.table commands)
+
+  module _ (laws : TakingLaws)
+      (longer : (left whole more : List Effect) → IsSubsequence left whole → IsSubsequence left (whole ++ more))
+      (extended : (left whole more : List Effect) → IsSubsequence left whole → IsSubsequence (left ++ more) (whole ++ more)) where
+    one_life_more : (old between new : StoreState) (p o q : C) → Part old between p o → KeepsDecided effects call between new o q → Part old new p q
+    one_life_more old between new p o q x k =
+        record {
+          commands = x.commands ++ commands_of (k.committed ++ k.found);
+          table =
+              k.table
+              ∙ (ap (λ t. fold_of t (commands_of (k.committed ++ k.found))) x.table
+              ∙ sym (laws.composing old.table x.commands (commands_of (k.committed ++ k.found))));
+          seq =
+              let a = x.seq in
+              let b = k.seq in
+              let c = length-append x.commands (commands_of (k.committed ++ k.found)) in
+              let d = length-map (k.committed ++ k.found) (λ (d : Decision). d.command) in
+              omega (arith, a, b, c, d);
+          calls = x.calls ++ k.calls;
+          given = folds_then call p o q x.calls k.calls x.given k.given;
+          part = subst (λ l. IsSubsequence l (effects_of old.table (x.commands ++ commands_of (k.committed ++ k.found)))) (sym lefts)
+              (subst (λ l. IsSubsequence (flat_map effects x.calls ++ (effects_of between.table (commands_of k.committed))) l) (sym wholes)
+              (longer (flat_map effects x.calls ++ (effects_of between.table (commands_of k.committed))) (effects_of old.table x.commands ++ (effects_of between.table (commands_of k.committed))) (effects_of (fold_of between.table (commands_of k.committed)) (commands_of k.found))
+              (extended (flat_map effects x.calls) (effects_of old.table x.commands) (effects_of between.table (commands_of k.committed)) x.part)));
+        }
+      where
+        lefts : flat_map effects (x.calls ++ k.calls) ≡ flat_map effects x.calls ++ (effects_of between.table (commands_of k.committed))
+        lefts = flat_map-append effects x.calls k.calls ∙ ap (λ l. flat_map effects x.calls ++ l) k.left
+
+        wholes : effects_of old.table (x.commands ++ commands_of (k.committed ++ k.found)) ≡ (effects_of old.table x.commands ++ (effects_of between.table (commands_of k.committed))) ++ (effects_of (fold_of between.table (commands_of k.committed)) (commands_of k.found))
+        wholes =
+            laws.effects old.table x.commands (commands_of (k.committed ++ k.found))
+            ∙ (ap (λ t. effects_of old.table x.commands ++ effects_of t (commands_of (k.committed ++ k.found))) (sym x.table)
+            ∙ (ap (λ l. effects_of old.table x.commands ++ effects_of between.table l) (map-append (λ (d : Decision). d.command) k.committed k.found)
+            ∙ (ap (λ l. effects_of old.table x.commands ++ l) (laws.effects between.table (commands_of k.committed) (commands_of k.found))
+            ∙ sym (append_assoc (effects_of old.table x.commands) (effects_of between.table (commands_of k.committed)) (effects_of (fold_of between.table (commands_of k.committed)) (commands_of k.found))))))
+
+    all_parts : (n : ℕ) (old new : StoreState) (p q : C) → HaveDecided effects call n old new p q → Part old new p q
+    all_parts zero old new p q (same, same_out) =
+        record {
+          commands = [];
+          table = ap (λ (s : StoreState). s.table) same;
+          seq = let is = ap (λ (s : StoreState). s.seq) same in omega (arith, is);
+          calls = [];
+          given = sym same_out;
+          part = refl;
+        }
+    all_parts (suc n) old new p q (between, (out, (before, k))) = one_life_more old between new p out q (all_parts n old between p out before) k
+
+    pub in_all : ((t : TableState) (marks : List Mark) (commands : List Command) → HasUsedUp t marks → HasUsedUp (fold_of t commands) (marks ++ marks_of (effects_of t commands)))
+        → ((t : TableState) (marks : List Mark) (all left : List Effect) → IsSubsequence left all → HasUsedUp t (marks ++ marks_of all) → HasUsedUp t (marks ++ marks_of left))
+        → (n : ℕ) (old new : StoreState) (p q : C) → HaveDecided effects call n old new p q → LeaveInAll effects call old new p q
+    in_all after what_left n old new p q lives =
+        let x = all_parts n old new p q lives in
+        record {
+          commands = x.commands;
+          table = x.table;
+          seq = x.seq;
+          calls = x.calls;
+          given = x.given;
+          part = x.part;
+          used = λ marks before.
+              subst (λ t. HasUsedUp t (marks ++ marks_of (flat_map effects x.calls))) (sym x.table)
+              (what_left (fold_of old.table x.commands) marks (effects_of old.table x.commands) (flat_map effects x.calls) x.part (after old.table marks x.commands before));
+        }

@@ -2,10 +2,13 @@
 use Rattle.std.specs.Prelude.{◌≡◌, ◌+◌, ◌++◌, ℕ, zero, suc, List, [], length, take, flat_map}
 use Rattle.std.specs.Prelude.{Result, MatchResult}
 use Rattle.std.specs.List.{FoldsTo}
+use Rattle.devices.specs.declared.command.Command.{Command}
 use Rattle.devices.specs.declared.effect.Effect.{Effect}
+use Rattle.devices.specs.declared.mark.Mark.{Mark}
 use Rattle.lw_types.specs.declared.refusal.Refusal.{Refusal}
 use Rattle.lw_types.specs.declared.refusal.Refusal.TheVariants.{OutOfMemory}
 use Rattle.sessions.specs.Decision.{ContinueAll, commands_of}
+use Rattle.sessions.specs.Marks.{HasUsedUp, IsSubsequence, marks_of}
 use Rattle.sessions.specs.Table.{effects_of, fold_of}
 use Rattle.sessions.specs.declared.decision.Decision.{Decision}
 use Rattle.session_core.specs.Deciding.{after_taking}
@@ -92,3 +95,17 @@ HaveDecided {C} effects call (suc lives) old new old_out new_out =
     (between : StoreState) × ((out : C)
     × (HaveDecided effects call lives old between old_out out
     × KeepsDecided effects call between new out new_out))
+
+-- What lives make of a store all together: it has the fold of these commands, and what was given
+-- away is a part of their effects, in order. Whatever marks were used up before, none stands twice
+-- among them and those of what was given away, and the table that the store has covers them all.
+pub record LeaveInAll {C V : Type 0} (effects : V → List Effect) (call : C → V → C → Type 0)
+    (old new : StoreState) (old_out new_out : C) : Type 0 where
+  pub commands : List Command
+  pub table : new.table ≡ fold_of old.table commands
+  pub seq : new.seq ≡ old.seq + length commands
+  pub calls : List V
+  pub given : FoldsTo call old_out calls new_out
+  pub part : IsSubsequence (flat_map effects calls) (effects_of old.table commands)
+  pub used : (marks : List Mark) → HasUsedUp old.table marks
+      → HasUsedUp new.table (marks ++ marks_of (flat_map effects calls))

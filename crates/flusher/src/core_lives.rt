@@ -1,7 +1,7 @@
 // A flusher over several lives of its store, each with a core of its own, on a simulated disk.
 ghost use Rattle.std.specs.Global.{Global};
 ghost use Rattle.std.specs.Prelude.{◌≡◌, IfOk, Vec, length};
-ghost use Rattle.flusher.specs.Deciding.{CommitsDecided, HaveDecided, KeepsDecided};
+ghost use Rattle.flusher.specs.Deciding.{CommitsDecided, HaveDecided, KeepsDecided, LeaveInAll};
 ghost use Rattle.flusher.specs.Released.{effects_of_all};
 ghost use Rattle.session_core.specs.State.{new_decisions};
 ghost use Rattle.store.specs.State.{store_state, IsSettled};
@@ -35,7 +35,9 @@ pub struct CoreLife {
 ///
 /// What the last store has is what the first one had and, of each life, the first of the commands
 /// that were decided in it: those that were committed, whose effects were given to `out`, complete
-/// and in order, and in front of a crash perhaps the next ones.
+/// and in order, and where the power failed perhaps the next ones. So over all lives no mark is used
+/// up twice by what was given to `out`, nor one of those that were used up before, where the first
+/// table covers these: and the last table covers them all.
 pub fn decide_over_lives<D: Sim + Drop, C: FnMut(Vec<Released>)>(
     alloc: Global,
     store: Store<D>,
@@ -49,8 +51,17 @@ pub fn decide_over_lives<D: Sim + Drop, C: FnMut(Vec<Released>)>(
         (λ (released : Vec Released Global). effects_of_all released.items)
         (λ before released after. C.step before released tt after) (length lives.items)
         (store_state D.state store) (store_state D.state last) out.old out.new) }
+    ensures left { IfOk result (λ last. LeaveInAll
+        (λ (released : Vec Released Global). effects_of_all released.items)
+        (λ before released after. C.step before released tt after)
+        (store_state D.state store) (store_state D.state last) out.old out.new) }
     ensures settled { IfOk result (λ last. IsSettled (store_state D.state last)) }
 {
+    sessions::laws::folding();
+    sessions::laws::joining();
+    sessions::laws::composing();
+    sessions::laws::parts_of_longer_lists();
+    sessions::laws::no_mark_stands_twice();
     let mut store = store;
     for life in lives {
         store = live(alloc, store, most, life, out)?;
