@@ -1,12 +1,15 @@
 pub mod Calling
 pub mod Chains
+pub mod Decided
 pub mod Ends
 pub mod Holding
 pub mod Lasting
 pub mod Leading
 pub mod Leaving
 pub mod Links
+pub mod Lived
 pub mod Living
 pub mod Once
 pub mod Single
 pub mod Starts
+pub mod Turned

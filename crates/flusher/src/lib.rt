@@ -5,6 +5,8 @@
 
 mod chaining;
 mod checkpointing;
+mod core_feed;
+mod core_lives;
 mod cycles;
 mod drawn;
 mod durable;
@@ -16,6 +18,8 @@ mod room;
 mod serving;
 
 pub use chaining::{ChainLength, chain};
+pub use core_feed::{Coming, CoreEvent, CoreFeed, chain_of_core};
+pub use core_lives::{CoreLife, decide_over_lives};
 pub use cycles::cycle;
 pub use drawn::Drawn;
 pub use durable::Durable;

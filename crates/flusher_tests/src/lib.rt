@@ -5,6 +5,8 @@
 #[cfg(test)]
 mod chains_tests;
 #[cfg(test)]
+mod deciding_tests;
+#[cfg(test)]
 mod flusher_tests;
 #[cfg(test)]
 mod over_lives_tests;

@@ -1,0 +1,18 @@
+-- The closure can be called again, and all that was committed so far is a beginning of what was
+-- decided.
+use denote.Param.Always.{always_mut}
+use denote.Param.Members.{Called}
+use Rattle.std.proofs.Common.{Vec, Global}
+use Rattle.session_core.specs.State.{new_decisions}
+use Rattle.store.specs.State.{store_state}
+use Rattle.flusher.specs.Deciding.{StaysInStep}
+use Rattle.flusher.specs.Released.{effects_of_all}
+use Rattle.flusher.specs.declared.released.Released.{Released}
+use Rattle.flusher.proofs.core_lives.decide.Given as goal
+
+abbrev pub invariant-loop : goal.invariant-loop
+invariant-loop g l =
+    always_mut g.C.FnMut l.out
+    × StaysInStep g.D.Disk.honest (λ (released : Vec Released Global). effects_of_all released.items) (λ before released after. Called g.C.FnMut before (released, tt) tt after)
+    (store_state g.D.Disk.state l.fn.store) (store_state g.D.Disk.state l.store)
+    (new_decisions (store_state g.D.Disk.state l.fn.store).table (store_state g.D.Disk.state l.fn.store).seq) l.feed.core.decisions l.fn.out l.out
