@@ -229,12 +229,15 @@ left_in_calls laws effects call t [] p q same = ([], (refl, sym same))
 left_in_calls laws effects call t (b ∷ batches) p q (released, (next, (all, (made, rest)))) =
     let later = left_in_calls laws effects call (fold_of t (commands_of b)) batches next q rest in
     let lists : commands_of (b ++ decisions_in batches) ≡ commands_of b ++ commands_of (decisions_in batches) =
-    map-append (λ (d : Decision). d.command) b (decisions_in batches) in
-    (released ∷ later.0,
-    (ap (λ l. l ++ flat_map effects later.0) all
-    ∙ (ap (λ l. effects_of t (commands_of b) ++ l) later.1.0
-    ∙ (sym (laws.effects t (commands_of b) (commands_of (decisions_in batches))) ∙ ap (effects_of t) (sym lists))),
-    (next, made, later.1.1)))
+    map-append (λ (d : Decision). d.command) b (decisions_in batches) in (
+      released ∷ later.0,
+      (
+        ap (λ l. l ++ flat_map effects later.0) all
+            ∙ (ap (λ l. effects_of t (commands_of b) ++ l) later.1.0
+            ∙ (sym (laws.effects t (commands_of b) (commands_of (decisions_in batches))) ∙ ap (effects_of t) (sym lists))),
+        (next, made, later.1.1),
+      ),
+    )
 
 -- ---- chains of a core
 
@@ -330,23 +333,42 @@ module _ (laws : TakingLaws) {D C V : Type 0} (disk : Ghosts D) (effects : V →
 
   by_end : is.torn ≡ [] → NoneFailed disk.failures disk.outlook old new → HasEnded core_gives most (store_state disk.state new) is.batches is.feed g → InStep
   unfolding untorn commits
-  by_end none calls (inl (same, why)) =
-      (untorn none, (refl, (sym (ap (λ (f : CoreFeed). f.core.decisions.log) same),
-      (ended laws core_gives (λ f. f.core.decisions) core_tells most (store_state disk.state old) (store_state disk.state new) f.core.decisions is.batches is.feed g so
-      is.commits.table is.commits.seq (inl (same, why)), settles calls))))
+  by_end none calls (inl (same, why)) = (
+    untorn none,
+    (
+      refl,
+      (
+        sym (ap (λ (f : CoreFeed). f.core.decisions.log) same),
+        (
+          ended laws core_gives (λ f. f.core.decisions) core_tells most (store_state disk.state old) (store_state disk.state new) f.core.decisions is.batches is.feed g so
+              is.commits.table is.commits.seq (inl (same, why)),
+          settles calls,
+        ),
+      ),
+    ),
+  )
   by_end none calls (inr (few, given)) =
       let told = core_tells is.feed g (Ok []) given in
       let behind = store_behind (store_state disk.state old) is.batches in
       let more : is.feed.core.decisions.log ++ told.0 ≡ g.core.decisions.log =
-      sym (parts laws behind is.feed.core.decisions g.core.decisions told.0 [] so.goes_on told.1) in
-      (commits (so.decided ++ told.0) [] g.core.decisions.log none
-      (ap (λ l. decisions_in is.batches ++ l) (sym more)
-      ∙ (sym (append_assoc (decisions_in is.batches) is.feed.core.decisions.log told.0)
-      ∙ (ap (λ l. l ++ told.0) so.parts ∙ append_assoc f.core.decisions.log so.decided told.0)))
-      (so.later told.0 told.1.lawful.continues),
-      (refl, (refl,
-      (ended laws core_gives (λ f. f.core.decisions) core_tells most (store_state disk.state old) (store_state disk.state new) f.core.decisions is.batches is.feed g so
-      is.commits.table is.commits.seq (inr (few, given)), settles calls))))
+      sym (parts laws behind is.feed.core.decisions g.core.decisions told.0 [] so.goes_on told.1) in (
+        commits (so.decided ++ told.0) [] g.core.decisions.log none
+            (ap (λ l. decisions_in is.batches ++ l) (sym more)
+            ∙ (sym (append_assoc (decisions_in is.batches) is.feed.core.decisions.log told.0)
+            ∙ (ap (λ l. l ++ told.0) so.parts ∙ append_assoc f.core.decisions.log so.decided told.0)))
+            (so.later told.0 told.1.lawful.continues),
+        (
+          refl,
+          (
+            refl,
+            (
+              ended laws core_gives (λ f. f.core.decisions) core_tells most (store_state disk.state old) (store_state disk.state new) f.core.decisions is.batches is.feed g so
+                  is.commits.table is.commits.seq (inr (few, given)),
+              settles calls,
+            ),
+          ),
+        ),
+      )
 
   pub in_step_behind : OnOk result InStep
   in_step_behind = by_result result is.ends is.calls

@@ -1,5 +1,6 @@
 pub mod Calling
 pub mod Chains
+pub mod CoreLives
 pub mod Decided
 pub mod Ends
 pub mod Holding
@@ -7,7 +8,6 @@ pub mod Lasting
 pub mod Leading
 pub mod Leaving
 pub mod Links
-pub mod Lived
 pub mod Living
 pub mod Once
 pub mod Single

@@ -22,7 +22,10 @@ fn provision(alloc: Global, dev_eui: u64) -> Result<Coming, Refusal> {
 // A life in which two devices come, each before a take, whose nth call of the disk fails, if one
 // does, and then the power.
 fn life(alloc: Global, first: u64, failing: u64, is_kept: bool) -> Result<CoreLife, Refusal> {
-    let coming = vec![in alloc; provision(alloc, first)?, provision(alloc, first.saturating_add(1))?]?;
+    let coming = vec![in alloc;
+        provision(alloc, first)?,
+        provision(alloc, first.saturating_add(1))?,
+    ]?;
     Ok(CoreLife {
         coming: VecDeque::from(coming),
         chains: 1,
@@ -69,6 +72,9 @@ fn lives_keep_what_was_decided(rt: HostRuntime) {
     for (failing, is_kept, found, left) in ROWS {
         let lived = lived(rt.alloc(), *failing, *is_kept, *found);
         let all = found.saturating_add(2);
-        assert!(rt; lived == Ok((*left + 2, (all as usize, all))), "{failing} {is_kept}");
+        assert!(rt;
+            lived == Ok((*left + 2, (all as usize, all))),
+            "{failing} {is_kept}"
+        );
     }
 }

@@ -4,7 +4,7 @@ use Rattle.store.specs.State.{store_state}
 use Rattle.flusher.specs.Deciding.{HaveDecided}
 use Rattle.flusher.specs.Released.{effects_of_all}
 use Rattle.flusher.specs.declared.released.Released.{Released}
-use Rattle.flusher.proofs.Lived.{in_all}
+use Rattle.flusher.proofs.CoreLives.{in_all}
 use Rattle.flusher.proofs.core_lives.decide_over_lives.Goals as goal
 
 pub loop-life-init : goal.loop-life-init
@@ -15,12 +15,19 @@ loop-life-init g c =
 pub loop-life-preserved : goal.loop-life-preserved
 loop-life-preserved g c =
     let so = c.loop-life.invariant.1.1 in
-    let shorter = ap length c.in-Some.ensures.steps.0 in
-    (c.live.ensures.callable,
-    (c.in_ok-store.ensures.settled,
-    (suc so.0,
-    (omega (arith, so.1.0, shorter),
-    (store_state g.D.Disk.state c.loop-life.store, (c.loop-life.out, (so.1.1, c.in_ok-store.ensures.kept)))))))
+    let shorter = ap length c.in-Some.ensures.steps.0 in (
+      c.live.ensures.callable,
+      (
+        c.in_ok-store.ensures.settled,
+        (
+          suc so.0,
+          (
+            omega (arith, so.1.0, shorter),
+            (store_state g.D.Disk.state c.loop-life.store, (c.loop-life.out, (so.1.1, c.in_ok-store.ensures.kept))),
+          ),
+        ),
+      ),
+    )
 
 pub returns-clause-decided : goal.returns-clause-decided
 returns-clause-decided g c =

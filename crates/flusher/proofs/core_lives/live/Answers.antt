@@ -7,7 +7,7 @@ use Rattle.store.specs.State.{StoreState, store_state}
 use Rattle.flusher.specs.Deciding.{CommitsDecided}
 use Rattle.flusher.specs.Released.{effects_of_all}
 use Rattle.flusher.specs.declared.released.Released.{Released}
-use Rattle.flusher.proofs.Lived.{kept}
+use Rattle.flusher.proofs.CoreLives.{kept}
 use Rattle.flusher.proofs.core_lives.live.Goals as goal
 
 of_ok : {A E : Type 0} (r : Result A E) (P Q : A → Type 0) → IfOk r P → ((a : A) → P a → Q a) → IfOk r Q

@@ -22,22 +22,23 @@ module _ {C V : Type 0} (honest : Type 0) (effects : V → List Effect) (call : 
   -- at the beginning of a life
   pub at_first : ((s : StoreState) → IsSettled s → EveryImage s.log.disk (HoldsTable s.table s.seq)) → (s : StoreState) (o : C)
       → StaysInStep honest effects call s s (new_decisions s.table s.seq) (new_decisions s.table s.seq) o o
-  at_first on_disk s o =
-      (record {
-        decided = [];
-        committed = [];
-        torn = [];
-        waiting = [];
-        beginning = refl;
-        continues = record { fit = tt; numbered = tt };
-        table = refl;
-        seq = none s.seq;
-        calls = [];
-        left = refl;
-        given = refl;
-        images = λ is settled image permitted. inl (on_disk s settled image permitted);
-      },
-      (refl, (refl, (record { table = refl; seq = sym (none s.seq) }, λ is settled. settled))))
+  at_first on_disk s o = (
+    record {
+      decided = [];
+      committed = [];
+      torn = [];
+      waiting = [];
+      beginning = refl;
+      continues = record { fit = tt; numbered = tt };
+      table = refl;
+      seq = none s.seq;
+      calls = [];
+      left = refl;
+      given = refl;
+      images = λ is settled image permitted. inl (on_disk s settled image permitted);
+    },
+    (refl, (refl, (record { table = refl; seq = sym (none s.seq) }, λ is settled. settled))),
+  )
     where
       none : (n : ℕ) → n ≡ n + 0
       none n = omega arith
@@ -74,10 +75,11 @@ module _ {C V : Type 0} (honest : Type 0) (effects : V → List Effect) (call : 
     on : ContinueAll c0.base (c0.opening + c0.taken) (c0.log ++ (x.decided ++ y.decided))
     on =
         subst (λ l. ContinueAll c0.base (c0.opening + c0.taken) l) more
-        ((laws.joins c0.base (c0.opening + c0.taken) x.committed (c1.log ++ y.decided)).1
-        (once,
-        subst (λ t. ContinueAll t (c0.opening + c0.taken + length x.committed) (c1.log ++ y.decided)) base
-        (subst (λ n. ContinueAll c1.base n (c1.log ++ y.decided)) number y.continues)))
+        ((laws.joins c0.base (c0.opening + c0.taken) x.committed (c1.log ++ y.decided)).1 (
+          once,
+          subst (λ t. ContinueAll t (c0.opening + c0.taken + length x.committed) (c1.log ++ y.decided)) base
+              (subst (λ n. ContinueAll c1.base n (c1.log ++ y.decided)) number y.continues),
+        ))
 
     commands : commands_of (x.committed ++ y.committed) ≡ commands_of x.committed ++ commands_of y.committed
     commands = map-append (λ (d : Decision). d.command) x.committed y.committed
@@ -113,9 +115,10 @@ module _ {C V : Type 0} (honest : Type 0) (effects : V → List Effect) (call : 
   pub both_in_step : (laws : TakingLaws) (s0 s1 s2 : StoreState) (c0 c1 c2 : DecisionsState) (p q r : C) → IsInStep s0 c0
       → StaysInStep honest effects call s0 s1 c0 c1 p q → StaysInStep honest effects call s1 s2 c1 c2 q r → StaysInStep honest effects call s0 s2 c0 c2 p r
   unfolding both
-  both_in_step laws s0 s1 s2 c0 c1 c2 p q r from first second =
-      (both laws s0 s1 s2 c0 c1 p q r from first second.0,
-      (second.1.0, (second.1.1.0, (second.1.1.1.0, λ is settled. second.1.1.1.1 is (first.1.1.1.1 is settled)))))
+  both_in_step laws s0 s1 s2 c0 c1 c2 p q r from first second = (
+    both laws s0 s1 s2 c0 c1 p q r from first second.0,
+    (second.1.0, (second.1.1.0, (second.1.1.1.0, λ is settled. second.1.1.1.1 is (first.1.1.1.1 is settled)))),
+  )
 
   -- a crash, and an opening of what it left
   pub kept : (laws : TakingLaws) (s0 s1 opened : StoreState) (p q : C) → honest → IsSettled s0
