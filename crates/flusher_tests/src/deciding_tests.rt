@@ -1,14 +1,14 @@
 // What lives of cores leave, and what the store has behind them.
 use devices::Command;
-use disk::{Image, MemDisk};
+use disk::Image;
 use flusher::{ChainLength, Coming, CoreEvent, CoreLife, Released, decide_over_lives};
 use lw_types::Refusal;
 use session_core::Moment;
 use std::alloc::Global;
 use std::collections::VecDeque;
-use store::Store;
-use test_stores::devices_under_test::bringing;
-use test_stores::stores_under_test::{new_store, state_of};
+use store::{disk_len, format};
+use test_stores::devices_under_test::{bringing, net_id, slots};
+use test_stores::stores_under_test::{blank, state_of};
 
 // A device is provisioned before a take.
 fn provision(alloc: Global, dev_eui: u64) -> Result<Coming, Refusal> {
@@ -42,7 +42,8 @@ fn lived(
     is_kept: bool,
     found: u64,
 ) -> Result<(usize, (usize, u64)), Refusal> {
-    let store: Store<MemDisk> = new_store(alloc, 8)?;
+    let disk = blank(alloc, disk_len(slots(8)?) as usize)?;
+    let store = format(alloc, disk, net_id()?, 8)?;
     let first = life(alloc, 1, failing, is_kept)?;
     let second = life(alloc, found.saturating_add(1), 0, false)?;
     let mut left: usize = 0;
