@@ -1,5 +1,7 @@
 // The flusher commits what was decided, and lets its effects out.
 ghost use Rattle.std.specs.Prelude.{IsTrue};
+ghost use Rattle.link_server.specs.Served.{IsLedOn};
+ghost use Rattle.store.specs.State.{store_state};
 
 use crate::link::MOST_LINKS;
 use crate::routing::route;
@@ -23,7 +25,10 @@ pub(crate) fn flush<B: Books, R: Wait, D: Disk>(
     store: &mut Store<D>,
     taker: Taker<B>,
     outlets: Vec<Outlet>,
-) -> Result<(), Refusal> {
+) -> Result<(), Refusal>
+    ensures lives { D.honest
+        → IsLedOn (store_state D.state store.old) (store_state D.state store.new) }
+{
     let mut outlets = outlets;
     let mut feed = Drawn::new(rt, &server.sessions, taker);
     let mut is_ticked = false;

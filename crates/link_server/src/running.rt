@@ -1,4 +1,7 @@
 // The threads of a life are started and joined.
+ghost use Rattle.link_server.specs.Served.{IsLedOn};
+ghost use Rattle.store.specs.State.{store_state};
+
 use crate::closing::Closer;
 use crate::context::Context;
 use crate::flushing::flush;
@@ -43,10 +46,18 @@ pub(crate) fn run<
     store: Store<D>,
     taker: Taker<B>,
     parts: Parts<B>,
-) -> LifeEnd<D, B> {
-    thread::scope(thread::scope_env(), context.rt, move |scope| {
-        run_in(scope, context, server, store, taker, parts)
-    })
+) -> LifeEnd<D, B>
+    ensures lives { D.honest
+        → IsLedOn (store_state D.state store) (store_state D.state result.store) }
+{
+    thread::scope(
+        thread::scope_env(),
+        context.rt,
+        move |scope|
+            ensures { D.honest
+                → IsLedOn (store_state D.state store) (store_state D.state result.store) }
+        { run_in(scope, context, server, store, taker, parts) },
+    )
 }
 
 fn run_in<
@@ -64,13 +75,15 @@ fn run_in<
     store: Store<D>,
     taker: Taker<B>,
     parts: Parts<B>,
-) -> LifeEnd<D, B> {
+) -> LifeEnd<D, B>
+    ensures lives { D.honest
+        → IsLedOn (store_state D.state store) (store_state D.state result.store) }
+{
     let Parts {
         links,
         closer,
         outlets,
     } = parts;
-    let mut store = store;
     let mut started = Started {
         seated: Vec::new(context.alloc),
         senders: Vec::new(context.alloc),
@@ -85,6 +98,7 @@ fn run_in<
         seat: closer,
     };
     started.keep_seated(start_closer(context.alloc, scope, closer));
+    let mut store = store;
     let result = if started.is_whole {
         flush(
             context.rt,

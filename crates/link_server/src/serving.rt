@@ -1,6 +1,8 @@
 // One life of a server.
 ghost use Rattle.std.specs.Prelude.{◌≡◌, ◌≤◌, ◌+◌, length, sum, Err, IfOk, MatchResult};
 ghost use Rattle.lw_types.specs.declared.refusal.Refusal.TheVariants.{OutOfMemory};
+ghost use Rattle.link_server.specs.Served.{IsLedOn};
+ghost use Rattle.store.specs.State.{store_state};
 
 use crate::context::Context;
 use crate::directory::Directory;
@@ -59,6 +61,8 @@ pub fn serve_links<R: Threads + Wait + Sync, D: Disk + Drop, G: Gate + Sync, C: 
     clock: &C,
 ) -> ServedLife<D>
     ensures shares { IfOk result.result (λ report. sum report.shares.items ≡ report.made) }
+    ensures lives { D.honest
+        → IsLedOn (store_state D.state store) (store_state D.state result.store) }
 {
     let links = match accept(alloc, listener, links) {
         Ok(links) => links,
@@ -116,6 +120,8 @@ fn serve_life<
         × (made.parts ≡ length new_life.links.items + 1) }
     requires taken { (taken.name ≡ B.taken_name) × (taken.parts ≡ 1) }
     ensures shares { IfOk result.result (λ report. sum report.shares.items ≡ report.made) }
+    ensures lives { D.honest
+        → IsLedOn (store_state D.state store) (store_state D.state result.store) }
 {
     let NewLife { links, core } = new_life;
     let all = links.len() as u64 + 1;

@@ -8,11 +8,9 @@ use Rattle.link_server.proofs.serving.serve_life.Goals as goal
 abbrev HasSum : Result LifeReport ServeFault → Type 0
 HasSum r = IfOk r (λ report. sum report.shares.items ≡ report.made)
 
-pub returns : goal.returns
-returns g c =
-    record {
-      shares = elim c.match-result.branch [
-        | in-Ok-result w ↦ subst HasSum (sym w.result-is) w.report-result.ensures.sum
-        | in-Err-result w ↦ subst HasSum (sym w.result-is) (tt {0})
-      ];
-    }
+pub returns-clause-shares : goal.returns-clause-shares
+returns-clause-shares g c =
+    elim c.match-result.branch [
+      | in-Ok-result w ↦ subst HasSum (sym w.result-is) w.report-result.ensures.sum
+      | in-Err-result w ↦ subst HasSum (sym w.result-is) (tt {0})
+    ]

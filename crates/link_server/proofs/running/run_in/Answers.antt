@@ -1,0 +1,18 @@
+use Rattle.std.proofs.Common.{[], sym, subst}
+use Rattle.store.specs.State.{store_state}
+use Rattle.link_server.specs.Served.{IsLedOn}
+use Rattle.link_server.proofs.running.run_in.Goals.{then-started, else-started}
+use Rattle.link_server.proofs.running.run_in.Goals as goal
+
+-- where each thread is there, the flusher led the store on; else it is as it was
+pub returns : goal.returns
+returns g c =
+    record {
+      lives = λ honest.
+          elim c.if-started.branch [
+            | then-started w ↦
+                subst (λ s. IsLedOn (store_state g.D.Disk.state c.args.store) (store_state g.D.Disk.state s)) (sym w.store-is) (w.flush-result.ensures.lives honest)
+            | else-started w ↦
+                subst (λ s. IsLedOn (store_state g.D.Disk.state c.args.store) (store_state g.D.Disk.state s)) (sym w.store-is) (λ t number lives led. ([], led))
+          ];
+    }
