@@ -1,7 +1,7 @@
 """gate-costs edits CRATE [EDIT..]: what each must-fail edit of a crate costs beyond a check that
-finds nothing to do, in processor seconds, and what the prover said first. Run `rt check --jobs 1` in the
-crate first: the edits are tried over a copy of the work that it kept, as the merge gate tries them
-over its own.
+finds nothing to do, in processor seconds, and what the prover said first. Run `rt check --jobs 1`
+in the crate first: the edits are tried over a copy of the work that it kept, as the merge gate
+tries them over its own.
 
 `search` is the part of the seconds in which the prover tells what it found (the stages behind its
 check): where it is above a second, the broken goal was searched for, with help printed; answer it

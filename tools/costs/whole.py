@@ -145,7 +145,7 @@ def table(spent):
 def keep(told):
     """Puts the table where bin/build reads it."""
     with open(commands.COSTS, "w", encoding="utf-8") as file:
-        file.write(f"# Processor minutes, by tools/gate-costs whole --keep, {time.strftime('%F')}.\n")
+        file.write(f"# Processor minutes, by gate-costs whole --keep, {time.strftime('%F')}.\n")
         file.write("\n".join(told) + "\n")
 
 

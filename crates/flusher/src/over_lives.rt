@@ -5,7 +5,8 @@ ghost use Rattle.std.specs.Prelude.{length};
 ghost use Rattle.devices.specs.declared.mark.Mark.{Mark};
 ghost use Rattle.disk.specs.State.{EveryImage};
 ghost use Rattle.flusher.specs.Lived.{AreOnDisk, GoOnFrom, LeadOn};
-ghost use Rattle.flusher.specs.OverLives.{AreFlusherLives, IsFlusherLife, IsPoweredOn, LeaveOnce, MakeUpTo};
+ghost use Rattle.flusher.specs.OverLives.{AreFlusherLives, IsFlusherLife, IsPoweredOn};
+ghost use Rattle.flusher.specs.OverLives.{LeaveOnce, MakeUpTo};
 ghost use Rattle.flusher.specs.Released.{effects_of_all};
 ghost use Rattle.lw_types.specs.declared.refusal.Refusal.{Refusal};
 ghost use Rattle.sessions.specs.Marks.{AreDistinct, Covers};
@@ -91,9 +92,9 @@ pub fn flush_over_lives<D: Sim, F: Feed, C: FnMut(Vec<Released>)>(
     disk
 }
 
-/// Makes a store without devices on this disk, and lives of a flusher on it, as [`flush_over_lives`]
-/// does: no mark was used up before. Refused as [`store::format_back`] is, before the first life;
-/// then the disk comes back, and nothing was taken or given.
+/// Makes a store without devices on this disk, and lives of a flusher on it, as
+/// [`flush_over_lives`] does: no mark was used up before. Refused as [`store::format_back`] is,
+/// before the first life; then the disk comes back, and nothing was taken or given.
 pub fn flush_new_store<D: Sim, F: Feed, C: FnMut(Vec<Released>)>(
     alloc: Global,
     disk: D,

@@ -49,8 +49,9 @@ use store::Store;
 /// again each second, and the closer where there is no memory. It need not return: an input may
 /// never end.
 ///
-/// Of all this the contract says that the shares sum to the decisions, and that the store was led on
-/// from where it was; what it calls is proved for itself, and the rest is shown by tests on sockets.
+/// Of all this the contract says that the shares sum to the decisions, and that the store was led
+/// on from where it was; what it calls is proved for itself, and the rest is shown by tests on
+/// sockets.
 pub fn serve_links<R: Threads + Wait + Sync, D: Disk + Drop, G: Gate + Sync, C: LifeClock + Sync>(
     rt: &R,
     alloc: Global,
