@@ -35,6 +35,12 @@ pub record TakesBehind (old : DecisionsState) (decided : List Decision) (most : 
       × (new ≡ after_taking (with_decided old decided) most))
       (λ e. (e ≡ OutOfMemory) × (new ≡ with_decided old decided))
 
+-- a core as a feed: some more were decided since its last take
+abbrev pub GivesDecided : DecisionsState → ℕ → Result (List Decision) Refusal → DecisionsState
+    → Type 0
+GivesDecided old most answer new =
+    (decided : List Decision) × TakesBehind old decided most answer new
+
 -- what is taken next goes on from what the store has
 pub record IsInStep (s : StoreState) (core : DecisionsState) : Type 0 where
   pub table : core.base ≡ s.table

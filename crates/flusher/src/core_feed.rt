@@ -1,7 +1,9 @@
 // A core as a feed: what is decided between its takes.
 ghost use Rattle.std.specs.Global.{Global};
 ghost use Rattle.std.specs.Prelude.{◌≢◌, IfErr, OnOk, Vec};
-ghost use Rattle.flusher.specs.Deciding.{CommitsDecided, IsInStep, HasDecided, StaysInStep};
+ghost use Rattle.flusher.specs.Chain.{IsChain};
+ghost use Rattle.flusher.specs.Deciding.{CommitsDecided, GivesDecided, HasDecided, IsInStep};
+ghost use Rattle.flusher.specs.Deciding.{StaysInStep};
 ghost use Rattle.flusher.specs.Released.{effects_of_all};
 ghost use Rattle.lw_types.specs.declared.refusal.Refusal.TheVariants.{OutOfStep};
 ghost use Rattle.flusher.specs.Lived.{LeadOn};
@@ -54,12 +56,10 @@ impl CoreFeed {
 }
 
 impl Feed for CoreFeed {
-    ghost use Rattle.std.specs.Prelude.{List};
-    ghost use Rattle.flusher.specs.Deciding.{TakesBehind};
-    ghost use Rattle.sessions.specs.declared.decision.Decision.{Decision};
+    ghost use Rattle.flusher.specs.Deciding.{GivesDecided};
 
-    ghost gives = { λ old most answer new. (decided : List Decision)
-        × TakesBehind old.core.decisions decided most answer new.core.decisions };
+    ghost gives = { λ old most answer new.
+        GivesDecided old.core.decisions most answer new.core.decisions };
 
     fn next(&mut self, most: Most) -> Result<Batch, Refusal> {
         if let Some(coming) = self.coming.pop_front() {
@@ -104,6 +104,11 @@ pub fn chain_of_core<D: Disk, C: FnMut(Vec<Released>)>(
     requires out { C.IsAlwaysCallable out.old }
     requires goes_on { IsInStep (store_state D.state store.old) feed.old.core.decisions }
     ensures callable { C.IsAlwaysCallable out.new }
+    ensures chain { IsChain D.Disk
+        (λ old asked answer new. GivesDecided old.core.decisions asked answer new.core.decisions)
+        (λ (released : Vec Released Global). effects_of_all released.items)
+        (λ before released after. C.step before released tt after) most
+        store.old store.new feed.old feed.new out.old out.new result }
     ensures decided { CommitsDecided D.honest
         (λ (released : Vec Released Global). effects_of_all released.items)
         (λ before released after. C.step before released tt after)

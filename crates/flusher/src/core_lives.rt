@@ -35,9 +35,11 @@ pub struct CoreLife {
 ///
 /// What the last store has is what the first one had and, of each life, the first of the commands
 /// that were decided in it: those that were committed, whose effects were given to `out`, complete
-/// and in order, and where the power failed perhaps the next ones. So over all lives no mark is used
-/// up twice by what was given to `out`, nor one of those that were used up before, where the first
-/// table covers these: and the last table covers them all.
+/// and in order, and where the power failed perhaps the next ones. So over all lives no mark is
+/// used up twice by what was given to `out`, nor one of those that were used up before, where the
+/// first table covers these: and the last table covers them all. How many chains were made, which
+/// call failed and which image was left no clause says; [`flush_over_lives`](crate::flush_over_lives)
+/// says it of its lives.
 pub fn decide_over_lives<D: Sim + Drop, C: FnMut(Vec<Released>)>(
     alloc: Global,
     store: Store<D>,

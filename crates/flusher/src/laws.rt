@@ -20,9 +20,9 @@ pub fn limits_are_these()
 
 /// Lives begin with a store on which nothing is under way, as one that was formatted or opened, and
 /// go on where an image is opened that a crash may have left of its disk ([`store::open`]). The
-/// same of a disk alone, which a store leaves where it is closed: also where the opening is refused,
-/// by what [`store::open_back`] says of the disk that comes back then. It is refused for want of
-/// memory or by the device alone, never since there were no store (`no_fault`).
+/// same of a disk alone, which a store leaves where it is closed: also where the opening is
+/// refused, by what [`store::open_back`] says of the disk that comes back then. It is refused for
+/// want of memory or by the device alone, never since there were no store (`no_fault`).
 pub fn lives_go_on()
     ensures begun { (s : StoreState) → IsSettled s → HaveLed beginning s.table s.seq s }
     ensures opened { (lives : Lives) (t : TableState) (number : ℕ) (s opened : StoreState)

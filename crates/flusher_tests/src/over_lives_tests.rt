@@ -54,8 +54,8 @@ fn tell(told: u64, released: &[Released]) -> u64 {
 }
 
 // What is told over three lives, of four batches of one device each, and how many devices are found
-// then: in the first one this call of its chain fails, a crash leaves this image, and the opening of
-// the second one is refused.
+// then: in the first one this call of its chain fails, a crash leaves this image, and the opening
+// of the second one is refused.
 fn over_lives(alloc: Global, failing: u64, image: Image) -> Result<(u64, u64), Refusal> {
     let opening = calls_of_opening(alloc)?;
     let lives = [

@@ -207,9 +207,9 @@ impl<D: Sim + Drop> World<D> {
         }
     }
 
-    /// Ends the world: what is under way is lost, and the disk comes back with the effects that were
-    /// released over all lives, in order. Whatever a crash leaves of that disk holds the fold of a
-    /// beginning of the decided commands, with every one of which an effect has left.
+    /// Ends the world: what is under way is lost, and the disk comes back with the effects that
+    /// were released over all lives, in order. Whatever a crash leaves of that disk holds the fold
+    /// of a beginning of the decided commands, with every one of which an effect has left.
     pub fn close(self) -> (D, Vec<Released>)
         requires { IsSoundWorld D.state self }
         ensures disk { HasDisk self.place result.0 }

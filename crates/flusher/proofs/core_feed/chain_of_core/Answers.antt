@@ -21,6 +21,9 @@ returns-clause-callable g c =
     leaves_callable (λ (released : Vec Released Global). effects_of_all released.items) g.C.FnMut _ c.chain.ensures.chain.batches
     c.args.out.now c.chain.new.out c.chain.ensures.chain.leave c.requires.out
 
+pub returns-clause-chain : goal.returns-clause-chain
+returns-clause-chain g c = c.chain.ensures.chain
+
 pub returns-clause-decided : goal.returns-clause-decided
 returns-clause-decided g c =
     commits_decided (record { folding = c.folding.ensures.table; joins = c.joining.ensures.continues; composing = c.composing.ensures.table; effects = c.composing.ensures.effects })
