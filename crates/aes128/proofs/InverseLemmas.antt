@@ -3,7 +3,7 @@ use Rattle.std.proofs.Common.{◌≡◌, ℕ, zero, suc, ◌<◌, ◌≤◌, ◌
 use Rattle.std.specs.Prelude.{All}
 use Rattle.aes128.specs.declared.substitution.TheConstants.{S_BOX, INVERSE_S_BOX}
 use Rattle.aes128.specs.Field.{word_product}
-use Rattle.aes128.specs.Cipher.{IsBlock, xor, column, byte_at, s_box, sub_bytes, shift_rows, mix_columns, round_key, rounds, ciphertext}
+use Rattle.aes128.specs.Cipher.{IsBlock, xor, column, state_byte, s_box, sub_bytes, shift_rows, mix_columns, round_key, rounds, ciphertext}
 use Rattle.aes128.specs.InverseCipher.{inv_s_box, inv_sub_bytes, unshifted_column, inv_shift_rows, inv_mix_columns, inv_rounds, plaintext}
 use Rattle.aes128.proofs.Below.{all_below, agree_below}
 use Rattle.lw_types.specs.Values.{IsByte}
@@ -28,7 +28,7 @@ s_box-inv byte low = ap s_box (sym (table-inv_s_box byte low)) ∙ s_box-inverse
 sub_word : (a b c d : ℕ) → AreBytes a b c d → s_box (inv_s_box a) ∷ s_box (inv_s_box b) ∷ s_box (inv_s_box c) ∷ s_box (inv_s_box d) ∷ [] ≡ a ∷ b ∷ c ∷ d ∷ []
 sub_word a b c d v = rw (s_box-inv a v.first, s_box-inv b v.second, s_box-inv c v.third, s_box-inv d v.fourth) refl
 
-unshifted_bytes : (s : List ℕ) → IsBlock s → (c c1 c2 c3 : ℕ) → AreBytes (byte_at s 0 c) (byte_at s 1 c1) (byte_at s 2 c2) (byte_at s 3 c3)
+unshifted_bytes : (s : List ℕ) → IsBlock s → (c c1 c2 c3 : ℕ) → AreBytes (state_byte s 0 c) (state_byte s 1 c1) (state_byte s 2 c2) (state_byte s 3 c3)
 unshifted_bytes s block c c1 c2 c3 = record { first = block_byte s block _; second = block_byte s block _; third = block_byte s block _; fourth = block_byte s block _ }
 
 inv_word : (a b c d : ℕ) → AreBytes a b c d → All IsByte (inv_s_box a ∷ inv_s_box b ∷ inv_s_box c ∷ inv_s_box d ∷ [])

@@ -6,7 +6,7 @@ use Rattle.std.proofs.lemmas.List.{get_or_past}
 use Rattle.std.proofs.lemmas.List.Elements.{All-nil, All-cons, All-head, All-tail, All-append, All-get_or}
 use Rattle.aes128.specs.declared.substitution.TheConstants.{INVERSE_S_BOX}
 use Rattle.aes128.specs.Field.{◌⊕◌, power, word_product}
-use Rattle.aes128.specs.Cipher.{IsBlock, xor, column, byte_at, s_box, sub_bytes, shifted_column, shift_rows, mixed_column, mix_columns, rot_word, next_round_key, round_key, rounds, ciphertext}
+use Rattle.aes128.specs.Cipher.{IsBlock, xor, column, state_byte, s_box, sub_bytes, shifted_column, shift_rows, mixed_column, mix_columns, rot_word, next_round_key, round_key, rounds, ciphertext}
 use Rattle.aes128.proofs.FieldLemmas.{xor_byte, product-lt}
 use Rattle.aes128.proofs.SBoxLemmas.{any_s_box-lt, s_box-lt, inverse-s_box}
 use Rattle.aes128.proofs.WordLemmas.{AreBytes, entry-lt, state_columns, unmixing, unmixed-mixed}
@@ -21,7 +21,7 @@ block_byte s block k =
       | inr past ↦ rw (get_or_past s k 0 past) (lit< tt)
     ]
 
-pub column_bytes : (s : List ℕ) → IsBlock s → (c : ℕ) → AreBytes (byte_at s 0 c) (byte_at s 1 c) (byte_at s 2 c) (byte_at s 3 c)
+pub column_bytes : (s : List ℕ) → IsBlock s → (c : ℕ) → AreBytes (state_byte s 0 c) (state_byte s 1 c) (state_byte s 2 c) (state_byte s 3 c)
 column_bytes s block c = record { first = block_byte s block _; second = block_byte s block _; third = block_byte s block _; fourth = block_byte s block _ }
 
 pub word_bytes : (a b c d : ℕ) → AreBytes a b c d → All IsByte (a ∷ b ∷ c ∷ d ∷ [])
@@ -79,9 +79,9 @@ power-lt (suc r) = product-lt 2 (power 2 r) (power-lt r)
 next_block : (k : List ℕ) (constant : ℕ) → IsBlock k → constant < 256 → IsBlock (next_round_key constant k)
 next_block k constant block byte =
     let z : 0 < 256 = lit< tt in
-    let turned : AreBytes (byte_at k 1 3) (byte_at k 2 3) (byte_at k 3 3) (byte_at k 0 3) =
+    let turned : AreBytes (state_byte k 1 3) (state_byte k 2 3) (state_byte k 3 3) (state_byte k 0 3) =
     record { first = block_byte k block _; second = block_byte k block _; third = block_byte k block _; fourth = block_byte k block _ } in
-    let words = λ (c : ℕ). word_bytes (byte_at k 0 c) (byte_at k 1 c) (byte_at k 2 c) (byte_at k 3 c) (column_bytes k block c) in
+    let words = λ (c : ℕ). word_bytes (state_byte k 0 c) (state_byte k 1 c) (state_byte k 2 c) (state_byte k 3 c) (column_bytes k block c) in
     let t : List ℕ = xor (map s_box (rot_word (column k 3))) (constant ∷ 0 ∷ 0 ∷ 0 ∷ []) in
     let w0 : List ℕ = xor (column k 0) t in
     let w1 : List ℕ = xor (column k 1) w0 in
@@ -122,7 +122,7 @@ any_sub_block s = (
   where
     any_sub_column : (s : List ℕ) (c : ℕ) → All IsByte (map s_box (column s c))
     any_sub_column s c =
-        word_bytes (s_box (byte_at s 0 c)) (s_box (byte_at s 1 c)) (s_box (byte_at s 2 c)) (s_box (byte_at s 3 c))
+        word_bytes (s_box (state_byte s 0 c)) (s_box (state_byte s 1 c)) (s_box (state_byte s 2 c)) (s_box (state_byte s 3 c))
         (record { first = any_s_box-lt _; second = any_s_box-lt _; third = any_s_box-lt _; fourth = any_s_box-lt _ })
 
 pub encrypted-block : (key block : List ℕ) → IsBlock key → IsBlock (ciphertext key block)

@@ -1,6 +1,6 @@
 -- States by their columns.
 use Rattle.std.proofs.Common.{◌≡◌, ℕ, List, [], ◌∷◌, ◌++◌, map, length, ap, ◌∙◌}
-use Rattle.aes128.specs.Cipher.{column, byte_at, s_box, shift_rows, sub_bytes, mixed_column, mix_columns}
+use Rattle.aes128.specs.Cipher.{column, state_byte, s_box, shift_rows, sub_bytes, mixed_column, mix_columns}
 use Rattle.aes128.proofs.WordLemmas.{state_columns}
 
 -- the state of four words
@@ -20,7 +20,7 @@ mix_columns-joined s a b c d sixteen p q r t = joined-same (mixed_column a) (mix
 
 -- column c of the state that ShiftRows takes to this one
 abbrev pub unshifted : List ℕ → ℕ → ℕ → ℕ → ℕ → List ℕ
-unshifted s c c1 c2 c3 = byte_at s 0 c ∷ byte_at s 1 c1 ∷ byte_at s 2 c2 ∷ byte_at s 3 c3 ∷ []
+unshifted s c c1 c2 c3 = state_byte s 0 c ∷ state_byte s 1 c1 ∷ state_byte s 2 c2 ∷ state_byte s 3 c3 ∷ []
 
 -- the state before SubBytes and ShiftRows, from its columns
 pub shift_rows-joined : (s a b c d : List ℕ) → length s ≡ 16

@@ -4,7 +4,7 @@ use Rattle.std.proofs.lemmas.Bool.{and_parts, eqb-true}
 use Rattle.std.proofs.lemmas.List.{same_lists, get_or_default}
 use Rattle.std.specs.Int.Bits.{bit_xor, xor_assoc, xor_zero_r, xor_self}
 use Rattle.aes128.specs.Field.{◌⊕◌, ◌•◌, terms_times, word_product}
-use Rattle.aes128.specs.Cipher.{xor, column, state_of, mixed_column}
+use Rattle.aes128.specs.Cipher.{xor, column, state_of_columns, mixed_column}
 use Rattle.aes128.proofs.FieldLemmas.{weights, at_weights, at_bytes, interchange, product-lt, product-xor, xor_byte, nine_times, eleven_times, thirteen_times, fourteen_times}
 use Rattle.aes128.proofs.XorLemmas.{length-xor, xor-twice}
 
@@ -35,7 +35,7 @@ pub word_cells : (w : List ℕ) → length w ≡ 4 → get_or w 0 0 ∷ get_or w
 unfolding tabulated
 word_cells w four = ap (λ (n : ℕ). tabulated n (λ k. get_or w k 0)) (sym four) ∙ tabulated-get_or w
 
-pub state_columns : (s : List ℕ) → length s ≡ 16 → state_of (λ c. column s c) ≡ s
+pub state_columns : (s : List ℕ) → length s ≡ 16 → state_of_columns (λ c. column s c) ≡ s
 unfolding tabulated
 state_columns s sixteen = ap (λ (n : ℕ). tabulated n (λ k. get_or s k 0)) (sym sixteen) ∙ tabulated-get_or s
 

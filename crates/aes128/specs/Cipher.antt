@@ -20,15 +20,16 @@ xor (a ∷ as') [] = []
 xor (a ∷ as') (b ∷ bs) = (a ⊕ b) ∷ xor as' bs
 
 -- the byte in row r and column c of a state (§3.4)
-abbrev pub byte_at : List ℕ → ℕ → ℕ → ℕ
-byte_at state r c = slice_index state (r + 4 * c)
+abbrev pub state_byte : List ℕ → ℕ → ℕ → ℕ
+state_byte state r c = slice_index state (r + 4 * c)
 
 abbrev pub column : List ℕ → ℕ → List ℕ
-column state c = byte_at state 0 c ∷ byte_at state 1 c ∷ byte_at state 2 c ∷ byte_at state 3 c ∷ []
+column state c =
+    state_byte state 0 c ∷ state_byte state 1 c ∷ state_byte state 2 c ∷ state_byte state 3 c ∷ []
 
 -- the state with these columns
-abbrev pub state_of : (ℕ → List ℕ) → List ℕ
-state_of columns = columns 0 ++ (columns 1 ++ (columns 2 ++ columns 3))
+abbrev pub state_of_columns : (ℕ → List ℕ) → List ℕ
+state_of_columns columns = columns 0 ++ (columns 1 ++ (columns 2 ++ columns 3))
 
 -- the substitution of one byte: its inverse, and then an affine map of the bits (§5.1.1)
 unfoldable pub s_box : ℕ → ℕ
@@ -38,17 +39,17 @@ s_box byte =
 
 -- SubBytes (§5.1.1)
 abbrev pub sub_bytes : List ℕ → List ℕ
-sub_bytes state = state_of (λ c. map s_box (column state c))
+sub_bytes state = state_of_columns (λ c. map s_box (column state c))
 
 -- column c of a state whose row r has moved left by r columns
 abbrev pub shifted_column : List ℕ → ℕ → List ℕ
 shifted_column s c =
-    byte_at s 0 c ∷ byte_at s 1 ((c + 1) % 4) ∷ byte_at s 2 ((c + 2) % 4)
-    ∷ byte_at s 3 ((c + 3) % 4) ∷ []
+    state_byte s 0 c ∷ state_byte s 1 ((c + 1) % 4) ∷ state_byte s 2 ((c + 2) % 4)
+    ∷ state_byte s 3 ((c + 3) % 4) ∷ []
 
 -- ShiftRows (§5.1.2)
 abbrev pub shift_rows : List ℕ → List ℕ
-shift_rows state = state_of (λ c. shifted_column state c)
+shift_rows state = state_of_columns (λ c. shifted_column state c)
 
 -- MixColumns of one column: the product with 3 y^3 + y^2 + y + 2 (§5.1.3)
 abbrev pub mixed_column : List ℕ → List ℕ
@@ -56,7 +57,7 @@ mixed_column = word_product (2 ∷ 1 ∷ 1 ∷ 3 ∷ [])
 
 -- MixColumns (§5.1.3)
 abbrev pub mix_columns : List ℕ → List ℕ
-mix_columns state = state_of (λ c. mixed_column (column state c))
+mix_columns state = state_of_columns (λ c. mixed_column (column state c))
 
 -- RotWord (§5.2)
 abbrev pub rot_word : List ℕ → List ℕ

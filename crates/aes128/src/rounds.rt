@@ -40,7 +40,7 @@ fn round_column(state: &[u8; 16], key: &[u8; 16], c: usize) -> [u8; 4]
 }
 
 #[inline(always)]
-pub fn joined(a: [u8; 4], b: [u8; 4], c: [u8; 4], d: [u8; 4]) -> [u8; 16]
+pub fn joined_columns(a: [u8; 4], b: [u8; 4], c: [u8; 4], d: [u8; 4]) -> [u8; 16]
     ensures { result ≡ column a 0 ++ (column b 0 ++ (column c 0 ++ column d 0)) }
 {
     [
@@ -53,7 +53,7 @@ pub fn joined(a: [u8; 4], b: [u8; 4], c: [u8; 4], d: [u8; 4]) -> [u8; 16]
 pub fn round(state: &mut [u8; 16], key: &[u8; 16])
     ensures { state.new ≡ xor (mix_columns (shift_rows (sub_bytes state.old))) key.now }
 {
-    *state = joined(
+    *state = joined_columns(
         round_column(state, key, 0),
         round_column(state, key, 1),
         round_column(state, key, 2),
@@ -65,7 +65,7 @@ pub fn round(state: &mut [u8; 16], key: &[u8; 16])
 pub fn last_round(state: &mut [u8; 16], key: &[u8; 16])
     ensures { state.new ≡ xor (shift_rows (sub_bytes state.old)) key.now }
 {
-    *state = joined(
+    *state = joined_columns(
         shifted_column(state, 0),
         shifted_column(state, 1),
         shifted_column(state, 2),
@@ -93,7 +93,7 @@ fn unshifted_column(state: &[u8; 16], c: usize) -> [u8; 4]
 fn unshift(state: &mut [u8; 16])
     ensures { state.new ≡ inv_sub_bytes (inv_shift_rows state.old) }
 {
-    *state = joined(
+    *state = joined_columns(
         unshifted_column(state, 0),
         unshifted_column(state, 1),
         unshifted_column(state, 2),
@@ -119,7 +119,7 @@ pub fn column_at(state: &[u8; 16], c: usize) -> [u8; 4]
 fn unmix(state: &mut [u8; 16])
     ensures { state.new ≡ inv_mix_columns state.old }
 {
-    *state = joined(
+    *state = joined_columns(
         unmixed(column_at(state, 0)),
         unmixed(column_at(state, 1)),
         unmixed(column_at(state, 2)),

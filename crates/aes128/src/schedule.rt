@@ -4,7 +4,7 @@ ghost use Rattle.aes128.specs.Cipher.{xor, column, next_round_key, AreRoundKeys,
 ghost use Rattle.aes128.specs.InverseCipher.{plaintext};
 
 use crate::columns::doubled;
-use crate::rounds::{column_at, joined, last_round, round, undo_last_round, unround};
+use crate::rounds::{column_at, joined_columns, last_round, round, undo_last_round, unround};
 use crate::substitution::substituted;
 use crate::sums::xor;
 use lw_types::Key;
@@ -80,5 +80,5 @@ fn next_round_key(key: &[u8; 16], constant: u8) -> [u8; 16]
     let second = sum(column_at(key, 1), first);
     let third = sum(column_at(key, 2), second);
     let fourth = sum(column_at(key, 3), third);
-    joined(first, second, third, fourth)
+    joined_columns(first, second, third, fourth)
 }

@@ -27,7 +27,7 @@ pub fn answer_text(
         (λ e. e ≡ OutOfMemory) }
 {
     let (ans, after) = reply_to(alloc, state, text)?;
-    in_range(ans);
+    answer_in_range(ans);
     Ok((join_ans_text(alloc, &ans)?, after))
 }
 
@@ -105,6 +105,6 @@ fn no_question(state: &JoinState) -> (JoinAns, Option<JoinState>)
 }
 
 // What an answer has by its types.
-fn in_range(_ans: JoinAns)
+fn answer_in_range(_ans: JoinAns)
     ensures { IsAns _ans }
 {}

@@ -29,7 +29,7 @@ pub fn join_req_text(alloc: Global, ask: &JoinAsk) -> Result<String, Refusal>
         × IsJoinReq (string_bytes text) ask.now)
         (λ e. e ≡ OutOfMemory) }
 {
-    Ok(value_of(alloc, ask)?.to_string(alloc)?)
+    Ok(ask_value(alloc, ask)?.to_string(alloc)?)
 }
 
 /// The question that a text is. Any other text is refused as `BadMessage`: white space and the
@@ -45,7 +45,7 @@ pub fn read_join_req(alloc: Global, text: &str) -> Result<JoinAsk, Refusal>
 }
 
 // The value of a question.
-fn value_of(alloc: Global, ask: &JoinAsk) -> Result<Value, AllocError>
+fn ask_value(alloc: Global, ask: &JoinAsk) -> Result<Value, AllocError>
     ensures { IfOk result (λ value. view value ≡ join_req ask.now) }
 {
     Object::new(alloc)
@@ -71,12 +71,12 @@ fn ask_of(value: &Value) -> Option<JoinAsk>
 {
     let mut rest = Rest::of(value)?;
     pass_cf_list(&mut rest)?;
-    let (dl_settings, dev_addr, dev_eui) = device_of(&mut rest)?;
+    let (dl_settings, dev_addr, dev_eui) = device_fields(&mut rest)?;
     let request: JoinRequestBytes = rest.value("PHYPayload")?;
     rest.text("ProtocolVersion", "1.0")?;
     let join_eui: Eui = rest.value("ReceiverID")?;
     let (rx_delay, net_id, transaction) = network_of(&mut rest)?;
-    if is_between(&request, dev_eui, join_eui) {
+    if is_of_pair(&request, dev_eui, join_eui) {
         Some(JoinAsk {
             net_id,
             dev_addr,
@@ -101,7 +101,7 @@ fn pass_cf_list(rest: &mut Rest<'_>) -> Option<()>
 }
 
 // The members from DLSettings to MessageType.
-fn device_of(rest: &mut Rest<'_>) -> Option<(u8, DevAddr, Eui)>
+fn device_fields(rest: &mut Rest<'_>) -> Option<(u8, DevAddr, Eui)>
     ensures found { IfSome result
         (λ p. members_view rest.old.members
         ≡ device_members p.0 p.1 p.2 (members_view rest.new.members)) }
@@ -133,7 +133,7 @@ fn network_of(rest: &mut Rest<'_>) -> Option<(RxDelay, NetId, u32)>
 }
 
 // Whether the device asks this join server.
-fn is_between(request: &JoinRequestBytes, dev_eui: Eui, join_eui: Eui) -> bool
+fn is_of_pair(request: &JoinRequestBytes, dev_eui: Eui, join_eui: Eui) -> bool
     ensures { IsTrue result ↔ ((dev_eui.0 ≡ dev_eui_of request.now)
         × (join_eui.0 ≡ join_eui_of request.now)) }
 {

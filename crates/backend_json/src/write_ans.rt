@@ -22,11 +22,11 @@ pub fn join_ans_text(alloc: Global, ans: &JoinAns) -> Result<String, Refusal>
         × IsJoinAns (string_bytes text) ans.now)
         (λ e. e ≡ OutOfMemory) }
 {
-    Ok(value_of(alloc, ans)?.to_string(alloc)?)
+    Ok(answer_value(alloc, ans)?.to_string(alloc)?)
 }
 
 // The value of an answer.
-fn value_of(alloc: Global, ans: &JoinAns) -> Result<Value, AllocError>
+fn answer_value(alloc: Global, ans: &JoinAns) -> Result<Value, AllocError>
     ensures { IfOk result (λ value. view value ≡ join_ans ans.now) }
 {
     match &ans.result {

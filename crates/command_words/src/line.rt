@@ -72,7 +72,7 @@ pub(crate) fn format<'a>(alloc: Global) -> Result<Command<'a>, AllocError>
         .after_help(FORMAT_EXAMPLE)
         .arg(file)?
         .arg(net_id)?
-        .arg(slots.value_parser(up_to(4096)))
+        .arg(slots.value_parser(number_up_to(4096)))
 }
 
 fn list<'a>(alloc: Global) -> Result<Command<'a>, AllocError>
@@ -107,7 +107,7 @@ fn serve<'a>(alloc: Global) -> Result<Command<'a>, AllocError>
         .after_help(SERVE_EXAMPLE)
         .arg(file)?
         .arg(listen)?
-        .arg(links.value_parser(up_to(80)))
+        .arg(links.value_parser(number_up_to(80)))
 }
 
 // A word that has to be there.
@@ -131,7 +131,7 @@ fn option<'a>(alloc: Global, name: &'a str, value: &'a str, help: &'a str) -> Ar
 }
 
 // Numbers from 1 to this one.
-fn up_to<'a>(most: i64) -> ValueParser<'a>
+fn number_up_to<'a>(most: i64) -> ValueParser<'a>
     requires least { pos 1 ≤ℤ most }
     requires most { most ≤ℤ pos 65535 }
     ensures { result ≡ parsers.Signed (pos 1) most }

@@ -14,7 +14,8 @@ least_from first low = first + (low + 2 ^ 16 - first % 2 ^ 16) % 2 ^ 16
 abbrev pub if_near : ℕ → ℕ → Rebuilt
 if_near first n = if nat_lt n (first + MAX_GAP) && nat_lt n (2 ^ 32) then New n else Gap
 
--- the counter of a frame with these low bits, after the last one that was accepted, if one was
+-- the whole counter of a frame with this FCnt, its low bits, after the last one that was accepted,
+-- if one was
 abbrev pub rebuilt_counter : Option ℕ → ℕ → Rebuilt
 rebuilt_counter None low = if_near 0 (least_from 0 low)
 rebuilt_counter (Some last) low =

@@ -22,9 +22,9 @@ pub enum Rebuilt {
 /// How far above the last counter a new one may be.
 pub const MAX_GAP: u64 = 16_384;
 
-/// The counter of a frame with these low bits, after the last one that was accepted: the least
-/// counter above it with these bits, where that is at most [`MAX_GAP`] above it. Before the first
-/// frame the last one counts as -1. Takes no memory.
+/// The whole counter of a frame with this FCnt, after the last one that was accepted: the least
+/// counter above it with these low bits, where that is at most [`MAX_GAP`] above it. Before the
+/// first frame the last one counts as -1. Takes no memory.
 pub fn rebuild(last: Option<u32>, low: u16) -> Rebuilt
     ensures repeat { (result ≡ Rebuilt.Repeat) ↔ IsRepeat last low }
     ensures new { (n : ℕ) → (result ≡ Rebuilt.New n)

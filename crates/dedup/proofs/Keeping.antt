@@ -12,7 +12,7 @@ use Rattle.lw_types.specs.declared.refusal.Refusal.{Refusal}
 use Rattle.devices.specs.declared.heard.Hearing.{Hearing}
 use Rattle.devices.specs.Heard.{with_hearing}
 use Rattle.dedup.specs.declared.TheConstants.{WAIT, MOST_WINDOWS}
-use Rattle.dedup.specs.Windows.{heard_in, next_due, Window, hearing_of, is_due, is_of, with_hearings, result_map, joined_windows, windows_with, NoneDue, IsOldestDue}
+use Rattle.dedup.specs.Windows.{heard_in, oldest_due, Window, hearing_of, is_due, is_of, with_hearings, result_map, joined_windows, windows_with, NoneDue, IsOldestDue}
 use Rattle.dedup.specs.Kept.{joined_at, opened_too, AreKept}
 use Rattle.dedup.proofs.Places.{IsFirst, first_from_position}
 
@@ -132,5 +132,5 @@ sum_in_range sum (Some x) (below, is) =
     let t : nat_lt sum (2 ^ 64) ≡ true = grind (arith, nat_tests) in
     ap (λ (n : ℕ). Some n) is ∙ ap (λ (b : Bool). cond b (Some sum) None) (sym t)
 
-pub next_due_is : (ws : List Window) (w : Window) (o : Option ℕ) → slice_get ws 0 ≡ Some w → SomeIff o (w.opened + WAIT < 2 ^ 64) (w.opened + WAIT) → o ≡ next_due ws
-next_due_is ws w o at' due = sum_in_range (w.opened + WAIT) o due ∙ ap next_due (sym (first_window ws w at'))
+pub next_due_is : (ws : List Window) (w : Window) (o : Option ℕ) → slice_get ws 0 ≡ Some w → SomeIff o (w.opened + WAIT < 2 ^ 64) (w.opened + WAIT) → o ≡ oldest_due ws
+next_due_is ws w o at' due = sum_in_range (w.opened + WAIT) o due ∙ ap oldest_due (sym (first_window ws w at'))

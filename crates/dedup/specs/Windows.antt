@@ -28,8 +28,8 @@ due_before end [] = None
 due_before end (w ∷ ws) = if nat_lt (w.opened + WAIT) end then Some (w.opened + WAIT) else None
 
 -- as a number of 64 bits
-abbrev pub next_due : List Window → Option ℕ
-next_due ws = due_before (2 ^ 64) ws
+abbrev pub oldest_due : List Window → Option ℕ
+oldest_due ws = due_before (2 ^ 64) ws
 
 abbrev pub hearing_of : FrameCopy → Hearing
 hearing_of copy = record { reception = copy.reception; stamp = copy.stamp }

@@ -5,7 +5,7 @@ ghost use Rattle.std.specs.List.{list_any};
 ghost use Rattle.lw_types.specs.Answer.{Answers};
 ghost use Rattle.devices.specs.Heard.{IsReceivable};
 ghost use Rattle.dedup.specs.Windows.{windows_with, heard_now, is_of, IsCurrent, IsOldestDue};
-ghost use Rattle.dedup.specs.Windows.{NoneDue, next_due};
+ghost use Rattle.dedup.specs.Windows.{NoneDue, oldest_due};
 ghost use Rattle.dedup.specs.Kept.{opened_too};
 
 use crate::gatherings::{Gathering, Gatherings};
@@ -109,7 +109,7 @@ impl Windows {
     /// The moment at which the oldest window is due, 200 ms after it opened. `None` where no window
     /// is open, and where that moment is past 2^64 - 1. Takes no memory.
     pub fn next_due(&self) -> Option<u64>
-        ensures { result ≡ next_due self.now }
+        ensures { result ≡ oldest_due self.now }
     {
         let (_, gathering) = self.gatherings.first()?;
         gathering.opened.checked_add(WAIT)

@@ -134,7 +134,7 @@ impl Activation {
         });
     }
 
-    /// The current session had a downlink, which used its next counter up.
+    /// The current session had a downlink, which used its next counter (FCntDown) up.
     pub fn use_down(&mut self, current: CurrentSession)
         requires in_use { self.old.current ≡ Some current }
         requires is_left { current.next_down < 2 ^ 32 }

@@ -19,9 +19,9 @@ is_confirmed None = false
 is_confirmed (Some item) = item.confirmed
 
 -- FPort, and the item's payload under the AppSKey (§4.3.3)
-abbrev pub message_of : DevAddr → CurrentSession → Option Item → Option PortPayload
-message_of addr c None = None
-message_of addr c (Some item) =
+abbrev pub item_payload : DevAddr → CurrentSession → Option Item → Option PortPayload
+item_payload addr c None = None
+item_payload addr c (Some item) =
     Some (record {
       f_port = item.port;
       frm_payload = crypted_payload c.session.app_skey.0 Down addr.0 c.next_down item.payload;
@@ -35,7 +35,7 @@ frame_with mic addr c fields =
       dev_addr = addr;
       control = Downlink false fields.ack fields.f_pending;
       f_cnt = c.next_down % 2 ^ 16;
-      contents = carried_contents fields.f_opts (message_of addr c fields.item);
+      contents = carried_contents fields.f_opts (item_payload addr c fields.item);
       mic = mic;
     }
 
@@ -51,5 +51,5 @@ mic_of addr c fields =
     }
 
 -- the frame of a downlink with these fields
-unfoldable pub frame_of : DevAddr → CurrentSession → DownlinkFields → DataFrame
-frame_of addr c fields = frame_with (mic_of addr c fields) addr c fields
+unfoldable pub sent_frame : DevAddr → CurrentSession → DownlinkFields → DataFrame
+sent_frame addr c fields = frame_with (mic_of addr c fields) addr c fields

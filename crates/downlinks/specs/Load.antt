@@ -53,8 +53,9 @@ item_len None = 0
 item_len (Some item) = length item.payload
 
 -- the item that goes: the oldest, where it fits
-abbrev pub item_of : Device → Demand → Option Item
-item_of d asked = if_fits (rx1_data_rate d asked.best) (f_opts_of d asked) (slice_get d.items 0)
+abbrev pub fitting_item : Device → Demand → Option Item
+fitting_item d asked =
+    if_fits (rx1_data_rate d asked.best) (f_opts_of d asked) (slice_get d.items 0)
 
 -- ---- the queues
 
@@ -72,13 +73,13 @@ abbrev pub without_load : Device → Demand → Device
 without_load d asked =
     record d {
       mac_queue = drop (going_len d asked) d.mac_queue;
-      items = items_behind (item_of d asked) d.items;
+      items = items_behind (fitting_item d asked) d.items;
     }
 
 -- ---- when
 
 -- whether a downlink is due: the uplink asks for one, MAC commands wait, or an item fits
-abbrev pub is_due : Device → Demand → Bool
-is_due d asked =
+abbrev pub is_downlink_due : Device → Demand → Bool
+is_downlink_due d asked =
     asked.confirmed || (asked.adr_ack_req
-    || (asked.link_check || (has_any d.mac_queue || is_some (item_of d asked))))
+    || (asked.link_check || (has_any d.mac_queue || is_some (fitting_item d asked))))

@@ -19,8 +19,9 @@ use Rattle.devices.specs.declared.mark.SessionName.{SessionName}
 use Rattle.devices.specs.declared.queue.Item.{Item}
 use Rattle.devices.specs.declared.Tag.{Tag}
 use Rattle.downlinks.specs.declared.load.Demand.{Demand}
-use Rattle.downlinks.specs.Load.{f_opts_of, is_due, item_of, rx1_data_rate, without_load, has_any}
-use Rattle.downlinks.specs.Frame.{DownlinkFields, frame_of}
+use Rattle.downlinks.specs.Load.{f_opts_of, fitting_item, has_any, is_downlink_due}
+use Rattle.downlinks.specs.Load.{rx1_data_rate, without_load}
+use Rattle.downlinks.specs.Frame.{DownlinkFields, sent_frame}
 
 -- ---- how it is sent
 
@@ -33,7 +34,7 @@ windows_for frame = if nat_le (length frame) (1 + 59 + 4) then Rx1OrRx2 else Rx1
 -- RX2
 abbrev pub downlink : DevAddr → Device → CurrentSession → Hearing → DownlinkFields → Downlink
 downlink addr d c best fields =
-    let bytes = spelling (DataFrame (frame_of addr c fields)) in
+    let bytes = spelling (DataFrame (sent_frame addr c fields)) in
     record {
       gateway = best.reception.gateway;
       stamp = best.stamp;
@@ -55,7 +56,7 @@ abbrev pub awaited_by : Option Item → Option Tag → Option Tag
 awaited_by None awaited = awaited
 awaited_by (Some item) awaited = if item.confirmed then Some item.tag else awaited
 
--- the record of a device after a downlink: its counter is used up
+-- the record of a device after a downlink, which uses its FCntDown up
 abbrev pub device_after_downlink : Device → CurrentSession → Option Item → Device
 device_after_downlink d c item =
     record d { activation = with_down_used d.activation c; awaited = awaited_by item d.awaited }
@@ -92,9 +93,9 @@ address net_id slot c = dev_addr net_id slot c.session.join_nonce
 -- a new uplink in this session is answered, where a downlink is due
 abbrev pub answer_step : ℕ → ℕ → Device → CurrentSession → Demand → DeviceStep
 answer_step net_id slot d c asked =
-    if is_due d asked
+    if is_downlink_due d asked
     then sending_or_spent_step (address net_id slot c) d (without_load d asked) c asked.best
-    (downlink_fields (f_opts_of d asked) (item_of d asked) asked.confirmed
+    (downlink_fields (f_opts_of d asked) (fitting_item d asked) asked.confirmed
     (more_waits (without_load d asked)))
     else device_step d []
 

@@ -3,7 +3,7 @@ ghost use Rattle.std.specs.Prelude.{◌≡◌, ◌≤◌, ◌<◌, ◌+◌, ◌^
 ghost use Rattle.lw_types.specs.declared.refusal.Refusal.TheVariants.{OutOfMemory};
 ghost use Rattle.phy_payload.specs.Frame.{spelling};
 ghost use Rattle.phy_payload.specs.declared.phy.Phy.{Phy};
-ghost use Rattle.downlinks.specs.Frame.{frame_of, frame_with, is_confirmed, message_of};
+ghost use Rattle.downlinks.specs.Frame.{sent_frame, frame_with, is_confirmed, item_payload};
 ghost use Rattle.downlinks.specs.Load.{item_len};
 
 use devices::{CurrentSession, Item};
@@ -26,7 +26,7 @@ pub(crate) struct DownlinkFields {
 impl DownlinkFields {
     /// The frame of these fields, under the session's keys and its next counter. For want of memory
     /// it is refused as `OutOfMemory`.
-    #[tactic(auto, unfolding(crate::specs::Frame::frame_of, phy_payload::specs::Frame::spelling))]
+    #[tactic(auto, unfolding(crate::specs::Frame::sent_frame, phy_payload::specs::Frame::spelling))]
     pub(crate) fn into_phy_payload(
         self,
         alloc: Global,
@@ -36,7 +36,7 @@ impl DownlinkFields {
         requires left { current.now.next_down < 2 ^ 32 }
         requires short { length self.f_opts + item_len self.item ≤ LONGEST_PAYLOAD }
         ensures { MatchResult result
-            (λ frame. frame ≡ spelling (Phy.DataFrame (frame_of addr current.now self)))
+            (λ frame. frame ≡ spelling (Phy.DataFrame (sent_frame addr current.now self)))
             (λ e. e ≡ OutOfMemory) }
     {
         let counter = next_counter(current);
@@ -65,7 +65,7 @@ impl DownlinkFields {
         let confirmed = is_confirmed(&item);
         let message = match item {
             None => None,
-            Some(item) => Some(message_of(addr, current, item)),
+            Some(item) => Some(item_payload(addr, current, item)),
         };
         DataFrame {
             confirmed,
@@ -101,9 +101,9 @@ fn is_confirmed(item: &Option<Item>) -> bool
 }
 
 // FPort, and the item's payload, encrypted in place.
-fn message_of(addr: DevAddr, current: &CurrentSession, item: Item) -> PortPayload
+fn item_payload(addr: DevAddr, current: &CurrentSession, item: Item) -> PortPayload
     requires { current.now.next_down < 2 ^ 32 }
-    ensures message { Some result ≡ message_of addr current.now (Some item) }
+    ensures message { Some result ≡ item_payload addr current.now (Some item) }
     ensures length { length result.frm_payload ≡ length item.payload }
 {
     frame_crypt::laws::a_crypted_payload_has_the_length();

@@ -3,7 +3,8 @@ ghost use Rattle.std.specs.Prelude.{◌≡◌, ◌≤◌, ◌+◌, ◌-◌, leng
 ghost use Rattle.std.specs.Prelude.{MatchBool, MatchResult};
 ghost use Rattle.lw_types.specs.declared.refusal.Refusal.TheVariants.{OutOfMemory};
 ghost use Rattle.devices.specs.Heard.{IsReceivable};
-ghost use Rattle.downlinks.specs.Load.{own_answers, f_opts_of, is_due, item_len, item_of};
+ghost use Rattle.downlinks.specs.Load.{f_opts_of, fitting_item, item_len};
+ghost use Rattle.downlinks.specs.Load.{is_downlink_due, own_answers};
 ghost use Rattle.downlinks.specs.Load.{link_check_ans, rx1_data_rate, without_load};
 
 use devices::{Copies, Device, Hearing, Item};
@@ -43,7 +44,7 @@ impl Load {
         requires { IsReceivable asked.now.best.reception }
         ensures load { MatchResult result
             (λ load. (load.f_opts ≡ f_opts_of device.old asked.now)
-            × (load.item ≡ item_of device.old asked.now)
+            × (load.item ≡ fitting_item device.old asked.now)
             × (device.new ≡ without_load device.old asked.now))
             (λ e. e ≡ OutOfMemory) }
         ensures short { IfOk result
@@ -59,9 +60,9 @@ impl Load {
 
 /// Whether a downlink is due: the uplink asks for one, MAC commands wait, or an item fits. Takes no
 /// memory.
-pub(crate) fn is_due(device: &Device, asked: &Demand) -> bool
+pub(crate) fn is_downlink_due(device: &Device, asked: &Demand) -> bool
     requires { IsReceivable asked.now.best.reception }
-    ensures { result ≡ is_due device.now asked.now }
+    ensures { result ≡ is_downlink_due device.now asked.now }
 {
     asked.confirmed
         || asked.adr_ack_req
@@ -90,7 +91,7 @@ impl Demand {
         }
     }
 
-    // The answer to a LinkCheckReq.
+    // LinkCheckAns: Margin and GwCnt, which answer a LinkCheckReq.
     fn link_check_ans(&self) -> [u8; 3]
         requires { IsReceivable self.now.best.reception }
         ensures { result ≡ link_check_ans self.now }
@@ -129,12 +130,12 @@ fn f_opts_len(device: &Device, asked: &Demand) -> usize
 // payload are within the largest MACPayload of RX1.
 fn first_item_goes(device: &Device, asked: &Demand) -> bool
     requires { IsReceivable asked.now.best.reception }
-    ensures goes { result ≡ is_some (item_of device.now asked.now) }
+    ensures goes { result ≡ is_some (fitting_item device.now asked.now) }
     ensures which { MatchBool result
-        (item_of device.now asked.now ≡ slice_get device.now.items 0)
-        (item_of device.now asked.now ≡ None) }
+        (fitting_item device.now asked.now ≡ slice_get device.now.items 0)
+        (fitting_item device.now asked.now ≡ None) }
     ensures short { length (f_opts_of device.now asked.now)
-        + item_len (item_of device.now asked.now) ≤ LONGEST_PAYLOAD }
+        + item_len (fitting_item device.now asked.now) ≤ LONGEST_PAYLOAD }
 {
     region_eu868::laws::payloads_are_short();
     let f_opts_len = f_opts_len(device, asked);

@@ -215,7 +215,7 @@ fn windows_for(frame: &PhyPayload) -> ReceiveWindows
     }
 }
 
-// Whether more waits for the device.
+// FPending: whether more waits for the device.
 fn more_waits(device: &Device) -> bool
     ensures { result ≡ more_waits device.now }
 {

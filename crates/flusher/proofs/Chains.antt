@@ -10,7 +10,7 @@ use Rattle.store.specs.State.{StoreState}
 use Rattle.store.specs.UnderWay.{IsOnItsWay, flights_behind, flights_in}
 use Rattle.store.specs.declared.under_way.UnderWay.{UnderWay}
 use Rattle.store.specs.declared.under_way.UnderWay.TheVariants.{Begun, Written, BodySynced, GateWritten, Following, Paired, Checkpoint}
-use Rattle.flusher.specs.Chain.{GivesAll, FeedGives, LeaveInOrder, decisions_in}
+use Rattle.flusher.specs.Chain.{GivesAll, FeedGives, LeaveInOrder, batched_decisions}
 use Rattle.flusher.specs.Cycle.{Commits}
 use Rattle.flusher.proofs.Holding.{AreFolded}
 use Rattle.flusher.proofs.Living.{AreComposed}
@@ -109,20 +109,20 @@ pub record FoldLaws : Type 0 where
 commands-append : (first second : List Decision) → commands_of (first ++ second) ≡ commands_of first ++ commands_of second
 commands-append first second = map-append (λ (d : Decision). d.command) first second
 
-pub decisions_then : (batches : List (List Decision)) (batch : List Decision) → decisions_in (batches ++ batch ∷ []) ≡ decisions_in batches ++ batch
+pub decisions_then : (batches : List (List Decision)) (batch : List Decision) → batched_decisions (batches ++ batch ∷ []) ≡ batched_decisions batches ++ batch
 decisions_then [] batch = append-nil batch
-decisions_then (b ∷ batches) batch = ap (λ l. b ++ l) (decisions_then batches batch) ∙ sym (append_assoc b (decisions_in batches) batch)
+decisions_then (b ∷ batches) batch = ap (λ l. b ++ l) (decisions_then batches batch) ∙ sym (append_assoc b (batched_decisions batches) batch)
 
 -- nothing is committed yet
 pub commits_none : (s : StoreState) → Commits s s []
 commits_none s = record { continues = record { fit = tt; numbered = tt }; table = refl; seq = omega arith }
 
 -- one batch more is committed
-pub commits_more : FoldLaws → (old s new : StoreState) (batches : List (List Decision)) (batch : List Decision) → Commits old s (decisions_in batches)
+pub commits_more : FoldLaws → (old s new : StoreState) (batches : List (List Decision)) (batch : List Decision) → Commits old s (batched_decisions batches)
     → IsLegalContinuation s.table s.seq batch → new.table ≡ with_decisions s.table batch → new.seq ≡ s.seq + length batch
-    → Commits old new (decisions_in (batches ++ batch ∷ []))
+    → Commits old new (batched_decisions (batches ++ batch ∷ []))
 commits_more laws old s new batches batch before legal table seq =
-    let ds = decisions_in batches in
+    let ds = batched_decisions batches in
     let there : s.table ≡ with_decisions old.table ds = before.table ∙ laws.folded old.table ds before.continues.fit in
     let next = subst (λ n. ContinueAll (with_decisions old.table ds) n batch) before.seq (subst (λ t. ContinueAll t s.seq batch) there legal.continues) in
     let all = laws.continued old.table old.seq ds batch before.continues next in
@@ -143,13 +143,13 @@ gives_more gives old mid new (b ∷ batches) more (next, first, rest) then = (ne
 
 -- the table that batches leave
 fold_then : FoldLaws → (t : TableState) (batch : List Decision) (batches : List (List Decision))
-    → fold_of (fold_of t (commands_of batch)) (commands_of (decisions_in batches)) ≡ fold_of t (commands_of (batch ++ decisions_in batches))
+    → fold_of (fold_of t (commands_of batch)) (commands_of (batched_decisions batches)) ≡ fold_of t (commands_of (batch ++ batched_decisions batches))
 fold_then laws t batch batches =
-    sym (laws.composed t (commands_of batch) (commands_of (decisions_in batches))) ∙ ap (fold_of t) (sym (commands-append batch (decisions_in batches)))
+    sym (laws.composed t (commands_of batch) (commands_of (batched_decisions batches))) ∙ ap (fold_of t) (sym (commands-append batch (batched_decisions batches)))
 
 pub leave_more : FoldLaws → {C V : Type 0} (effects : V → List Effect) (call : C → V → C → Type 0) (t : TableState) (batches : List (List Decision)) (batch : List Decision)
     (old mid new : C) (released : V) → LeaveInOrder effects call t batches old mid
-    → effects released ≡ effects_of (fold_of t (commands_of (decisions_in batches))) (commands_of batch) → call mid released new
+    → effects released ≡ effects_of (fold_of t (commands_of (batched_decisions batches))) (commands_of batch) → call mid released new
     → LeaveInOrder effects call t (batches ++ batch ∷ []) old new
 leave_more laws effects call t [] batch old mid new released is all made = (released, (new, (all, (subst (λ o. call o released new) is made, refl))))
 leave_more laws effects call t (b ∷ batches) batch old mid new released (v, (next, (first, (step, rest)))) all made = (

@@ -21,7 +21,7 @@ use Rattle.store.specs.declared.store.Store.{Store}
 use Rattle.flusher.specs.Calls.{IsUntouched, LastFailed, NoneFailed}
 use Rattle.flusher.specs.declared.core_feed.CoreFeed.{CoreFeed}
 use Rattle.flusher.specs.Chain.HasBroken.{FeedRefused, HadNoRoom, WasUncommitted, WasUnready}
-use Rattle.flusher.specs.Chain.{FeedGives, GivesAll, HasBroken, HasEnded, IsChain, LeaveInOrder, decisions_in, store_behind}
+use Rattle.flusher.specs.Chain.{FeedGives, GivesAll, HasBroken, HasEnded, IsChain, LeaveInOrder, batched_decisions, store_behind}
 use Rattle.flusher.specs.Cycle.{HoldsWithOrWithout}
 use Rattle.flusher.specs.Deciding.{CommitsDecided, IsInStep, StaysInStep, TakesBehind, with_decided}
 
@@ -111,32 +111,32 @@ pub folds_then : {S A : Type 0} (step : S → A → S → Type 0) (p q r : S) (x
 folds_then step p q r [] ys is more = subst (λ s. FoldsTo step s ys r) (sym is) more
 folds_then step p q r (x ∷ xs) ys (mid, first, rest) more = (mid, first, folds_then step mid q r xs ys rest more)
 
-one_more : (batches : List (List Decision)) (b : List Decision) → decisions_in (batches ++ b ∷ []) ≡ decisions_in batches ++ b
-one_more batches b = flat_map-append (λ batch. batch) batches (b ∷ []) ∙ ap (λ l. decisions_in batches ++ l) (append-nil b)
+one_more : (batches : List (List Decision)) (b : List Decision) → batched_decisions (batches ++ b ∷ []) ≡ batched_decisions batches ++ b
+one_more batches b = flat_map-append (λ batch. batch) batches (b ∷ []) ∙ ap (λ l. batched_decisions batches ++ l) (append-nil b)
 
 module _ (laws : TakingLaws) {F : Type 0} (gives : FeedGives F) (core : F → DecisionsState)
     (tells : (f g : F) (answer : Result (List Decision) Refusal) → gives f MOST answer g → (decided : List Decision) × TakesBehind (core f) decided MOST answer (core g)) where
   -- what several batches that were given leave
   pub record Came (s : StoreState) (old new : DecisionsState) (batches : List (List Decision)) : Type 0 where
     pub decided : List Decision
-    pub parts : decisions_in batches ++ new.log ≡ old.log ++ decided
+    pub parts : batched_decisions batches ++ new.log ≡ old.log ++ decided
     pub continues : ContinueAll old.base (old.opening + old.taken) (old.log ++ decided)
     pub goes_on : IsInStep (store_behind s batches) new
     pub later : (more : List Decision) → ContinueAll new.base (new.opening + new.taken) (new.log ++ more)
         → ContinueAll old.base (old.opening + old.taken) (old.log ++ (decided ++ more))
 
   same_store : (s : StoreState) (batches : List (List Decision)) (b : List Decision)
-      → fold_of (store_behind s (b ∷ [])).table (commands_of (decisions_in batches)) ≡ (store_behind s (b ∷ batches)).table
+      → fold_of (store_behind s (b ∷ [])).table (commands_of (batched_decisions batches)) ≡ (store_behind s (b ∷ batches)).table
   same_store s batches b =
-      ap (λ l. fold_of (fold_of s.table (commands_of l)) (commands_of (decisions_in batches))) (append-nil b)
-      ∙ (sym (laws.composing s.table (commands_of b) (commands_of (decisions_in batches)))
-      ∙ ap (fold_of s.table) (sym (map-append (λ (d : Decision). d.command) b (decisions_in batches))))
+      ap (λ l. fold_of (fold_of s.table (commands_of l)) (commands_of (batched_decisions batches))) (append-nil b)
+      ∙ (sym (laws.composing s.table (commands_of b) (commands_of (batched_decisions batches)))
+      ∙ ap (fold_of s.table) (sym (map-append (λ (d : Decision). d.command) b (batched_decisions batches))))
 
   same_number : (s : StoreState) (batches : List (List Decision)) (b : List Decision)
-      → (store_behind s (b ∷ [])).seq + length (decisions_in batches) ≡ (store_behind s (b ∷ batches)).seq
+      → (store_behind s (b ∷ [])).seq + length (batched_decisions batches) ≡ (store_behind s (b ∷ batches)).seq
   same_number s batches b =
       let one : length (b ++ []) ≡ length b = ap length (append-nil b) in
-      let all = length-append b (decisions_in batches) in
+      let all = length-append b (batched_decisions batches) in
       omega (arith, one, all)
 
   pub came : (s : StoreState) (f : F) (batches : List (List Decision)) (g : F) → GivesAll gives f batches g → IsInStep s (core f)
@@ -157,7 +157,7 @@ module _ (laws : TakingLaws) {F : Type 0} (gives : FeedGives F) (core : F → De
       record {
         decided = told.0 ++ next.decided;
         parts =
-            append_assoc b (decisions_in batches) (core g).log
+            append_assoc b (batched_decisions batches) (core g).log
             ∙ (ap (λ l. b ++ l) next.parts
             ∙ (sym (append_assoc b (core mid).log next.decided)
             ∙ (ap (λ l. l ++ next.decided) (parts laws s (core f) (core mid) told.0 b from told.1)
@@ -210,7 +210,7 @@ module _ (laws : TakingLaws) {F : Type 0} (gives : FeedGives F) (core : F → De
   on_from s t core table seq from = record { table = from.table ∙ sym table; seq = from.seq ∙ sym seq }
 
   pub ended : (most : ℕ) (s new : StoreState) (old : DecisionsState) (batches : List (List Decision)) (f g : F) → Came s old (core f) batches
-      → new.table ≡ fold_of s.table (commands_of (decisions_in batches)) → new.seq ≡ s.seq + length (decisions_in batches)
+      → new.table ≡ fold_of s.table (commands_of (batched_decisions batches)) → new.seq ≡ s.seq + length (batched_decisions batches)
       → HasEnded gives most new batches f g → IsInStep new (core g)
   ended most s new old batches f g so table seq (inl (same, why)) =
       subst (λ f. IsInStep new (core f)) (sym same) (on_from (store_behind s batches) new (core f) table seq so.goes_on)
@@ -224,17 +224,17 @@ module _ (laws : TakingLaws) {F : Type 0} (gives : FeedGives F) (core : F → De
 -- the effects of batches are given away in calls, which are all of theirs
 left_in_calls : (laws : TakingLaws) {C V : Type 0} (effects : V → List Effect) (call : C → V → C → Type 0) (t : TableState) (batches : List (List Decision)) (p q : C)
     → LeaveInOrder effects call t batches p q
-    → (calls : List V) × ((flat_map effects calls ≡ effects_of t (commands_of (decisions_in batches))) × FoldsTo call p calls q)
+    → (calls : List V) × ((flat_map effects calls ≡ effects_of t (commands_of (batched_decisions batches))) × FoldsTo call p calls q)
 left_in_calls laws effects call t [] p q same = ([], (refl, sym same))
 left_in_calls laws effects call t (b ∷ batches) p q (released, (next, (all, (made, rest)))) =
     let later = left_in_calls laws effects call (fold_of t (commands_of b)) batches next q rest in
-    let lists : commands_of (b ++ decisions_in batches) ≡ commands_of b ++ commands_of (decisions_in batches) =
-    map-append (λ (d : Decision). d.command) b (decisions_in batches) in (
+    let lists : commands_of (b ++ batched_decisions batches) ≡ commands_of b ++ commands_of (batched_decisions batches) =
+    map-append (λ (d : Decision). d.command) b (batched_decisions batches) in (
       released ∷ later.0,
       (
         ap (λ l. l ++ flat_map effects later.0) all
             ∙ (ap (λ l. effects_of t (commands_of b) ++ l) later.1.0
-            ∙ (sym (laws.effects t (commands_of b) (commands_of (decisions_in batches))) ∙ ap (effects_of t) (sym lists))),
+            ∙ (sym (laws.effects t (commands_of b) (commands_of (batched_decisions batches))) ∙ ap (effects_of t) (sym lists))),
         (next, made, later.1.1),
       ),
     )
@@ -259,7 +259,7 @@ module _ (laws : TakingLaws) {D C V : Type 0} (disk : Ghosts D) (effects : V →
   abbrev EndsSo : Result ℕ Refusal → Type 0
   EndsSo r =
       MatchResult r
-      (λ count. (count ≡ length (decisions_in is.batches)) × ((is.torn ≡ [])
+      (λ count. (count ≡ length (batched_decisions is.batches)) × ((is.torn ≡ [])
       × HasEnded core_gives most (store_state disk.state new) is.batches is.feed g))
       (λ e. (length is.batches < most)
       × HasBroken core_gives most (IsUntouched disk.state old new)
@@ -280,17 +280,17 @@ module _ (laws : TakingLaws) {D C V : Type 0} (disk : Ghosts D) (effects : V →
           in_step laws core_gives (λ f. f.core.decisions) core_tells most (IsUntouched disk.state old new) (LastFailed disk.failures disk.outlook old new)
           (store_state disk.state old) f.core.decisions is.batches is.torn is.feed g e so broken
 
-  given_away : (calls : List V) × ((flat_map effects calls ≡ effects_of (store_state disk.state old).table (commands_of (decisions_in is.batches))) × FoldsTo call p calls q)
+  given_away : (calls : List V) × ((flat_map effects calls ≡ effects_of (store_state disk.state old).table (commands_of (batched_decisions is.batches))) × FoldsTo call p calls q)
   given_away = left_in_calls laws effects call (store_state disk.state old).table is.batches p q is.leave
 
   -- what was decided, where so much is torn
-  commits : (decided torn waiting : List Decision) → is.torn ≡ torn → decisions_in is.batches ++ (torn ++ waiting) ≡ f.core.decisions.log ++ decided
+  commits : (decided torn waiting : List Decision) → is.torn ≡ torn → batched_decisions is.batches ++ (torn ++ waiting) ≡ f.core.decisions.log ++ decided
       → ContinueAll f.core.decisions.base (f.core.decisions.opening + f.core.decisions.taken) (f.core.decisions.log ++ decided)
       → CommitsDecided disk.honest effects call (store_state disk.state old) (store_state disk.state new) f.core.decisions p q
   commits decided torn waiting torn_is lists continue =
       record {
         decided = decided;
-        committed = decisions_in is.batches;
+        committed = batched_decisions is.batches;
         torn = torn;
         waiting = waiting;
         beginning = lists;
@@ -313,7 +313,7 @@ module _ (laws : TakingLaws) {D C V : Type 0} (disk : Ghosts D) (effects : V →
       let all = came laws core_gives (λ f. f.core.decisions) core_tells (store_state disk.state old) f (is.batches ++ is.torn ∷ []) next
       (folds_then (λ (feed : CoreFeed) (batch : List Decision) (next : CoreFeed). (batch ≢ []) × core_gives feed MOST (Ok batch) next) f is.feed next is.batches (is.torn ∷ []) is.given given) from on in
       commits all.decided is.torn next.core.decisions.log refl
-      (sym (append_assoc (decisions_in is.batches) is.torn next.core.decisions.log)
+      (sym (append_assoc (batched_decisions is.batches) is.torn next.core.decisions.log)
       ∙ (ap (λ l. l ++ next.core.decisions.log) (sym (one_more is.batches is.torn)) ∙ all.parts)) all.continues
 
   by_break : (e : Refusal) → HasBroken core_gives most (IsUntouched disk.state old new) (LastFailed disk.failures disk.outlook old new)
@@ -353,8 +353,8 @@ module _ (laws : TakingLaws) {D C V : Type 0} (disk : Ghosts D) (effects : V →
       let more : is.feed.core.decisions.log ++ told.0 ≡ g.core.decisions.log =
       sym (parts laws behind is.feed.core.decisions g.core.decisions told.0 [] so.goes_on told.1) in (
         commits (so.decided ++ told.0) [] g.core.decisions.log none
-            (ap (λ l. decisions_in is.batches ++ l) (sym more)
-            ∙ (sym (append_assoc (decisions_in is.batches) is.feed.core.decisions.log told.0)
+            (ap (λ l. batched_decisions is.batches ++ l) (sym more)
+            ∙ (sym (append_assoc (batched_decisions is.batches) is.feed.core.decisions.log told.0)
             ∙ (ap (λ l. l ++ told.0) so.parts ∙ append_assoc f.core.decisions.log so.decided told.0)))
             (so.later told.0 told.1.lawful.continues),
         (

@@ -27,7 +27,7 @@ use Rattle.store.specs.declared.under_way.UnderWay.TheVariants.{Begun, Written, 
 use Rattle.flusher.specs.declared.room.Room.{Room}
 use Rattle.flusher.specs.Calls.{IsUntouched, LastFailed, NoneFailed}
 use Rattle.flusher.specs.Chain.HasBroken.{FeedRefused, HadNoRoom, WasUncommitted}
-use Rattle.flusher.specs.Chain.{GivesAll, FeedGives, HasBroken, HasEnded, IsChainOfSome, IsFollowRefusal, LeaveInOrder, NoneFollows, decisions_in, store_behind, store_behind_opened}
+use Rattle.flusher.specs.Chain.{GivesAll, FeedGives, HasBroken, HasEnded, IsChainOfSome, IsFollowRefusal, LeaveInOrder, NoneFollows, batched_decisions, store_behind, store_behind_opened}
 use Rattle.flusher.specs.Cycle.{Commits, HoldsWithOrWithout, IsUncommitted}
 use Rattle.flusher.proofs.Calling.{calls_then, none_then, one_call}
 use Rattle.flusher.proofs.Chains.{FoldLaws, batches_of}
@@ -254,7 +254,7 @@ module _ (laws : FoldLaws) (on_disk : IsSettledOnDisk) {D F C V : Type 0} (disk 
     not_none : batches ≢ []
     not_none is = absurd (let zero = ap (length {A = List Decision}) is in omega (arith, zero, long))
 
-    committed : Commits s0 s2 (decisions_in batches)
+    committed : Commits s0 s2 (batched_decisions batches)
     committed = commits' laws disk gives effects step most old now new before feed old_out mid_out out under_way more count end flying up_to durable along None e released all made
 
     came : GivesAll gives before batches up_to.here

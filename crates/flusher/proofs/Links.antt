@@ -25,7 +25,7 @@ use Rattle.store.specs.declared.under_way.UnderWay.{UnderWay}
 use Rattle.store.specs.declared.under_way.UnderWay.TheVariants.{Begun, Written, BodySynced, GateWritten, Following, Paired, Checkpoint}
 use Rattle.flusher.specs.declared.room.Room.{Room}
 use Rattle.flusher.specs.Calls.{NoneFailed}
-use Rattle.flusher.specs.Chain.{FollowsOpened, GivesAll, FeedGives, IsFollowRefusal, LeaveInOrder, NoneFollows, decisions_in}
+use Rattle.flusher.specs.Chain.{FollowsOpened, GivesAll, FeedGives, IsFollowRefusal, LeaveInOrder, NoneFollows, batched_decisions}
 use Rattle.flusher.specs.Cycle.{Commits}
 use Rattle.flusher.proofs.Calling.{none_then, one_call}
 use Rattle.flusher.proofs.Chains.{FoldLaws, batches_of, batches_stay, commits_more, decisions_then, failed_durable, first_legal, gives_more, leave_more, none_durable, none_durable_behind, rank_of}
@@ -54,9 +54,9 @@ pub record IsUpTo {D F C V : Type 0} (disk : Ghosts D) (gives : FeedGives F) (ef
   pub given : GivesAll gives before done mid
   pub taken : GivesAll gives mid (batches_of (flights_in under_way)) here
   pub number : length done + length (flights_in under_way) + more ≡ most
-  pub commits : Commits (store_state disk.state old) (store_state disk.state now) (decisions_in done)
+  pub commits : Commits (store_state disk.state old) (store_state disk.state now) (batched_decisions done)
   pub leave : LeaveInOrder effects call (store_state disk.state old).table done old_out out
-  pub counted : count ≡ length (decisions_in done)
+  pub counted : count ≡ length (batched_decisions done)
   pub behind : IsBehind gives more (store_state disk.state now) here feed under_way end
 
 -- ---- what a call makes of the batches under way
@@ -332,7 +332,7 @@ module _ (laws : FoldLaws) {D F C V : Type 0} (disk : Ghosts D) (gives : FeedGiv
   abbrev pub done' : List (List Decision)
   done' = up_to.done ++ batch ∷ []
 
-  pub commits' : Commits s0 s2 (decisions_in done')
+  pub commits' : Commits s0 s2 (batched_decisions done')
   commits' =
       commits_more laws s0 s1 s2 up_to.done batch up_to.commits legal (durable_table disk now new under_way durable along behind e)
       (durable_seq disk now new under_way durable along behind e)
@@ -345,10 +345,10 @@ module _ (laws : FoldLaws) {D F C V : Type 0} (disk : Ghosts D) (gives : FeedGiv
       leave_more laws effects step s0.table up_to.done batch old_out mid_out out released up_to.leave
       (all ∙ (sym (laws.effects s1.table batch legal.continues.fit) ∙ ap (λ (t : TableState). effects_of t (commands_of batch)) up_to.commits.table)) made
 
-  pub counted' : (many : ℕ) → many ≡ length batch → count + many ≡ length (decisions_in done')
+  pub counted' : (many : ℕ) → many ≡ length batch → count + many ≡ length (batched_decisions done')
   counted' many is =
       let before = up_to.counted in
-      let long = ap (length {A = Decision}) (decisions_then up_to.done batch) ∙ length-append (decisions_in up_to.done) batch in
+      let long = ap (length {A = Decision}) (decisions_then up_to.done batch) ∙ length-append (batched_decisions up_to.done) batch in
       omega (arith, is, before, long)
 
   -- and the others go on

@@ -12,7 +12,7 @@ use Rattle.store.specs.Image.{HoldsTable}
 use Rattle.store.specs.State.{StoreState, IsOpened, IsSettled, StillHolds}
 use Rattle.flusher.specs.Cycle.{Commits, HoldsWithOrWithout}
 use Rattle.flusher.specs.Lived.{AreOnDisk, HaveLed, HoldsFold, HoldsWithTorn}
-use Rattle.flusher.specs.Lives.{Lives, beginning, lives_after}
+use Rattle.flusher.specs.Lives.{Lives, no_lives, lives_after}
 use Rattle.flusher.specs.Lives.LifeEvent.{Opened, Released, Torn}
 use Rattle.flusher.proofs.Holding.{held_along}
 
@@ -122,7 +122,7 @@ module _ (lives : Lives) (t : TableState) (number : ℕ) (s : StoreState) (led :
           )
 
 -- a store with nothing under way begins a life
-pub begins : IsOnDisk → (s : StoreState) → IsSettled s → HaveLed beginning s.table s.seq s
+pub begins : IsOnDisk → (s : StoreState) → IsSettled s → HaveLed no_lives s.table s.seq s
 begins on_disk s settled = record {
   table = refl;
   seq = omega arith;
@@ -133,7 +133,7 @@ begins on_disk s settled = record {
 -- ---- the same of a disk alone
 
 -- a disk that holds a table begins a life
-pub begins_on : (t : TableState) (number : ℕ) (disk : State) → EveryImage disk (HoldsTable t number) → AreOnDisk beginning t number disk
+pub begins_on : (t : TableState) (number : ℕ) (disk : State) → EveryImage disk (HoldsTable t number) → AreOnDisk no_lives t number disk
 begins_on t number disk images image p =
     let same : number + length {A = Command} [] ≡ number = omega arith in
     inl (subst (λ n. HoldsTable t n image) (sym same) (images image p))

@@ -7,7 +7,7 @@ use Rattle.disk.specs.State.{State}
 use Rattle.sessions.specs.Marks.{HasUsedUp, IsSubsequence, marks_of}
 use Rattle.sessions.specs.Table.{TableState, effects_of, fold_of}
 use Rattle.flusher.specs.Lived.{AreOnDisk, GoOnFrom}
-use Rattle.flusher.specs.Lives.{LifeEvent, Lives, beginning, lives_of}
+use Rattle.flusher.specs.Lives.{LifeEvent, Lives, no_lives, lives_of}
 use Rattle.flusher.specs.Lives.LifeEvent.{Opened}
 use Rattle.flusher.specs.OverLives.{LeaveOnce}
 use Rattle.flusher.proofs.Leading.{all_then}
@@ -28,18 +28,18 @@ used laws t marks commands left before part =
 
 -- lives went on from a disk that holds a table, by which these marks were used up
 pub leave_once : {C V : Type 0} (effects : V → List Effect) (call : C → V → C → Type 0) → OnceLaws → (t : TableState) (number : ℕ) (marks : List Mark)
-    (old disk : State) (p q : C) → HasUsedUp t marks → AreOnDisk beginning t number old
+    (old disk : State) (p q : C) → HasUsedUp t marks → AreOnDisk no_lives t number old
     → GoOnFrom effects call (λ lives t number. AreOnDisk lives t number old) (λ lives t number. AreOnDisk lives t number disk) p q
     → LeaveOnce effects call t number marks disk p q
 leave_once {C} {V} effects call laws t number marks old disk p q before begun go =
-    let a = go t number beginning begun in
+    let a = go t number no_lives begun in
     let lives = lives_of t a.0 in
     let calls = a.1.1.0 in
     let all = flat_map effects calls in
     let left : lives.left ≡ all = a.1.1.1.0 in
     let part : IsSubsequence all (effects_of t lives.durable) = subst (λ l. IsSubsequence l (effects_of t lives.durable)) left (laws.part t a.0) in
     let found : IsSubsequence lives.left (effects_of t (lives.durable ++ lives.torn)) =
-    subst (λ (l : Lives). IsSubsequence l.left (effects_of t l.durable)) (all_then t beginning a.0 (Opened true)) (laws.part t (a.0 ++ Opened true ∷ [])) in
+    subst (λ (l : Lives). IsSubsequence l.left (effects_of t l.durable)) (all_then t no_lives a.0 (Opened true)) (laws.part t (a.0 ++ Opened true ∷ [])) in
     let with_torn : IsSubsequence all (effects_of t (lives.durable ++ lives.torn)) =
     subst (λ l. IsSubsequence l (effects_of t (lives.durable ++ lives.torn))) left found in
     record {

@@ -14,7 +14,7 @@ use Rattle.store.specs.State.{IsSettled, StoreState, disk_of, store_state}
 use Rattle.store.specs.declared.store.Store.{Store}
 use Rattle.flusher.specs.Calls.{IsUntouched, LastFailed}
 use Rattle.flusher.specs.Chain.HasBroken.{FeedRefused, HadNoRoom, WasUncommitted, WasUnready}
-use Rattle.flusher.specs.Chain.{GivesAll, FeedGives, HasBroken, HasEnded, IsChain, LeaveInOrder, decisions_in, store_behind}
+use Rattle.flusher.specs.Chain.{GivesAll, FeedGives, HasBroken, HasEnded, IsChain, LeaveInOrder, batched_decisions, store_behind}
 use Rattle.flusher.specs.Cycle.{Commits, HoldsWithOrWithout, IsReady, IsUncommitted, IsUnready}
 use Rattle.flusher.specs.Lived.{GoOn, HaveLed}
 use Rattle.flusher.specs.Lives.{Lives, lives_after}
@@ -42,8 +42,8 @@ module _ {D F C V : Type 0} (disk : Ghosts D) (gives : FeedGives F) (effects : V
       × (gives feed MOST (Ok batch) feed' × ((count ≡ length batch) × (Commits s s' batch × MatchBool (count == 0) (out' ≡ out)
       ((released : V) × ((effects released ≡ effects_of s.table (commands_of batch)) × step out released out')))))
 
-  done_by : (count : ℕ) (batches : List (List Decision)) (here : F) → GivesAll gives feed batches here → length batches ≤ 1 → Commits s s' (decisions_in batches)
-      → LeaveInOrder effects step s.table batches out out' → count ≡ length (decisions_in batches) → HasEnded gives 1 s' batches here feed' → IsDone count
+  done_by : (count : ℕ) (batches : List (List Decision)) (here : F) → GivesAll gives feed batches here → length batches ≤ 1 → Commits s s' (batched_decisions batches)
+      → LeaveInOrder effects step s.table batches out out' → count ≡ length (batched_decisions batches) → HasEnded gives 1 s' batches here feed' → IsDone count
   done_by count [] here given few committed leave counted (inl (same, inl long)) = absurd (omega (arith, long))
   done_by count [] here given few committed leave counted (inl (same, inr (some, full))) = absurd (some refl)
   done_by count [] here given few committed leave counted (inr (less, empty)) = (
@@ -97,11 +97,11 @@ module _ {D F C V : Type 0} (disk : Ghosts D) (gives : FeedGives F) (effects : V
 
   pub keeps_table : (r : Result ℕ Refusal) → IsChain disk gives effects step 1 old new feed feed' out out' r → OnErr r (s'.table ≡ s.table)
   keeps_table (Ok count) chain = tt
-  keeps_table (Err e) chain = (subst (λ l. Commits s s' (decisions_in l)) (no_batches chain.batches chain.ends.0) chain.commits).table
+  keeps_table (Err e) chain = (subst (λ l. Commits s s' (batched_decisions l)) (no_batches chain.batches chain.ends.0) chain.commits).table
 
   pub keeps_seq : (r : Result ℕ Refusal) → IsChain disk gives effects step 1 old new feed feed' out out' r → OnErr r (s'.seq ≡ s.seq)
   keeps_seq (Ok count) chain = tt
-  keeps_seq (Err e) chain = let is = (subst (λ l. Commits s s' (decisions_in l)) (no_batches chain.batches chain.ends.0) chain.commits).seq in omega (arith, is)
+  keeps_seq (Err e) chain = let is = (subst (λ l. Commits s s' (batched_decisions l)) (no_batches chain.batches chain.ends.0) chain.commits).seq in omega (arith, is)
 
   abbrev pub IsRefused : Refusal → Type 0
   IsRefused e =
@@ -214,7 +214,7 @@ module _ {D F C V : Type 0} (disk : Ghosts D) (gives : FeedGives F) (effects : V
       alive_leads : (r : Result ℕ Refusal) → IsChain disk gives effects step 1 old new feed feed' out out' r → lives.torn ≡ [] → IsSettled s → LeadsOnce
       alive_leads (Ok count) chain nothing settled = by chain.batches chain.few chain.commits chain.leave (chain.settled honest settled chain.calls)
         where
-          by : (batches : List (List Decision)) → length batches ≤ 1 → Commits s s' (decisions_in batches) → LeaveInOrder effects step s.table batches out out' → IsSettled s'
+          by : (batches : List (List Decision)) → length batches ≤ 1 → Commits s s' (batched_decisions batches) → LeaveInOrder effects step s.table batches out out' → IsSettled s'
               → LeadsOnce
           by [] few committed leave there = none_leads committed.table (let is = committed.seq in omega (arith, is)) leave nothing there
           by (b ∷ []) few committed (released, (mid, (all, (made, last)))) there =
@@ -239,7 +239,7 @@ module _ {D F C V : Type 0} (disk : Ghosts D) (gives : FeedGives F) (effects : V
             )
           ]
 
-      failed_leads : (batches : List (List Decision)) (here : F) → GivesAll gives feed batches here → Commits s s' (decisions_in batches)
+      failed_leads : (batches : List (List Decision)) (here : F) → GivesAll gives feed batches here → Commits s s' (batched_decisions batches)
           → LeaveInOrder effects step s.table batches out out' → IsUntouched disk.state old new → LeadsOnce
       failed_leads [] here given committed leave untouched = (lives, (inl refl, (subst (HaveLed lives t number) (sym untouched.0) led, inl (leave, refl))))
       failed_leads ([] ∷ batches) here (next, (some, given), rest) committed leave untouched = absurd (some refl)

@@ -16,7 +16,7 @@ use Rattle.store.specs.State.{IsRoomy, IsSettled, StoreState, disk_of, store_sta
 use Rattle.store.specs.declared.store.Store.{Store}
 use Rattle.flusher.specs.Calls.{IsUntouched, LastFailed, NoneFailed}
 use Rattle.flusher.specs.Chain.HasBroken.{FeedRefused, HadNoRoom, WasUncommitted, WasUnready}
-use Rattle.flusher.specs.Chain.{FeedGives, HasBroken, HasEnded, IsChain, IsChainOfSome, LeaveInOrder, decisions_in, store_behind}
+use Rattle.flusher.specs.Chain.{FeedGives, HasBroken, HasEnded, IsChain, IsChainOfSome, LeaveInOrder, batched_decisions, store_behind}
 use Rattle.flusher.specs.Cycle.{HoldsWithOrWithout, IsReady}
 use Rattle.flusher.specs.Lived.{HaveLed, HoldsWithTorn, LeadOn}
 use Rattle.flusher.specs.Lives.{LifeEvent, Lives, lives_after, lives_after_all}
@@ -112,7 +112,7 @@ module _ {D F C V : Type 0} (disk : Ghosts D) (gives : FeedGives F) (effects : V
       WasUncommitted ready next given
       (why_not (store_behind (store_state disk.state mid) batches) (store_behind (store_state disk.state old) batches) torn
       (LastFailed disk.failures disk.outlook mid new) (LastFailed disk.failures disk.outlook old new) e first.failed
-      (ap (λ (t : TableState). fold_of t (commands_of (decisions_in batches))) table) (ap (λ n. n + length (decisions_in batches)) seq) last_along why)
+      (ap (λ (t : TableState). fold_of t (commands_of (batched_decisions batches))) table) (ap (λ n. n + length (batched_decisions batches)) seq) last_along why)
       asked
 
   pub chain_along : (r : Result ℕ Refusal) → IsChainOfSome disk gives effects step most mid new feed feed' out out' r
@@ -123,7 +123,7 @@ module _ {D F C V : Type 0} (disk : Ghosts D) (gives : FeedGives F) (effects : V
     feed = chain.feed;
     given = chain.given;
     few = chain.few;
-    commits = commits_along (store_state disk.state old) (store_state disk.state mid) (store_state disk.state new) (decisions_in chain.batches) table seq chain.commits;
+    commits = commits_along (store_state disk.state old) (store_state disk.state mid) (store_state disk.state new) (batched_decisions chain.batches) table seq chain.commits;
     leave = subst (λ t. LeaveInOrder effects step t chain.batches out out') table chain.leave;
     ends = by r chain.ends;
     calls = calls_along r chain.calls;
@@ -133,11 +133,11 @@ module _ {D F C V : Type 0} (disk : Ghosts D) (gives : FeedGives F) (effects : V
     where
       by : (r : Result ℕ Refusal)
           → MatchResult r
-          (λ count. (count ≡ length (decisions_in chain.batches)) × ((chain.torn ≡ []) × HasEnded gives most (store_state disk.state new) chain.batches chain.feed feed'))
+          (λ count. (count ≡ length (batched_decisions chain.batches)) × ((chain.torn ≡ []) × HasEnded gives most (store_state disk.state new) chain.batches chain.feed feed'))
           (λ e. (length chain.batches < most)
           × HasBroken gives most (IsUntouched disk.state mid new) (LastFailed disk.failures disk.outlook mid new) (store_state disk.state mid) chain.batches chain.torn chain.feed feed' e)
           → MatchResult r
-          (λ count. (count ≡ length (decisions_in chain.batches)) × ((chain.torn ≡ []) × HasEnded gives most (store_state disk.state new) chain.batches chain.feed feed'))
+          (λ count. (count ≡ length (batched_decisions chain.batches)) × ((chain.torn ≡ []) × HasEnded gives most (store_state disk.state new) chain.batches chain.feed feed'))
           (λ e. (length chain.batches < most)
           × HasBroken gives most (IsUntouched disk.state old new) (LastFailed disk.failures disk.outlook old new) (store_state disk.state old) chain.batches chain.torn chain.feed feed' e)
       by (Ok n) is = is
@@ -150,7 +150,7 @@ module _ {C V : Type 0} (effects : V → List Effect) (call : C → V → C → 
   record AreReleased (t : TableState) (lives : Lives) (batches : List (List Decision)) (old new : C) : Type 0 where
     pub events : List LifeEvent
     pub calls : List V
-    pub durable : (lives_after_all t lives events).durable ≡ lives.durable ++ commands_of (decisions_in batches)
+    pub durable : (lives_after_all t lives events).durable ≡ lives.durable ++ commands_of (batched_decisions batches)
     pub torn : (lives_after_all t lives events).torn ≡ lives.torn
     pub left : (lives_after_all t lives events).left ≡ lives.left ++ flat_map effects calls
     pub folds : FoldsTo call old calls new
@@ -175,8 +175,8 @@ module _ {C V : Type 0} (effects : V → List Effect) (call : C → V → C → 
         calls = released ∷ r.calls;
         durable =
             r.durable
-            ∙ (append_assoc lives.durable commands (commands_of (decisions_in batches))
-            ∙ ap (λ l. lives.durable ++ l) (sym (map-append (λ (d : Decision). d.command) batch (decisions_in batches))));
+            ∙ (append_assoc lives.durable commands (commands_of (batched_decisions batches))
+            ∙ ap (λ l. lives.durable ++ l) (sym (map-append (λ (d : Decision). d.command) batch (batched_decisions batches))));
         torn = r.torn;
         left =
             r.left
@@ -214,7 +214,7 @@ module _ {C V : Type 0} (effects : V → List Effect) (call : C → V → C → 
     chain_leads t number lives led =
         let before = subst (λ b. MatchBool b (Unit {0}) ((lives.torn ≡ []) × IsSettled s)) alive led.settled in
         let released = released_all composed t lives chain.batches s.table out out' led.table chain.leave in
-        let commands = commands_of (decisions_in chain.batches) in
+        let commands = commands_of (batched_decisions chain.batches) in
         let next = lives_after_all t lives released.events in
         let table : s'.table ≡ fold_of t next.durable =
         chain.commits.table ∙ (ap (λ t. fold_of t commands) led.table ∙ (sym (composed t lives.durable commands) ∙ ap (fold_of t) (sym released.durable))) in
@@ -222,7 +222,7 @@ module _ {C V : Type 0} (effects : V → List Effect) (call : C → V → C → 
         (let a = chain.commits.seq in
         let b = led.seq in
         let c = ap length released.durable ∙ length-append lives.durable commands in
-        let d = length-map (decisions_in chain.batches) (λ (d : Decision). d.command) in
+        let d = length-map (batched_decisions chain.batches) (λ (d : Decision). d.command) in
         omega (arith, a, b, c, d)) in
         elim (either r chain.calls) [
           | inl none ↦

@@ -25,8 +25,8 @@ abbrev pub FeedGives : Type 0 → Type 1
 FeedGives F = F → ℕ → Result (List Decision) Refusal → F → Type 0
 
 -- the decisions of several batches, in order
-abbrev pub decisions_in : List (List Decision) → List Decision
-decisions_in batches = flat_map (λ batch. batch) batches
+abbrev pub batched_decisions : List (List Decision) → List Decision
+batched_decisions batches = flat_map (λ batch. batch) batches
 
 -- a feed that is asked again and again for the largest batch gives these, none of which is empty
 abbrev pub GivesAll : {F : Type 0} → FeedGives F → F → List (List Decision) → F → Type 0
@@ -45,8 +45,8 @@ LeaveInOrder {C} {V} effects call t (batch ∷ batches) old new =
 -- the store that has committed these batches, where no call of its disk failed
 abbrev pub store_behind : StoreState → List (List Decision) → StoreState
 store_behind s batches = record s {
-  table = fold_of s.table (commands_of (decisions_in batches));
-  seq = s.seq + length (decisions_in batches);
+  table = fold_of s.table (commands_of (batched_decisions batches));
+  seq = s.seq + length (batched_decisions batches);
 }
 
 -- Why a chain ends behind these batches without a refusal: they are as many as it may have, or the
@@ -91,10 +91,10 @@ pub record IsChain {D F C V : Type 0} (disk : Ghosts D) (gives : FeedGives F)
   pub given : GivesAll gives old_feed batches feed
   pub few : length batches ≤ most
   pub commits : Commits (store_state disk.state old) (store_state disk.state new)
-      (decisions_in batches)
+      (batched_decisions batches)
   pub leave : LeaveInOrder effects call (store_state disk.state old).table batches old_out new_out
   pub ends : MatchResult result
-      (λ count. (count ≡ length (decisions_in batches)) × ((torn ≡ [])
+      (λ count. (count ≡ length (batched_decisions batches)) × ((torn ≡ [])
       × HasEnded gives most (store_state disk.state new) batches feed new_feed))
       (λ e. (length batches < most)
       × HasBroken gives most (IsUntouched disk.state old new)

@@ -22,8 +22,8 @@ pub record Lives : Type 0 where
   pub left : List Effect
 
 -- nothing has happened yet
-abbrev pub beginning : Lives
-beginning = record { durable = []; torn = []; left = [] }
+abbrev pub no_lives : Lives
+no_lives = record { durable = []; torn = []; left = [] }
 
 -- the lives of a store that began with this table, after one event more
 abbrev pub lives_after : TableState → Lives → LifeEvent → Lives
@@ -43,4 +43,4 @@ lives_after_all t lives (event ∷ events) = lives_after_all t (lives_after t li
 
 -- the lives that these events make of a store with this table
 abbrev pub lives_of : TableState → List LifeEvent → Lives
-lives_of t events = lives_after_all t beginning events
+lives_of t events = lives_after_all t no_lives events

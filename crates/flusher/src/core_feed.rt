@@ -73,11 +73,11 @@ fn play_all(core: &mut Core, coming: Coming)
     ensures { HasDecided core.old.decisions core.new.decisions }
 {
     for (moment, event) in coming {
-        play(core, moment, event);
+        take_event(core, moment, event);
     }
 }
 
-fn play(core: &mut Core, moment: Moment, event: CoreEvent)
+fn take_event(core: &mut Core, moment: Moment, event: CoreEvent)
     ensures { HasDecided core.old.decisions core.new.decisions }
 {
     let _ = match event {

@@ -3,7 +3,7 @@
 ghost use Rattle.std.specs.Prelude.{◌≡◌, ℕ, Bool, List};
 ghost use Rattle.disk.specs.State.{EveryImage, IsPermitted, State};
 ghost use Rattle.flusher.specs.Lived.{AreOnDisk, HaveLed};
-ghost use Rattle.flusher.specs.Lives.{LifeEvent, Lives, beginning, lives_after, lives_of};
+ghost use Rattle.flusher.specs.Lives.{LifeEvent, Lives, no_lives, lives_after, lives_of};
 ghost use Rattle.lw_types.specs.declared.refusal.Refusal.{Refusal};
 ghost use Rattle.sessions.specs.Marks.{AreOnce, IsSound, IsSubsequence};
 ghost use Rattle.sessions.specs.Table.{TableState, effects_of, empty_table};
@@ -24,13 +24,13 @@ pub fn limits_are_these()
 /// refused, by what [`store::open_back`] says of the disk that comes back then. It is refused for
 /// want of memory or by the device alone, never since there were no store (`no_fault`).
 pub fn lives_go_on()
-    ensures begun { (s : StoreState) → IsSettled s → HaveLed beginning s.table s.seq s }
+    ensures begun { (s : StoreState) → IsSettled s → HaveLed no_lives s.table s.seq s }
     ensures opened { (lives : Lives) (t : TableState) (number : ℕ) (s opened : StoreState)
         (left : List ℕ) → HaveLed lives t number s → IsPermitted s.log.disk left
         → IsOpened left opened
         → (found : Bool) × HaveLed (lives_after t lives (LifeEvent.Opened found)) t number opened }
     ensures begun_on { (t : TableState) (number : ℕ) (disk : State)
-        → EveryImage disk (HoldsTable t number) → AreOnDisk beginning t number disk }
+        → EveryImage disk (HoldsTable t number) → AreOnDisk no_lives t number disk }
     ensures closed { (lives : Lives) (t : TableState) (number : ℕ) (s : StoreState)
         → HaveLed lives t number s → AreOnDisk lives t number s.log.disk }
     ensures opened_from { (lives : Lives) (t : TableState) (number : ℕ) (disk : State)

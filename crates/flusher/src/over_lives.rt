@@ -151,7 +151,7 @@ fn live<D: Sim, F: Feed, C: FnMut(Vec<Released>)>(
     match power_on(alloc, disk, &life.image, life.failing) {
         Ok(store) => {
             let mut store = store;
-            let _ = flush(alloc, &mut store, feed, life.most, life.chains, out);
+            let _ = flush_life(alloc, &mut store, feed, life.most, life.chains, out);
             store.close()
         }
         Err((disk, _)) => disk,
@@ -176,7 +176,7 @@ fn power_on<D: Sim>(
 }
 
 // So many chains, or fewer behind which one is refused.
-fn flush<D: Sim, F: Feed, C: FnMut(Vec<Released>)>(
+fn flush_life<D: Sim, F: Feed, C: FnMut(Vec<Released>)>(
     alloc: Global,
     store: &mut Store<D>,
     feed: &mut F,

@@ -24,7 +24,7 @@ keystream key dir addr counter zero = []
 keystream key dir addr counter (suc n) =
     keystream key dir addr counter n ++ ciphertext key (frame_block 0x01 dir addr counter (suc n))
 
--- a payload, encrypted or decrypted: each byte is added to its byte of the keystream (§4.3.3)
+-- a FRMPayload, encrypted or decrypted: each byte is added to its byte of the keystream (§4.3.3)
 unfoldable pub crypted_payload : List ℕ → Direction → ℕ → ℕ → List ℕ → List ℕ
 crypted_payload key dir addr counter payload =
     xor payload (keystream key dir addr counter ((length payload + 15) / 16))

@@ -27,8 +27,8 @@ fn frame_block(first: u8, dir: Direction, addr: DevAddr, counter: u32, last: u8)
     ]
 }
 
-/// Encrypts the payload of a data frame in place, or decrypts it, which is the same: `key` is the
-/// NwkSKey on port 0, else the AppSKey, and `counter` the whole frame counter.
+/// Encrypts the FRMPayload of a data frame in place, or decrypts it, which is the same: `key` is
+/// the NwkSKey on port 0, else the AppSKey, and `counter` the whole frame counter.
 pub fn crypt_payload(key: &Key, dir: Direction, addr: DevAddr, counter: u32, payload: &mut [u8])
     requires { length payload.old ≤ 242 }
     ensures { payload.new ≡ crypted_payload key.now.0 dir addr.0 counter payload.old }

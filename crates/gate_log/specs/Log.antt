@@ -10,8 +10,8 @@ use Rattle.gate_log.specs.declared.log.Log.{Log}
 use Rattle.gate_log.specs.Areas.{LogContents, Holds, IsClosedArea, IsOpenArea}
 use Rattle.gate_log.specs.Layout.{spelling}
 
-abbrev pub disk_of : {D : Type 0} {g : _} → Log D g → D
-disk_of log = log.disk
+abbrev pub log_disk : {D : Type 0} {g : _} → Log D g → D
+log_disk log = log.disk
 
 -- a log as contracts see it
 pub record LogState : Type 0 where

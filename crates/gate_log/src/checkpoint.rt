@@ -9,7 +9,7 @@ ghost use Rattle.gate_log.specs.Checkpointing.{IsCheckpoint, IsCheckpointOpened}
 ghost use Rattle.gate_log.specs.Checkpointing.{IsCheckpointSynced, IsCheckpointWritten, IsRetiring};
 ghost use Rattle.gate_log.specs.Checkpointing.{checkpoint_bytes, front_of, opened_front};
 ghost use Rattle.gate_log.specs.Checkpointing.{synced_front, written_front};
-ghost use Rattle.gate_log.specs.Log.{log_state, disk_of, AreLogCalls, IsAtRest, IsOneLogCall};
+ghost use Rattle.gate_log.specs.Log.{log_state, log_disk, AreLogCalls, IsAtRest, IsOneLogCall};
 ghost use Rattle.gate_log.specs.Log.{OnlyDiskChanges};
 
 use crate::layout::{Areas, CLOSED, EMPTY_AREA_LEN, Header, OPEN};
@@ -58,10 +58,10 @@ impl<D: Disk> Log<D> {
             → OnOk result (IsRetiring (log_state D.state self.new) c) }
         ensures images { D.honest → (c : LogContents) → IsAtRest (log_state D.state self.old) c
             → (log_state D.state self.old).other_open ≡ true
-            → EveryImage (D.state (disk_of self.new)) (Holds c) }
+            → EveryImage (D.state (log_disk self.new)) (Holds c) }
         ensures place { OnlyDiskChanges (log_state D.state self.old) (log_state D.state self.new) }
-        ensures same_length { length (D.state (disk_of self.new)).content
-            ≡ length (D.state (disk_of self.old)).content }
+        ensures same_length { length (D.state (log_disk self.new)).content
+            ≡ length (D.state (log_disk self.old)).content }
         ensures call { IsOneLogCall D.failures D.outlook self.old self.new result }
     {
         disk::laws::settled_disk_keeps_its_content();
@@ -77,9 +77,9 @@ impl Retiring {
         ensures next { D.honest → (c : LogContents) → IsRetiring (log_state D.state log.old) c
             → OnOk result (IsAtRest (log_state D.state log.new) c) }
         ensures images { D.honest → (c : LogContents) → IsRetiring (log_state D.state log.old) c
-            → EveryImage (D.state (disk_of log.new)) (Holds c) }
+            → EveryImage (D.state (log_disk log.new)) (Holds c) }
         ensures place { OnOk result (log_state D.state log.new ≡ record {
-          disk = D.state (disk_of log.new);
+          disk = D.state (log_disk log.new);
           areas = (log_state D.state log.old).areas;
           next = (log_state D.state log.old).next;
           generation = (log_state D.state log.old).generation;
@@ -87,8 +87,8 @@ impl Retiring {
         }) }
         ensures same_place { OnErr result
             (OnlyDiskChanges (log_state D.state log.old) (log_state D.state log.new)) }
-        ensures same_length { length (D.state (disk_of log.new)).content
-            ≡ length (D.state (disk_of log.old)).content }
+        ensures same_length { length (D.state (log_disk log.new)).content
+            ≡ length (D.state (log_disk log.old)).content }
         ensures call { IsOneLogCall D.failures D.outlook log.old log.new result }
     {
         let Retiring {} = self;
@@ -150,11 +150,11 @@ impl Checkpoint {
             (written_front phase)) }
         ensures images { D.honest → (c : LogContents) → IsAtRest (log_state D.state log.old) c
             → (log_state D.state log.old).other_open ≡ false
-            → EveryImage (D.state (disk_of log.new)) (Holds c) }
+            → EveryImage (D.state (log_disk log.new)) (Holds c) }
         ensures front { IfOk result (λ phase. written_front phase ≡ front_of self) }
         ensures place { OnlyDiskChanges (log_state D.state log.old) (log_state D.state log.new) }
-        ensures same_length { length (D.state (disk_of log.new)).content
-            ≡ length (D.state (disk_of log.old)).content }
+        ensures same_length { length (D.state (log_disk log.new)).content
+            ≡ length (D.state (log_disk log.old)).content }
         ensures call { IsOneLogCall D.failures D.outlook log.old log.new result }
     {
         disk::laws::settled_disk_keeps_its_content();
@@ -183,10 +183,10 @@ impl<D: Disk> Log<D> {
         ensures rest { D.honest → (c : LogContents) → IsAtRest (log_state D.state self.old) c
             → OnOk result (IsAtRest (log_state D.state self.new) c) }
         ensures images { D.honest → (c : LogContents) → IsAtRest (log_state D.state self.old) c
-            → OnErr result (EveryImage (D.state (disk_of self.new)) (Holds c)) }
+            → OnErr result (EveryImage (D.state (log_disk self.new)) (Holds c)) }
         ensures areas { (log_state D.state self.new).areas ≡ (log_state D.state self.old).areas }
-        ensures same_length { length (D.state (disk_of self.new)).content
-            ≡ length (D.state (disk_of self.old)).content }
+        ensures same_length { length (D.state (log_disk self.new)).content
+            ≡ length (D.state (log_disk self.old)).content }
         ensures calls { AreLogCalls D.failures D.outlook self.old self.new result }
     {
         if !self.other_open {
@@ -209,12 +209,12 @@ impl Checkpoint {
         ensures images { D.honest → (c : LogContents) (header : Header) (records : List ℕ)
             → IsAtRest (log_state D.state log.old) c
             → IsCheckpoint self header records → MayFollowContents c header records
-            → EveryImage (D.state (disk_of log.new))
+            → EveryImage (D.state (log_disk log.new))
             (HoldsOneOf c (contents_with_checkpoint c header records)) }
         ensures areas { OnOk result ((log_state D.state log.new).areas
             ≡ exchanged_areas (log_state D.state log.old).areas) }
-        ensures same_length { length (D.state (disk_of log.new)).content
-            ≡ length (D.state (disk_of log.old)).content }
+        ensures same_length { length (D.state (log_disk log.new)).content
+            ≡ length (D.state (log_disk log.old)).content }
         ensures calls { AreLogCalls D.failures D.outlook log.old log.new result }
     {
         match log.shut_other() {
@@ -240,12 +240,12 @@ impl Checkpoint {
             → IsAtRest (log_state D.state log.old) c
             → (log_state D.state log.old).other_open ≡ false
             → IsCheckpoint self header records → MayFollowContents c header records
-            → EveryImage (D.state (disk_of log.new))
+            → EveryImage (D.state (log_disk log.new))
             (HoldsOneOf c (contents_with_checkpoint c header records)) }
         ensures areas { OnOk result ((log_state D.state log.new).areas
             ≡ exchanged_areas (log_state D.state log.old).areas) }
-        ensures same_length { length (D.state (disk_of log.new)).content
-            ≡ length (D.state (disk_of log.old)).content }
+        ensures same_length { length (D.state (log_disk log.new)).content
+            ≡ length (D.state (log_disk log.old)).content }
         ensures calls { AreLogCalls D.failures D.outlook log.old log.new result }
     {
         let written = self.write(log)?;
@@ -265,11 +265,11 @@ impl CheckpointWritten {
             (synced_front phase)) }
         ensures images { D.honest → (c : LogContents) (header : Header) (records : List ℕ)
             → IsCheckpointWritten (log_state D.state log.old) c header records (written_front self)
-            → EveryImage (D.state (disk_of log.new)) (Holds c) }
+            → EveryImage (D.state (log_disk log.new)) (Holds c) }
         ensures front { IfOk result (λ phase. synced_front phase ≡ written_front self) }
         ensures place { OnlyDiskChanges (log_state D.state log.old) (log_state D.state log.new) }
-        ensures same_length { length (D.state (disk_of log.new)).content
-            ≡ length (D.state (disk_of log.old)).content }
+        ensures same_length { length (D.state (log_disk log.new)).content
+            ≡ length (D.state (log_disk log.old)).content }
         ensures call { IsOneLogCall D.failures D.outlook log.old log.new result }
     {
         disk::laws::settled_disk_keeps_its_content();
@@ -294,12 +294,12 @@ impl CheckpointSynced {
             (opened_front phase)) }
         ensures images { D.honest → (c : LogContents) (header : Header) (records : List ℕ)
             → IsCheckpointSynced (log_state D.state log.old) c header records (synced_front self)
-            → EveryImage (D.state (disk_of log.new))
+            → EveryImage (D.state (log_disk log.new))
             (HoldsOneOf c (contents_with_checkpoint c header records)) }
         ensures front { IfOk result (λ phase. opened_front phase ≡ synced_front self) }
         ensures place { OnlyDiskChanges (log_state D.state log.old) (log_state D.state log.new) }
-        ensures same_length { length (D.state (disk_of log.new)).content
-            ≡ length (D.state (disk_of log.old)).content }
+        ensures same_length { length (D.state (log_disk log.new)).content
+            ≡ length (D.state (log_disk log.old)).content }
         ensures call { IsOneLogCall D.failures D.outlook log.old log.new result }
     {
         disk::laws::settled_disk_keeps_its_content();
@@ -326,10 +326,10 @@ impl CheckpointOpened {
             (contents_with_checkpoint c header records)) }
         ensures images { D.honest → (c : LogContents) (header : Header) (records : List ℕ)
             → IsCheckpointOpened (log_state D.state log.old) c header records (opened_front self)
-            → EveryImage (D.state (disk_of log.new))
+            → EveryImage (D.state (log_disk log.new))
             (HoldsOneOf c (contents_with_checkpoint c header records)) }
         ensures place { OnOk result (log_state D.state log.new ≡ record {
-          disk = D.state (disk_of log.new);
+          disk = D.state (log_disk log.new);
           areas = exchanged_areas (log_state D.state log.old).areas;
           next = (log_state D.state log.old).areas.other.start + (opened_front self).len;
           generation = (opened_front self).generation;
@@ -337,8 +337,8 @@ impl CheckpointOpened {
         }) }
         ensures same_place { OnErr result
             (OnlyDiskChanges (log_state D.state log.old) (log_state D.state log.new)) }
-        ensures same_length { length (D.state (disk_of log.new)).content
-            ≡ length (D.state (disk_of log.old)).content }
+        ensures same_length { length (D.state (log_disk log.new)).content
+            ≡ length (D.state (log_disk log.old)).content }
         ensures call { IsOneLogCall D.failures D.outlook log.old log.new result }
     {
         let CheckpointOpened { front } = self;

@@ -49,9 +49,9 @@ impl<T: Drop> From<AllocFailed<T>> for RecoverError {
 
 impl fmt::Display for RecoverError {
     ghost use Rattle.std.specs.Prelude.{Some};
-    ghost use Rattle.gate_log.specs.Message.{message_of};
+    ghost use Rattle.gate_log.specs.Message.{error_text};
 
-    ghost output = { λ error. Some (message_of error) };
+    ghost output = { λ error. Some (error_text error) };
 
     fn fmt<W: fmt::Write>(&self, f: &mut fmt::Formatter<W>) -> fmt::Result {
         f.write_str(match self {

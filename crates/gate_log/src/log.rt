@@ -21,7 +21,7 @@ pub struct Log<D: Disk> {
 }
 
 impl<D: Disk> Log<D> {
-    ghost use Rattle.gate_log.specs.Log.{log_state, disk_of};
+    ghost use Rattle.gate_log.specs.Log.{log_state, log_disk};
 
     /// The log of these areas of a disk, whose live one is of this generation and has its next
     /// batch's gate at this place, and whose other one's gate is open or not.
@@ -35,7 +35,7 @@ impl<D: Disk> Log<D> {
           generation = generation;
           other_open = other_open;
         } }
-        ensures disk { disk_of result ≡ disk }
+        ensures disk { log_disk result ≡ disk }
     {
         let _len = disk.len();
         Log {
@@ -80,22 +80,22 @@ impl<D: Disk> Log<D> {
 
     /// Gives the disk back.
     pub fn close(self) -> D
-        ensures { result ≡ disk_of self }
+        ensures { result ≡ log_disk self }
     {
         self.disk
     }
 }
 
 impl<D: Sim> Log<D> {
-    ghost use Rattle.gate_log.specs.Log.{log_state, disk_of};
+    ghost use Rattle.gate_log.specs.Log.{log_state, log_disk};
 
     /// Makes the nth call of the disk from now fail.
     pub fn arm(&mut self, n: u64)
         requires { 0 < n }
-        ensures armed { D.failures (disk_of self.old) + 1 < 2 ^ 64
-            → D.outlook (disk_of self.new) ≡ FailsAfter (n - 1) }
+        ensures armed { D.failures (log_disk self.old) + 1 < 2 ^ 64
+            → D.outlook (log_disk self.new) ≡ FailsAfter (n - 1) }
         ensures same { log_state D.state self.new ≡ log_state D.state self.old }
-        ensures failures { D.failures (disk_of self.new) ≡ D.failures (disk_of self.old) }
+        ensures failures { D.failures (log_disk self.new) ≡ D.failures (log_disk self.old) }
     {
         self.disk.arm(n);
     }

@@ -27,7 +27,7 @@ pub struct Opening<D: Disk> {
 }
 
 impl<D: Disk> Opening<D> {
-    ghost use Rattle.gate_log.specs.Log.{log_state, disk_of, IsAtRest};
+    ghost use Rattle.gate_log.specs.Log.{log_state, log_disk, IsAtRest};
     ghost use Rattle.gate_log.specs.Live.{IsLiveAs};
     ghost use Rattle.gate_log.specs.Opening.{disk_in_opening, synced_disk};
     ghost use Rattle.gate_log.specs.Recovered.{IsRecovered};
@@ -126,7 +126,7 @@ impl<D: Disk> Opening<D> {
           generation = live.header.generation;
           other_open = live.other_open;
         } }
-        ensures disk { disk_of result ≡ disk_in_opening self }
+        ensures disk { log_disk result ≡ disk_in_opening self }
         ensures rest { D.honest → (c : LogContents)
             → Holds c (D.state (disk_in_opening self)).content
             → IsLiveAs live (D.state (disk_in_opening self)).content → c.areas ≡ live.areas

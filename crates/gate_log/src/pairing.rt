@@ -3,7 +3,7 @@ ghost use Rattle.std.specs.Prelude.{◌≡◌, ◌<◌, ◌+◌, length, IfOk, O
 ghost use Rattle.disk.specs.State.{EveryImage};
 ghost use Rattle.gate_log.specs.Areas.{LogContents, Holds, HoldsOneOf, contents_with_batch};
 ghost use Rattle.gate_log.specs.Layout.{BatchValue};
-ghost use Rattle.gate_log.specs.Log.{log_state, disk_of, IsOneLogCall, OnlyDiskChanges};
+ghost use Rattle.gate_log.specs.Log.{log_state, log_disk, IsOneLogCall, OnlyDiskChanges};
 ghost use Rattle.gate_log.specs.Pairing.{IsPaired, paired_next_size, paired_size};
 ghost use Rattle.gate_log.specs.Phases.{IsBegun, IsBodySynced, IsGateWritten, body_synced_size};
 ghost use Rattle.gate_log.specs.Phases.{bytes_of, gate_written_size};
@@ -36,7 +36,7 @@ impl GateWritten {
             (paired_size phase) (paired_next_size phase)) }
         ensures images { D.honest → (c : LogContents) (b : BatchValue)
             → IsGateWritten (log_state D.state log.old) c b (gate_written_size self)
-            → EveryImage (D.state (disk_of log.new)) (HoldsOneOf c (contents_with_batch c b)) }
+            → EveryImage (D.state (log_disk log.new)) (HoldsOneOf c (contents_with_batch c b)) }
         ensures size { IfOk result (λ phase. paired_size phase ≡ gate_written_size self) }
         ensures next_size { IfOk result
             (λ phase. paired_next_size phase ≡ length (bytes_of following)) }
@@ -66,15 +66,15 @@ impl Paired {
             (contents_with_batch c b) n (body_synced_size phases.1)) }
         ensures durable { D.honest → (c : LogContents) (b n : BatchValue)
             → IsPaired (log_state D.state log.old) c b n (paired_size self) (paired_next_size self)
-            → OnOk result (EveryImage (D.state (disk_of log.new))
+            → OnOk result (EveryImage (D.state (log_disk log.new))
             (Holds (contents_with_batch c b))) }
         ensures images { D.honest → (c : LogContents) (b n : BatchValue)
             → IsPaired (log_state D.state log.old) c b n (paired_size self) (paired_next_size self)
-            → EveryImage (D.state (disk_of log.new)) (HoldsOneOf c (contents_with_batch c b)) }
+            → EveryImage (D.state (log_disk log.new)) (HoldsOneOf c (contents_with_batch c b)) }
         ensures size { IfOk result
             (λ phases. body_synced_size phases.1 ≡ paired_next_size self) }
         ensures place { OnOk result (log_state D.state log.new ≡ record {
-          disk = D.state (disk_of log.new);
+          disk = D.state (log_disk log.new);
           areas = (log_state D.state log.old).areas;
           next = (log_state D.state log.old).next + paired_size self;
           generation = (log_state D.state log.old).generation;

@@ -4,7 +4,7 @@ ghost use Rattle.std.specs.Prelude.{IsOk, OnOk, OnErr};
 ghost use Rattle.disk.specs.State.{EveryImage};
 ghost use Rattle.gate_log.specs.Areas.{LogContents, Holds, HoldsOneOf, contents_with_batch};
 ghost use Rattle.gate_log.specs.Layout.{BatchValue};
-ghost use Rattle.gate_log.specs.Log.{log_state, disk_of, IsAtRest, IsOneLogCall, OnlyDiskChanges};
+ghost use Rattle.gate_log.specs.Log.{log_state, log_disk, IsAtRest, IsOneLogCall, OnlyDiskChanges};
 ghost use Rattle.gate_log.specs.Phases.{bytes_of, written_size, body_synced_size};
 ghost use Rattle.gate_log.specs.Phases.{gate_written_size, IsBegun, IsWritten, IsBodySynced};
 ghost use Rattle.gate_log.specs.Phases.{IsGateWritten};
@@ -89,7 +89,7 @@ impl Begun {
             → IfOk result (λ phase. IsWritten (log_state D.state log.new) c b
             (written_size phase)) }
         ensures images { D.honest → (c : LogContents) → IsAtRest (log_state D.state log.old) c
-            → EveryImage (D.state (disk_of log.new)) (Holds c) }
+            → EveryImage (D.state (log_disk log.new)) (Holds c) }
         ensures size { IfOk result (λ phase. written_size phase ≡ length (bytes_of self)) }
         ensures place { OnlyDiskChanges (log_state D.state log.old) (log_state D.state log.new) }
         ensures call { IsOneLogCall D.failures D.outlook log.old log.new result }
@@ -118,7 +118,7 @@ impl Written {
             (body_synced_size phase)) }
         ensures images { D.honest → (c : LogContents) (b : BatchValue)
             → IsWritten (log_state D.state log.old) c b (written_size self)
-            → EveryImage (D.state (disk_of log.new)) (Holds c) }
+            → EveryImage (D.state (log_disk log.new)) (Holds c) }
         ensures size { IfOk result (λ phase. body_synced_size phase ≡ written_size self) }
         ensures place { OnlyDiskChanges (log_state D.state log.old) (log_state D.state log.new) }
         ensures call { IsOneLogCall D.failures D.outlook log.old log.new result }
@@ -144,7 +144,7 @@ impl BodySynced {
             (gate_written_size phase)) }
         ensures images { D.honest → (c : LogContents) (b : BatchValue)
             → IsBodySynced (log_state D.state log.old) c b (body_synced_size self)
-            → EveryImage (D.state (disk_of log.new)) (HoldsOneOf c (contents_with_batch c b)) }
+            → EveryImage (D.state (log_disk log.new)) (HoldsOneOf c (contents_with_batch c b)) }
         ensures size { IfOk result (λ phase. gate_written_size phase ≡ body_synced_size self) }
         ensures place { OnlyDiskChanges (log_state D.state log.old) (log_state D.state log.new) }
         ensures call { IsOneLogCall D.failures D.outlook log.old log.new result }
@@ -179,13 +179,13 @@ impl GateWritten {
             → OnOk result (IsAtRest (log_state D.state log.new) (contents_with_batch c b)) }
         ensures durable { D.honest → (c : LogContents) (b : BatchValue)
             → IsGateWritten (log_state D.state log.old) c b (gate_written_size self)
-            → OnOk result (EveryImage (D.state (disk_of log.new))
+            → OnOk result (EveryImage (D.state (log_disk log.new))
             (Holds (contents_with_batch c b))) }
         ensures images { D.honest → (c : LogContents) (b : BatchValue)
             → IsGateWritten (log_state D.state log.old) c b (gate_written_size self)
-            → EveryImage (D.state (disk_of log.new)) (HoldsOneOf c (contents_with_batch c b)) }
+            → EveryImage (D.state (log_disk log.new)) (HoldsOneOf c (contents_with_batch c b)) }
         ensures place { OnOk result (log_state D.state log.new ≡ record {
-          disk = D.state (disk_of log.new);
+          disk = D.state (log_disk log.new);
           areas = (log_state D.state log.old).areas;
           next = (log_state D.state log.old).next + gate_written_size self;
           generation = (log_state D.state log.old).generation;

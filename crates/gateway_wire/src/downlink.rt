@@ -38,7 +38,8 @@ pub(crate) fn downlink_frame(alloc: Global, downlink: &Downlink) -> Result<WireF
     Ok(frame.unwrap())
 }
 
-// The delay of RX2 in seconds, which is one above that of RX1; 0 where RX2 isn't to be used.
+// The delay of RX2 in seconds, which is one above that of RX1 (RECEIVE_DELAY2); 0 where RX2 isn't
+// to be used.
 fn rx2_delay(windows: ReceiveWindows, rx1_delay: u8) -> u8
     requires { rx1_delay ≤ 15 }
     ensures { result ≡ rx2_delay windows rx1_delay }

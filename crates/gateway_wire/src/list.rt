@@ -41,7 +41,7 @@ fn device_line(alloc: Global, slot: usize, device: &Device) -> Result<String, Al
     ensures { IfOk result (λ text. string_bytes text ≡ device_line slot device.now) }
 {
     let dev_eui = device.dev_eui;
-    let granted = number_of(device.activation.granted());
+    let granted = nonce_number(device.activation.granted());
     let traffic = Traffic(device);
     let text = format!(in alloc; "{slot} {dev_eui} {granted} {traffic}\n")?;
     Ok(text)
@@ -74,7 +74,7 @@ impl fmt::Display for Traffic<'_> {
 }
 
 // The number of a JoinNonce, and 0 for none.
-fn number_of(join_nonce: Option<JoinNonce>) -> u32
+fn nonce_number(join_nonce: Option<JoinNonce>) -> u32
     ensures { result ≡ unwrap_or join_nonce 0 }
 {
     match join_nonce {

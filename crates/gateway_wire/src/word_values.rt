@@ -60,13 +60,13 @@ pub(crate) fn last_bytes(alloc: Global, mut words: Words<'_>) -> Result<AskedByt
     ensures { Finds (AreLast (words_left words.entry)) result }
 {
     match (words.next(), words.next()) {
-        (Some(word), None) => bytes_of(alloc, word),
+        (Some(word), None) => hex_bytes(alloc, word),
         _ => Err(Refusal::BadMessage),
     }
 }
 
 // The bytes whose text this is.
-fn bytes_of(alloc: Global, text: &str) -> Result<AskedBytes, Refusal>
+fn hex_bytes(alloc: Global, text: &str) -> Result<AskedBytes, Refusal>
     ensures found { IfOk result (λ bytes. IsBytes bytes × (text.now ≡ field_text bytes)) }
     ensures malformed { (result ≡ Err BadMessage) ↔ ¬ (IsFieldText text.now) }
     ensures refused { IfErr result (λ e. (e ≡ BadMessage) ⊎ (e ≡ OutOfMemory)) }

@@ -10,7 +10,7 @@ use Rattle.lw_types.specs.declared.refusal.Refusal.TheVariants.{WrongJoinEui, Ba
 use Rattle.lw_types.specs.declared.refusal.Refusal.TheVariants.{JoinNonceSpent}
 use Rattle.frame_crypt.specs.Joins.{join_mic, sealed_accept, session_key, three_le_bytes}
 use Rattle.region_eu868.specs.Region.{cf_list}
-use Rattle.join_server.specs.Request.{join_eui_of, dev_nonce_of, message_of, mic_of}
+use Rattle.join_server.specs.Request.{join_eui_of, dev_nonce_of, mic_input, request_mic}
 use Rattle.join_server.specs.declared.state.JoinState.{JoinState}
 use Rattle.join_server.specs.declared.ask.JoinAsk.{JoinAsk}
 use Rattle.join_server.specs.declared.grant.JoinGrant.{JoinGrant}
@@ -27,8 +27,8 @@ next_join_nonce last = unwrap_or last 0 + 1
 abbrev pub admission : JoinState → List ℕ → Result (Unit {0}) Refusal
 admission s request =
     if not (join_eui_of request == s.join_eui.0) then Err WrongJoinEui
-    else (if not (pointwise nat_eq (mic_of request)
-    (join_mic s.app_key.0 (message_of request))) then Err BadMic
+    else (if not (pointwise nat_eq (request_mic request)
+    (join_mic s.app_key.0 (mic_input request))) then Err BadMic
     else (if not (is_later s.dev_nonce (dev_nonce_of request)) then Err DevNonceUsed
     else (if not (nat_lt (next_join_nonce s.join_nonce) (2 ^ 24)) then Err JoinNonceSpent
     else Ok tt)))

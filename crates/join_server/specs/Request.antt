@@ -17,8 +17,8 @@ abbrev pub dev_nonce_of : List ℕ → ℕ
 dev_nonce_of request = from_le_bytes w16 (take 2 (drop 17 request))
 
 -- all before the MIC, and the MIC
-abbrev pub message_of : List ℕ → List ℕ
-message_of request = take 19 request
+abbrev pub mic_input : List ℕ → List ℕ
+mic_input request = take 19 request
 
-abbrev pub mic_of : List ℕ → List ℕ
-mic_of request = drop 19 request
+abbrev pub request_mic : List ℕ → List ℕ
+request_mic request = drop 19 request

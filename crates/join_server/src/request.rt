@@ -3,7 +3,7 @@ ghost use Rattle.std.specs.Prelude.{◌≡◌, SomeIff, nat_eq};
 ghost use Rattle.std.specs.Cmp.Lexicographic.{pointwise};
 ghost use Rattle.frame_crypt.specs.Joins.{join_mic};
 ghost use Rattle.join_server.specs.Request.{IsRequest, dev_eui_of, dev_nonce_of, join_eui_of};
-ghost use Rattle.join_server.specs.Request.{message_of, mic_of};
+ghost use Rattle.join_server.specs.Request.{mic_input, request_mic};
 
 use frame_crypt::join_mic;
 use lw_types::{Eui, FromText, HexArray, Key};
@@ -77,10 +77,10 @@ impl JoinRequestBytes {
         u16::from_le_bytes(bytes)
     }
 
-    /// Whether the MIC is that of all before it under this key (TS001-1.0.4 §6.2.5).
+    /// Whether the Join-Request's MIC is that of all before it under this key (TS001-1.0.4 §6.2.5).
     pub fn is_signed(&self, key: &Key) -> bool
-        ensures { result ≡ pointwise nat_eq (mic_of self.now)
-            (join_mic key.now.0 (message_of self.now)) }
+        ensures { result ≡ pointwise nat_eq (request_mic self.now)
+            (join_mic key.now.0 (mic_input self.now)) }
     {
         let (message, mic) = self.bytes.split_at(19);
         mic == join_mic(key, message).as_slice()

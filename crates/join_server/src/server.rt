@@ -22,7 +22,7 @@ pub fn answer(state: &JoinState, ask: &JoinAsk) -> Result<(JoinState, JoinGrant)
         join_nonce,
         nwk_skey,
         app_skey,
-        accept: accept(&state.app_key, join_nonce, ask),
+        accept: accept_for(&state.app_key, join_nonce, ask),
     };
     let after = JoinState {
         dev_nonce: Some(dev_nonce),
@@ -51,6 +51,7 @@ fn admit(state: &JoinState, request: &JoinRequestBytes) -> Result<JoinNonce, Ref
     next_join_nonce(state.join_nonce).ok_or(Refusal::JoinNonceSpent)
 }
 
+// Whether a DevNonce is above the device's last one.
 fn is_later(last: Option<u16>, dev_nonce: u16) -> bool
     ensures { result ≡ is_later last dev_nonce }
 {
@@ -70,8 +71,8 @@ fn next_join_nonce(last: Option<JoinNonce>) -> Option<JoinNonce>
     }
 }
 
-// The sealed Join-Accept.
-fn accept(key: &Key, join_nonce: JoinNonce, ask: &JoinAsk) -> SealedAccept
+// The sealed Join-Accept, with the CFList.
+fn accept_for(key: &Key, join_nonce: JoinNonce, ask: &JoinAsk) -> SealedAccept
     ensures { result ≡ sealed_accept key.now.0 (accept_fields join_nonce ask.now) }
 {
     let mut frame = fields(join_nonce, ask);

@@ -21,7 +21,7 @@ use Rattle.link_messages.specs.declared.message.Message.{Message}
 use Rattle.link_messages.specs.declared.message.Message.TheVariants.{Greeting, Copy, Line}
 use Rattle.link_messages.specs.declared.message.TheConstants.{GATEWAY_GREETING, UPLINK_COPY, APPLICATION_GREETING, REQUEST}
 use Rattle.link_messages.specs.Message.{IsMessage, IsReception, IsSaying, MaySay, content_of}
-use Rattle.link_messages.specs.MessageReading.{application_at, copy_at, copy_of, gateway_at, greeting_at, heard_at, heard_of, is_line_byte, line_at, message_at, signed_at}
+use Rattle.link_messages.specs.MessageReading.{application_at, copy_at, copy_from, gateway_at, greeting_at, reception_at, reception_from, is_line_byte, line_at, message_at, signed_at}
 use Rattle.link_messages.proofs.Lines.{line_takes, line_again}
 
 guarded : {A : Type 0} (b : Bool) (x : Option A) (y : A) → cond b x None ≡ Some y → (b ≡ true) × (x ≡ Some y)
@@ -62,9 +62,9 @@ abbrev heard_bytes : Reception × ℕ → List ℕ
 heard_bytes x =
     to_be_bytes w64 x.0.gateway.0 ++ (to_be_bytes w32 x.0.frequency ++ (x.0.data_rate ∷ (signed_bytes x.0.snr ++ (signed_bytes x.0.rssi ++ to_be_bytes w32 x.1))))
 
-heard_field : IsField IsHeard heard_bytes heard_at
-unfolding heard_at
-heard_field = seen_field AreNumbers number_bytes _ numbers_field heard_of IsHeard heard_bytes
+heard_field : IsField IsHeard heard_bytes reception_at
+unfolding reception_at
+heard_field = seen_field AreNumbers number_bytes _ numbers_field reception_from IsHeard heard_bytes
     (λ x h. (((h.0, h.1.0, h.1.1.0, h.1.1.1.0, h.1.1.1.1.0), h.1.1.1.1.1), refl))
     (λ y h. ((y.0.gateway, (y.0.frequency, (y.0.data_rate, (y.0.snr, (y.0.rssi, y.1))))), (h.0.0, (h.0.1, (h.0.2, (h.0.3, (h.0.4, h.1))))), refl, refl))
 
@@ -94,7 +94,7 @@ greeting_takes kind fields m fits e =
 
 copy_takes : (gateway : Eui) (fields : List ℕ) (m : Message) → IsBytes fields → copy_at gateway fields ≡ Some m → IsSaying (Some (Gateway gateway)) (UPLINK_COPY ∷ fields) m
 copy_takes gateway fields m fits e =
-    let s = bind_some (heard_at fields) (copy_of gateway) m e in
+    let s = bind_some (reception_at fields) (copy_from gateway) m e in
     let t = heard_field.takes fields s.0.0 s.0.1 fits s.1 in
     let reception = s.0.0.0 in
     let g = guard_some (reception.gateway.0 == gateway.0 && nat_le (length s.0.1) 255) (Copy (frame_copy reception s.0.0.1 s.0.1)) m s.2 in

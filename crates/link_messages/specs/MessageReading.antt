@@ -21,8 +21,8 @@ use Rattle.link_messages.specs.declared.message.TheConstants.{APPLICATION_GREETI
 abbrev pub signed_at : Reader ℤ
 signed_at = seen_as (cast_signed w16) (be_at w16)
 
-abbrev pub heard_of : Eui × (ℕ × (ℕ × (ℤ × (ℤ × ℕ)))) → Reception × ℕ
-heard_of x = (
+abbrev pub reception_from : Eui × (ℕ × (ℕ × (ℤ × (ℤ × ℕ)))) → Reception × ℕ
+reception_from x = (
   record {
     gateway = x.0;
     frequency = x.1.0;
@@ -34,19 +34,19 @@ heard_of x = (
 )
 
 -- how a gateway heard a frame, and its stamp
-unfoldable pub heard_at : Reader (Reception × ℕ)
-heard_at =
-    seen_as heard_of (both be_eui_at
+unfoldable pub reception_at : Reader (Reception × ℕ)
+reception_at =
+    seen_as reception_from (both be_eui_at
     (both (be_at w32) (both byte_at (both signed_at (both signed_at (be_at w32))))))
 
-abbrev pub copy_of : Eui → (Reception × ℕ) × List ℕ → Option Message
-copy_of gateway x =
+abbrev pub copy_from : Eui → (Reception × ℕ) × List ℕ → Option Message
+copy_from gateway x =
     if x.0.0.gateway.0 == gateway.0
     && nat_le (length x.1) 255 then Some (Copy (frame_copy x.0.0 x.0.1 x.1)) else None
 
 -- a copy of this gateway's
 abbrev pub copy_at : Eui → List ℕ → Option Message
-copy_at gateway bytes = heard_at bytes >>= copy_of gateway
+copy_at gateway bytes = reception_at bytes >>= copy_from gateway
 
 abbrev pub is_line_byte : ℕ → Bool
 is_line_byte byte = nat_lt byte 128 && not (byte == 10)

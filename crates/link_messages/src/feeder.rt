@@ -150,7 +150,7 @@ fn greet(peer: &mut Option<Peer>, message: &Message)
 }
 
 // Adds the messages of a stream. Answers what is left of it, and the fault that stands there.
-fn hear<'a>(
+fn collect<'a>(
     alloc: Global,
     peer: &mut Option<Peer>,
     stream: &'a [u8],
@@ -189,7 +189,7 @@ fn keep(kept: &mut Vec<u8>, part: &[u8]) -> Result<(), AllocError>
 }
 
 // Hears a stream behind these messages, and keeps its rest. Answers the fault that stands there.
-fn hear_and_keep(
+fn collect_and_keep(
     alloc: Global,
     peer: &mut Option<Peer>,
     kept: &mut Vec<u8>,
@@ -202,7 +202,7 @@ fn hear_and_keep(
     ensures refused { IfErr result (λ e. (e ≡ OutOfMemory) × (kept.new.items ≡ kept.old.items)) }
     ensures wanted { IfErr result (λ _. WantsMemory peer.old stream.now) }
 {
-    let (left, fault) = hear(alloc, peer, stream, messages)?;
+    let (left, fault) = collect(alloc, peer, stream, messages)?;
     match fault {
         Some(fault) => {
             kept.clear();
@@ -229,7 +229,7 @@ fn joined<'a>(buffer: &'a mut [u8; LONGEST], kept: &[u8], front: &[u8]) -> &'a [
 // Hears a piece behind the bytes that were kept, and keeps the rest. Answers the fault that stands
 // there. The frame that the piece finishes is put together on the stack, so that what is no message
 // takes no memory.
-fn hear_piece(
+fn collect_piece(
     alloc: Global,
     peer: &mut Option<Peer>,
     kept: &mut Vec<u8>,
@@ -244,7 +244,7 @@ fn hear_piece(
     ensures wanted { IfErr result (λ _. WantsMemory peer.old (kept.old.items ++ piece.now)) }
 {
     if kept.is_empty() {
-        return hear_and_keep(alloc, peer, kept, piece, messages);
+        return collect_and_keep(alloc, peer, kept, piece, messages);
     }
     let (front, behind) = piece.split_at(finishing(kept.as_slice(), piece));
     let mut buffer = [0; LONGEST];
@@ -261,7 +261,7 @@ fn hear_piece(
         Next::Message(message, _) => {
             greet(peer, &message);
             messages.push(message)?;
-            hear_and_keep(alloc, peer, kept, behind, messages)
+            collect_and_keep(alloc, peer, kept, behind, messages)
         }
     }
 }

@@ -3,8 +3,8 @@ ghost use Rattle.std.specs.Prelude.{◌≡◌};
 ghost use Rattle.std.specs.List.{list_all};
 ghost use Rattle.byte_fields.specs.Reading.{Gives};
 ghost use Rattle.link_messages.specs.MessageReading.{application_at, copy_at, gateway_at};
-ghost use Rattle.link_messages.specs.MessageReading.{greeting_at, heard_at, is_line_byte, line_at};
-ghost use Rattle.link_messages.specs.MessageReading.{message_at, signed_at, Reads};
+ghost use Rattle.link_messages.specs.MessageReading.{greeting_at, is_line_byte, line_at};
+ghost use Rattle.link_messages.specs.MessageReading.{message_at, reception_at, signed_at, Reads};
 
 use crate::line::Line;
 use crate::message::{APPLICATION_GREETING, GATEWAY_GREETING, Message, Peer, REQUEST, UPLINK_COPY};
@@ -21,9 +21,9 @@ fn signed(fields: &mut FieldReader<'_>) -> Option<i16>
 }
 
 // How a gateway heard a frame, and its stamp.
-#[tactic(auto, unfolding(crate::specs::MessageReading::heard_at))]
+#[tactic(auto, unfolding(crate::specs::MessageReading::reception_at))]
 fn heard(fields: &mut FieldReader<'_>) -> Option<(Reception, u32)>
-    ensures { Gives result fields.new.rest.now (heard_at fields.old.rest.now) }
+    ensures { Gives result fields.new.rest.now (reception_at fields.old.rest.now) }
 {
     let reception = Reception {
         gateway: fields.eui_be()?,
@@ -36,7 +36,7 @@ fn heard(fields: &mut FieldReader<'_>) -> Option<(Reception, u32)>
 }
 
 // A copy of this gateway's.
-fn copy(alloc: Global, gateway: Eui, bytes: &[u8]) -> Result<Message, Refusal>
+fn read_copy(alloc: Global, gateway: Eui, bytes: &[u8]) -> Result<Message, Refusal>
     ensures { Reads result (copy_at gateway bytes.now) }
 {
     let mut fields = FieldReader { rest: bytes };
@@ -111,7 +111,7 @@ pub(crate) fn read_message(
     let (kind, fields) = content.split_first().ok_or(Refusal::BadMessage)?;
     match (peer, *kind) {
         (None, kind) => greeting(kind, fields).ok_or(Refusal::BadMessage),
-        (Some(Peer::Gateway(gateway)), UPLINK_COPY) => copy(alloc, gateway, fields),
+        (Some(Peer::Gateway(gateway)), UPLINK_COPY) => read_copy(alloc, gateway, fields),
         (Some(Peer::Application(_)), REQUEST) => line(alloc, fields),
         _ => Err(Refusal::BadMessage),
     }

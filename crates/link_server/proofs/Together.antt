@@ -1,7 +1,7 @@
 -- One effect more is taken.
 use Rattle.std.proofs.Common.{◌+◌, ◌++◌, ◌∷◌, ℕ, List, [], refl, ap, sym, ◌∙◌, inl, inr, append_assoc, append-nil}
 use Rattle.devices.specs.declared.effect.Effect.{Effect}
-use Rattle.link_server.specs.Sending.{frame_of, AreTogether}
+use Rattle.link_server.specs.Sending.{effect_frame, AreTogether}
 
 -- and lost
 pub lost_one : (effects : List Effect) (effect : Effect) (lost : ℕ) (bytes : List ℕ)
@@ -14,12 +14,12 @@ lost_one (e ∷ es) effect lost bytes (inr (rest, (front, more))) =
 
 -- and its frame added
 pub added_one : (effects : List Effect) (effect : Effect) (lost : ℕ) (bytes : List ℕ)
-    → AreTogether effects lost bytes → AreTogether (effects ++ effect ∷ []) lost (bytes ++ frame_of effect)
+    → AreTogether effects lost bytes → AreTogether (effects ++ effect ∷ []) lost (bytes ++ effect_frame effect)
 added_one [] effect lost bytes (none, nothing) =
-    let behind = λ (b : List ℕ). b ++ frame_of effect in
-    inr ([], (ap behind nothing ∙ sym (append-nil (frame_of effect)), (none, refl)))
+    let behind = λ (b : List ℕ). b ++ effect_frame effect in
+    inr ([], (ap behind nothing ∙ sym (append-nil (effect_frame effect)), (none, refl)))
 added_one (e ∷ es) effect lost bytes (inl (others, (count, more))) =
     inl (others, (count, added_one es effect others bytes more))
 added_one (e ∷ es) effect lost bytes (inr (rest, (front, more))) =
-    let behind = λ (b : List ℕ). b ++ frame_of effect in
-    inr (rest ++ frame_of effect, (ap behind front ∙ append_assoc (frame_of e) rest (frame_of effect), added_one es effect lost rest more))
+    let behind = λ (b : List ℕ). b ++ effect_frame effect in
+    inr (rest ++ effect_frame effect, (ap behind front ∙ append_assoc (effect_frame e) rest (effect_frame effect), added_one es effect lost rest more))

@@ -21,13 +21,13 @@ link_of directory (Application application) =
     slice_index_or directory.applications application None
 
 -- gateways have this many links at most
-abbrev pub has_room : Directory → Recipient → Bool
-has_room directory (Gateway gateway) = nat_lt (length directory.gateways.items) MOST_GATEWAYS
-has_room directory (Application application) = Bool.true
+abbrev pub has_free_link : Directory → Recipient → Bool
+has_free_link directory (Gateway gateway) = nat_lt (length directory.gateways.items) MOST_GATEWAYS
+has_free_link directory (Application application) = Bool.true
 
 -- its name is free
 abbrev pub may_greet : Directory → Recipient → Bool
-may_greet directory name = is_none (link_of directory name) && has_room directory name
+may_greet directory name = is_none (link_of directory name) && has_free_link directory name
 
 -- it has this link now, behind those who have greeted before
 abbrev pub IsGreeted : Directory → Recipient → ℕ → Directory → Type 0

@@ -6,17 +6,17 @@ use Rattle.gateway_wire.specs.Emission.{emission}
 use Rattle.gateway_wire.specs.declared.emission.Emission.{Emission}
 use Rattle.gateway_wire.specs.declared.emission.Emission.TheVariants.{Gateway, Application}
 
-abbrev pub frame_in : Emission → List ℕ
-frame_in (Gateway gateway frame) = frame
-frame_in (Application application line) = answer_frame line
+abbrev pub emission_frame : Emission → List ℕ
+emission_frame (Gateway gateway frame) = frame
+emission_frame (Application application line) = answer_frame line
 
 -- the frame of the wire as which an effect leaves
-abbrev pub frame_of : Effect → List ℕ
-frame_of effect = frame_in (emission effect)
+abbrev pub effect_frame : Effect → List ℕ
+effect_frame effect = emission_frame (emission effect)
 
 -- the frames of effects, one after another, without so many that are lost
 abbrev pub AreTogether : List Effect → ℕ → List ℕ → Type 0
 AreTogether [] lost bytes = (lost ≡ 0) × (bytes ≡ [])
 AreTogether (effect ∷ effects) lost bytes =
     ((others : ℕ) × ((lost ≡ others + 1) × AreTogether effects others bytes))
-    ⊎ ((rest : List ℕ) × ((bytes ≡ frame_of effect ++ rest) × AreTogether effects lost rest))
+    ⊎ ((rest : List ℕ) × ((bytes ≡ effect_frame effect ++ rest) × AreTogether effects lost rest))

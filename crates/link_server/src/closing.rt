@@ -1,7 +1,7 @@
 // The closer closes the windows that are due.
 use crate::context::Context;
 use crate::gate::Gate;
-use crate::moments::{LifeClock, later, moment_of};
+use crate::moments::{LifeClock, moment_of, moved_on};
 use crate::server::LiveServer;
 use dedup::WAIT;
 use session_core::{Books, Moment, Seat, Sessions};
@@ -34,9 +34,9 @@ impl<'x, B: Books, R: Wait, G: Gate, C: LifeClock> Closer<'x, B, R, G, C> {
             }
             closer.wait_for_window(next);
             let now = closer.context.clock.now();
-            next = later(now, GATHER);
+            next = moved_on(now, GATHER);
             if !closer.tick(now) {
-                let until = later(now, PAUSE);
+                let until = moved_on(now, PAUSE);
                 closer
                     .context
                     .clock
@@ -45,7 +45,7 @@ impl<'x, B: Books, R: Wait, G: Gate, C: LifeClock> Closer<'x, B, R, G, C> {
         }
         if !closer.server.signals.is_stopped() {
             let last = closer.server.sessions.effective_time(closer.context.rt);
-            closer.tick(later(last, WAIT));
+            closer.tick(moved_on(last, WAIT));
         }
         closer.server.signals.tell_ticked();
         closer.seat

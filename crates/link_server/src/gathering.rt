@@ -4,7 +4,7 @@ ghost use Rattle.std.specs.Prelude.{false, MatchResult};
 ghost use Rattle.lw_types.specs.declared.refusal.Refusal.TheVariants.{OutOfMemory};
 ghost use Rattle.devices.specs.declared.effect.Effect.{Effect};
 ghost use Rattle.gateway_wire.specs.Answer.{answer_frame, refused_line};
-ghost use Rattle.link_server.specs.Sending.{frame_of, AreTogether};
+ghost use Rattle.link_server.specs.Sending.{effect_frame, AreTogether};
 ghost use Rattle.outbox.specs.Ring.{seen_by, taken_from};
 
 use crate::outgoing::{MUCH, Outgoing};
@@ -61,7 +61,7 @@ pub(crate) fn gather(
 // Whether the frame of an effect is put behind the others. It isn't without memory, nor on a broken
 // link.
 fn is_put(alloc: Global, effect: Effect, outgoing: &mut Outgoing, is_broken: bool) -> bool
-    ensures framed { MatchBool result (outgoing.new ≡ outgoing.old ++ frame_of effect)
+    ensures framed { MatchBool result (outgoing.new ≡ outgoing.old ++ effect_frame effect)
         (outgoing.new ≡ outgoing.old) }
     ensures broken { IsTrue is_broken → result ≡ false }
 {
@@ -71,7 +71,7 @@ fn is_put(alloc: Global, effect: Effect, outgoing: &mut Outgoing, is_broken: boo
 // Puts the frame of an effect behind the others. Refused with `OutOfMemory` for want of memory, and
 // then nothing is changed.
 fn add_effect(alloc: Global, effect: &Effect, outgoing: &mut Outgoing) -> Result<(), Refusal>
-    ensures { MatchResult result (λ _. outgoing.new ≡ outgoing.old ++ frame_of effect.now)
+    ensures { MatchResult result (λ _. outgoing.new ≡ outgoing.old ++ effect_frame effect.now)
         (λ e. (e ≡ OutOfMemory) × (outgoing.new ≡ outgoing.old)) }
 {
     match Emission::of(alloc, effect)? {

@@ -65,7 +65,7 @@ pub(crate) fn moment_of(millis: u64) -> Moment
 }
 
 /// The moment that is so many milliseconds later, or the last one.
-pub(crate) fn later(moment: Moment, millis: u64) -> Moment
+pub(crate) fn moved_on(moment: Moment, millis: u64) -> Moment
     ensures { moment + millis < 2 ^ 63 → result ≡ moment + millis }
 {
     moment_of(moment.get().saturating_add(millis))

@@ -71,7 +71,7 @@ fn has_decided(turn: &Turn) -> bool
 }
 
 // As whom a peer is told of effects.
-fn name_of(peer: &Peer) -> Recipient {
+fn recipient_of(peer: &Peer) -> Recipient {
     match peer {
         Peer::Gateway(gateway) => Recipient::Gateway(*gateway),
         Peer::Application(application) => Recipient::Application(*application),
@@ -144,7 +144,7 @@ impl<'x, B: Books, R: Wait, G: Gate, C: LifeClock> Worker<'x, B, R, G, C> {
 
     // A name that is taken is a fault of whoever greets with it.
     fn greet(&self, peer: &Peer) -> bool {
-        let name = name_of(peer);
+        let name = recipient_of(peer);
         let is_new = self
             .server
             .directory

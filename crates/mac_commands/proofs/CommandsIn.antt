@@ -9,7 +9,7 @@ use Rattle.lw_types.specs.declared.direction.Direction.{Direction}
 use Rattle.lw_types.specs.declared.direction.Direction.TheVariants.{Up, Down}
 use Rattle.mac_commands.specs.declared.cid.Cid.{Cid}
 use Rattle.mac_commands.specs.declared.command.MacCommand.{MacCommand}
-use Rattle.mac_commands.specs.Table.{number_of, payload_len}
+use Rattle.mac_commands.specs.Table.{cid_number, payload_len}
 use Rattle.mac_commands.specs.Commands.{IsWhole, command_bytes, spelling, BeginsWhole, AreCommands, IsLongestFit}
 use Rattle.mac_commands.specs.Reading.{known_cids, cid_of, with_payload, front_in, and_behind, first_commands, commands_in, is_reported, reported_bytes, is_link_check, asks_link_check, fitting_len}
 use Rattle.mac_commands.proofs.Reading.{HasRead, is_read, is_longest, known, none_begins, same_commands, same_stop}
@@ -27,8 +27,8 @@ found_passes p (y ∷ xs) x e = by (λ later. found_passes p xs x later) (p y) r
     by later true h e = subst (λ z. p z ≡ true) (some_is y x e) h
     by later false h e = later e
 
-numbered : (number : ℕ) (cid : Cid) → cid_of number ≡ Some cid → number_of cid ≡ number
-numbered number cid e = eqb-true (number_of cid) number (found_passes (λ (c : Cid). number_of c == number) known_cids cid e)
+numbered : (number : ℕ) (cid : Cid) → cid_of number ≡ Some cid → cid_number cid ≡ number
+numbered number cid e = eqb-true (cid_number cid) number (found_passes (λ (c : Cid). cid_number c == number) known_cids cid e)
 
 -- a whole command and the bytes behind it
 abbrev Stands : Direction → List ℕ → MacCommand → List ℕ → Type 0
@@ -56,7 +56,7 @@ payload_stands direction number bytes (Some cid) command rest is e = by (ltb (le
         let behind : drop n bytes ≡ rest = ap (λ (f : MacCommand × List ℕ). f.1) pair in
         let stands : Stands direction (number ∷ bytes) made (drop n bytes) = (
           length-take-le n bytes (ltb-false (length bytes) n h),
-          ap (λ (k : ℕ). k ∷ bytes) (sym (numbered number cid is)) ∙ ap (λ (bs : List ℕ). number_of cid ∷ bs) (sym (take-append-drop n bytes)),
+          ap (λ (k : ℕ). k ∷ bytes) (sym (numbered number cid is)) ∙ ap (λ (bs : List ℕ). cid_number cid ∷ bs) (sym (take-append-drop n bytes)),
         ) in
         subst (λ (c : MacCommand). Stands direction (number ∷ bytes) c rest) same (subst (λ (r : List ℕ). Stands direction (number ∷ bytes) made r) behind stands)
 

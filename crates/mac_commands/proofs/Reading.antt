@@ -9,13 +9,13 @@ use Rattle.mac_commands.specs.declared.cid.Cid.TheVariants.{LinkCheck, LinkAdr, 
 use Rattle.lw_types.specs.declared.direction.Direction.{Direction}
 use Rattle.lw_types.specs.declared.direction.Direction.TheVariants.{Down}
 use Rattle.mac_commands.specs.declared.command.MacCommand.{MacCommand}
-use Rattle.mac_commands.specs.Table.{number_of, payload_len}
+use Rattle.mac_commands.specs.Table.{cid_number, payload_len}
 use Rattle.mac_commands.specs.Commands.{IsWhole, command_bytes, spelling, Spells, BeginsWhole, AreCommands, IsLongestFit}
 use Rattle.mac_commands.specs.Reading.{cid_of}
 
 -- ---- one command
 
-pub known : (cid : Cid) → cid_of (number_of cid) ≡ Some cid
+pub known : (cid : Cid) → cid_of (cid_number cid) ≡ Some cid
 known LinkCheck = refl
 known LinkAdr = refl
 known DutyCycle = refl
@@ -31,7 +31,7 @@ same_some : (a b : Cid) → Some a ≡ Some b → a ≡ b
 same_some a b e = cc
 
 -- no two identifiers share a number
-pub number_of-injective : (a b : Cid) → number_of a ≡ number_of b → a ≡ b
+pub number_of-injective : (a b : Cid) → cid_number a ≡ cid_number b → a ≡ b
 number_of-injective a b e = same_some a b (sym (known a) ∙ (ap cid_of e ∙ known b))
 
 -- two fronts of one length
@@ -50,7 +50,7 @@ heads m n xs ys e = (cc, cc)
 -- the same bytes have the same command at their front
 pub one_front : (direction : Direction) (c d : MacCommand) (x y : List ℕ) → IsWhole direction c → IsWhole direction d → command_bytes c ++ x ≡ command_bytes d ++ y → (c ≡ d) × (x ≡ y)
 one_front direction c d x y whole_c whole_d e =
-    let h = heads (number_of c.cid) (number_of d.cid) (c.payload ++ x) (d.payload ++ y) e in
+    let h = heads (cid_number c.cid) (cid_number d.cid) (c.payload ++ x) (d.payload ++ y) e in
     let cid = number_of-injective c.cid d.cid h.0 in
     let t = fronts c.payload d.payload x y (whole_c ∙ (ap (payload_len direction) cid ∙ sym whole_d)) h.1 in
     (ap (λ k. made k c.payload) cid ∙ ap (λ p. made d.cid p) t.0, t.1)

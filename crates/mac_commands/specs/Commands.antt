@@ -4,14 +4,14 @@ use Rattle.std.specs.List.{flat_map, AllByRecursion}
 use Rattle.lw_types.specs.declared.direction.Direction.{Direction}
 use Rattle.lw_types.specs.declared.direction.Direction.TheVariants.{Down}
 use Rattle.mac_commands.specs.declared.command.MacCommand.{MacCommand}
-use Rattle.mac_commands.specs.Table.{number_of, payload_len}
+use Rattle.mac_commands.specs.Table.{cid_number, payload_len}
 
 -- the payload has the length that the table gives
 abbrev pub IsWhole : Direction → MacCommand → Type 0
 IsWhole direction command = length command.payload ≡ payload_len direction command.cid
 
 abbrev pub command_bytes : MacCommand → List ℕ
-command_bytes command = number_of command.cid ∷ command.payload
+command_bytes command = cid_number command.cid ∷ command.payload
 
 abbrev pub spelling : List MacCommand → List ℕ
 spelling commands = flat_map command_bytes commands

@@ -11,7 +11,7 @@ use Rattle.mac_commands.specs.declared.cid.Cid.TheVariants.{RxParamSetup, DevSta
 use Rattle.mac_commands.specs.declared.cid.Cid.TheVariants.{RxTimingSetup, TxParamSetup, DlChannel}
 use Rattle.mac_commands.specs.declared.cid.Cid.TheVariants.{DeviceTime}
 use Rattle.mac_commands.specs.declared.command.MacCommand.{MacCommand}
-use Rattle.mac_commands.specs.Table.{number_of, payload_len}
+use Rattle.mac_commands.specs.Table.{cid_number, payload_len}
 use Rattle.mac_commands.specs.Commands.{spelling}
 use Rattle.mac_commands.specs.Queueable.{may_be_queued}
 
@@ -25,7 +25,7 @@ known_cids =
 
 -- the identifier that a byte stands for, where it is known
 abbrev pub cid_of : ℕ → Option Cid
-cid_of number = find (λ cid. number_of cid == number) known_cids
+cid_of number = find (λ cid. cid_number cid == number) known_cids
 
 -- the command with this identifier, of which these bytes begin with the payload, and the bytes
 -- behind it
@@ -93,6 +93,6 @@ is_queue bytes =
     (length (spelling commands) == length bytes)
     && list_all (λ command. may_be_queued command.cid) commands
 
--- how many bytes of a queue, from its front and in whole commands, fit the room
+-- how many bytes of a queue, from its front and in whole commands, are piggybacked: fit the room
 abbrev pub fitting_len : List ℕ → ℕ → ℕ
 fitting_len queue room = length (spelling (commands_in Down (take room queue)))

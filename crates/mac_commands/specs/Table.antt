@@ -14,6 +14,7 @@ pub record Row : Type 0 where
   pub up : ℕ
   pub down : ℕ
 
+-- the MAC commands of class A (§5)
 abbrev pub row : Cid → Row
 row LinkCheck = record { number = 0x02; up = 0; down = 2 }
 row LinkAdr = record { number = 0x03; up = 1; down = 4 }
@@ -26,8 +27,8 @@ row TxParamSetup = record { number = 0x09; up = 0; down = 1 }
 row DlChannel = record { number = 0x0A; up = 1; down = 4 }
 row DeviceTime = record { number = 0x0D; up = 0; down = 5 }
 
-abbrev pub number_of : Cid → ℕ
-number_of cid = (row cid).number
+abbrev pub cid_number : Cid → ℕ
+cid_number cid = (row cid).number
 
 abbrev pub payload_len : Direction → Cid → ℕ
 payload_len Up cid = (row cid).up

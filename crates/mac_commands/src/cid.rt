@@ -23,19 +23,19 @@ impl Cid {
     ghost use Rattle.mac_commands.specs.declared.cid.Cid.{Cid};
     ghost use Rattle.mac_commands.specs.Queueable.{may_be_queued};
     ghost use Rattle.mac_commands.specs.Reading.{is_link_check_cid, is_reported_cid};
-    ghost use Rattle.mac_commands.specs.Table.{number_of, payload_len};
+    ghost use Rattle.mac_commands.specs.Table.{cid_number, payload_len};
 
     /// The byte that stands for the identifier.
     pub fn number(self) -> u8
-        ensures { result ≡ number_of self }
+        ensures { result ≡ cid_number self }
     {
         self as u8
     }
 
     /// The identifier that a byte stands for, where one is known.
     pub fn from_number(number: u8) -> Option<Self>
-        ensures known { IfSome result (λ cid. number_of cid ≡ number) }
-        ensures unknown { IfNone result ((cid : Cid) → number_of cid ≢ number) }
+        ensures known { IfSome result (λ cid. cid_number cid ≡ number) }
+        ensures unknown { IfNone result ((cid : Cid) → cid_number cid ≢ number) }
     {
         match number {
             0x02 => Some(Cid::LinkCheck),
@@ -75,7 +75,8 @@ impl Cid {
         matches!(self, Cid::LinkCheck)
     }
 
-    /// How many bytes of payload follow the identifier in a frame of this direction, at most 5.
+    /// How many bytes of a MAC command's payload follow its identifier in a frame of this
+    /// direction, at most 5 (TS001-1.0.4 §5).
     pub fn payload_len(self, direction: Direction) -> usize
         ensures length { result ≡ payload_len direction self }
         ensures few { result ≤ LONGEST_COMMAND_PAYLOAD }

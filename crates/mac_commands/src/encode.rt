@@ -21,13 +21,13 @@ pub fn encode_down(alloc: Global, commands: &[MacCommand], out: &mut Vec<u8>) ->
 {
     let mut bytes = Vec::new(alloc);
     for command in commands {
-        put(&mut bytes, command)?;
+        put_command(&mut bytes, command)?;
     }
     out.extend_from_slice(bytes.as_slice())?;
     Ok(())
 }
 
-fn put(out: &mut Vec<u8>, command: &MacCommand) -> Result<(), AllocError>
+fn put_command(out: &mut Vec<u8>, command: &MacCommand) -> Result<(), AllocError>
     ensures { OnOk result (out.new.items ≡ out.old.items ++ command_bytes command.now) }
 {
     out.push(command.cid.number())?;

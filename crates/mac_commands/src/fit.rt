@@ -7,9 +7,9 @@ ghost use Rattle.mac_commands.specs.Reading.{fitting_len};
 use crate::front::read_front;
 use lw_types::Direction;
 
-/// How many bytes of a queue of downlink commands, from its front and in whole commands, fit the
-/// room that is left of the 15 bytes of FOpts (TS001-1.0.4 §4.3.1.6): as many as possible. Takes no
-/// memory.
+/// How many bytes of a queue of downlink commands, from its front and in whole commands, are
+/// piggybacked: fit the room that is left of the 15 bytes of FOpts (TS001-1.0.4 §4.3.1.6): as many
+/// as possible. Takes no memory.
 #[tactic(auto, using(crate::proofs::Reading::is_longest, crate::proofs::CommandsIn::is_fitting))]
 pub fn fit15(queue: &[u8], room: u8) -> usize
     ensures longest { IsLongestFit queue.now room result }

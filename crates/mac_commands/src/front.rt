@@ -31,12 +31,12 @@ pub(crate) fn read_front(direction: Direction, bytes: &[u8]) -> Option<Front<'_>
 impl Front<'_> {
     ghost use Rattle.std.specs.Prelude.{◌++◌, OnOk};
     ghost use Rattle.mac_commands.specs.Commands.{command_bytes};
-    ghost use Rattle.mac_commands.specs.Front.{command_of};
+    ghost use Rattle.mac_commands.specs.Front.{front_command};
 
     /// The command with a payload of its own.
     pub fn command(self, alloc: Global) -> Result<MacCommand, AllocError>
         requires { length self.payload.now ≤ LONGEST_COMMAND_PAYLOAD }
-        ensures { IfOk result (λ command. command ≡ command_of self.entry) }
+        ensures { IfOk result (λ command. command ≡ front_command self.entry) }
     {
         Ok(MacCommand {
             cid: self.cid,
@@ -47,7 +47,7 @@ impl Front<'_> {
     /// Appends the bytes of the command.
     pub fn put(self, out: &mut Vec<u8>) -> Result<(), AllocError>
         ensures { OnOk result (out.new.items
-            ≡ out.old.items ++ command_bytes (command_of self.entry)) }
+            ≡ out.old.items ++ command_bytes (front_command self.entry)) }
     {
         out.push(self.cid.number())?;
         out.extend_from_slice(self.payload)?;

@@ -13,13 +13,13 @@ use Rattle.phy_payload.specs.declared.control.Control.TheVariants.{Uplink, Downl
 use Rattle.lw_types.specs.declared.direction.Direction.{Direction}
 use Rattle.lw_types.specs.declared.direction.Direction.TheVariants.{Up, Down}
 use Rattle.phy_payload.specs.declared.contents.PortPayload.{PortPayload}
-use Rattle.phy_payload.specs.Contents.{payload_len}
+use Rattle.phy_payload.specs.Contents.{frm_payload_len}
 use Rattle.phy_payload.specs.Frame.{bit, data_type, f_ctrl, port_and_payload, IsJoinRequest, IsPortPayload, IsMic}
 use Rattle.byte_fields.specs.Field.{IsField, AreBytes}
 use Rattle.byte_fields.specs.Reading.{both, byte_at, front_at, le_at, le_eui_at}
 use Rattle.byte_fields.proofs.FieldLemmas.{IsBytes-after, IsBytes-take, both_field, byte_field, front_field, other_some, seen_field}
 use Rattle.byte_fields.proofs.NumberLemmas.{Below, IsEui, le_eui_field, u16_le_field, u32_le_field}
-use Rattle.phy_payload.specs.Reading.{control_of, head_at, is_set, message_of, mic_at, mic_off, request_at, request_of}
+use Rattle.phy_payload.specs.Reading.{control_of, fhdr_at, is_set, port_payload_of, mic_at, mic_off, request_at, join_request_from}
 
 -- ---- Join-Requests
 
@@ -41,7 +41,7 @@ request_field =
     (both_field IsEui (λ eui. to_le_bytes w64 eui.0) le_eui_at _ _ _ le_eui_field
     (both_field IsEui (λ eui. to_le_bytes w64 eui.0) le_eui_at _ _ _ le_eui_field
     (both_field (Below (2 ^ 16)) (to_le_bytes w16) (le_at w16) IsMic (λ mic. mic.0) mic_at u16_le_field mic_field)))
-    request_of IsJoinRequest request_text
+    join_request_from IsJoinRequest request_text
     (λ x h. (record { join_eui = h.0; dev_eui = h.1.0; dev_nonce = h.1.1.0; mic = h.1.1.1 }, refl))
     (λ r h. ((r.join_eui, (r.dev_eui, (r.dev_nonce, r.mic))), (h.join_eui, (h.dev_eui, (h.dev_nonce, h.mic))), refl, refl))
 
@@ -152,18 +152,18 @@ IsHead x = (x.0 < 2 ^ 32) × ((x.1.0 < 256) × (x.1.1 < 2 ^ 16))
 abbrev pub head_text : ℕ × (ℕ × ℕ) → List ℕ
 head_text x = to_le_bytes w32 x.0 ++ (x.1.0 ∷ [] ++ to_le_bytes w16 x.1.1)
 
-pub head_field : IsField IsHead head_text head_at
+pub head_field : IsField IsHead head_text fhdr_at
 head_field =
     both_field (Below (2 ^ 32)) (to_le_bytes w32) (le_at w32) (λ (x : ℕ × ℕ). (x.0 < 256) × (x.1 < 2 ^ 16)) (λ x. x.0 ∷ [] ++ to_le_bytes w16 x.1) (both byte_at (le_at w16)) u32_le_field
     (both_field (λ byte. byte < 256) (λ byte. byte ∷ []) byte_at (Below (2 ^ 16)) (to_le_bytes w16) (le_at w16) byte_field u16_le_field)
 
 -- what was read as a message is all of the bytes
 pub message_takes : (bytes : List ℕ) (opts : ℕ) → IsBytes bytes → opts ≤ 15 → opts + length bytes ≤ 243
-    → IfSome (message_of bytes) IsPortPayload × (opts + payload_len (message_of bytes) ≤ 242) × (bytes ≡ port_and_payload (message_of bytes))
+    → IfSome (port_payload_of bytes) IsPortPayload × (opts + frm_payload_len (port_payload_of bytes) ≤ 242) × (bytes ≡ port_and_payload (port_payload_of bytes))
 message_takes [] opts fits few le = (tt, omega arith, refl)
 message_takes (port ∷ payload) opts fits few le = ((fits 0, λ i. fits (suc i)), omega arith, refl)
 
-pub message_again : (sent : Option PortPayload) → message_of (port_and_payload sent) ≡ sent
+pub message_again : (sent : Option PortPayload) → port_payload_of (port_and_payload sent) ≡ sent
 message_again None = refl
 message_again (Some sent) = refl
 

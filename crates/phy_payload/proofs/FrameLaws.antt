@@ -17,7 +17,7 @@ use Rattle.lw_types.specs.declared.direction.Direction.TheVariants.{Up, Down}
 use Rattle.phy_payload.specs.declared.data_frame.DataFrame.{DataFrame}
 use Rattle.phy_payload.specs.Contents.{carried_contents}
 use Rattle.phy_payload.specs.Frame.{data_type, f_ctrl, mhdr, port_and_payload, refusal_of, sealed_bytes, spelling, FitsPhy, IsDataFrame, IsJoinAccept, IsJoinRequest, IsPhy, IsSomePhyInMemory, TakesMemory}
-use Rattle.phy_payload.specs.Reading.{accept_at, body_at, contents_at, control_of, data_at, head_at, message_of, mic_off, or_malformed, phy_at, request_at, ReadsFrame}
+use Rattle.phy_payload.specs.Reading.{accept_at, body_at, contents_at, control_of, data_at, fhdr_at, port_payload_of, mic_off, or_malformed, phy_at, request_at, ReadsFrame}
 use Rattle.byte_fields.specs.Reading.{◌>>=◌, front_at, whole}
 use Rattle.byte_fields.proofs.FieldLemmas.{IsBytes-after, bind_some, chosen_some, front_field, guard_some, some_is, whole_again, whole_takes}
 use Rattle.phy_payload.proofs.FrameFields.{control_again, control_byte, control_takes, dir_of, head_field, head_text, message_again, message_takes, mic_again, mic_takes, request_field, request_text, same_type, type_of}
@@ -36,11 +36,11 @@ IsReadAs direction confirmed body d = IsDataFrame d × (dir_of d.control ≡ dir
 data_takes : (direction : Direction) (confirmed : Bool) (body : List ℕ) (d : DataFrame) → IsBytes body → length body ≤ 254 → data_at direction confirmed body ≡ Some d → IsReadAs direction confirmed body d
 unfolding data_at
 data_takes direction confirmed body d fits short e =
-    let s = bind_some (mic_off body) (λ parts. head_at parts.0 >>= λ head. control_of direction head.0.1.0 >>= λ control. contents_at confirmed control head.0 parts.1 head.1) d e in
+    let s = bind_some (mic_off body) (λ parts. fhdr_at parts.0 >>= λ head. control_of direction head.0.1.0 >>= λ control. contents_at confirmed control head.0 parts.1 head.1) d e in
     let front = s.0.0 in
     let mic = s.0.1 in
     let split = mic_takes body s.0 fits s.1 in
-    let t = bind_some (head_at front) (λ head. control_of direction head.0.1.0 >>= λ control. contents_at confirmed control head.0 mic head.1) d s.2 in
+    let t = bind_some (fhdr_at front) (λ head. control_of direction head.0.1.0 >>= λ control. contents_at confirmed control head.0 mic head.1) d s.2 in
     let addr : ℕ = t.0.0.0 in
     let byte : ℕ = t.0.0.1.0 in
     let cnt : ℕ = t.0.0.1.1 in
@@ -50,7 +50,7 @@ data_takes direction confirmed body d fits short e =
     let control = u.0 in
     let is_control = control_takes direction byte control head.0.1.0 u.1 in
     let after : IsBytes rest = IsBytes-after (head_text t.0.0) rest (subst IsBytes head.1 split.0) in
-    let v = bind_some (front_at (byte % 16) rest) (λ opts. Some (record { confirmed = confirmed; dev_addr = record { 0 = addr }; control = control; f_cnt = cnt; contents = carried_contents opts.0 (message_of opts.1); mic = mic })) d u.2 in
+    let v = bind_some (front_at (byte % 16) rest) (λ opts. Some (record { confirmed = confirmed; dev_addr = record { 0 = addr }; control = control; f_cnt = cnt; contents = carried_contents opts.0 (port_payload_of opts.1); mic = mic })) d u.2 in
     let opts = v.0.0 in
     let sent = v.0.1 in
     let cut = (front_field (byte % 16)).takes rest opts sent after v.1 in
@@ -60,7 +60,7 @@ data_takes direction confirmed body d fits short e =
     let len_rest : length rest ≡ length opts + length sent = ap length cut.1 ∙ length-append opts sent in
     let len_body = split.3 in
     let message = message_takes sent (length opts) last (omega arith) (omega arith) in
-    let made : DataFrame = record { confirmed = confirmed; dev_addr = record { 0 = addr }; control = control; f_cnt = cnt; contents = carried_contents opts (message_of sent); mic = mic } in
+    let made : DataFrame = record { confirmed = confirmed; dev_addr = record { 0 = addr }; control = control; f_cnt = cnt; contents = carried_contents opts (port_payload_of sent); mic = mic } in
     let whole_byte : byte ≡ f_ctrl control (length opts) = sym is_control.1 ∙ ap (f_ctrl control) (sym few) in
     let text : front ≡ data_text made =
     head.1 ∙ ap (λ (b : ℕ). head_text (addr, (b, cnt)) ++ rest) whole_byte ∙ ap (λ (r : List ℕ). head_text (addr, (f_ctrl control (length opts), cnt)) ++ r) (cut.1 ∙ ap (λ (r : List ℕ). opts ++ r) message.2) in

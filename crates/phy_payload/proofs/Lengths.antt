@@ -7,15 +7,15 @@ use Rattle.phy_payload.specs.declared.join.JoinRequest.{JoinRequest}
 use Rattle.phy_payload.specs.declared.data_frame.DataFrame.{DataFrame}
 use Rattle.phy_payload.specs.declared.join.JoinAccept.TheVariants.{Short, WithCfList}
 use Rattle.phy_payload.specs.declared.contents.PortPayload.{PortPayload}
-use Rattle.phy_payload.specs.Contents.{payload_len}
+use Rattle.phy_payload.specs.Contents.{frm_payload_len}
 use Rattle.phy_payload.specs.Frame.{data_mic_input, port_and_payload, request_mic_input, spelling, FitsPhy, IsPhy}
 
-port_len : (sent : Option PortPayload) → length (port_and_payload sent) ≤ payload_len sent + 1
+port_len : (sent : Option PortPayload) → length (port_and_payload sent) ≤ frm_payload_len sent + 1
 port_len None = omega arith
 port_len (Some sent) = omega arith
 
 -- the message of a data frame has at most 251 bytes
-pub message_len : (d : DataFrame) → length d.contents.f_opts + payload_len d.contents.message ≤ 242 → length (data_mic_input d) ≤ 251
+pub message_len : (d : DataFrame) → length d.contents.f_opts + frm_payload_len d.contents.message ≤ 242 → length (data_mic_input d) ≤ 251
 message_len d fits =
     let rest = length-append d.contents.f_opts (port_and_payload d.contents.message) in
     let port = port_len d.contents.message in

@@ -11,6 +11,6 @@ abbrev pub carried_contents : List ℕ → Option PortPayload → Carried
 carried_contents opts sent = record { f_opts = opts; message = sent }
 
 -- the number of bytes of FRMPayload, 0 where there is no port
-abbrev pub payload_len : Option PortPayload → ℕ
-payload_len None = 0
-payload_len (Some sent) = length sent.frm_payload
+abbrev pub frm_payload_len : Option PortPayload → ℕ
+frm_payload_len None = 0
+frm_payload_len (Some sent) = length sent.frm_payload

@@ -16,7 +16,7 @@ use Rattle.phy_payload.specs.declared.control.Control.{Control}
 use Rattle.phy_payload.specs.declared.control.Control.TheVariants.{Uplink, Downlink}
 use Rattle.phy_payload.specs.declared.contents.PortPayload.{PortPayload}
 use Rattle.phy_payload.specs.declared.data_frame.DataFrame.{DataFrame}
-use Rattle.phy_payload.specs.Contents.{Carried, payload_len}
+use Rattle.phy_payload.specs.Contents.{Carried, frm_payload_len}
 
 -- ---- the fields
 
@@ -99,7 +99,7 @@ IsPortPayload sent = (sent.f_port < 256) × IsBytes sent.frm_payload
 pub record IsCarried (c : Carried) : Type 0 where
   pub f_opts : IsBytes c.f_opts × (length c.f_opts ≤ 15)
   pub message : IfSome c.message IsPortPayload
-  pub fits : length c.f_opts + payload_len c.message ≤ 242
+  pub fits : length c.f_opts + frm_payload_len c.message ≤ 242
 
 pub record IsDataFrame (d : DataFrame) : Type 0 where
   pub dev_addr : d.dev_addr.0 < 2 ^ 32

@@ -42,11 +42,11 @@ or_malformed f (Some x) = Ok (f x)
 abbrev pub mic_at : Reader Mic
 mic_at = seen_as (λ bytes. record { 0 = bytes }) (front_at 4)
 
-abbrev pub request_of : Eui × (Eui × (ℕ × Mic)) → JoinRequest
-request_of x = record { join_eui = x.0; dev_eui = x.1.0; dev_nonce = x.1.1.0; mic = x.1.1.1 }
+abbrev pub join_request_from : Eui × (Eui × (ℕ × Mic)) → JoinRequest
+join_request_from x = record { join_eui = x.0; dev_eui = x.1.0; dev_nonce = x.1.1.0; mic = x.1.1.1 }
 
 unfoldable pub request_at : Reader JoinRequest
-request_at = seen_as request_of (both le_eui_at (both le_eui_at (both (le_at w16) mic_at)))
+request_at = seen_as join_request_from (both le_eui_at (both le_eui_at (both (le_at w16) mic_at)))
 
 abbrev pub accept_at : List ℕ → Option JoinAccept
 accept_at body =
@@ -70,9 +70,9 @@ control_of Down byte =
     then None
     else Some (Downlink (is_set byte 128) (is_set byte 32) (is_set byte 16))
 
-abbrev pub message_of : List ℕ → Option PortPayload
-message_of [] = None
-message_of (port ∷ payload) = Some (record { f_port = port; frm_payload = payload })
+abbrev pub port_payload_of : List ℕ → Option PortPayload
+port_payload_of [] = None
+port_payload_of (port ∷ payload) = Some (record { f_port = port; frm_payload = payload })
 
 -- the last four bytes, behind what stands before them
 abbrev pub mic_off : List ℕ → Option (List ℕ × Mic)
@@ -82,8 +82,8 @@ mic_off bytes =
     else Some (take (length bytes - 4) bytes, record { 0 = drop (length bytes - 4) bytes })
 
 -- DevAddr, FCtrl and FCnt
-abbrev pub head_at : Reader (ℕ × (ℕ × ℕ))
-head_at = both (le_at w32) (both byte_at (le_at w16))
+abbrev pub fhdr_at : Reader (ℕ × (ℕ × ℕ))
+fhdr_at = both (le_at w32) (both byte_at (le_at w16))
 
 -- a data frame whose FOpts and message are still to read
 abbrev pub contents_at : Bool → Control → ℕ × (ℕ × ℕ) → Mic → List ℕ → Option DataFrame
@@ -95,7 +95,7 @@ contents_at confirmed control head mic bytes =
       dev_addr = record { 0 = head.0 };
       control = control;
       f_cnt = head.1.1;
-      contents = carried_contents opts.0 (message_of opts.1);
+      contents = carried_contents opts.0 (port_payload_of opts.1);
       mic = mic;
     }
     )
@@ -103,7 +103,7 @@ contents_at confirmed control head mic bytes =
 -- what stands behind the MHDR of a data frame
 unfoldable pub data_at : Direction → Bool → List ℕ → Option DataFrame
 data_at direction confirmed body =
-    mic_off body >>= λ parts. head_at parts.0 >>= λ head. control_of direction head.0.1.0
+    mic_off body >>= λ parts. fhdr_at parts.0 >>= λ head. control_of direction head.0.1.0
     >>= λ control. contents_at confirmed control head.0 parts.1 head.1
 
 -- ---- frames
@@ -121,6 +121,7 @@ body_at first body =
     else if first == mhdr 7 then Err NotServed
     else Err Malformed
 
+-- a frame by its MHDR, whose RFU bits and Major are 0 (§4.2), of at most 255 bytes
 unfoldable pub phy_at : List ℕ → Result Phy Refusal
 phy_at [] = Err Malformed
 phy_at (first ∷ body) = if nat_lt 254 (length body) then Err Malformed else body_at first body

@@ -3,16 +3,16 @@ use Rattle.std.specs.Prelude.{◌+◌, ◌≤◌, length}
 use Rattle.phy_payload.specs.declared.data_frame.DataFrame.{DataFrame}
 use Rattle.phy_payload.specs.declared.frame_ref.DataFrameRef.TheInside.{Inside}
 use Rattle.phy_payload.specs.Contents.{carried_contents}
-use Rattle.phy_payload.specs.Reading.{message_of}
+use Rattle.phy_payload.specs.Reading.{port_payload_of}
 
-abbrev pub frame_of : Inside → DataFrame
-frame_of f =
+abbrev pub seen_frame : Inside → DataFrame
+seen_frame f =
     record {
       confirmed = f.confirmed;
       dev_addr = f.dev_addr;
       control = f.control;
       f_cnt = f.f_cnt;
-      contents = carried_contents f.f_opts.now (message_of f.behind.now);
+      contents = carried_contents f.f_opts.now (port_payload_of f.behind.now);
       mic = f.mic;
     }
 

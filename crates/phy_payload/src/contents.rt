@@ -1,6 +1,6 @@
 // What a data frame carries (TS001-1.0.4 §4.3.1.6, §4.3.2, §4.3.3).
 ghost use Rattle.std.specs.Prelude.{◌≡◌, ◌+◌, ◌≤◌, length};
-ghost use Rattle.phy_payload.specs.Contents.{carried_contents, payload_len};
+ghost use Rattle.phy_payload.specs.Contents.{carried_contents, frm_payload_len};
 
 use lw_types::{Bytes, LONGEST_PAYLOAD, Payload};
 use std::alloc::AllocError;
@@ -33,13 +33,13 @@ pub struct Contents {
 impl Model for Contents {
     ghost use Rattle.std.specs.Prelude.{◌+◌, ◌≤◌, length};
     ghost use Rattle.lw_types.specs.declared.payload.TheConstants.{LONGEST_PAYLOAD};
-    ghost use Rattle.phy_payload.specs.Contents.{Carried, payload_len};
+    ghost use Rattle.phy_payload.specs.Contents.{Carried, frm_payload_len};
 
     ghost Value = { Carried };
 
     ghost view = { λ c. record { f_opts = c.f_opts; message = c.message } };
 
-    ghost invariant = { λ c. length c.f_opts + payload_len c.message ≤ LONGEST_PAYLOAD };
+    ghost invariant = { λ c. length c.f_opts + frm_payload_len c.message ≤ LONGEST_PAYLOAD };
 
     ghost inverse = { λ v. record { f_opts = v.f_opts; message = v.message } };
 }
@@ -49,7 +49,7 @@ impl Contents {
 
     /// These parts. FOpts and FRMPayload may have at most 242 bytes together.
     pub fn new(f_opts: FOpts, message: Option<PortPayload>) -> Self
-        requires { length f_opts + payload_len message ≤ LONGEST_PAYLOAD }
+        requires { length f_opts + frm_payload_len message ≤ LONGEST_PAYLOAD }
         ensures { result ≡ carried_contents f_opts message }
     {
         Contents { f_opts, message }
@@ -66,7 +66,7 @@ impl Contents {
     /// FPort and FRMPayload, where there is a port.
     pub fn message(&self) -> Option<&PortPayload>
         ensures message { option_copied result ≡ self.now.message }
-        ensures fits { length self.now.f_opts + payload_len self.now.message ≤ LONGEST_PAYLOAD }
+        ensures fits { length self.now.f_opts + frm_payload_len self.now.message ≤ LONGEST_PAYLOAD }
     {
         self.message.as_ref()
     }
@@ -75,7 +75,7 @@ impl Contents {
     pub fn into_parts(self) -> (FOpts, Option<PortPayload>)
         ensures f_opts { result.0 ≡ self.f_opts }
         ensures message { result.1 ≡ self.message }
-        ensures fits { length self.f_opts + payload_len self.message ≤ LONGEST_PAYLOAD }
+        ensures fits { length self.f_opts + frm_payload_len self.message ≤ LONGEST_PAYLOAD }
     {
         let Contents { f_opts, message } = self;
         (f_opts, message)

@@ -1,8 +1,8 @@
 // Frames that were read, over the bytes of which they were read.
 ghost use Rattle.std.specs.Prelude.{◌≡◌, ◌+◌, ◌≤◌, length, MatchResult};
 ghost use Rattle.lw_types.specs.declared.refusal.Refusal.TheVariants.{OutOfMemory};
-ghost use Rattle.phy_payload.specs.Contents.{carried_contents, payload_len};
-ghost use Rattle.phy_payload.specs.Reading.{message_of};
+ghost use Rattle.phy_payload.specs.Contents.{carried_contents, frm_payload_len};
+ghost use Rattle.phy_payload.specs.Reading.{port_payload_of};
 ghost use Rattle.phy_payload.specs.Seen.{seen_message, phy_of, OwnsFrame};
 
 use crate::contents::{Contents, FOpts, FrmPayload, LONGEST_F_OPTS, PortPayload};
@@ -40,9 +40,9 @@ impl<'a> Model for DataFrameRef<'a> {
 
     ghost Value = { DataFrame };
 
-    ghost use Rattle.phy_payload.specs.SeenFrame.{frame_of, IsSeen};
+    ghost use Rattle.phy_payload.specs.SeenFrame.{seen_frame, IsSeen};
 
-    ghost view = { frame_of };
+    ghost view = { seen_frame };
 
     ghost invariant = { IsSeen };
 }
@@ -87,7 +87,7 @@ impl<'a> DataFrameRef<'a> {
     /// FPort and FRMPayload, where there is a port.
     pub fn message(&self) -> Option<PortPayloadRef<'a>>
         ensures message { seen_message result ≡ self.now.contents.message }
-        ensures fits { length self.now.contents.f_opts + payload_len self.now.contents.message
+        ensures fits { length self.now.contents.f_opts + frm_payload_len self.now.contents.message
             ≤ LONGEST_PAYLOAD }
     {
         let (f_port, frm_payload) = self.behind.split_first()?;
@@ -113,17 +113,17 @@ impl<'a> DataFrameRef<'a> {
             dev_addr: self.dev_addr,
             control: self.control,
             f_cnt: self.f_cnt,
-            contents: contents_of(alloc, self.f_opts, self.behind)?,
+            contents: contents_from(alloc, self.f_opts, self.behind)?,
             mic: self.mic,
         })
     }
 }
 
 // FOpts, and what follows it: nothing, or FPort and FRMPayload.
-fn contents_of(alloc: Global, f_opts: &[u8], behind: &[u8]) -> Result<Contents, Refusal>
+fn contents_from(alloc: Global, f_opts: &[u8], behind: &[u8]) -> Result<Contents, Refusal>
     requires few { length f_opts.now ≤ 15 }
     requires fits { length f_opts.now + length behind.now ≤ 243 }
-    ensures { MatchResult result (λ c. c ≡ carried_contents f_opts.now (message_of behind.now))
+    ensures { MatchResult result (λ c. c ≡ carried_contents f_opts.now (port_payload_of behind.now))
         (λ e. e ≡ OutOfMemory) }
 {
     let message = match behind.split_first() {

@@ -4,7 +4,7 @@ ghost use Rattle.lw_types.specs.declared.refusal.Refusal.TheVariants.{OutOfMemor
 ghost use Rattle.phy_payload.specs.declared.phy.Phy.{Phy};
 ghost use Rattle.byte_fields.specs.Reading.{whole, Gives, GivesSeen};
 ghost use Rattle.phy_payload.specs.Frame.{refusal_of, IsPhy, IsSomePhyInMemory, TakesMemory};
-ghost use Rattle.phy_payload.specs.Reading.{accept_at, data_at, head_at, or_malformed, phy_at};
+ghost use Rattle.phy_payload.specs.Reading.{accept_at, data_at, fhdr_at, or_malformed, phy_at};
 ghost use Rattle.phy_payload.specs.Reading.{request_at, ReadsFrame};
 ghost use Rattle.phy_payload.specs.Seen.{phy_read};
 
@@ -65,9 +65,9 @@ struct FrameHead {
     f_cnt: u16,
 }
 
-fn read_head(fields: &mut FieldReader<'_>) -> Option<FrameHead>
+fn read_fhdr(fields: &mut FieldReader<'_>) -> Option<FrameHead>
     ensures field { GivesSeen (λ head. (head.dev_addr.0, (head.f_ctrl, head.f_cnt))) result
-        fields.new.rest.now (head_at fields.old.rest.now) }
+        fields.new.rest.now (fhdr_at fields.old.rest.now) }
     ensures left { OnSome result (length fields.new.rest.now + 7 ≡ length fields.old.rest.now) }
 {
     Some(FrameHead {
@@ -84,7 +84,7 @@ fn read_data_frame(direction: Direction, confirmed: bool, body: &[u8]) -> Option
 {
     let (front, mic) = body.split_last_chunk::<4>()?;
     let mut fields = FieldReader { rest: front };
-    let head = read_head(&mut fields)?;
+    let head = read_fhdr(&mut fields)?;
     let control = Control::of(direction, head.f_ctrl)?;
     let (f_opts, behind) = fields.rest.split_at_checked(usize::from(head.f_ctrl % 16))?;
     Some(DataFrameRef {

@@ -18,7 +18,7 @@ use crate::phy::{Mic, Phy};
 use lw_types::{Eui, Refusal};
 use std::alloc::{AllocError, Global};
 
-fn put_eui(out: &mut Vec<u8>, eui: Eui) -> Result<(), AllocError>
+fn put_le_eui(out: &mut Vec<u8>, eui: Eui) -> Result<(), AllocError>
     ensures written { OnOk result (out.new.items ≡ out.old.items ++ to_le_bytes w64 eui.0) }
     ensures in_range { eui.0 < 2 ^ 64 }
 {
@@ -45,8 +45,8 @@ fn put_join_request(out: &mut Vec<u8>, request: &JoinRequest) -> Result<(), Allo
     ensures in_range { OnOk result (IsJoinRequest request.now) }
 {
     out.push(mhdr::JOIN_REQUEST)?;
-    put_eui(out, request.join_eui)?;
-    put_eui(out, request.dev_eui)?;
+    put_le_eui(out, request.join_eui)?;
+    put_le_eui(out, request.dev_eui)?;
     out.extend_from_slice(&request.dev_nonce.to_le_bytes())?;
     put_mic(out, request.mic)?;
     Ok(())

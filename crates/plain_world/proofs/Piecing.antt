@@ -11,7 +11,7 @@ use Rattle.world.specs.declared.event.Event.{Event}
 use Rattle.world.specs.declared.event.Event.TheVariants as events
 use Rattle.world.specs.declared.step.Step.TheVariants.{Event as EventStep}
 use Rattle.world.specs.Answers.{AreTurns, IsTurnAnswer, event_of}
-use Rattle.world.specs.Course.{Origin, Course, after_own_copy, after_commands, at_moment, commands_of, handed_in_count, with_closings, with_piece, after_event, after_events, step_if_room, after_command}
+use Rattle.world.specs.Course.{Origin, Course, after_own_copy, after_commands, at_moment, step_commands, handed_in_count, with_closings, with_piece, after_event, after_events, step_if_room, after_command}
 use Rattle.world.specs.Links.{Completes, stream_on}
 use Rattle.plain_world.specs.Plain.{PlainState, Goes, GoesPiece, GoesThrough, at_course}
 
@@ -35,7 +35,7 @@ accepted_open (events.Ask command) refused c = refl
 turned_open : (origin : Origin) (c : Course) (moment : ℕ) (event : Event) (refused : Option Refusal) (closings : ℕ)
     → (after_event origin c moment event refused closings).is_open ≡ c.is_open
 turned_open origin c moment event refused closings =
-    let commands = take (handed_in_count event refused closings) (commands_of c (EventStep moment event)) in
+    let commands = take (handed_in_count event refused closings) (step_commands c (EventStep moment event)) in
     accepted_open event refused (with_closings closings (after_commands origin (at_moment c moment) commands)) ∙ admit_open origin (at_moment c moment) commands
 
 -- ---- events of one moment

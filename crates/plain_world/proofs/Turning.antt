@@ -20,7 +20,7 @@ use Rattle.world.specs.declared.event.Event.TheVariants as events
 use Rattle.world.specs.declared.step.Step.TheVariants.{Event as EventStep}
 use Rattle.world.specs.declared.answer.Answer.TheVariants.{Turn as TurnAnswer}
 use Rattle.world.specs.Answers.{IsAsked, IsCopyAnswer, IsOwnRight, IsTurnAnswer}
-use Rattle.world.specs.Course.{Origin, Course, after_commands, at_moment, decided_commands, due_frames, has_room, after_copy, own_count, with_closings, table_from, after_event, step_if_room, after_command, windows_of}
+use Rattle.world.specs.Course.{Origin, Course, after_commands, at_moment, decided_commands, due_frames, has_room, after_copy, own_count, with_closings, table_from, after_event, step_if_room, after_command, course_windows}
 use Rattle.plain_world.specs.Plain.{PlainState, Goes, IsRefusal, at_course, own_after}
 
 some_is_none : (e : Refusal) → ◌≡◌ {A = Option Refusal} (Some e) None → ⊥
@@ -88,9 +88,9 @@ answered (Err f) (Some e) is = inr (ap Err (same_refusal f e is))
 
 -- one on a channel is answered as the windows have it
 pub is_heard : (c : Course) (copy : FrameCopy) (refused : Option Refusal) → IsReceivable copy.reception
-    → refused ≡ result_err (windows_with (windows_of c) c.clock copy) → IsCopyAnswer c copy refused
+    → refused ≡ result_err (windows_with (course_windows c) c.clock copy) → IsCopyAnswer c copy refused
 is_heard c copy refused fine is =
-    record { receivable = λ _. answered (windows_with (windows_of c) c.clock copy) refused is; unknown = λ wrong. absurd (wrong fine) }
+    record { receivable = λ _. answered (windows_with (course_windows c) c.clock copy) refused is; unknown = λ wrong. absurd (wrong fine) }
 
 -- and one that isn't is refused
 pub is_unknown : (c : Course) (copy : FrameCopy) → ¬ (IsReceivable copy.reception) → IsCopyAnswer c copy (Some UnknownChannel)

@@ -4,7 +4,7 @@ ghost use Rattle.std.specs.Result.{result_err};
 ghost use Rattle.devices.specs.Heard.{has_gateway, with_hearing};
 ghost use Rattle.dedup.specs.Groups.{arrival, first_groups, groups, is_in_group};
 ghost use Rattle.dedup.specs.Windows.{windows_with, window_of_group, hearing_of, is_due};
-ghost use Rattle.world.specs.Course.{command_in};
+ghost use Rattle.world.specs.Course.{window_command};
 
 use dedup::{MOST_WINDOWS, WAIT};
 use devices::{Command, Heard, Hearing, Hearings};
@@ -112,7 +112,7 @@ impl PlainWindow {
 
     // What was heard in it, as a command.
     fn command(&self) -> Result<Command, Refusal>
-        ensures { IfOk result (λ command. command ≡ command_in self.now) }
+        ensures { IfOk result (λ command. command ≡ window_command self.now) }
     {
         let hearings = Hearings::new(self.hearings.clone()?).ok_or(Refusal::OutOfMemory)?;
         Ok(Command::Heard(Heard {
@@ -146,7 +146,7 @@ fn has_gateway(hearings: &[Hearing], gateway: u64) -> bool
 
 /// The windows in which these copies gathered: that of the first copy and of all that join it, and
 /// so on with the others.
-pub fn windows_of(alloc: Global, arrivals: &[PlainArrival]) -> Result<Vec<PlainWindow>, Refusal>
+pub fn course_windows(alloc: Global, arrivals: &[PlainArrival]) -> Result<Vec<PlainWindow>, Refusal>
     ensures { IfOk result (λ windows. windows.items ≡ map window_of_group (groups arrivals.now)) }
 {
     let mut windows = Vec::new(alloc);
@@ -207,7 +207,7 @@ pub fn due_frames(
     clock: u64,
 ) -> Result<Vec<Command>, Refusal>
     ensures { IfOk result (λ frames. frames.items
-        ≡ map command_in (filter (is_due clock) windows.now)) }
+        ≡ map window_command (filter (is_due clock) windows.now)) }
 {
     let mut frames = Vec::new(alloc);
     for window in windows {

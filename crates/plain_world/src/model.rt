@@ -13,13 +13,13 @@ ghost use Rattle.world.specs.Course.{after_commands, at_moment, beginning, decid
 ghost use Rattle.store.specs.Flights.{in_flight};
 ghost use Rattle.world.specs.Course.{due_frames, new_store, after_copy};
 ghost use Rattle.world.specs.Course.{with_closings, table_from, with_piece, step_if_room};
-ghost use Rattle.world.specs.Course.{after_command, windows_of};
+ghost use Rattle.world.specs.Course.{after_command, course_windows};
 ghost use Rattle.plain_world.specs.Plain.{Goes, GoesPiece, GoesThrough, HasCall, IsBusy, IsRefusal};
 ghost use Rattle.plain_world.specs.Plain.{Settles, at_course, flight_of, flights_of, kept_with};
 ghost use Rattle.plain_world.specs.Plain.{left_of, own_after};
 
 use crate::flight::{PlainFlight, PlainStage, PlainUnderWay};
-use crate::gathering::{PlainArrival, PlainWindow, due_frames, refusal_by, windows_of};
+use crate::gathering::{PlainArrival, PlainWindow, course_windows, due_frames, refusal_by};
 use crate::streams::{PlainPiece, completed};
 use devices::{Command, Effect, is_receivable};
 use disk::Image;
@@ -292,9 +292,9 @@ impl Plain {
 
     // The windows that are open.
     fn windows(&self, alloc: Global) -> Result<Vec<PlainWindow>, Refusal>
-        ensures { IfOk result (λ windows. windows.items ≡ windows_of self.now.course) }
+        ensures { IfOk result (λ windows. windows.items ≡ course_windows self.now.course) }
     {
-        let mut windows = windows_of(alloc, &self.arrivals)?;
+        let mut windows = course_windows(alloc, &self.arrivals)?;
         let shut = self.shut.min(windows.len());
         Ok(windows.split_off(shut)?)
     }

@@ -1,5 +1,5 @@
 // The steps of the tests here, as lines.
-use crate::gathering::{PlainArrival, due_frames, windows_of};
+use crate::gathering::{PlainArrival, course_windows, due_frames};
 use dedup::WAIT;
 use devices::Command;
 use gateway_wire::{next_ranged, next_value};
@@ -24,7 +24,7 @@ pub fn provision(alloc: Global, dev_eui: u64) -> Result<Step, Refusal> {
 
 // The frame of this copy, as a command.
 fn command(alloc: Global, copy: FrameCopy) -> Result<Command, Refusal> {
-    let windows = windows_of(alloc, &[PlainArrival::new(0, copy)])?;
+    let windows = course_windows(alloc, &[PlainArrival::new(0, copy)])?;
     let mut frames = due_frames(alloc, &windows, WAIT)?;
     frames.pop().ok_or(Refusal::Damaged)
 }

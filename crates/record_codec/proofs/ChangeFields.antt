@@ -16,7 +16,7 @@ use Rattle.devices.specs.declared.queue.Item.{Item}
 use Rattle.record_codec.specs.DeviceRecord.{awaited_bytes, dev_nonce, granted_bytes, item, optional_current, optional_session, IsCurrentSession, IsItem, IsJoinNonce, IsSession}
 use Rattle.record_codec.specs.declared.version.RecordVersion.{RecordVersion}
 use Rattle.record_codec.specs.declared.version.RecordVersion.TheVariants.{V1, V2}
-use Rattle.record_codec.specs.Change.{Added, Groups, ItemChange, Leaves, AreCounters, AreInRange, AreNonces, IsItemChange, MayGrow, bit, change_bytes, counters_bytes, group_bytes, item_change_bytes, mask, nonces_bytes, there}
+use Rattle.record_codec.specs.Change.{Added, Groups, ItemChange, Leaves, AreCounters, AreInRange, AreNonces, IsItemChange, MayGrow, growth, change_bytes, counters_bytes, group_bytes, item_change_bytes, mask, nonces_bytes, there}
 use Rattle.record_codec.specs.Reading.{awaited_at, current_at, flagged_at, item_at, mac_queue_at, optional_by, session_at}
 use Rattle.record_codec.specs.ChangeReading.{GroupFields, change_at, groups_of, change_read, counters_at, granted_at, group_at, groups_at, is_odd, item_change_at, item_change_of, last_bit_at, next_group_at, nonces_at}
 use Rattle.record_codec.proofs.RecordFields.{IsNextDown, awaited_field, dev_nonce_field, granted_field, next_down_field, optional_current_field, optional_session_field, respelled_field}
@@ -24,23 +24,23 @@ use Rattle.record_codec.proofs.RecordLaws.{IsQueue, item_field, mac_queue_field}
 
 -- ---- a mask, bit by bit
 
-is_bit : (t : ℕ) → t < 2 → t ≡ bit (t == 1)
+is_bit : (t : ℕ) → t < 2 → t ≡ growth (t == 1)
 is_bit zero lt = refl
 is_bit (suc zero) lt = refl
 is_bit (suc (suc t)) lt = absurd (omega arith)
 
-lowest_bit : (t n : ℕ) → t < 2 → n % 2 ≡ t → t ≡ bit (is_odd n)
-lowest_bit t n lt e = is_bit t lt ∙ sym (ap (λ (k : ℕ). bit (k == 1)) e)
+lowest_bit : (t n : ℕ) → t < 2 → n % 2 ≡ t → t ≡ growth (is_odd n)
+lowest_bit t n lt e = is_bit t lt ∙ sym (ap (λ (k : ℕ). growth (k == 1)) e)
 
 -- the lowest bit and those above it, put together and taken apart
-joined : (t b n : ℕ) → t ≡ bit (is_odd n) → b ≡ n / 2 → t + 2 * b ≡ n
+joined : (t b n : ℕ) → t ≡ growth (is_odd n) → b ≡ n / 2 → t + 2 * b ≡ n
 joined t b n low high =
     let lt : n % 2 < 2 = omega arith in
-    let last : n % 2 ≡ bit (is_odd n) = lowest_bit (n % 2) n lt refl in
+    let last : n % 2 ≡ growth (is_odd n) = lowest_bit (n % 2) n lt refl in
     let same : t ≡ n % 2 = low ∙ sym last in
     omega arith
 
-parted : (t b n : ℕ) → t < 2 → t + 2 * b ≡ n → (t ≡ bit (is_odd n)) × (b ≡ n / 2)
+parted : (t b n : ℕ) → t < 2 → t + 2 * b ≡ n → (t ≡ growth (is_odd n)) × (b ≡ n / 2)
 parted t b n lt e =
     let last : n % 2 ≡ t = omega arith in
     let rest : b ≡ n / 2 = omega arith in
@@ -61,7 +61,7 @@ absent_again In spelled field None rest h = refl
 absent_again In spelled field (Some x) rest h = absurd (let e : 1 ≡ 0 = h.1 in omega arith)
 
 group_field : {X : Type 0} (In : X → Type 0) (spelled : X → List ℕ) (field : Reader X) → IsField In spelled field → (f : Bool)
-    → IsField (λ o. IfSome o In × (there o ≡ bit f)) (group_bytes spelled) (group_at field f)
+    → IsField (λ o. IfSome o In × (there o ≡ growth f)) (group_bytes spelled) (group_at field f)
 group_field In spelled field h true = seen_field In spelled field h Some (λ o. IfSome o In × (there o ≡ 1)) (group_bytes spelled) (λ x k. ((k, refl), refl)) (is_there In spelled)
 group_field {X} In spelled field h false = record {
   takes = λ bytes o rest fits e.
@@ -75,27 +75,27 @@ next_group_field : {X Y : Type 0} (In : X → Type 0) (spelled : X → List ℕ)
     → IsField In spelled field → ((n : ℕ) → IsField (λ y. Others y × (bits y ≡ n)) others_spelled (others n)) → (n : ℕ)
     → IsField (λ (p : Option X × Y). (IfSome p.0 In × Others p.1) × (there p.0 + 2 * bits p.1 ≡ n)) (λ p. group_bytes spelled p.0 ++ others_spelled p.1) (next_group_at field others n)
 next_group_field {X} {Y} In spelled field Others bits others_spelled others first more n =
-    same_field (λ (p : Option X × Y). (IfSome p.0 In × (there p.0 ≡ bit (is_odd n))) × (Others p.1 × (bits p.1 ≡ n / 2))) (λ p. (IfSome p.0 In × Others p.1) × (there p.0 + 2 * bits p.1 ≡ n))
+    same_field (λ (p : Option X × Y). (IfSome p.0 In × (there p.0 ≡ growth (is_odd n))) × (Others p.1 × (bits p.1 ≡ n / 2))) (λ p. (IfSome p.0 In × Others p.1) × (there p.0 + 2 * bits p.1 ≡ n))
     (λ p. group_bytes spelled p.0 ++ others_spelled p.1) (next_group_at field others n)
-    (both_field (λ o. IfSome o In × (there o ≡ bit (is_odd n))) (group_bytes spelled) (group_at field (is_odd n)) (λ y. Others y × (bits y ≡ n / 2)) others_spelled (others (n / 2)) (group_field In spelled field first (is_odd n)) (more (n / 2)))
+    (both_field (λ o. IfSome o In × (there o ≡ growth (is_odd n))) (group_bytes spelled) (group_at field (is_odd n)) (λ y. Others y × (bits y ≡ n / 2)) others_spelled (others (n / 2)) (group_field In spelled field first (is_odd n)) (more (n / 2)))
     (λ p h. ((h.0.0, h.1.0), joined (there p.0) (bits p.1) n h.0.1 h.1.1))
     (λ p h. let t = parted (there p.0) (bits p.1) n (few_there p.0) h.1 in ((h.0.0, t.0), (h.0.1, t.1)))
 
 -- the bit that is left behind the last group
-last_bit_takes : (v : RecordVersion) (n : ℕ) (bytes : List ℕ) (grew : Bool) (rest : List ℕ) → last_bit_at v n bytes ≡ Some (grew, rest) → (MayGrow v grew × (bit grew ≡ n)) × (bytes ≡ rest)
-last_bit_takes V1 zero bytes grew rest e = subst (λ (q : Bool × List ℕ). ((q.0 ≡ false) × (bit q.0 ≡ 0)) × (bytes ≡ q.1)) (some_is (false, bytes) (grew, rest) e) ((refl, refl), refl)
+last_bit_takes : (v : RecordVersion) (n : ℕ) (bytes : List ℕ) (grew : Bool) (rest : List ℕ) → last_bit_at v n bytes ≡ Some (grew, rest) → (MayGrow v grew × (growth grew ≡ n)) × (bytes ≡ rest)
+last_bit_takes V1 zero bytes grew rest e = subst (λ (q : Bool × List ℕ). ((q.0 ≡ false) × (growth q.0 ≡ 0)) × (bytes ≡ q.1)) (some_is (false, bytes) (grew, rest) e) ((refl, refl), refl)
 last_bit_takes V1 (suc n) bytes grew rest e = absurd cc
-last_bit_takes V2 zero bytes grew rest e = subst (λ (q : Bool × List ℕ). (Unit {0} × (bit q.0 ≡ 0)) × (bytes ≡ q.1)) (some_is (false, bytes) (grew, rest) e) ((tt, refl), refl)
-last_bit_takes V2 (suc zero) bytes grew rest e = subst (λ (q : Bool × List ℕ). (Unit {0} × (bit q.0 ≡ 1)) × (bytes ≡ q.1)) (some_is (true, bytes) (grew, rest) e) ((tt, refl), refl)
+last_bit_takes V2 zero bytes grew rest e = subst (λ (q : Bool × List ℕ). (Unit {0} × (growth q.0 ≡ 0)) × (bytes ≡ q.1)) (some_is (false, bytes) (grew, rest) e) ((tt, refl), refl)
+last_bit_takes V2 (suc zero) bytes grew rest e = subst (λ (q : Bool × List ℕ). (Unit {0} × (growth q.0 ≡ 1)) × (bytes ≡ q.1)) (some_is (true, bytes) (grew, rest) e) ((tt, refl), refl)
 last_bit_takes V2 (suc (suc n)) bytes grew rest e = absurd cc
 
-last_bit_again : (v : RecordVersion) (grew : Bool) (rest : List ℕ) → MayGrow v grew → last_bit_at v (bit grew) rest ≡ Some (grew, rest)
+last_bit_again : (v : RecordVersion) (grew : Bool) (rest : List ℕ) → MayGrow v grew → last_bit_at v (growth grew) rest ≡ Some (grew, rest)
 last_bit_again V1 false rest h = refl
 last_bit_again V1 true rest h = absurd cc
 last_bit_again V2 false rest h = refl
 last_bit_again V2 true rest h = refl
 
-last_bit_field : (v : RecordVersion) (n : ℕ) → IsField (λ grew. MayGrow v grew × (bit grew ≡ n)) (λ grew. []) (last_bit_at v n)
+last_bit_field : (v : RecordVersion) (n : ℕ) → IsField (λ grew. MayGrow v grew × (growth grew ≡ n)) (λ grew. []) (last_bit_at v n)
 last_bit_field v n = record {
   takes = λ bytes grew rest fits e. last_bit_takes v n bytes grew rest e;
   again = λ grew rest h. subst (λ (k : ℕ). last_bit_at v k rest ≡ Some (grew, rest)) h.1 (last_bit_again v grew rest h.0);
@@ -103,10 +103,10 @@ last_bit_field v n = record {
 
 -- the last group, and the bit behind it
 last_field : {X : Type 0} (In : X → Type 0) (spelled : X → List ℕ) (field : Reader X) → IsField In spelled field → (v : RecordVersion) (n : ℕ)
-    → IsField (λ (p : Option X × Bool). (IfSome p.0 In × MayGrow v p.1) × (there p.0 + 2 * bit p.1 ≡ n)) (λ p. group_bytes spelled p.0) (next_group_at field (last_bit_at v) n)
+    → IsField (λ (p : Option X × Bool). (IfSome p.0 In × MayGrow v p.1) × (there p.0 + 2 * growth p.1 ≡ n)) (λ p. group_bytes spelled p.0) (next_group_at field (last_bit_at v) n)
 last_field {X} In spelled field first v n =
-    respelled_field (λ (p : Option X × Bool). (IfSome p.0 In × MayGrow v p.1) × (there p.0 + 2 * bit p.1 ≡ n)) (λ p. group_bytes spelled p.0 ++ []) (λ p. group_bytes spelled p.0) (next_group_at field (last_bit_at v) n)
-    (next_group_field In spelled field (MayGrow v) bit (λ grew. []) (last_bit_at v) first (last_bit_field v) n)
+    respelled_field (λ (p : Option X × Bool). (IfSome p.0 In × MayGrow v p.1) × (there p.0 + 2 * growth p.1 ≡ n)) (λ p. group_bytes spelled p.0 ++ []) (λ p. group_bytes spelled p.0) (next_group_at field (last_bit_at v) n)
+    (next_group_field In spelled field (MayGrow v) growth (λ grew. []) (last_bit_at v) first (last_bit_field v) n)
     (λ p. sym (append-nil (group_bytes spelled p.0)))
 
 -- ---- the groups
@@ -179,7 +179,7 @@ abbrev In0 : RecordVersion → GroupFields → Type 0
 In0 v p = IfSome p.0 AreNonces × In1 v p.1
 
 abbrev bits6 : From6 → ℕ
-bits6 p = there p.0 + 2 * bit p.1
+bits6 p = there p.0 + 2 * growth p.1
 
 abbrev bits5 : From5 → ℕ
 bits5 p = there p.0 + 2 * bits6 p.1

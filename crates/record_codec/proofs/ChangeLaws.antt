@@ -17,7 +17,7 @@ use Rattle.devices.specs.Parts.{nonces_of}
 use Rattle.record_codec.specs.declared.version.RecordVersion.{RecordVersion}
 use Rattle.record_codec.specs.Answers.{ReadsChange}
 use Rattle.record_codec.specs.Change.{Added, Groups, ItemChange, Leaves, IsChange, IsChangeOf, IsCurrentGroup, IsGroup, IsGrown, IsItemGroup, change_bytes}
-use Rattle.record_codec.specs.ChangeReading.{HasRoomToGrow, IsNew, IsNewCurrent, IsNewItems, IsNewTo, IsNoChange, change_read, device_after, current_after, heard_after, items_after}
+use Rattle.record_codec.specs.ChangeReading.{HasRoomToGrow, IsNew, IsNewCurrent, IsNewItems, IsNewTo, IsNoChange, change_read, changed_device, changed_current, changed_heard, changed_items}
 use Rattle.record_codec.proofs.ChangeFields.{change_again, change_takes, one_change}
 
 -- ---- what a change makes of a record
@@ -44,21 +44,21 @@ counted n (Some b) (Some a) s e =
     let numbers : (a.last_up, a.next_down) ≡ n = some_is (a.last_up, a.next_down) n e in
     λ i. Some (record { session = sym same i; last_up = (sym numbers i).0; next_down = (sym numbers i).1 })
 
-current_gives : (o : Option (Option CurrentSession)) (n : Option (ℕ × ℕ)) (b a : Grants) → IsCurrentGroup o n b a → current_after o n b.current ≡ a.current
+current_gives : (o : Option (Option CurrentSession)) (n : Option (ℕ × ℕ)) (b a : Grants) → IsCurrentGroup o n b a → changed_current o n b.current ≡ a.current
 current_gives (Some x) n b a h = h.1
 current_gives None (Some n) b a h = counted n b.current a.current h.0 h.2
 current_gives None None b a h = sym h
 
-items_give : (o : Option ItemChange) (b a : List Item) → IsItemGroup o b a → items_after o b ≡ a
+items_give : (o : Option ItemChange) (b a : List Item) → IsItemGroup o b a → changed_items o b ≡ a
 items_give None b a h = sym h
 items_give (Some Leaves) b a h = ap (drop 1) h.1
 items_give (Some (Added i)) b a h = sym h
 
-heard_gives : (grew : Bool) (b a : ℕ) → IsGrown grew b a → heard_after grew b ≡ a
+heard_gives : (grew : Bool) (b a : ℕ) → IsGrown grew b a → changed_heard grew b ≡ a
 heard_gives false b a h = sym h
 heard_gives true b a h = sym h.1
 
-pub device_after_is : (b a : Device) (c : Groups) → IsChange b a c → device_after c b ≡ a
+pub device_after_is : (b a : Device) (c : Groups) → IsChange b a c → changed_device c b ≡ a
 device_after_is b a c h =
     let p = h.provisioned in
     let nonces = group_gives c.nonces (nonces_of b) (nonces_of a) h.nonces in
@@ -86,7 +86,7 @@ device_after_is b a c h =
 pub one_record : (version : RecordVersion) (before a b : Device) (bytes : List ℕ) → IsChangeOf version before a bytes → IsChangeOf version before b bytes → a ≡ b
 one_record version before a b bytes h k =
     let same : h.0 ≡ k.0 = one_change version h.0 k.0 h.1 k.1 (sym h.3 ∙ k.3) in
-    sym (device_after_is before a h.0 h.2) ∙ ap (λ (c : Groups). device_after c before) same ∙ device_after_is before b k.0 k.2
+    sym (device_after_is before a h.0 h.2) ∙ ap (λ (c : Groups). changed_device c before) same ∙ device_after_is before b k.0 k.2
 
 -- ---- one change of two records
 
@@ -183,19 +183,19 @@ counters_made n None some new = absurd (some refl)
 counters_made n (Some c) some new = (refl, new, refl)
 
 current_made : (o : Option (Option CurrentSession)) (n : Option (ℕ × ℕ)) (b : Grants) (granted : Option ℕ) (pending : Option Session) → IsNewCurrent o n b
-    → IsCurrentGroup o n b (record { granted = granted; current = current_after o n b.current; pending = pending })
+    → IsCurrentGroup o n b (record { granted = granted; current = changed_current o n b.current; pending = pending })
 current_made (Some x) (Some n) b granted pending h = absurd h
 current_made (Some x) None b granted pending h = (h, refl, refl)
 current_made None (Some n) b granted pending h = counters_made n b.current h.0 h.1
 current_made None None b granted pending h = refl
 
-items_made : (o : Option ItemChange) (b : List Item) → IsNewItems o b → IsItemGroup o b (items_after o b)
+items_made : (o : Option ItemChange) (b : List Item) → IsNewItems o b → IsItemGroup o b (changed_items o b)
 items_made None b h = refl
 items_made (Some Leaves) [] h = absurd (h refl)
 items_made (Some Leaves) (x ∷ b) h = (x, refl)
 items_made (Some (Added i)) b h = refl
 
-few_made : (o : Option ItemChange) (b : List Item) → IsNewItems o b → length b ≤ MOST_ITEMS → length (items_after o b) ≤ MOST_ITEMS
+few_made : (o : Option ItemChange) (b : List Item) → IsNewItems o b → length b ≤ MOST_ITEMS → length (changed_items o b) ≤ MOST_ITEMS
 few_made None b h few = few
 few_made (Some Leaves) [] h few = absurd (h refl)
 few_made (Some Leaves) (x ∷ b) h few = omega arith
@@ -205,11 +205,11 @@ whole_made : (o : Option (List ℕ)) (b : List ℕ) → IfSome o AreQueueable �
 whole_made None b h whole = whole
 whole_made (Some q) b h whole = h
 
-heard_made : (grew : Bool) (b : ℕ) → HasRoomToGrow grew b → IsGrown grew b (heard_after grew b)
+heard_made : (grew : Bool) (b : ℕ) → HasRoomToGrow grew b → IsGrown grew b (changed_heard grew b)
 heard_made false b h = refl
 heard_made true b h = (h, refl)
 
-pub new_change : (b : Device) (c : Groups) → length b.items ≤ MOST_ITEMS → AreQueueable b.mac_queue → IsNewTo b c → IsChange b (device_after c b) c
+pub new_change : (b : Device) (c : Groups) → length b.items ≤ MOST_ITEMS → AreQueueable b.mac_queue → IsNewTo b c → IsChange b (changed_device c b) c
 new_change b c few whole h =
     record {
       provisioned = record {
@@ -279,7 +279,7 @@ change_new b a c h =
 -- ---- what reading answers
 
 is_change : (v : RecordVersion) (before : Device) (bytes : List ℕ) (c : Groups) → IsBytes bytes → change_read v bytes ≡ Some c → length before.items ≤ MOST_ITEMS → AreQueueable before.mac_queue → IsNewTo before c
-    → IsChangeOf v before (device_after c before) bytes
+    → IsChangeOf v before (changed_device c before) bytes
 is_change v before bytes c fits e few whole new = let t = change_takes v bytes c fits e in (c, t.0, new_change before c few whole new, t.1)
 
 -- the record that was made, unless memory ran out
@@ -301,9 +301,9 @@ is_refused after (Err e) is = inl is
 
 -- what is read of the bytes of a change
 pub reads_change : (v : RecordVersion) (before : Device) (bytes : List ℕ) (c : Groups) (r : Result Device Refusal) → IsBytes bytes → change_read v bytes ≡ Some c → length before.items ≤ MOST_ITEMS → AreQueueable before.mac_queue
-    → IsNewTo before c → Makes (device_after c before) r → ReadsChange v before bytes r
+    → IsNewTo before c → Makes (changed_device c before) r → ReadsChange v before bytes r
 reads_change v before bytes c r fits e few whole new is =
-    let after : Device = device_after c before in
+    let after : Device = changed_device c before in
     let h : IsChangeOf v before after bytes = is_change v before bytes c fits e few whole new in
     record {
       found = is_made v before after bytes r h is;

@@ -19,7 +19,7 @@ use Rattle.devices.specs.declared.channels.Channels.TheVariants.{Three, Eight}
 use Rattle.devices.specs.Activation.{Grants, AreInOrder, current_nonce}
 use Rattle.lw_types.specs.Values.{IsKey}
 use Rattle.record_codec.specs.DeviceRecord.{nonce, flagged_number, dev_nonce, awaited_bytes, granted_bytes, session, current_session, channels_byte, optional_current, optional_session, activation, IsJoinNonce, IsSession, IsCurrentSession, AreGrants}
-use Rattle.record_codec.specs.Reading.{flagged_value, is_plain, flagged_at, awaited_at, is_join_nonce, granted_nonce, channels_at, optional_by, session_of, session_at, current_of, current_at, grants_of, are_in_order, activation_at}
+use Rattle.record_codec.specs.Reading.{flagged_value, is_plain, flagged_at, awaited_at, is_join_nonce, nonce_from, channels_at, optional_by, session_from, session_at, current_from, current_at, grants_from, are_in_order, activation_at}
 
 -- the same field in other bytes that are the same
 pub respelled_field : {X : Type 0} (In : X → Type 0) (spelled other : X → List ℕ) (read : Reader X) → IsField In spelled read → ((x : X) → other x ≡ spelled x) → IsField In other read
@@ -87,22 +87,22 @@ no_nonce : (n : ℕ) → n < 2 ^ 24 → is_join_nonce n ≡ false → 0 ≡ n
 no_nonce zero lt other = refl
 no_nonce (suc n) lt other = absurd (both_ways (is_join_nonce (suc n)) other (nonce_test (suc n) (omega arith, lt)))
 
-granted_back : (n : ℕ) → n < 2 ^ 24 → IfSome (granted_nonce n) IsJoinNonce × (granted_bytes (granted_nonce n) ≡ nonce n)
+granted_back : (n : ℕ) → n < 2 ^ 24 → IfSome (nonce_from n) IsJoinNonce × (granted_bytes (nonce_from n) ≡ nonce n)
 granted_back n lt =
     elim (cases_Bool (is_join_nonce n)) [
       | inl is ↦ rw (cond-true (is_join_nonce n) (Some n) None is) (nonce_fact n is, refl)
       | inr other ↦
-          let none : granted_nonce n ≡ None = cond-false (is_join_nonce n) (Some n) None other in
+          let none : nonce_from n ≡ None = cond-false (is_join_nonce n) (Some n) None other in
           let zero-is : 0 ≡ n = no_nonce n lt other in
           rw none (tt, ap nonce zero-is)
     ]
 
-granted_forth : (o : Option ℕ) → IfSome o IsJoinNonce → (n : ℕ) × Below (2 ^ 24) n × (granted_nonce n ≡ o) × (granted_bytes o ≡ nonce n)
+granted_forth : (o : Option ℕ) → IfSome o IsJoinNonce → (n : ℕ) × Below (2 ^ 24) n × (nonce_from n ≡ o) × (granted_bytes o ≡ nonce n)
 granted_forth None h = (0, omega arith, refl, refl)
 granted_forth (Some n) h = (n, h.1, cond-true (is_join_nonce n) (Some n) None (nonce_test n h), refl)
 
-pub granted_field : IsField (λ o. IfSome o IsJoinNonce) granted_bytes (seen_as granted_nonce three_be_bytes_at)
-granted_field = seen_field (Below (2 ^ 24)) nonce three_be_bytes_at three_be_bytes_field granted_nonce (λ o. IfSome o IsJoinNonce) granted_bytes granted_back granted_forth
+pub granted_field : IsField (λ o. IfSome o IsJoinNonce) granted_bytes (seen_as nonce_from three_be_bytes_at)
+granted_field = seen_field (Below (2 ^ 24)) nonce three_be_bytes_at three_be_bytes_field nonce_from (λ o. IfSome o IsJoinNonce) granted_bytes granted_back granted_forth
 
 -- a session with these channels
 abbrev IsSessionOn : Channels → Session → Type 0
@@ -114,7 +114,7 @@ session_field channels =
     seen_field (λ (x : ℕ × (Key × Key)). IsJoinNonce x.0 × (IsKey x.1.0 × IsKey x.1.1)) (λ x. nonce x.0 ++ (x.1.0.0 ++ x.1.1.0)) (both (that is_join_nonce three_be_bytes_at) (both key_at key_at))
     (both_field IsJoinNonce nonce (that is_join_nonce three_be_bytes_at) (λ (k : Key × Key). IsKey k.0 × IsKey k.1) (λ k. k.0.0 ++ k.1.0) (both key_at key_at) join_nonce_field
     (both_field IsKey (λ k. k.0) key_at IsKey (λ k. k.0) key_at key_field key_field))
-    (session_of channels) (IsSessionOn channels) session
+    (session_from channels) (IsSessionOn channels) session
     (λ x h. ((record { join_nonce = h.0; nwk_skey = h.1.0; app_skey = h.1.1 }, refl), refl))
     (λ s h. (
       (s.join_nonce, (s.nwk_skey, s.app_skey)),
@@ -151,7 +151,7 @@ current_field channels =
     (both (session_at channels) (both (be_at w32) (that (λ n. nat_le n (2 ^ 32)) (be_at w64))))
     (both_field (IsSessionOn channels) session (session_at channels) (λ (x : ℕ × ℕ). Below (2 ^ 32) x.0 × IsNextDown x.1) (λ x. to_be_bytes w32 x.0 ++ to_be_bytes w64 x.1) (both (be_at w32) (that (λ n. nat_le n (2 ^ 32)) (be_at w64))) (session_field channels)
     (both_field (Below (2 ^ 32)) (to_be_bytes w32) (be_at w32) IsNextDown (to_be_bytes w64) (that (λ n. nat_le n (2 ^ 32)) (be_at w64)) u32_be_field next_down_field))
-    current_of (IsCurrentOn channels) current_session
+    current_from (IsCurrentOn channels) current_session
     (λ x h. ((record { session = h.0.0; last_up = h.1.0; next_down = h.1.1 }, h.0.1), refl))
     (λ c h. ((c.session, (c.last_up, c.next_down)), ((h.0.session, h.1), (h.0.last_up, h.0.next_down)), refl, refl))
 
@@ -259,13 +259,13 @@ ArePartsOf g = AreParts (g.granted, (g.current, g.pending))
 pub activation_field : IsField AreGrants activation activation_at
 unfolding activation_at
 activation_field =
-    same_field (λ g. ArePartsOf g × (are_in_order g ≡ true)) AreGrants activation (that are_in_order (seen_as grants_of (both (seen_as granted_nonce three_be_bytes_at) (both (optional_by current_at) (optional_by session_at)))))
-    (that_field ArePartsOf activation (seen_as grants_of (both (seen_as granted_nonce three_be_bytes_at) (both (optional_by current_at) (optional_by session_at))))
-    (seen_field AreParts part_text (both (seen_as granted_nonce three_be_bytes_at) (both (optional_by current_at) (optional_by session_at)))
-    (both_field (λ o. IfSome o IsJoinNonce) granted_bytes (seen_as granted_nonce three_be_bytes_at) (λ (x : Option CurrentSession × Option Session). IfSome x.0 IsCurrentSession × IfSome x.1 IsSession) (λ x. optional_current x.0 ++ optional_session x.1) (both (optional_by current_at) (optional_by session_at)) granted_field
+    same_field (λ g. ArePartsOf g × (are_in_order g ≡ true)) AreGrants activation (that are_in_order (seen_as grants_from (both (seen_as nonce_from three_be_bytes_at) (both (optional_by current_at) (optional_by session_at)))))
+    (that_field ArePartsOf activation (seen_as grants_from (both (seen_as nonce_from three_be_bytes_at) (both (optional_by current_at) (optional_by session_at))))
+    (seen_field AreParts part_text (both (seen_as nonce_from three_be_bytes_at) (both (optional_by current_at) (optional_by session_at)))
+    (both_field (λ o. IfSome o IsJoinNonce) granted_bytes (seen_as nonce_from three_be_bytes_at) (λ (x : Option CurrentSession × Option Session). IfSome x.0 IsCurrentSession × IfSome x.1 IsSession) (λ x. optional_current x.0 ++ optional_session x.1) (both (optional_by current_at) (optional_by session_at)) granted_field
     (both_field (λ o. IfSome o IsCurrentSession) optional_current (optional_by current_at) (λ o. IfSome o IsSession) optional_session (optional_by session_at)
     optional_current_field optional_session_field))
-    grants_of ArePartsOf activation
+    grants_from ArePartsOf activation
     (λ x h. (h, refl))
     (λ g h. ((g.granted, (g.current, g.pending)), h, refl, refl)))
     are_in_order)

@@ -23,7 +23,7 @@ use Rattle.devices.specs.declared.queue.TheConstants.ItemQueue.{MOST as MOST_ITE
 use Rattle.lw_types.specs.Values.{IsKey}
 use Rattle.record_codec.specs.Answers.{ReadsRecord}
 use Rattle.record_codec.specs.DeviceRecord.{activation, awaited_bytes, dev_nonce, heard_bytes, item, item_queue, spelling, AreGrants, HeadIsInRange, IsDevice, IsHeardIn, IsItem}
-use Rattle.record_codec.specs.Reading.{activation_at, awaited_at, device_at, device_of, flagged_at, head_at, heard_at, item_at, item_of, item_queue_at, items_at, mac_queue_at, payload_at, record_at, Fields, Head, IsNoRecord}
+use Rattle.record_codec.specs.Reading.{activation_at, awaited_at, device_at, device_from, flagged_at, head_at, heard_at, item_at, item_from, item_queue_at, items_at, mac_queue_at, payload_at, record_at, Fields, Head, IsNoRecord}
 use Rattle.record_codec.specs.Version.{longest_mac_queue}
 use Rattle.record_codec.specs.declared.version.RecordVersion.{RecordVersion}
 use Rattle.record_codec.specs.declared.version.RecordVersion.TheVariants.{V1, V2}
@@ -76,7 +76,7 @@ pub item_field : IsField IsItem item item_at
 unfolding item_at
 item_field =
     seen_field IsItemParts item_text (both (be_at w32) (both (ranged_at 1 223) (both flag_at payload_at))) item_parts_field
-    item_of IsItem item
+    item_from IsItem item
     (λ x h. (record { tag = h.0; port = h.1.0; payload = h.1.1.1 }, refl))
     (λ i h. ((i.tag.0, (i.port, (i.confirmed, i.payload))), (h.tag, (h.port, (tt, h.payload))), refl, refl))
 
@@ -184,7 +184,7 @@ pub device_field : (v : RecordVersion) → IsField (IsInRange v) (spelling v) (d
 unfolding device_at spelling
 device_field v =
     seen_field (AreFields v) (fields_text v) (both head_at (both (flagged_at w16) (both activation_at (both awaited_at (both (mac_queue_at v) (both item_queue_at (heard_at v))))))) (fields_field v)
-    device_of (IsInRange v) (spelling v)
+    device_from (IsInRange v) (spelling v)
     (λ x h. (
       record {
         head = record {

@@ -51,9 +51,9 @@ there None = 0
 there (Some x) = 1
 
 -- 1 where the count grew
-abbrev pub bit : Bool → ℕ
-bit false = 0
-bit true = 1
+abbrev pub growth : Bool → ℕ
+growth false = 0
+growth true = 1
 
 -- a bit for each group, the lowest for the first, and bit 7 for the count, which has no bytes
 abbrev pub mask : Groups → ℕ
@@ -65,7 +65,7 @@ mask c =
     + 2 * (there c.awaited
     + 2 * (there c.mac_queue
     + 2 * (there c.items
-    + 2 * bit c.grew))))))
+    + 2 * growth c.grew))))))
 
 -- the bytes of a group that is there
 abbrev pub group_bytes : {A : Type 0} → (A → List ℕ) → Option A → List ℕ

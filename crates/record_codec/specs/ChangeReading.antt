@@ -17,7 +17,7 @@ use Rattle.devices.specs.declared.TheConstants.{LAST_HEARD}
 use Rattle.devices.specs.Activation.{Grants, AreInOrder}
 use Rattle.devices.specs.Parts.{nonces_of, session_of, counters_of}
 use Rattle.record_codec.specs.Change.{Groups, ItemChange, Leaves, Added}
-use Rattle.record_codec.specs.Reading.{awaited_at, current_at, flagged_at, granted_nonce, item_at}
+use Rattle.record_codec.specs.Reading.{awaited_at, current_at, flagged_at, nonce_from, item_at}
 use Rattle.record_codec.specs.Reading.{mac_queue_at, optional_by, session_at}
 use Rattle.record_codec.specs.declared.version.RecordVersion.{RecordVersion}
 use Rattle.record_codec.specs.declared.version.RecordVersion.TheVariants.{V1, V2}
@@ -25,7 +25,7 @@ use Rattle.record_codec.specs.declared.version.RecordVersion.TheVariants.{V1, V2
 -- ---- the groups
 
 abbrev pub granted_at : Reader (Option ℕ)
-granted_at = seen_as granted_nonce three_be_bytes_at
+granted_at = seen_as nonce_from three_be_bytes_at
 
 abbrev pub nonces_at : Reader (Option ℕ × Option ℕ)
 nonces_at = both (flagged_at w16) granted_at
@@ -101,40 +101,40 @@ change_read version = whole (change_at version)
 -- ---- what it makes of a record
 
 -- the session in use: the one of the change, or the one before with the counters of the change
-abbrev pub current_after : Option (Option CurrentSession) → Option (ℕ × ℕ) → Option CurrentSession
+abbrev pub changed_current : Option (Option CurrentSession) → Option (ℕ × ℕ) → Option CurrentSession
     → Option CurrentSession
-current_after (Some current) counters before = current
-current_after None (Some n) before =
+changed_current (Some current) counters before = current
+changed_current None (Some n) before =
     option_map (λ c. record { session = c.session; last_up = n.0; next_down = n.1 }) before
-current_after None None before = before
+changed_current None None before = before
 
-abbrev pub items_after : Option ItemChange → List Item → List Item
-items_after None before = before
-items_after (Some Leaves) before = drop 1 before
-items_after (Some (Added i)) before = before ++ i ∷ []
+abbrev pub changed_items : Option ItemChange → List Item → List Item
+changed_items None before = before
+changed_items (Some Leaves) before = drop 1 before
+changed_items (Some (Added i)) before = before ++ i ∷ []
 
-abbrev pub heard_after : Bool → ℕ → ℕ
-heard_after false before = before
-heard_after true before = before + 1
+abbrev pub changed_heard : Bool → ℕ → ℕ
+changed_heard false before = before
+changed_heard true before = before + 1
 
-abbrev pub grants_after : Groups → Device → Grants
-grants_after c before =
+abbrev pub changed_grants : Groups → Device → Grants
+changed_grants c before =
     record {
       granted = (unwrap_or c.nonces (nonces_of before)).1;
-      current = current_after c.current c.counters before.activation.current;
+      current = changed_current c.current c.counters before.activation.current;
       pending = unwrap_or c.pending before.activation.pending;
     }
 
 -- the record that a change makes of one
-abbrev pub device_after : Groups → Device → Device
-device_after c before =
+abbrev pub changed_device : Groups → Device → Device
+changed_device c before =
     record before {
       last_dev_nonce = (unwrap_or c.nonces (nonces_of before)).0;
-      activation = grants_after c before;
+      activation = changed_grants c before;
       awaited = unwrap_or c.awaited before.awaited;
       mac_queue = unwrap_or c.mac_queue before.mac_queue;
-      items = items_after c.items before.items;
-      heard = heard_after c.grew before.heard;
+      items = changed_items c.items before.items;
+      heard = changed_heard c.grew before.heard;
     }
 
 -- ---- where it is one of a record
@@ -171,7 +171,7 @@ pub record IsNewTo (before : Device) (c : Groups) : Type 0 where
   pub whole : IfSome c.mac_queue AreQueueable
   pub items : IsNewItems c.items before.items
   pub heard : HasRoomToGrow c.grew before.heard
-  pub in_order : AreInOrder (grants_after c before)
+  pub in_order : AreInOrder (changed_grants c before)
 
 -- no change of the record is all of the bytes
 abbrev pub IsNoChange : RecordVersion → Device → List ℕ → Type 0

@@ -46,8 +46,8 @@ awaited_at = seen_as (option_map (λ n. record { 0 = n })) (flagged_at w32)
 abbrev pub is_join_nonce : ℕ → Bool
 is_join_nonce n = nat_lt 0 n && nat_lt n (2 ^ 24)
 
-abbrev pub granted_nonce : ℕ → Option ℕ
-granted_nonce n = if is_join_nonce n then Some n else None
+abbrev pub nonce_from : ℕ → Option ℕ
+nonce_from n = if is_join_nonce n then Some n else None
 
 -- 00 where no session is there, 01 before one of three channels, 02 before one of eight
 abbrev pub channels_at : Reader (Option Channels)
@@ -66,25 +66,25 @@ where_there field (Some channels) = seen_as Some (field channels)
 abbrev pub optional_by : {X : Type 0} → (Channels → Reader X) → Reader (Option X)
 optional_by field bytes = channels_at bytes >>= λ given. where_there field given.0 given.1
 
-abbrev pub session_of : Channels → ℕ × (Key × Key) → Session
-session_of channels x =
+abbrev pub session_from : Channels → ℕ × (Key × Key) → Session
+session_from channels x =
     record { join_nonce = x.0; nwk_skey = x.1.0; app_skey = x.1.1; channels = channels }
 
 unfoldable pub session_at : Channels → Reader Session
 session_at channels =
-    seen_as (session_of channels)
+    seen_as (session_from channels)
     (both (that is_join_nonce three_be_bytes_at) (both key_at key_at))
 
-abbrev pub current_of : Session × (ℕ × ℕ) → CurrentSession
-current_of x = record { session = x.0; last_up = x.1.0; next_down = x.1.1 }
+abbrev pub current_from : Session × (ℕ × ℕ) → CurrentSession
+current_from x = record { session = x.0; last_up = x.1.0; next_down = x.1.1 }
 
 unfoldable pub current_at : Channels → Reader CurrentSession
 current_at channels =
-    seen_as current_of (both (session_at channels)
+    seen_as current_from (both (session_at channels)
     (both (be_at w32) (that (λ n. nat_le n (2 ^ 32)) (be_at w64))))
 
-abbrev pub grants_of : Option ℕ × (Option CurrentSession × Option Session) → Grants
-grants_of x = record { granted = x.0; current = x.1.0; pending = x.1.1 }
+abbrev pub grants_from : Option ℕ × (Option CurrentSession × Option Session) → Grants
+grants_from x = record { granted = x.0; current = x.1.0; pending = x.1.1 }
 
 -- whether no session is above the last grant, and the pending one is the later one
 abbrev pub are_in_order : Grants → Bool
@@ -95,8 +95,8 @@ are_in_order g =
 
 unfoldable pub activation_at : Reader Grants
 activation_at =
-    that are_in_order (seen_as grants_of
-    (both (seen_as granted_nonce three_be_bytes_at)
+    that are_in_order (seen_as grants_from
+    (both (seen_as nonce_from three_be_bytes_at)
     (both (optional_by current_at) (optional_by session_at))))
 
 -- ---- queues
@@ -108,12 +108,12 @@ mac_queue_at version = that (λ bytes. nat_le (length bytes) (longest_mac_queue 
 abbrev pub payload_at : Reader (List ℕ)
 payload_at = that (λ bytes. nat_le (length bytes) LONGEST_PAYLOAD) counted_at
 
-abbrev pub item_of : ℕ × (ℕ × (Bool × List ℕ)) → Item
-item_of x =
+abbrev pub item_from : ℕ × (ℕ × (Bool × List ℕ)) → Item
+item_from x =
     record { tag = record { 0 = x.0 }; port = x.1.0; confirmed = x.1.1.0; payload = x.1.1.1 }
 
 unfoldable pub item_at : Reader Item
-item_at = seen_as item_of (both (be_at w32) (both (ranged_at 1 223) (both flag_at payload_at)))
+item_at = seen_as item_from (both (be_at w32) (both (ranged_at 1 223) (both flag_at payload_at)))
 
 unfoldable pub items_at : ℕ → Reader (List Item)
 items_at zero bytes = Some ([], bytes)
@@ -148,8 +148,8 @@ head_at =
 abbrev pub Fields : Type 0
 Fields = Head × (Option ℕ × (Grants × (Option Tag × (List ℕ × (List Item × ℕ)))))
 
-abbrev pub device_of : Fields → Device
-device_of x =
+abbrev pub device_from : Fields → Device
+device_from x =
     record {
       dev_eui = x.0.0;
       join_eui = x.0.1.0;
@@ -167,7 +167,7 @@ device_of x =
 
 unfoldable pub device_at : RecordVersion → Reader Device
 device_at version =
-    seen_as device_of (both head_at
+    seen_as device_from (both head_at
     (both (flagged_at w16) (both activation_at
     (both awaited_at (both (mac_queue_at version)
     (both item_queue_at (heard_at version)))))))

@@ -7,7 +7,7 @@ ghost use Rattle.record_codec.specs.DeviceRecord.{IsCurrentSession, IsJoinNonce,
 ghost use Rattle.record_codec.specs.Change.{counters_bytes, AreCounters};
 ghost use Rattle.byte_fields.specs.Reading.{Gives, seen_as, three_be_bytes_at};
 ghost use Rattle.record_codec.specs.Reading.{activation_at, channels_at, current_at};
-ghost use Rattle.record_codec.specs.Reading.{granted_nonce, optional_by, session_at};
+ghost use Rattle.record_codec.specs.Reading.{nonce_from, optional_by, session_at};
 ghost use Rattle.record_codec.specs.Writing.{KeepsFront};
 
 use crate::written_fields::put_key;
@@ -60,7 +60,7 @@ fn read_current(fields: &mut FieldReader<'_>, channels: Channels) -> Option<Curr
 /// The last JoinNonce granted, 0 for none.
 pub(crate) fn read_granted(fields: &mut FieldReader<'_>) -> Option<Option<JoinNonce>>
     ensures { Gives result fields.new.rest.now
-        (seen_as granted_nonce three_be_bytes_at fields.old.rest.now) }
+        (seen_as nonce_from three_be_bytes_at fields.old.rest.now) }
 {
     Some(JoinNonce::new(fields.u24_be()?))
 }

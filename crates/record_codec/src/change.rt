@@ -13,9 +13,9 @@ ghost use Rattle.record_codec.specs.Answers.{ReadsChange};
 ghost use Rattle.record_codec.specs.Change.{IsChangeOf, IsCurrentGroup, IsGroup, IsGrown};
 ghost use Rattle.record_codec.specs.Change.{IsItemGroup};
 ghost use Rattle.record_codec.specs.DeviceRecord.{IsToldBy, IsToldByV1};
-ghost use Rattle.record_codec.specs.ChangeReading.{change_read, current_after, device_after};
-ghost use Rattle.record_codec.specs.ChangeReading.{grants_after, heard_after, items_after, IsNew};
-ghost use Rattle.record_codec.specs.ChangeReading.{HasRoomToGrow, IsNewCurrent, IsNewItems};
+ghost use Rattle.record_codec.specs.ChangeReading.{change_read, changed_current, changed_device};
+ghost use Rattle.record_codec.specs.ChangeReading.{changed_grants, changed_heard, changed_items};
+ghost use Rattle.record_codec.specs.ChangeReading.{HasRoomToGrow, IsNew, IsNewCurrent, IsNewItems};
 ghost use Rattle.record_codec.specs.ChangeReading.{IsNewTo, IsNoChange};
 ghost use Rattle.record_codec.specs.Parts.{groups_of_parts, item_change_of_parts, AreShort};
 ghost use Rattle.record_codec.specs.Parts.{IsShortChange};
@@ -229,7 +229,7 @@ impl GroupParts<'_> {
     }
 
     fn current_after(&self, before: &Device) -> Option<CurrentSession>
-        ensures { result ≡ current_after self.now.current self.now.counters
+        ensures { result ≡ changed_current self.now.current self.now.counters
             before.now.activation.current }
     {
         let found = before.activation.current();
@@ -246,7 +246,7 @@ impl GroupParts<'_> {
 
     // The grants and the sessions afterwards, where they are in order.
     fn activation(&self, before: &Device) -> Option<Activation>
-        ensures { let grants = grants_after (groups_of_parts self.now) before.now in
+        ensures { let grants = changed_grants (groups_of_parts self.now) before.now in
             SomeIff result (AreInOrder grants) grants }
     {
         let (_, granted) = self.nonces_after(before);
@@ -274,7 +274,7 @@ impl GroupParts<'_> {
 
     // Whether the current session is another one, or its counters are others, where they are there.
     fn has_new_current(&self, before: &Device, after: &Activation) -> bool
-        requires { after.now.current ≡ current_after self.now.current self.now.counters
+        requires { after.now.current ≡ changed_current self.now.current self.now.counters
             before.now.activation.current }
         ensures { IsTrue result
             ↔ IsNewCurrent self.now.current self.now.counters before.now.activation }
@@ -329,7 +329,7 @@ impl GroupParts<'_> {
 
     // Whether the groups are a change of the record.
     fn is_new(&self, before: &Device, after: &Activation) -> bool
-        requires grants { after.now ≡ grants_after (groups_of_parts self.now) before.now }
+        requires grants { after.now ≡ changed_grants (groups_of_parts self.now) before.now }
         requires in_order { AreInOrder after.now }
         ensures { IsTrue result ↔ IsNewTo before.now (groups_of_parts self.now) }
     {
@@ -357,7 +357,7 @@ impl GroupParts<'_> {
         requires new { IsNewItems (option_map item_change_of_parts self.now.items) before.now }
         requires short { IfSome self.now.items IsShortChange }
         ensures { IfOk result (λ queue. queue
-            ≡ items_after (option_map item_change_of_parts self.now.items) before.now) }
+            ≡ changed_items (option_map item_change_of_parts self.now.items) before.now) }
     {
         let mut items = before.clone()?;
         match &self.items {
@@ -372,7 +372,7 @@ impl GroupParts<'_> {
 
     fn heard_after(&self, before: &Device) -> UplinkCount
         requires { HasRoomToGrow self.now.grew before.now.heard }
-        ensures { result ≡ heard_after self.now.grew before.now.heard }
+        ensures { result ≡ changed_heard self.now.grew before.now.heard }
     {
         let heard = before.heard.get();
         if self.grew {
@@ -389,11 +389,11 @@ impl GroupParts<'_> {
         before: &Device,
         activation: Activation,
     ) -> Result<Device, Refusal>
-        requires grants { activation ≡ grants_after (groups_of_parts self.now) before.now }
+        requires grants { activation ≡ changed_grants (groups_of_parts self.now) before.now }
         requires new { IsNewTo before.now (groups_of_parts self.now) }
         requires short { AreShort self.now }
         ensures { MatchResult result
-            (λ device. device ≡ device_after (groups_of_parts self.now) before.now)
+            (λ device. device ≡ changed_device (groups_of_parts self.now) before.now)
             (λ e. e ≡ OutOfMemory) }
     {
         let (last_dev_nonce, _) = self.nonces_after(before);
@@ -426,7 +426,7 @@ pub(crate) fn change_in<'a>(
         (λ found. change_read version bytes.now ≡ Some (groups_of_parts found.0)) }
     ensures new { IfSome result (λ found. IsNewTo before.now (groups_of_parts found.0)) }
     ensures grants { IfSome result
-        (λ found. found.1 ≡ grants_after (groups_of_parts found.0) before.now) }
+        (λ found. found.1 ≡ changed_grants (groups_of_parts found.0) before.now) }
     ensures short { IfSome result (λ found. AreShort found.0) }
 {
     let mut fields = FieldReader { rest: bytes };

@@ -5,8 +5,8 @@ use Rattle.session_core.specs.State.{DecisionsState, IsLawful, now_of}
 use Rattle.session_core.specs.declared.decisions.Decisions.TheInside.{Inside}
 
 -- the table that the taken decisions leave is the one at hand with the others taken back
-abbrev pub state_of : Inside → DecisionsState
-state_of c =
+abbrev pub kept_state : Inside → DecisionsState
+kept_state c =
     record {
       base = without_decisions c.table c.log.items;
       opening = c.opening;
@@ -17,5 +17,5 @@ state_of c =
 
 -- the state is lawful, and the table at hand is the one that the log leaves
 pub record IsKept (c : Inside) : Type 0 where
-  pub lawful : IsLawful (state_of c)
-  pub table : c.table ≡ now_of (state_of c)
+  pub lawful : IsLawful (kept_state c)
+  pub table : c.table ≡ now_of (kept_state c)

@@ -73,7 +73,7 @@ impl Core {
         if !self.decisions.has_room() {
             return Some(self.noted(Err(Refusal::Backlog)));
         }
-        match frame_of(phy_payload, hearings) {
+        match heard_of(phy_payload, hearings) {
             Ok(heard) => Some(self.hand_in(Command::Heard(heard))),
             Err(_) => {
                 let refusal = self.decisions.lack_heard(phy_payload, hearings);
@@ -140,7 +140,7 @@ fn is_starved(answer: &Result<(), Refusal>) -> bool
 }
 
 // A frame with its copies, in memory of its own.
-fn frame_of(phy_payload: &PhyPayload, hearings: &Hearings) -> Result<Heard, AllocError>
+fn heard_of(phy_payload: &PhyPayload, hearings: &Hearings) -> Result<Heard, AllocError>
     ensures { IfOk result (λ heard. (heard.phy_payload ≡ phy_payload.now)
         × (heard.hearings ≡ hearings.now)) }
 {

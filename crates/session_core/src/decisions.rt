@@ -40,9 +40,9 @@ impl Model for Decisions {
 
     ghost Value = { DecisionsState };
 
-    ghost use Rattle.session_core.specs.Kept.{state_of, IsKept};
+    ghost use Rattle.session_core.specs.Kept.{kept_state, IsKept};
 
-    ghost view = { state_of };
+    ghost view = { kept_state };
 
     ghost invariant = { IsKept };
 }

@@ -196,7 +196,7 @@ impl<B: Books> Shared<B> {
             left,
             ..
         } = self;
-        if !gather(&mut spare, left, all, seats) {
+        if !gather_shares(&mut spare, left, all, seats) {
             return None;
         }
         book.audit(&mut spare);
@@ -205,7 +205,12 @@ impl<B: Books> Shared<B> {
 }
 
 // Joins the shares of seats to those that weren't given: whether these are all there are.
-fn gather<B: Books>(spare: &mut Share<Made<B>>, left: u64, all: u64, seats: Vec<Seat<B>>) -> bool
+fn gather_shares<B: Books>(
+    spare: &mut Share<Made<B>>,
+    left: u64,
+    all: u64,
+    seats: Vec<Seat<B>>,
+) -> bool
     requires { (spare.old.parts ≡ left) × (spare.old.amount ≡ 0) }
     ensures all { IsTrue result ↔ (left + length seats.items ≡ all) }
     ensures parts { spare.new.parts ≡ left + length seats.items }

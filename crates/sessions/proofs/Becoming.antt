@@ -20,7 +20,7 @@ use Rattle.devices.specs.declared.effect.Effect.{Effect}
 use Rattle.devices.specs.declared.heard.Hearing.{Hearing}
 use Rattle.devices.specs.declared.mac_queue.TheConstants.MacQueue.{MOST as LONGEST_MAC_QUEUE}
 use Rattle.devices.specs.declared.queue.Item.{Item}
-use Rattle.downlinks.specs.Load.{is_due, item_of, items_behind}
+use Rattle.downlinks.specs.Load.{is_downlink_due, fitting_item, items_behind}
 use Rattle.downlinks.specs.Reply.{acknowledgement_step, answer_step}
 use Rattle.downlinks.specs.declared.load.Demand.{Demand}
 use Rattle.uplinks.specs.Accepted.{demand_of, heard_after, session_after, uplink_step, with_uplink}
@@ -94,9 +94,9 @@ due-follows d false o follows = same_but d
 
 answer-follows : (net_id slot : ℕ) (d : Device) (c : CurrentSession) (asked : Demand) → Follows d (answer_step net_id slot d c asked)
 answer-follows net_id slot d c asked =
-    due-follows d (is_due d asked) _
+    due-follows d (is_downlink_due d asked) _
     (sent-follows d (c.next_down == 2 ^ 32) _ _
-    (kept d _ _ _ _ _ (gone (item_of d asked) d.items)))
+    (kept d _ _ _ _ _ (gone (fitting_item d asked) d.items)))
 
 acknowledgement-follows : (net_id slot : ℕ) (d : Device) (c : CurrentSession) (best : Hearing) → Follows d (acknowledgement_step net_id slot d c best)
 acknowledgement-follows net_id slot d c best =
@@ -113,7 +113,7 @@ due-heard d true o same = same
 due-heard d false o same = refl
 
 answer-heard : (net_id slot : ℕ) (d : Device) (c : CurrentSession) (asked : Demand) → (answer_step net_id slot d c asked).device.heard ≡ d.heard
-answer-heard net_id slot d c asked = due-heard d (is_due d asked) _ (sent-heard d (c.next_down == 2 ^ 32) _ _ refl)
+answer-heard net_id slot d c asked = due-heard d (is_downlink_due d asked) _ (sent-heard d (c.next_down == 2 ^ 32) _ _ refl)
 
 -- ---- uplinks
 

@@ -25,7 +25,7 @@ use Rattle.uplinks.specs.Step.{uplink_at}
 use Rattle.uplinks.specs.Uplink.{has_both, uplink_of, uplink_with}
 use Rattle.uplinks.specs.declared.uplink.Uplink as declared
 use Rattle.sessions.specs.Join.{join_ask, join_step}
-use Rattle.sessions.specs.Served.{frame_in, heard_at, received_by, received_in, served_at, served_in}
+use Rattle.sessions.specs.Served.{served_frame, heard_step, received_by, received_in, served_at, served_in}
 use Rattle.sessions.specs.Step.{step1}
 use Rattle.sessions.specs.Table.{TableStep, TableState, known_slot, sender_slot, slot_of, step, step_at, used_slot}
 use Rattle.sessions.specs.declared.served.Served.{Served}
@@ -53,7 +53,7 @@ same_uplink : (u v : declared.Uplink) → ◌≡◌ {A = Result Served Refusal} 
 same_uplink u v h = cc
 
 -- the bytes of an uplink are a data frame
-pub uplink-read : (bytes : List ℕ) (u : declared.Uplink) → frame_in bytes ≡ Ok (Uplink u) → phy_at bytes ≡ Ok (phy.DataFrame u.frame)
+pub uplink-read : (bytes : List ℕ) (u : declared.Uplink) → served_frame bytes ≡ Ok (Uplink u) → phy_at bytes ≡ Ok (phy.DataFrame u.frame)
 uplink-read bytes u h =
     let read = both_ok (phy_at bytes) (served_in bytes) (Uplink u) h in
     read.1 ∙ ap Ok (at read.0 read.2)
@@ -66,9 +66,9 @@ uplink-read bytes u h =
         ap (λ (f : DataFrame). phy.DataFrame f) (uplink-frame frame frame.control found.0 found.1 ∙ ap (λ (v : declared.Uplink). v.frame) (same_uplink found.0 u found.2))
 
 -- an uplink may be heard on each channel
-pub uplink-received : (h : Heard) (u : declared.Uplink) → received_in h ≡ Ok (Uplink u) → frame_in h.phy_payload ≡ Ok (Uplink u)
+pub uplink-received : (h : Heard) (u : declared.Uplink) → received_in h ≡ Ok (Uplink u) → served_frame h.phy_payload ≡ Ok (Uplink u)
 uplink-received h u is =
-    let read = both_ok (frame_in h.phy_payload) (received_by (best_of h.hearings)) (Uplink u) is in
+    let read = both_ok (served_frame h.phy_payload) (received_by (best_of h.hearings)) (Uplink u) is in
     read.1 ∙ at (best_of h.hearings) read.0 read.2
   where
     on_first : (first : Bool) (bytes : List ℕ) → cond first (Ok (Request bytes)) (Err UnknownChannel) ≡ Ok (Uplink u)
@@ -84,7 +84,7 @@ uplink-received h u is =
 -- ---- what it does
 
 -- a frame that was carried out is served
-pub heard-ok : (net_id slot : ℕ) (d : Device) (h : Heard) (o : DeviceStep) → heard_at net_id slot d h ≡ Ok o
+pub heard-ok : (net_id slot : ℕ) (d : Device) (h : Heard) (o : DeviceStep) → heard_step net_id slot d h ≡ Ok o
     → (served : Served) × (received_in h ≡ Ok served) × (served_at net_id slot d h.hearings served ≡ Ok o)
 heard-ok net_id slot d h o is = both_ok (received_in h) (served_at net_id slot d h.hearings) o is
 
@@ -101,7 +101,7 @@ served-name : (net_id slot : ℕ) (d : Device) (hearings : List Hearing) (served
 served-name net_id slot d hearings (Request bytes) o is = ap (λ (o : DeviceStep). o.device.dev_eui) (join-ok net_id slot d hearings bytes o is).is
 served-name net_id slot d hearings (Uplink u) o is = uplink-name net_id slot d hearings u o (uplink-ok net_id slot d hearings u o is).1
 
-pub heard-name : (net_id slot : ℕ) (d : Device) (h : Heard) (o : DeviceStep) → heard_at net_id slot d h ≡ Ok o → d.dev_eui ≡ o.device.dev_eui
+pub heard-name : (net_id slot : ℕ) (d : Device) (h : Heard) (o : DeviceStep) → heard_step net_id slot d h ≡ Ok o → d.dev_eui ≡ o.device.dev_eui
 heard-name net_id slot d h o is =
     let found = heard-ok net_id slot d h o is in
     served-name net_id slot d h.hearings found.0 o found.2
@@ -115,7 +115,7 @@ served-sender t slot d hearings (Request bytes) o is own at =
 served-sender t slot d hearings (Uplink u) o is own at =
     ap (λ s. used_slot s (slice_get t.devices s)) (uplink-ok t.net_id slot d hearings u o is).0 ∙ ap (used_slot slot) at
 
-pub heard-sender : (t : TableState) (slot : ℕ) (d : Device) (h : Heard) (o : DeviceStep) → heard_at t.net_id slot d h ≡ Ok o
+pub heard-sender : (t : TableState) (slot : ℕ) (d : Device) (h : Heard) (o : DeviceStep) → heard_step t.net_id slot d h ≡ Ok o
     → slot_of d.dev_eui.0 t.devices ≡ Some slot → slice_get t.devices slot ≡ Some d → (received_in h >>= sender_slot t) ≡ Ok slot
 heard-sender t slot d h o is own at =
     let found = heard-ok t.net_id slot d h o is in

@@ -21,7 +21,7 @@ use Rattle.backend_json.specs.Replies.{IsReply, accepted_of, ans_to, cause_of, r
 use Rattle.devices.specs.declared.device.Device.{Device}
 use Rattle.devices.specs.declared.heard.Hearing.{Hearing}
 use Rattle.uplinks.specs.Chain.{◌>>=◌}
-use Rattle.sessions.specs.Join.{grant_step, join_state, join_step, refusal_of}
+use Rattle.sessions.specs.Join.{grant_step, join_state, join_step, cause_refusal}
 use Rattle.sessions.proofs.Joins.{no_ok, ok_is}
 
 -- ---- from texts to the reply
@@ -44,13 +44,13 @@ reply_to_text one s ask text found ranges is (inr (none, reply_is)) = absurd (no
 
 -- a refusal of this answer is what its cause tells
 abbrev IsCaused : {A : Type 0} → Result A Refusal → Type 0
-IsCaused r = (e : Refusal) → r ≡ Err e → refusal_of (cause_of e) ≡ e
+IsCaused r = (e : Refusal) → r ≡ Err e → cause_refusal (cause_of e) ≡ e
 
 caused_ok : {A : Type 0} (x : A) → IsCaused (Ok x)
 caused_ok x e is = no_ok e x _ (sym is)
 
-caused_err : {A : Type 0} (x : Refusal) → refusal_of (cause_of x) ≡ x → IsCaused {A = A} (Err x)
-caused_err {A} x server_reply e is = subst (λ y. refusal_of (cause_of y) ≡ y) (same x e is) server_reply
+caused_err : {A : Type 0} (x : Refusal) → cause_refusal (cause_of x) ≡ x → IsCaused {A = A} (Err x)
+caused_err {A} x server_reply e is = subst (λ y. cause_refusal (cause_of y) ≡ y) (same x e is) server_reply
   where
     same : (x e : Refusal) → ◌≡◌ {A = Result A Refusal} (Err x) (Err e) → x ≡ e
     same x e is = cc
@@ -122,15 +122,15 @@ module _ (s : JoinState) (ask : JoinAsk) (ans : JoinAns) (after : Option JoinSta
           no_accepted (cause_of e) accepted _ (sym (ap (λ (x : JoinAns × Option JoinState). x.0.result) told_is) ∙ ok)
 
   -- where it doesn't
-  pub refused_is : (cause : Cause) → ans.result ≡ Err cause → answer_to s ask ≡ Err (refusal_of cause)
+  pub refused_is : (cause : Cause) → ans.result ≡ Err cause → answer_to s ask ≡ Err (cause_refusal cause)
   refused_is cause err = by_answer (answer_to s ask) refl is_told
     where
-      by_answer : (r : Result (JoinState × JoinGrant) Refusal) → answer_to s ask ≡ r → (ans, after) ≡ server_reply ask r → answer_to s ask ≡ Err (refusal_of cause)
+      by_answer : (r : Result (JoinState × JoinGrant) Refusal) → answer_to s ask ≡ r → (ans, after) ≡ server_reply ask r → answer_to s ask ≡ Err (cause_refusal cause)
       by_answer (Ok granted) answer told_is =
           no_accepted cause (accepted_of granted.1) _ (sym err ∙ ap (λ (x : JoinAns × Option JoinState). x.0.result) told_is)
       by_answer (Err e) answer told_is =
           let result = sym err ∙ ap (λ (x : JoinAns × Option JoinState). x.0.result) told_is in
-          answer ∙ ap Err (sym (answered_caused s ask e answer) ∙ ap refusal_of (sym (same_cause cause (cause_of e) result)))
+          answer ∙ ap Err (sym (answered_caused s ask e answer) ∙ ap cause_refusal (sym (same_cause cause (cause_of e) result)))
 
 -- a grant is its JoinNonce and what is accepted
 pub same_grant : (a b : JoinGrant) → a.join_nonce ≡ b.join_nonce → accepted_of a ≡ accepted_of b → a ≡ b

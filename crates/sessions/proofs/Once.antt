@@ -20,7 +20,7 @@ use Rattle.devices.specs.declared.heard.Hearing.{Hearing}
 use Rattle.devices.specs.declared.mark.Mark.{Mark}
 use Rattle.devices.specs.declared.mark.Mark.TheVariants.{Granted}
 use Rattle.devices.specs.Mark.{mark_of}
-use Rattle.sessions.specs.Join.{accept_effects, join_ask, join_state, session_name, session_of}
+use Rattle.sessions.specs.Join.{accept_effects, join_ask, join_state, session_name, granted_session}
 use Rattle.sessions.specs.Marks.{AreDistinct, AreOnce, Covers, HasUsedUp, IsSound, IsSubsequence, marks_of, session_in}
 use Rattle.sessions.specs.Served.{received_in, served_at}
 use Rattle.sessions.specs.Step.{provisioned_effects, step1}
@@ -54,14 +54,14 @@ accept-theirs d grant None = tt
 accept-theirs d grant (Some best) = (refl, tt)
 
 accept-passes : (d : Device) (grant : JoinGrant) (best : Option Hearing) → unwrap_or d.activation.granted 0 < grant.join_nonce
-    → Passes d.activation (with_grant d.activation (session_of grant)) (marks_of (accept_effects d.dev_eui grant best))
+    → Passes d.activation (with_grant d.activation (granted_session grant)) (marks_of (accept_effects d.dev_eui grant best))
 accept-passes d grant best later = at best
   where
-    granted : Passes d.activation (with_grant d.activation (session_of grant)) (Granted (session_name d.dev_eui grant) ∷ [])
-    granted = passes_grant d.activation (session_of grant) later (session_name d.dev_eui grant) refl
+    granted : Passes d.activation (with_grant d.activation (granted_session grant)) (Granted (session_name d.dev_eui grant) ∷ [])
+    granted = passes_grant d.activation (granted_session grant) later (session_name d.dev_eui grant) refl
 
-    at : (best : Option Hearing) → Passes d.activation (with_grant d.activation (session_of grant)) (marks_of (accept_effects d.dev_eui grant best))
-    at None = passes_unmarked d.activation (with_grant d.activation (session_of grant)) (Granted (session_name d.dev_eui grant) ∷ []) granted
+    at : (best : Option Hearing) → Passes d.activation (with_grant d.activation (granted_session grant)) (marks_of (accept_effects d.dev_eui grant best))
+    at None = passes_unmarked d.activation (with_grant d.activation (granted_session grant)) (Granted (session_name d.dev_eui grant) ∷ []) granted
     at (Some best) = granted
 
 -- a join that was carried out on the device at its own slot

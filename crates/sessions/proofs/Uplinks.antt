@@ -19,10 +19,10 @@ use Rattle.devices.specs.declared.effect.Report.TheVariants.{Spent}
 use Rattle.devices.specs.declared.heard.Hearing.{Hearing}
 use Rattle.devices.specs.declared.mark.Mark.{Mark}
 use Rattle.devices.specs.declared.mark.Mark.TheVariants.{Forwarded, Sent}
-use Rattle.downlinks.specs.Load.{is_due}
+use Rattle.downlinks.specs.Load.{is_downlink_due}
 use Rattle.downlinks.specs.Reply.{acknowledgement_step, answer_step, name_of}
 use Rattle.downlinks.specs.declared.load.Demand.{Demand}
-use Rattle.uplinks.specs.Accepted.{is_acknowledgement, demand_of, commands_of, forward_effects, grants_after, is_application, mac_report, awaited_report, session_after, uplink_step, effects_before_answer, with_uplink}
+use Rattle.uplinks.specs.Accepted.{is_acknowledgement, demand_of, sent_commands, forward_effects, grants_after, is_application, mac_report, awaited_report, session_after, uplink_step, effects_before_answer, with_uplink}
 use Rattle.uplinks.specs.Chain.{◌>>=◌}
 use Rattle.uplinks.specs.Fit.{IsOf, fit_of, fitted_session}
 use Rattle.uplinks.specs.Step.{if_on_channel, step_in_session, step_of_best, uplink_at}
@@ -55,7 +55,7 @@ due-is d c true o answer = answer
 due-is d c false o answer = record { named = refl; grants = inl (refl, refl) }
 
 answered-is : (net_id slot : ℕ) (d : Device) (c : CurrentSession) (asked : Demand) → IsAnswer d c (answer_step net_id slot d c asked)
-answered-is net_id slot d c asked = due-is d c (is_due d asked) _ (sent-is d c (c.next_down == 2 ^ 32) _ refl refl refl)
+answered-is net_id slot d c asked = due-is d c (is_downlink_due d asked) _ (sent-is d c (c.next_down == 2 ^ 32) _ refl refl refl)
 
 acknowledged-is : (net_id slot : ℕ) (d : Device) (c : CurrentSession) (best : Hearing) → IsAnswer d c (acknowledgement_step net_id slot d c best)
 acknowledged-is net_id slot d c best = sent-is d c (c.next_down == 2 ^ 32) _ refl refl refl
@@ -126,9 +126,9 @@ told-marks : (d : Device) (fit : Fit) (u : Uplink) (copies : ℕ) (best : Hearin
     → MayForward d (session_after fit) (marks_of (effects_before_answer d fit u copies best))
 told-marks d fit u copies best =
     let c : CurrentSession = session_after fit in
-    behind_told d c (awaited_report d (is_acknowledgement fit u) d.awaited) (mac_report d c (reported_bytes (commands_of c u)))
+    behind_told d c (awaited_report d (is_acknowledgement fit u) d.awaited) (mac_report d c (reported_bytes (sent_commands c u)))
     (forward_effects u.frame.dev_addr d c copies best u.frame.contents.message) (awaited-unmarked d (is_acknowledgement fit u) d.awaited)
-    (commands-unmarked d c (reported_bytes (commands_of c u))) (forwarded-marks u.frame.dev_addr d c copies best u.frame.contents.message)
+    (commands-unmarked d c (reported_bytes (sent_commands c u))) (forwarded-marks u.frame.dev_addr d c copies best u.frame.contents.message)
 
 -- ---- a new uplink
 

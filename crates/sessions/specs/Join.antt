@@ -59,19 +59,19 @@ join_ask net_id slot d request transaction =
     }
 
 -- a refusal of the join server, from the cause that its text tells
-abbrev pub refusal_of : Cause → Refusal
-refusal_of causes.UnknownDevEui = UnknownDevEui
-refusal_of causes.WrongJoinEui = WrongJoinEui
-refusal_of causes.BadMic = BadMic
-refusal_of causes.DevNonceUsed = DevNonceUsed
-refusal_of causes.JoinNonceSpent = JoinNonceSpent
-refusal_of causes.BadMessage = BadMessage
+abbrev pub cause_refusal : Cause → Refusal
+cause_refusal causes.UnknownDevEui = UnknownDevEui
+cause_refusal causes.WrongJoinEui = WrongJoinEui
+cause_refusal causes.BadMic = BadMic
+cause_refusal causes.DevNonceUsed = DevNonceUsed
+cause_refusal causes.JoinNonceSpent = JoinNonceSpent
+cause_refusal causes.BadMessage = BadMessage
 
 -- ---- what is granted
 
 -- its accept has the CFList, so the device has all eight channels
-abbrev pub session_of : JoinGrant → Session
-session_of grant =
+abbrev pub granted_session : JoinGrant → Session
+granted_session grant =
     record {
       join_nonce = grant.join_nonce;
       nwk_skey = grant.nwk_skey;
@@ -85,12 +85,13 @@ abbrev pub with_session : Device → JoinState × JoinGrant → Device
 with_session d granted =
     record d {
       last_dev_nonce = granted.0.dev_nonce;
-      activation = with_grant d.activation (session_of granted.1);
+      activation = with_grant d.activation (granted_session granted.1);
     }
 
--- the Join-Accept is sent by the gateway that heard the request best, 5 s after it at its frequency
--- and data rate, or a second later in RX2 (TS001-1.0.4 §6.2.6). RX1 has the request's data rate
--- whatever the device's RX1DROffset is, which holds from the accept on: the standard leaves it open
+-- the Join-Accept is sent by the gateway that heard the request best, 5 s after it
+-- (JOIN_ACCEPT_DELAY1) at its frequency and data rate, or a second later in RX2 (TS001-1.0.4
+-- §6.2.6). RX1 has the request's data rate whatever the device's RX1DROffset is, which holds from
+-- the accept on: the standard leaves it open
 abbrev pub accept_downlink : Hearing → List ℕ → Downlink
 accept_downlink best frame =
     record {

@@ -21,12 +21,12 @@ is_theirs application dev_eui d = (dev_eui.0 == d.dev_eui.0) && (application == 
 
 -- ---- items
 
-abbrev pub item_of : Queueing → Item
-item_of q = record { tag = q.tag; port = q.port; confirmed = q.confirmed; payload = q.payload }
+abbrev pub queued_item : Queueing → Item
+queued_item q = record { tag = q.tag; port = q.port; confirmed = q.confirmed; payload = q.payload }
 
 -- the item waits behind the others
 abbrev pub with_item : Device → Queueing → Device
-with_item d q = record d { items = d.items ++ item_of q ∷ [] }
+with_item d q = record d { items = d.items ++ queued_item q ∷ [] }
 
 abbrev pub item_queued : Device → Queueing → DeviceStep
 item_queued d q = device_step (with_item d q) (report_effects d (Queued q.tag))

@@ -36,8 +36,8 @@ is_request (Ok (Uplink u)) = false
 is_request (Err refusal) = false
 
 -- the frame that these bytes are
-abbrev pub frame_in : List ℕ → Result Served Refusal
-frame_in bytes = phy_at bytes >>= served_in bytes
+abbrev pub served_frame : List ℕ → Result Served Refusal
+served_frame bytes = phy_at bytes >>= served_in bytes
 
 -- a device that joins sends on one of the first three channels (RP002-1.0.4, EU863-870): the copy
 -- that was heard best is on one of these, wherever the others are
@@ -53,7 +53,7 @@ received_by (Some best) (Uplink u) = Ok (Uplink u)
 
 -- the frame that was heard
 abbrev pub received_in : Heard → Result Served Refusal
-received_in h = frame_in h.phy_payload >>= received_by (best_of h.hearings)
+received_in h = served_frame h.phy_payload >>= received_by (best_of h.hearings)
 
 -- a frame that no device sent
 abbrev pub unknown_sender : Served → Refusal
@@ -76,8 +76,8 @@ served_at net_id slot d hearings (Uplink u) =
     == slot then uplink_at net_id slot d hearings u else Err UnknownDevAddr
 
 -- what the device at a slot does of a frame that was heard
-abbrev pub heard_at : ℕ → ℕ → Device → Heard → Result DeviceStep Refusal
-heard_at net_id slot d h = received_in h >>= served_at net_id slot d h.hearings
+abbrev pub heard_step : ℕ → ℕ → Device → Heard → Result DeviceStep Refusal
+heard_step net_id slot d h = received_in h >>= served_at net_id slot d h.hearings
 
 -- what is done of a frame where no device is: it is refused as any frame is, and then since no
 -- device sent it

@@ -11,7 +11,7 @@ use Rattle.devices.specs.declared.command.Command.TheVariants.{Provision, Heard,
 use Rattle.devices.specs.declared.effect.Effect.{Effect}
 use Rattle.devices.specs.declared.effect.Effect.TheVariants.{Report}
 use Rattle.devices.specs.declared.effect.Report.TheVariants.{Provisioned}
-use Rattle.sessions.specs.Served.{heard_at, unheard}
+use Rattle.sessions.specs.Served.{heard_step, unheard}
 use Rattle.sessions.specs.Queueing.{queue_at, queue_mac_at}
 
 -- the slot of a new device is reported
@@ -28,7 +28,7 @@ step1 net_id slot None (Provision p) = Ok (device_step (new_device p) (provision
 step1 net_id slot (Some device) (Provision p) = Err DevEuiTaken  -- not reached
 -- a frame is of a device that is there
 step1 net_id slot None (Heard h) = unheard h  -- not reached
-step1 net_id slot (Some device) (Heard h) = heard_at net_id slot device h
+step1 net_id slot (Some device) (Heard h) = heard_step net_id slot device h
 -- items and MAC commands are queued for a device that is there
 step1 net_id slot None (Queue q) = Err UnknownDevEui  -- not reached
 step1 net_id slot (Some device) (Queue q) = queue_at device q

@@ -8,7 +8,7 @@ ghost use Rattle.backend_json.specs.Messages.{IsAsk};
 ghost use Rattle.backend_json.specs.Replies.{accepted_of, reply};
 ghost use Rattle.devices.specs.DeviceStep.{IsDeviceStep};
 ghost use Rattle.sessions.specs.Join.{accept_downlink, accept_effects, grant_step, join_ask};
-ghost use Rattle.sessions.specs.Join.{join_state, join_step, refusal_of, transaction_of};
+ghost use Rattle.sessions.specs.Join.{join_state, join_step, cause_refusal, transaction_of};
 ghost use Rattle.sessions.specs.Join.{with_session};
 
 use backend_json::{Accepted, Cause, JoinAns, answer_text, join_req_text, read_join_ans};
@@ -21,7 +21,7 @@ use lw_types::{Eui, JoinNonce, NetId, PhyPayload, Refusal};
 use std::alloc::Global;
 
 // The delay from the end of a Join-Request to RX1, in seconds (TS001-1.0.4 §6.2.6).
-const JOIN_ACCEPT_DELAY: u64 = 5;
+const JOIN_ACCEPT_DELAY1: u64 = 5;
 
 // The question for the device at a slot, which would lead to the decision of this number.
 pub(crate) fn join_ask(
@@ -106,7 +106,7 @@ fn ask_join_server(
             let after = after.unwrap();
             Ok((after, grant_of(after.join_nonce.unwrap(), accepted)))
         }
-        Err(cause) => Err(refusal_of(cause)),
+        Err(cause) => Err(cause_refusal(cause)),
     }
 }
 
@@ -133,20 +133,20 @@ fn exchange(
     ensures { MatchResult result (λ found. found ≡ reply state.now ask.now) (λ e. e ≡ OutOfMemory) }
 {
     backend_json::laws::each_text_is_of_one_message();
-    in_range(*ask);
+    ask_in_range(*ask);
     let question = join_req_text(alloc, ask)?;
     let (answer, after) = answer_text(alloc, state, &question)?;
     Ok((read_join_ans(alloc, &answer)?, after))
 }
 
 // What a question has by its types.
-fn in_range(_ask: JoinAsk)
+fn ask_in_range(_ask: JoinAsk)
     ensures { IsAsk _ask }
 {}
 
 // The refusal of a cause.
-fn refusal_of(cause: Cause) -> Refusal
-    ensures { result ≡ refusal_of cause }
+fn cause_refusal(cause: Cause) -> Refusal
+    ensures { result ≡ cause_refusal cause }
 {
     match cause {
         Cause::UnknownDevEui => Refusal::UnknownDevEui,
@@ -194,6 +194,7 @@ fn accept_effects(
     Ok(effects)
 }
 
+// The Join-Accept as a downlink, in RX1 behind JOIN_ACCEPT_DELAY1, or in RX2.
 fn accept_downlink(alloc: Global, best: Hearing, frame: &SealedAccept) -> Result<Downlink, Refusal>
     ensures { MatchResult result
         (λ downlink. downlink ≡ accept_downlink best frame.now)
@@ -204,7 +205,7 @@ fn accept_downlink(alloc: Global, best: Hearing, frame: &SealedAccept) -> Result
         stamp: best.stamp,
         frequency: best.reception.frequency,
         data_rate: best.reception.data_rate,
-        delay: RxDelay::new(JOIN_ACCEPT_DELAY).unwrap(),
+        delay: RxDelay::new(JOIN_ACCEPT_DELAY1).unwrap(),
         windows: ReceiveWindows::Rx1OrRx2,
         frame: PhyPayload::from_slice(alloc, frame)?,
     })

@@ -6,7 +6,7 @@ use Rattle.lw_types.specs.declared.refusal.Refusal.TheVariants.{DeviceFailed}
 use Rattle.disk.specs.Outlook.{Outlook, HasCause, IsForeseen}
 use Rattle.disk.specs.State.{EveryImage, State}
 use Rattle.gate_log.specs.Areas.{LogContents}
-use Rattle.gate_log.specs.Log.{LogState, IsAtRest, log_state, disk_of as disk_of_log}
+use Rattle.gate_log.specs.Log.{LogState, IsAtRest, log_state, log_disk as disk_of_log}
 use Rattle.sessions.specs.Table.{TableState}
 use Rattle.record_codec.specs.Version.{newest}
 use Rattle.store.specs.declared.store.Store.{Store}

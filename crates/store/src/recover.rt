@@ -54,7 +54,7 @@ pub(crate) fn read_store<D: Disk>(alloc: Global, opening: &mut Opening<D>) -> Re
     gate_log::laws::none_live_holds_nothing();
     gate_log::laws::a_disk_holds_one_contents();
     laws::entries_keep_the_network();
-    let front = read_front(opening)?;
+    let front = read_store_front(opening)?;
     let recovered = recover(alloc, opening, front.live)?;
     let (table, seq) = restore(alloc, &front.superblock, front.version, &recovered)?;
     Ok(Found {
@@ -67,7 +67,7 @@ pub(crate) fn read_store<D: Disk>(alloc: Global, opening: &mut Opening<D>) -> Re
 }
 
 // The superblock, and the area that counts. Takes no memory.
-fn read_front<D: Disk>(opening: &mut Opening<D>) -> Result<StoreFront, Refusal>
+fn read_store_front<D: Disk>(opening: &mut Opening<D>) -> Result<StoreFront, Refusal>
     ensures store { D.honest → IfOk result
         (λ f. IsStoreOf (D.state (disk_in_opening opening.old)).content f.superblock.net_id
         f.superblock.slots) }
@@ -121,7 +121,7 @@ fn read_superblock<D: Disk>(opening: &mut Opening<D>) -> Result<Superblock, Refu
     if opening.len() < Superblock::LEN as u64 {
         return Err(Refusal::WrongSize);
     }
-    let bytes = read_bytes(opening)?;
+    let bytes = superblock_bytes(opening)?;
     let superblock = Superblock::from_bytes(&bytes)?;
     if opening.len() != superblock.disk_len() {
         return Err(Refusal::WrongSize);
@@ -130,7 +130,7 @@ fn read_superblock<D: Disk>(opening: &mut Opening<D>) -> Result<Superblock, Refu
 }
 
 // The first bytes of the disk.
-fn read_bytes<D: Disk>(opening: &mut Opening<D>) -> Result<[u8; 32], Refusal>
+fn superblock_bytes<D: Disk>(opening: &mut Opening<D>) -> Result<[u8; 32], Refusal>
     requires { Superblock.LEN ≤ length (D.state (disk_in_opening opening.old)).content }
     ensures bytes { D.honest → IfOk result
         (λ bytes. bytes ≡ take Superblock.LEN (D.state (disk_in_opening opening.old)).content) }

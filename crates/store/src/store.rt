@@ -1,7 +1,7 @@
 // The store, and what it tells of itself.
 ghost use Rattle.std.specs.Prelude.{◌≡◌, ◌<◌, ◌+◌, ◌-◌, ◌^◌, ◌↔◌, IsTrue, false};
 ghost use Rattle.disk.specs.Outlook.Outlook.{FailsAfter};
-ghost use Rattle.gate_log.specs.Log.{log_state, disk_of as disk_of_log};
+ghost use Rattle.gate_log.specs.Log.{log_state, log_disk as disk_of_log};
 ghost use Rattle.store.specs.Image.{HaveLength};
 
 use disk::{Disk, Sim};

@@ -6,7 +6,7 @@ ghost use Rattle.disk.specs.Outlook.{IsArmed};
 ghost use Rattle.disk.specs.Outlook.Outlook.{AllSucceed};
 ghost use Rattle.disk.specs.State.{EveryImage};
 ghost use Rattle.gate_log.specs.Areas.{AreLaidOut, LogContents};
-ghost use Rattle.gate_log.specs.Log.{disk_of as disk_of_log, log_state, IsAtRest};
+ghost use Rattle.gate_log.specs.Log.{log_disk as disk_of_log, log_state, IsAtRest};
 ghost use Rattle.gate_log.specs.Opening.{disk_in_opening};
 ghost use Rattle.record_codec.specs.Version.{newest};
 ghost use Rattle.record_codec.specs.declared.version.RecordVersion.{RecordVersion};

@@ -51,7 +51,12 @@ pub fn put_entry(slot: u16, device: &Device, out: &mut Vec<u8>) -> Result<(), Re
 }
 
 // Appends the entry of the change from one record to another. After an `Err` nothing was appended.
-fn put_change(slot: u16, before: &Device, after: &Device, out: &mut Vec<u8>) -> Result<(), Refusal>
+fn put_change_entry(
+    slot: u16,
+    before: &Device,
+    after: &Device,
+    out: &mut Vec<u8>,
+) -> Result<(), Refusal>
     requires { MayBecome before.now after.now }
     ensures { MatchResult result
         (λ _. (change : List ℕ)
@@ -118,7 +123,7 @@ fn put_decision(decision: &Decision, out: &mut Vec<u8>) -> Result<(), Refusal>
     sessions::laws::a_decision_is_a_step();
     match &decision.before {
         None => put_entry(decision.slot, &decision.after, out),
-        Some(before) => put_change(decision.slot, before, &decision.after, out),
+        Some(before) => put_change_entry(decision.slot, before, &decision.after, out),
     }
 }
 

@@ -11,7 +11,7 @@ use Rattle.uplinks.specs.declared.fit.Fit.{Fit}
 use Rattle.uplinks.specs.declared.fit.Fit.TheVariants.{First, Next, Again}
 use Rattle.uplinks.specs.declared.fit.Trial.{Trial}
 use Rattle.uplinks.specs.declared.fit.Trial.TheVariants.{OtherDevAddr, BadCounter, BadMic, Fits}
-use Rattle.uplinks.specs.Fit.{current_at, fit_of, later_trial, is_for, is_signed, try_current, try_pending, verdict, pending_at}
+use Rattle.uplinks.specs.Fit.{current_trial, fit_of, later_trial, is_for, is_signed, try_current, try_pending, verdict, pending_trial}
 use Rattle.uplinks.specs.Candidates.{Candidate, Pending, Current, candidates, current_candidates, pending_candidates, fit_in, fit_in_current, fit_in_pending, has_mic, verdict_among}
 
 -- how far the frame comes into these sessions, of which there is one at most
@@ -28,14 +28,14 @@ unfolding IsTrial
 by_mic frame c f true fits mic = (c, refl, fits, mic)
 by_mic frame c f false fits mic = (c, f, refl, fits, mic)
 
-pending_counted : (frame : DataFrame) (s : Session) (r : Rebuilt) → rebuilt_counter None frame.f_cnt ≡ r → IsTrial frame (pending_at s frame r) (Pending s ∷ [])
+pending_counted : (frame : DataFrame) (s : Session) (r : Rebuilt) → rebuilt_counter None frame.f_cnt ≡ r → IsTrial frame (pending_trial s frame r) (Pending s ∷ [])
 unfolding IsTrial
 pending_counted frame s (counter.New n) is = by_mic frame (Pending s) (First s n) (is_signed s n frame) (ap (fit_in_pending s) is) refl
 pending_counted frame s counter.Repeat is = (Pending s, refl, ap (fit_in_pending s) is)
 pending_counted frame s counter.Gap is = (Pending s, refl, ap (fit_in_pending s) is)
 
 pending_named : (frame : DataFrame) (s : Session) (b : Bool)
-    → IsTrial frame (cond b (pending_at s frame (rebuilt_counter None frame.f_cnt)) OtherDevAddr) (cond b (Pending s ∷ []) [])
+    → IsTrial frame (cond b (pending_trial s frame (rebuilt_counter None frame.f_cnt)) OtherDevAddr) (cond b (Pending s ∷ []) [])
 unfolding IsTrial
 pending_named frame s true = pending_counted frame s (rebuilt_counter None frame.f_cnt) refl
 pending_named frame s false = refl
@@ -45,14 +45,14 @@ unfolding IsTrial
 pending-tried net_id slot None frame = refl
 pending-tried net_id slot (Some s) frame = pending_named frame s (is_for net_id slot s frame)
 
-current_counted : (frame : DataFrame) (c : CurrentSession) (r : Rebuilt) → rebuilt_counter (Some c.last_up) frame.f_cnt ≡ r → IsTrial frame (current_at c frame r) (Current c ∷ [])
+current_counted : (frame : DataFrame) (c : CurrentSession) (r : Rebuilt) → rebuilt_counter (Some c.last_up) frame.f_cnt ≡ r → IsTrial frame (current_trial c frame r) (Current c ∷ [])
 unfolding IsTrial
 current_counted frame c (counter.New n) is = by_mic frame (Current c) (Next c n) (is_signed c.session n frame) (ap (fit_in_current c) is) refl
 current_counted frame c counter.Repeat is = by_mic frame (Current c) (Again c) (is_signed c.session c.last_up frame) (ap (fit_in_current c) is) refl
 current_counted frame c counter.Gap is = (Current c, refl, ap (fit_in_current c) is)
 
 current_named : (frame : DataFrame) (c : CurrentSession) (b : Bool)
-    → IsTrial frame (cond b (current_at c frame (rebuilt_counter (Some c.last_up) frame.f_cnt)) OtherDevAddr) (cond b (Current c ∷ []) [])
+    → IsTrial frame (cond b (current_trial c frame (rebuilt_counter (Some c.last_up) frame.f_cnt)) OtherDevAddr) (cond b (Current c ∷ []) [])
 unfolding IsTrial
 current_named frame c true = current_counted frame c (rebuilt_counter (Some c.last_up) frame.f_cnt) refl
 current_named frame c false = refl

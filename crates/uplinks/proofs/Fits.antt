@@ -12,7 +12,7 @@ use Rattle.uplinks.specs.declared.fit.Fit.{Fit}
 use Rattle.uplinks.specs.declared.fit.Fit.TheVariants.{First, Next, Again}
 use Rattle.uplinks.specs.declared.fit.Trial.{Trial}
 use Rattle.uplinks.specs.declared.fit.Trial.TheVariants.{OtherDevAddr, BadCounter, BadMic, Fits}
-use Rattle.uplinks.specs.Fit.{current_at, fit_of, later_trial, is_for, is_signed, try_current, try_pending, verdict, pending_at, IsOf}
+use Rattle.uplinks.specs.Fit.{current_trial, fit_of, later_trial, is_for, is_signed, try_current, try_pending, verdict, pending_trial, IsOf}
 
 -- a new counter is above the last one
 abbrev Grow : Type 0
@@ -40,12 +40,12 @@ if_fits false a b h = absurd (apart-forged b h)
 waiting_is : (net_id slot : ℕ) (g : Grants) (frame : DataFrame) (fit : Fit) → try_pending net_id slot g.pending frame ≡ Fits fit → IsOf g fit
 waiting_is net_id slot g frame fit = at g.pending refl
   where
-    counted : (s : Session) → g.pending ≡ Some s → (r : Rebuilt) → pending_at s frame r ≡ Fits fit → IsOf g fit
+    counted : (s : Session) → g.pending ≡ Some s → (r : Rebuilt) → pending_trial s frame r ≡ Fits fit → IsOf g fit
     counted s is (counter.New n) h = subst (λ f. IsOf g f) (if_fits (is_signed s n frame) (First s n) fit h) is
     counted s is counter.Repeat h = absurd (apart-far fit h)
     counted s is counter.Gap h = absurd (apart-far fit h)
 
-    named : (s : Session) → g.pending ≡ Some s → (b : Bool) → cond b (pending_at s frame (rebuilt_counter None frame.f_cnt)) OtherDevAddr ≡ Fits fit → IsOf g fit
+    named : (s : Session) → g.pending ≡ Some s → (b : Bool) → cond b (pending_trial s frame (rebuilt_counter None frame.f_cnt)) OtherDevAddr ≡ Fits fit → IsOf g fit
     named s is true h = counted s is (rebuilt_counter None frame.f_cnt) h
     named s is false h = absurd (apart-elsewhere fit h)
 
@@ -58,13 +58,13 @@ waiting_is net_id slot g frame fit = at g.pending refl
 current_is : Grow → (net_id slot : ℕ) (g : Grants) (frame : DataFrame) (fit : Fit) → try_current net_id slot g.current frame ≡ Fits fit → IsOf g fit
 current_is grow net_id slot g frame fit = at g.current refl
   where
-    counted : (c : CurrentSession) → g.current ≡ Some c → (r : Rebuilt) → rebuilt_counter (Some c.last_up) frame.f_cnt ≡ r → current_at c frame r ≡ Fits fit → IsOf g fit
+    counted : (c : CurrentSession) → g.current ≡ Some c → (r : Rebuilt) → rebuilt_counter (Some c.last_up) frame.f_cnt ≡ r → current_trial c frame r ≡ Fits fit → IsOf g fit
     counted c is (counter.New n) by h =
         subst (λ f. IsOf g f) (if_fits (is_signed c.session n frame) (Next c n) fit h) (is, grow c.last_up frame.f_cnt n by)
     counted c is counter.Repeat by h = subst (λ f. IsOf g f) (if_fits (is_signed c.session c.last_up frame) (Again c) fit h) is
     counted c is counter.Gap by h = absurd (apart-far fit h)
 
-    named : (c : CurrentSession) → g.current ≡ Some c → (b : Bool) → cond b (current_at c frame (rebuilt_counter (Some c.last_up) frame.f_cnt)) OtherDevAddr ≡ Fits fit → IsOf g fit
+    named : (c : CurrentSession) → g.current ≡ Some c → (b : Bool) → cond b (current_trial c frame (rebuilt_counter (Some c.last_up) frame.f_cnt)) OtherDevAddr ≡ Fits fit → IsOf g fit
     named c is true h = counted c is (rebuilt_counter (Some c.last_up) frame.f_cnt) refl h
     named c is false h = absurd (apart-elsewhere fit h)
 

@@ -74,8 +74,8 @@ mac_bytes addr c opts (Some sent) =
     if sent.f_port == 0 then crypted_payload c.session.nwk_skey.0 Up addr.0 c.last_up
     sent.frm_payload else opts
 
-abbrev pub commands_of : CurrentSession → Uplink → List ℕ
-commands_of c u = mac_bytes u.frame.dev_addr c u.frame.contents.f_opts u.frame.contents.message
+abbrev pub sent_commands : CurrentSession → Uplink → List ℕ
+sent_commands c u = mac_bytes u.frame.dev_addr c u.frame.contents.f_opts u.frame.contents.message
 
 -- those that the network doesn't answer itself are reported, if there are any
 abbrev pub mac_report : Device → CurrentSession → List ℕ → List Effect
@@ -84,8 +84,8 @@ mac_report d c (byte ∷ bytes) = report_effects d (Mac c.session.join_nonce (by
 
 -- ---- the payload
 
--- whether a port is one of applications, 1 to 223; 224 is that of the standard's test protocol, and
--- those above are reserved (§4.3.2): what comes on them is no application's, by this project's
+-- whether an FPort is one of applications, 1 to 223; 224 is that of the standard's test protocol,
+-- and those above are reserved (§4.3.2): what comes on them is no application's, by this project's
 -- choice
 abbrev pub is_application : ℕ → Bool
 is_application port = nat_lt 0 port && nat_lt port 224
@@ -111,7 +111,7 @@ demand_of c u heard by =
     record {
       confirmed = u.frame.confirmed;
       adr_ack_req = u.adr_ack_req;
-      link_check = asks_link_check (commands_of c u);
+      link_check = asks_link_check (sent_commands c u);
       best = by;
       copies = heard;
     }
@@ -121,7 +121,7 @@ abbrev pub effects_before_answer : Device → Fit → Uplink → ℕ → Hearing
 effects_before_answer d fit u copies best =
     let c = session_after fit in
     awaited_report d (is_acknowledgement fit u) d.awaited
-    ++ (mac_report d c (reported_bytes (commands_of c u))
+    ++ (mac_report d c (reported_bytes (sent_commands c u))
     ++ forward_effects u.frame.dev_addr d c copies best u.frame.contents.message)
 
 abbrev pub with_effects : List Effect → DeviceStep → DeviceStep

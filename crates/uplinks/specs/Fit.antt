@@ -35,30 +35,30 @@ if_signed s counter frame fit = if is_signed s counter frame then Fits fit else 
 
 -- ---- the pending session, which had no uplink yet
 
-abbrev pub pending_at : Session → DataFrame → Rebuilt → Trial
-pending_at s frame (counter.New n) = if_signed s n frame (First s n)
-pending_at s frame counter.Repeat = BadCounter
-pending_at s frame counter.Gap = BadCounter
+abbrev pub pending_trial : Session → DataFrame → Rebuilt → Trial
+pending_trial s frame (counter.New n) = if_signed s n frame (First s n)
+pending_trial s frame counter.Repeat = BadCounter
+pending_trial s frame counter.Gap = BadCounter
 
 -- it has had no counter yet
 abbrev pub try_pending : ℕ → ℕ → Option Session → DataFrame → Trial
 try_pending net_id slot None frame = OtherDevAddr
 try_pending net_id slot (Some s) frame =
-    if is_for net_id slot s frame then pending_at s frame
+    if is_for net_id slot s frame then pending_trial s frame
     (rebuilt_counter None frame.f_cnt) else OtherDevAddr
 
 -- ---- the current session
 
 -- the MIC of a frame that comes again is tested under the last counter
-abbrev pub current_at : CurrentSession → DataFrame → Rebuilt → Trial
-current_at c frame (counter.New n) = if_signed c.session n frame (Next c n)
-current_at c frame counter.Repeat = if_signed c.session c.last_up frame (Again c)
-current_at c frame counter.Gap = BadCounter
+abbrev pub current_trial : CurrentSession → DataFrame → Rebuilt → Trial
+current_trial c frame (counter.New n) = if_signed c.session n frame (Next c n)
+current_trial c frame counter.Repeat = if_signed c.session c.last_up frame (Again c)
+current_trial c frame counter.Gap = BadCounter
 
 abbrev pub try_current : ℕ → ℕ → Option CurrentSession → DataFrame → Trial
 try_current net_id slot None frame = OtherDevAddr
 try_current net_id slot (Some c) frame =
-    if is_for net_id slot c.session frame then current_at c frame
+    if is_for net_id slot c.session frame then current_trial c frame
     (rebuilt_counter (Some c.last_up) frame.f_cnt) else OtherDevAddr
 
 -- ---- the two
@@ -85,7 +85,7 @@ verdict BadCounter = Err refusals.CounterGap
 verdict BadMic = Err refusals.BadMic
 verdict (Fits fit) = Ok fit
 
--- the pending session is tried before the current one
+-- the session whose FCntUp the frame counts on: the pending one is tried before the current one
 abbrev pub fit_of : ℕ → ℕ → Grants → DataFrame → Result Fit Refusal
 fit_of net_id slot g frame =
     verdict (later_trial (try_pending net_id slot g.pending frame)

@@ -14,7 +14,7 @@ abbrev pub is_on_port_0 : Option PortPayload → Bool
 is_on_port_0 None = false
 is_on_port_0 (Some sent) = sent.f_port == 0
 
--- whether MAC commands stand in FOpts and on port 0 at once, which is forbidden (§4.3.1.6)
+-- whether MAC commands stand in FOpts and on FPort 0 at once, which is forbidden (§4.3.1.6)
 abbrev pub has_both : List ℕ → Option PortPayload → Bool
 has_both [] message = false
 has_both (byte ∷ opts) message = is_on_port_0 message

@@ -43,7 +43,7 @@ impl NetworkSlot {
     {
         let session = fit.session_after();
         let commands = commands(alloc, &session, &heard.uplink.frame)?;
-        let asked = asked(heard, commands.as_slice());
+        let asked = demand_of(heard, commands.as_slice());
         tell_awaited(device, effects, fit.acknowledges(heard.uplink))?;
         report_commands(alloc, device, effects, &session, commands.as_slice())?;
         forward(alloc, device, effects, &session, heard)?;
@@ -192,7 +192,7 @@ fn report_commands(
 }
 
 // What the uplink with these MAC commands asks of the network.
-fn asked(heard: &HeardUplink<'_>, commands: &[u8]) -> Demand
+fn demand_of(heard: &HeardUplink<'_>, commands: &[u8]) -> Demand
     ensures { result ≡ record {
       confirmed = heard.now.uplink.now.frame.confirmed;
       adr_ack_req = heard.now.uplink.now.adr_ack_req;
@@ -212,7 +212,7 @@ fn asked(heard: &HeardUplink<'_>, commands: &[u8]) -> Demand
 
 // ---- the payload
 
-// The payload on an application's port is handed on.
+// The payload on an application's FPort is handed on.
 fn forward(
     alloc: Global,
     device: &Device,

@@ -1,8 +1,8 @@
 // Which session an uplink is of, and under which counter (TS001-1.0.4 §4.3.1.5, §4.4).
 ghost use Rattle.std.specs.Prelude.{◌≡◌, IfOk, None, Some};
 ghost use Rattle.counters.specs.Rebuilt.{rebuilt_counter};
-ghost use Rattle.uplinks.specs.Fit.{current_at, fit_of, later_trial, if_signed, is_for};
-ghost use Rattle.uplinks.specs.Fit.{try_current, try_pending, verdict, pending_at, IsOf};
+ghost use Rattle.uplinks.specs.Fit.{current_trial, fit_of, later_trial, if_signed, is_for};
+ghost use Rattle.uplinks.specs.Fit.{try_current, try_pending, verdict, pending_trial, IsOf};
 ghost use Rattle.uplinks.specs.Arrival.{IsMessageOf};
 
 use crate::arrival::NetworkSlot;
@@ -72,7 +72,7 @@ impl Trial {
 }
 
 impl NetworkSlot {
-    // The session of the device of which the uplink is: the pending or the current one.
+    // The session of the device whose FCntUp the uplink counts on: the pending or the current one.
     pub(crate) fn fit(
         &self,
         activation: &Activation,
@@ -138,7 +138,7 @@ impl NetworkSlot {
 // How far an uplink comes into a pending session that has its address.
 fn try_first(session: Session, frame: &DataFrameRef<'_>, message: &[u8]) -> Trial
     requires { IsMessageOf frame.now message.now }
-    ensures { result ≡ pending_at session frame.now (rebuilt_counter None frame.now.f_cnt) }
+    ensures { result ≡ pending_trial session frame.now (rebuilt_counter None frame.now.f_cnt) }
 {
     match rebuild(None, frame.f_cnt()) {
         Rebuilt::New(counter) => {
@@ -154,7 +154,7 @@ fn try_first(session: Session, frame: &DataFrameRef<'_>, message: &[u8]) -> Tria
 // last counter.
 fn try_next(current: CurrentSession, frame: &DataFrameRef<'_>, message: &[u8]) -> Trial
     requires { IsMessageOf frame.now message.now }
-    ensures { result ≡ current_at current frame.now
+    ensures { result ≡ current_trial current frame.now
         (rebuilt_counter (Some current.last_up) frame.now.f_cnt) }
 {
     match rebuild(Some(current.last_up), frame.f_cnt()) {

@@ -11,5 +11,5 @@ mod uplink;
 
 pub use arrival::{NetworkSlot, ReceivedUplink};
 pub use fit::Fit;
-pub use step::hear;
+pub use step::receive_uplink;
 pub use uplink::Uplink;

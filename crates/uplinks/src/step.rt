@@ -26,7 +26,7 @@ use std::alloc::Global;
 /// session (`UnknownChannel`), and where it comes again unconfirmed (`Repeat`), each of them
 /// whether or not there is memory; for want of memory as `OutOfMemory`. The cost is bounded by the
 /// frame and the device's queues.
-pub fn hear(
+pub fn receive_uplink(
     alloc: Global,
     place: &NetworkSlot,
     device: &Device,

@@ -41,7 +41,7 @@ impl<'a> Uplink<'a> {
     }
 }
 
-// Whether MAC commands stand in FOpts and on port 0 at once.
+// Whether MAC commands stand in FOpts and on FPort 0 at once.
 fn has_both(frame: &DataFrameRef<'_>) -> bool
     ensures { result ≡ has_both frame.now.contents.f_opts frame.now.contents.message }
 {

@@ -20,7 +20,7 @@ use Rattle.world.specs.declared.commit.Pipeline.{Pipeline}
 use Rattle.world.specs.declared.event.Event.{Event}
 use Rattle.world.specs.declared.event.Event.TheVariants as events
 use Rattle.world.specs.declared.step.Step.TheVariants as steps
-use Rattle.world.specs.Course.{Origin, Course, after_commands, at_moment, commands_of, handed_in_count, after_copy, after_release, with_closings, after_event}
+use Rattle.world.specs.Course.{Origin, Course, after_commands, at_moment, step_commands, handed_in_count, after_copy, after_release, with_closings, after_event}
 use Rattle.world.specs.Answers.{IsTurnAnswer}
 use Rattle.world.specs.Links.{HasSaid, Piece, heard_on, stream_on}
 use Rattle.world.specs.declared.links.Links.{Links}
@@ -143,7 +143,7 @@ module _ (laws : RunLaws) (origin : Origin) (s : StoreState) (commit : Pipeline)
       let k = closed laws origin s commit c old links moment Ticks turn new f listens lawful.decisions h in
       let done = turns-ticked laws origin s commit c moment h.between k new turn h.own (h.from ∙ f.made) h.to in
       let clock = clock_by h.between new turn.refused (Ticks h.between turn.refused new) (has_due h.between) h.own (λ own. ap (λ (k : CoreState). k.clock) own.1) ∙ k.clock in
-      (done.0, (done.1, listens-then origin c moment (take (handed_in_count events.Tick turn.refused new.closings) (commands_of c (steps.Event moment events.Tick))) new links new.closings clock listens.said (law old_stands)))
+      (done.0, (done.1, listens-then origin c moment (take (handed_in_count events.Tick turn.refused new.closings) (step_commands c (steps.Event moment events.Tick))) new links new.closings clock listens.said (law old_stands)))
 
   pub does-ask : (command : Command) → IsCoreTurn old moment (Asks command) turn new
       → (StandFor old.windows c.arrivals c.shut old.clock → StandFor new.windows c.arrivals (c.shut + new.closings) new.clock) → Does (events.Ask command)
@@ -153,7 +153,7 @@ module _ (laws : RunLaws) (origin : Origin) (s : StoreState) (commit : Pipeline)
       let clock =
       clock_by h.between new turn.refused (Asks command h.between turn.refused new) (has_due h.between) h.own
       (λ own. ap (λ (k : CoreState). k.clock) own.new_is ∙ outcome-clock h.between own.decisions (verdict_of turn.refused)) ∙ k.clock in
-      (done.0, (done.1, listens-then origin c moment (take (handed_in_count (events.Ask command) turn.refused new.closings) (commands_of c (steps.Event moment (events.Ask command)))) new links new.closings clock listens.said (law old_stands)))
+      (done.0, (done.1, listens-then origin c moment (take (handed_in_count (events.Ask command) turn.refused new.closings) (step_commands c (steps.Event moment (events.Ask command)))) new links new.closings clock listens.said (law old_stands)))
 
   pub does-hear : (copy : FrameCopy) → IsCoreTurn old moment (Hears copy) turn new
       → (StandFor old.windows c.arrivals c.shut old.clock → StandFor new.windows (with_copy turn.refused new.clock copy c.arrivals) (c.shut + new.closings) new.clock) → Does (events.Hear copy)
@@ -162,7 +162,7 @@ module _ (laws : RunLaws) (origin : Origin) (s : StoreState) (commit : Pipeline)
       let done = turns-heard laws origin s commit c moment h.between k copy new turn h.own (h.from ∙ f.made) h.to in
       let clock =
       clock_by h.between new turn.refused (Hears copy h.between turn.refused new) (has_due h.between) h.own (heard_clock copy h.between turn.refused new) ∙ k.clock in
-      (done.0, (done.1, listens-heard origin c moment (take (handed_in_count (events.Hear copy) turn.refused new.closings) (commands_of c (steps.Event moment (events.Hear copy)))) new links new.closings clock listens.said copy turn.refused (law old_stands)))
+      (done.0, (done.1, listens-heard origin c moment (take (handed_in_count (events.Hear copy) turn.refused new.closings) (step_commands c (steps.Event moment (events.Hear copy)))) new links new.closings clock listens.said copy turn.refused (law old_stands)))
 
   pub does-miss : (copy : FrameCopy) → IsCoreTurn old moment Starves turn new
       → (StandFor old.windows c.arrivals c.shut old.clock → StandFor new.windows (with_copy turn.refused new.clock copy c.arrivals) (c.shut + new.closings) new.clock) → Does (events.Hear copy)
@@ -171,4 +171,4 @@ module _ (laws : RunLaws) (origin : Origin) (s : StoreState) (commit : Pipeline)
       let done = turns-missed laws origin s commit c moment h.between k copy new turn h.own (h.from ∙ f.made) h.to in
       let clock =
       clock_by h.between new turn.refused (Starves h.between turn.refused new) (has_due h.between) h.own (λ own. ap (λ (k : CoreState). k.clock) own.1) ∙ k.clock in
-      (done.0, (done.1, listens-heard origin c moment (take (handed_in_count (events.Hear copy) turn.refused new.closings) (commands_of c (steps.Event moment (events.Hear copy)))) new links new.closings clock listens.said copy turn.refused (law old_stands)))
+      (done.0, (done.1, listens-heard origin c moment (take (handed_in_count (events.Hear copy) turn.refused new.closings) (step_commands c (steps.Event moment (events.Hear copy)))) new links new.closings clock listens.said copy turn.refused (law old_stands)))

@@ -12,7 +12,7 @@ use Rattle.world.specs.declared.answer.EventTurn.{EventTurn}
 use Rattle.world.specs.declared.event.Event.{Event}
 use Rattle.world.specs.declared.event.Event.TheVariants as events
 use Rattle.world.specs.declared.step.Step.TheVariants as steps
-use Rattle.world.specs.Course.{Origin, Course, after_own_copy, after_commands, at_moment, commands_of, handed_in_count, after_copy, with_closings, after_event, after_events, step_if_room, after_command}
+use Rattle.world.specs.Course.{Origin, Course, after_own_copy, after_commands, at_moment, step_commands, handed_in_count, after_copy, with_closings, after_event, after_events, step_if_room, after_command}
 use Rattle.world.specs.Follows.{IsLife}
 use Rattle.world.specs.Links.{Piece}
 
@@ -52,7 +52,7 @@ accepted_shape c event refused = refl
 pub turned-shape : (origin : Origin) (c : Course) (moment : ℕ) (event : Event) (refused : Option Refusal) (closings : ℕ)
     → after_event origin c moment event refused closings ≡ with_news_of c (after_event origin c moment event refused closings)
 turned-shape origin c moment event refused closings =
-    let commands = take (handed_in_count event refused closings) (commands_of c (steps.Event moment event)) in
+    let commands = take (handed_in_count event refused closings) (step_commands c (steps.Event moment event)) in
     let before = at_moment c moment in
     let next = with_closings closings (after_commands origin before commands) in
     accepted_shape next event refused

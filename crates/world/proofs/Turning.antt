@@ -24,7 +24,7 @@ use Rattle.world.specs.Folding.{RunLaws}
 use Rattle.world.specs.declared.commit.Pipeline.{Pipeline}
 use Rattle.world.specs.declared.event.Event.{Event}
 use Rattle.world.specs.declared.event.Event.TheVariants as events
-use Rattle.world.specs.Course.{Origin, Course, after_commands, at_moment, command_in, due_frames, after_copy, with_closings, after_event, step_if_room, after_command, windows_of}
+use Rattle.world.specs.Course.{Origin, Course, after_commands, at_moment, window_command, due_frames, after_copy, with_closings, after_event, step_if_room, after_command, course_windows}
 use Rattle.world.specs.Answers.{IsAsked, IsCopyAnswer, IsOwnRight, IsTurnAnswer}
 use Rattle.world.specs.declared.links.Links.{Links}
 use Rattle.world.specs.Follows.{IsLife, IsListening}
@@ -176,7 +176,7 @@ module _ (laws : RunLaws) (origin : Origin) (s : StoreState) (commit : Pipeline)
     pub count : length front ≡ n
     pub due : filter (is_due old.clock) front ≡ front
     pub clock : new.clock ≡ old.clock
-    pub life : IsLife origin (after_commands origin c (map command_in front)) s new.decisions commit
+    pub life : IsLife origin (after_commands origin c (map window_command front)) s new.decisions commit
     pub lawful : IsLawful new.decisions
 
   shut_none : (c : Course) (old : CoreState) → IsLife origin c s old.decisions commit → IsLawful old.decisions → Shut c old old 0
@@ -188,8 +188,8 @@ module _ (laws : RunLaws) (origin : Origin) (s : StoreState) (commit : Pipeline)
       let window = hands.oldest.window in
       let rest = hands.rest in
       let d = hands.handled.decisions in
-      let command = command_in window in
-      let there = after_commands origin c (map command_in so.front) in
+      let command = window_command window in
+      let there = after_commands origin c (map window_command so.front) in
       let is_command : Heard hands.heard ≡ command = ap Heard hands.oldest.heard_in_it in
       let became = becomes laws origin there s before.decisions commit so.lawful so.life (Heard hands.heard) one.result d hands.handled.kept in
       let gone_on : IsLife origin (after_command there command (step_if_room origin there command)) s d commit =
@@ -212,7 +212,7 @@ module _ (laws : RunLaws) (origin : Origin) (s : StoreState) (commit : Pipeline)
         clock = clock ∙ so.clock;
         life =
             subst (λ k. IsLife origin k s new.decisions commit)
-            (sym (ap (after_commands origin c) (map-append command_in so.front (window ∷ [])) ∙ admit_on origin c (map command_in so.front) (command ∷ [])))
+            (sym (ap (after_commands origin c) (map-append window_command so.front (window ∷ [])) ∙ admit_on origin c (map window_command so.front) (command ∷ [])))
             (subst (λ k. IsLife origin (after_command there command (step_if_room origin there command)) s k commit) (sym decisions) gone_on);
         lawful = subst IsLawful (sym decisions) hands.handled.kept.lawful;
       }
@@ -234,7 +234,7 @@ module _ (laws : RunLaws) (origin : Origin) (s : StoreState) (commit : Pipeline)
     pub life : IsLife origin (after_commands origin (at_moment c moment) frames) s between.decisions commit
     pub lawful : IsLawful between.decisions
     pub clock : between.clock ≡ (at_moment c moment).clock
-    pub windows : between.windows ≡ drop between.closings (windows_of c)
+    pub windows : between.windows ≡ drop between.closings (course_windows c)
 
   pub closed : (c : Course) (old : CoreState) (links : Links) (moment : ℕ) (Own : CoreState → Option Refusal → CoreState → Type 0) (turn : Turn) (new : CoreState)
       → IsLife origin c s old.decisions commit → IsListening c old links → IsLawful old.decisions → (h : IsCoreTurn old moment Own turn new) → Closed c moment h.between
@@ -247,21 +247,21 @@ module _ (laws : RunLaws) (origin : Origin) (s : StoreState) (commit : Pipeline)
       let windows : h.between.windows ≡ h.closed.last.windows = ap (λ (k : CoreState). k.windows) h.closed.new_is in
       let decisions : h.between.decisions ≡ h.closed.last.decisions = ap (λ (k : CoreState). k.decisions) h.closed.new_is in
       let ws = h.closed.last.windows in
-      let open_are : windows_of c ≡ so.front ++ ws = sym listens.windows.windows ∙ so.windows in
+      let open_are : course_windows c ≡ so.front ++ ws = sym listens.windows.windows ∙ so.windows in
       let front_due : filter (is_due now) so.front ≡ so.front = ap (λ k. filter (is_due k) so.front) (sym then) ∙ so.due in
       let has : has_due h.between ≡ list_any (is_due now) ws =
       ap (λ k. list_any (is_due k) h.between.windows) clock ∙ ap (λ l. list_any (is_due now) l) windows in
       record {
-        frames = map command_in so.front;
-        left = map command_in (filter (is_due now) ws);
+        frames = map window_command so.front;
+        left = map window_command (filter (is_due now) ws);
         all =
-            ap (λ l. map command_in (filter (is_due now) l)) open_are
-            ∙ (ap (map command_in) (filter-append (is_due now) so.front ws ∙ ap (λ l. l ++ filter (is_due now) ws) front_due)
-            ∙ map-append command_in so.front (filter (is_due now) ws));
-        count = length-map so.front command_in ∙ so.count;
-        none = λ no. ap (map command_in) (nothing_due now ws (sym has ∙ no));
-        some = λ yes. (let few = some_due now ws (sym has ∙ yes) in let same = length-map (filter (is_due now) ws) command_in in omega (arith, few, same));
-        life = subst (λ k. IsLife origin (after_commands origin (at_moment c moment) (map command_in so.front)) s k commit) (sym decisions) so.life;
+            ap (λ l. map window_command (filter (is_due now) l)) open_are
+            ∙ (ap (map window_command) (filter-append (is_due now) so.front ws ∙ ap (λ l. l ++ filter (is_due now) ws) front_due)
+            ∙ map-append window_command so.front (filter (is_due now) ws));
+        count = length-map so.front window_command ∙ so.count;
+        none = λ no. ap (map window_command) (nothing_due now ws (sym has ∙ no));
+        some = λ yes. (let few = some_due now ws (sym has ∙ yes) in let same = length-map (filter (is_due now) ws) window_command in omega (arith, few, same));
+        life = subst (λ k. IsLife origin (after_commands origin (at_moment c moment) (map window_command so.front)) s k commit) (sym decisions) so.life;
         lawful = subst IsLawful (sym decisions) so.lawful;
         clock = clock;
         windows =
@@ -360,7 +360,7 @@ module _ (laws : RunLaws) (origin : Origin) (s : StoreState) (commit : Pipeline)
     there_clock : between.clock ≡ there.clock
     there_clock = k.clock ∙ sym (admit-clock origin (at_moment c moment) (take between.closings (due_frames (at_moment c moment))))
 
-    there_windows : between.windows ≡ windows_of there
+    there_windows : between.windows ≡ course_windows there
     there_windows =
         let before = at_moment c moment in
         let commands = take between.closings (due_frames before) in

@@ -27,7 +27,7 @@ use Rattle.world.specs.declared.answer.Answer.TheVariants as answers
 use Rattle.world.specs.Course.{Checkpoint, Origin, Course, after_commands}
 use Rattle.world.specs.Course.{course_after, at_moment, decided_commands, due_frames, has_room}
 use Rattle.world.specs.Course.{number_from, with_closings, table_from, with_piece, after_event}
-use Rattle.world.specs.Course.{step_if_room, windows_of}
+use Rattle.world.specs.Course.{step_if_room, course_windows}
 use Rattle.world.specs.Course.Checkpoint.{NotUnderWay, CallsLeft, CallFailed}
 
 -- what a command is answered: it is decided, or refused as it has to be; that there is no room is
@@ -42,7 +42,7 @@ pub record IsAsked (origin : Origin) (c : Course) (command : Command)
 -- accepted, or refused by the groups that wait; or memory ran out
 pub record IsCopyAnswer (c : Course) (copy : FrameCopy) (refused : Option Refusal) : Type 0 where
   pub receivable : IsReceivable copy.reception
-      → AnswersWithMemory (windows_with (windows_of c) c.clock copy) (λ _ _. Unit {0})
+      → AnswersWithMemory (windows_with (course_windows c) c.clock copy) (λ _ _. Unit {0})
       (verdict_of refused)
   pub unknown : ¬ (IsReceivable copy.reception)
       → (refused ≡ Some refusals.UnknownChannel) ⊎ (refused ≡ Some refusals.OutOfMemory)

@@ -136,16 +136,16 @@ abbrev pub at_moment : Course → ℕ → Course
 at_moment c moment = record c { clock = max c.clock moment }
 
 -- the windows that are open: of the groups that aren't closed
-abbrev pub windows_of : Course → List Window
-windows_of c = drop c.shut (map window_of_group (groups c.arrivals))
+abbrev pub course_windows : Course → List Window
+course_windows c = drop c.shut (map window_of_group (groups c.arrivals))
 
 -- what was heard in a window, as a command
-abbrev pub command_in : Window → Command
-command_in window = Heard (heard_in window)
+abbrev pub window_command : Window → Command
+window_command window = Heard (heard_in window)
 
 -- the frames whose windows are due, in the order of opening
 abbrev pub due_frames : Course → List Command
-due_frames c = map command_in (filter (is_due c.clock) (windows_of c))
+due_frames c = map window_command (filter (is_due c.clock) (course_windows c))
 
 -- the commands that an event hands in, one after another: the frames whose windows are due, and
 -- then its own
@@ -154,9 +154,9 @@ commands_at c (events.Ask command) = due_frames c ++ command ∷ []
 commands_at c event = due_frames c
 
 -- those of a step that is an event; a piece hands in events, one after another
-abbrev pub commands_of : Course → Step → List Command
-commands_of c (steps.Event moment event) = commands_at (at_moment c moment) event
-commands_of c step = []
+abbrev pub step_commands : Course → Step → List Command
+step_commands c (steps.Event moment event) = commands_at (at_moment c moment) event
+step_commands c step = []
 
 -- How many of them were gone through, where `closings` windows were closed: their frames, and the
 -- event's own command, unless there was no memory for it.
@@ -187,7 +187,7 @@ abbrev pub after_event : Origin → Course → ℕ → Event → Option Refusal 
 after_event origin c moment event refused closings =
     after_own_copy event refused
     (with_closings closings (after_commands origin (at_moment c moment)
-    (take (handed_in_count event refused closings) (commands_of c (steps.Event moment event)))))
+    (take (handed_in_count event refused closings) (step_commands c (steps.Event moment event)))))
 
 -- the same of several events at one moment
 abbrev pub after_events : Origin → Course → ℕ → List EventTurn → Course

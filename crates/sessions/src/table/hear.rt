@@ -3,7 +3,7 @@ ghost use Rattle.std.specs.Prelude.{◌≡◌, None, Ok, Some, MatchOption, slic
 ghost use Rattle.lw_types.specs.Answer.{Answers, AnswersWithMemory};
 ghost use Rattle.phy_payload.specs.Frame.{data_mic_input};
 ghost use Rattle.join_server.specs.Request.{dev_eui_of, IsRequest};
-ghost use Rattle.sessions.specs.Served.{frame_in, heard_command, heard_frame, received_in};
+ghost use Rattle.sessions.specs.Served.{served_frame, heard_command, heard_frame, received_in};
 ghost use Rattle.sessions.specs.Table.{slot_of, step, IsQuestion};
 ghost use Rattle.sessions.specs.Decision.{AnswersTo, IsStepped};
 
@@ -119,14 +119,14 @@ impl Table {
         let slot = slot_at(uplink.frame.dev_addr());
         let received = ReceivedUplink {
             uplink,
-            message: message_of(phy_payload.as_slice(), uplink),
+            message: without_mic(phy_payload.as_slice(), uplink),
             hearings,
         };
         match self.devices().get(slot as usize) {
             Some(device) => {
                 let net_id = self.net_id();
                 let place = NetworkSlot { net_id, slot };
-                match uplinks::hear(alloc, &place, device, &received) {
+                match uplinks::receive_uplink(alloc, &place, device, &received) {
                     Ok((after, effects)) => Ok(Stepped {
                         slot,
                         after,
@@ -167,13 +167,13 @@ fn receive<'a>(phy_payload: &'a PhyPayload, hearings: &Hearings) -> Result<Serve
 
 // The frame that these bytes are, where it is served. Takes no memory.
 fn read_frame(bytes: &[u8]) -> Result<Served<'_>, Refusal>
-    ensures { result ≡ frame_in bytes.now }
+    ensures { result ≡ served_frame bytes.now }
 {
     match read_phy(bytes) {
         Ok(PhyRef::JoinRequest(_)) => {
             phy_payload::laws::reading_is_the_grammar();
             phy_payload::laws::a_join_request_has_23_bytes();
-            Ok(Served::Request(request_of(bytes)))
+            Ok(Served::Request(request_bytes(bytes)))
         }
         Ok(PhyRef::JoinAccept(_)) => Err(Refusal::NotServed),
         Ok(PhyRef::DataFrame(frame)) => match Uplink::new(frame) {
@@ -185,7 +185,7 @@ fn read_frame(bytes: &[u8]) -> Result<Served<'_>, Refusal>
 }
 
 // The Join-Request that these bytes are.
-fn request_of(bytes: &[u8]) -> JoinRequestBytes
+fn request_bytes(bytes: &[u8]) -> JoinRequestBytes
     requires { IsRequest bytes.now }
     ensures { result ≡ bytes.now }
 {
@@ -194,8 +194,8 @@ fn request_of(bytes: &[u8]) -> JoinRequestBytes
 }
 
 // All of an uplink's frame but its MIC.
-fn message_of<'a>(bytes: &'a [u8], uplink: &Uplink<'_>) -> &'a [u8]
-    requires { frame_in bytes.now ≡ Ok (Served.Uplink uplink.now) }
+fn without_mic<'a>(bytes: &'a [u8], uplink: &Uplink<'_>) -> &'a [u8]
+    requires { served_frame bytes.now ≡ Ok (Served.Uplink uplink.now) }
     ensures { result.now ≡ data_mic_input uplink.now.frame }
 {
     phy_payload::laws::reading_is_the_grammar();

@@ -56,8 +56,8 @@ returns-in_err-rx_delay c =
     let r4 = behind c.in_ok-join_eui.ensures.found r3 in
     no_value (c.in_err-rx_delay.ensures.only ask.rx_delay ask.net_id ask.transaction is.rx_delay is.net_id is.transaction r4))
 
-pub returns-else-is_between : goal.returns-else-is_between
-returns-else-is_between c ask is h =
+pub returns-else-is_of_pair : goal.returns-else-is_of_pair
+returns-else-is_of_pair c ask is h =
     let r0 = behind c.in_ok-pass_cf_list.ensures (inside (sym c.in_ok-rest.ensures ∙ h)) in
     let r1 = behind_five c.in_ok-dl_settings.ensures.found r0 in
     let r2 = behind c.in_ok-request.ensures.found r1 in

@@ -1,6 +1,6 @@
 use Rattle.std.proofs.Common.{refl}
 use Rattle.sessions.specs.Table.{effects_of, empty_table}
-use Rattle.flusher.specs.Lives.{beginning, lives_of}
+use Rattle.flusher.specs.Lives.{no_lives, lives_of}
 use Rattle.flusher.proofs.Lasting.{part_after_all}
 use Rattle.flusher.proofs.laws.no_mark_leaves_twice.Goals as goal
 
@@ -9,7 +9,7 @@ returns-clause-part c t events = part_after_all (record {
   composed = c.composing.ensures.effects;
   longer = c.parts_of_longer_lists.ensures.longer;
   extended = c.parts_of_longer_lists.ensures.extended;
-}) t beginning events refl
+}) t no_lives events refl
 
 pub returns-clause-once : goal.returns-clause-once
 returns-clause-once c t events sound =

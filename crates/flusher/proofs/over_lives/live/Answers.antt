@@ -12,7 +12,7 @@ pub returns-in-Ok-clause-course : goal.returns-in-Ok-clause-course
 returns-in-Ok-clause-course g c = record {
   opening = Ok c.in-Ok.store;
   powered = c.in-Ok.ensures;
-  goes_on = (c.flush.new.store, (c.flush.result, (c.flush.ensures.course, c.close.ensures)));
+  goes_on = (c.flush_life.new.store, (c.flush_life.result, (c.flush_life.ensures.course, c.close.ensures)));
 }
 
 pub returns-in-Ok-clause-lives : goal.returns-in-Ok-clause-lives
@@ -22,19 +22,19 @@ returns-in-Ok-clause-lives g c =
     let state = g.D.Disk.state in
     let old : IsKnownOfLives = λ lives t number. AreOnDisk lives t number (state c.args.disk) in
     let opened : IsKnownOfLives = λ lives t number. HaveLed lives t number (store_state state c.in-Ok.store) in
-    let last : IsKnownOfLives = λ lives t number. HaveLed lives t number (store_state state c.flush.new.store) in
+    let last : IsKnownOfLives = λ lives t number. HaveLed lives t number (store_state state c.flush_life.new.store) in
     let closed : IsKnownOfLives = λ lives t number. AreOnDisk lives t number (state c.close.result) in
     let out = c.args.out.now in
-    let out' = c.flush.new.out in
+    let out' = c.flush_life.new.out in
     let laws = c.lives_go_on.ensures in
     go_weaker effects step old last closed out out'
     (λ lives t number led. subst (λ d. AreOnDisk lives t number (state d)) (sym c.close.ensures)
-    (laws.closed lives t number (store_state state c.flush.new.store) led))
+    (laws.closed lives t number (store_state state c.flush_life.new.store) led))
     (go_then effects step old opened last out out out'
     (open_on effects step old opened out
     (λ lives t number on. laws.opened_from lives t number (state c.args.disk) (store_state state c.in-Ok.store) (state c.in-Ok.ensures.at).content on
     c.in-Ok.ensures.permitted (c.in-Ok.ensures.answer.opened g.met.D.Sim.is_honest)))
-    c.flush.ensures.lives)
+    c.flush_life.ensures.lives)
 
 pub returns-in-Err-clause-lives : goal.returns-in-Err-clause-lives
 returns-in-Err-clause-lives g c =

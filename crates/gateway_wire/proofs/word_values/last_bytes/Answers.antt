@@ -4,5 +4,5 @@ use Rattle.gateway_wire.proofs.word_values.last_bytes.Goals as goal
 
 pub returns-in-Some-None : goal.returns-in-Some-None
 returns-in-Some-None c =
-    last_found (words_left c.args.words) (words_left c.next.new.self) c.in-Some-None.word.now c.bytes_of.result c.in-Some-None.ensures.steps c.in-Some-None.ensures'.steps.0
-    c.bytes_of.ensures.found c.bytes_of.ensures.malformed c.bytes_of.ensures.refused
+    last_found (words_left c.args.words) (words_left c.next.new.self) c.in-Some-None.word.now c.hex_bytes.result c.in-Some-None.ensures.steps c.in-Some-None.ensures'.steps.0
+    c.hex_bytes.ensures.found c.hex_bytes.ensures.malformed c.hex_bytes.ensures.refused

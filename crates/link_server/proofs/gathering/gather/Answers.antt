@@ -1,7 +1,7 @@
 use Rattle.std.proofs.Common.{◌≡◌, ◌+◌, ◌++◌, ◌∷◌, ◌∙◌, List, [], ap, arith, inl, length, length-append, append_assoc, sym, ℕ}
 use Rattle.std.proofs.lemmas.Bool.{false≢true}
 use Rattle.devices.specs.declared.effect.Effect.{Effect}
-use Rattle.link_server.specs.Sending.{frame_of}
+use Rattle.link_server.specs.Sending.{effect_frame}
 use Rattle.link_server.proofs.Together.{added_one, lost_one}
 use Rattle.outbox.specs.Ring.{taken_from}
 use Rattle.link_server.proofs.gathering.gather.Goals as goal
@@ -12,7 +12,7 @@ loop-turn-preserved c =
     let (effects, (bytes, (taken, (count, (out, together))))) = c.loop-turn.invariant.0 in
     let effect = c.in-Some.effect in
     let behind = λ (es : List Effect). es ++ effect ∷ [] in
-    let framed = λ (bs : List ℕ). bs ++ frame_of effect in
+    let framed = λ (bs : List ℕ). bs ++ effect_frame effect in
     let taken' : taken_from c.take.new.self ≡ taken_from c.args.inlet.now ++ (effects ++ effect ∷ []) =
     c.in-Some.ensures.taken ∙ (ap behind taken ∙ append_assoc _ effects (effect ∷ [])) in
     let count' : c.loop-turn.taken + 1 ≡ length (effects ++ effect ∷ []) = omega (arith, count, length-append effects (effect ∷ [])) in
@@ -23,7 +23,7 @@ loop-turn-preserved c =
         λ broken. omega (arith, w.lost-is, c.loop-turn.invariant.2 broken),
       )
       | else-not-is_put w ↦ (
-        (effects ++ effect ∷ [], (bytes ++ frame_of effect, (taken', (count', ((rw w.if-not-is_put.false at c.is_put.ensures.framed) ∙ (ap framed out ∙ append_assoc _ bytes (frame_of effect)), rw w.lost-is (added_one effects effect c.loop-turn.lost bytes together)))))),
+        (effects ++ effect ∷ [], (bytes ++ effect_frame effect, (taken', (count', ((rw w.if-not-is_put.false at c.is_put.ensures.framed) ∙ (ap framed out ∙ append_assoc _ bytes (effect_frame effect)), rw w.lost-is (added_one effects effect c.loop-turn.lost bytes together)))))),
         (omega (arith, c.loop-turn.invariant.1), omega (arith, w.lost-is, c.loop-turn.invariant.1)),
         λ broken. absurd (false≢true (sym (c.is_put.ensures.broken broken) ∙ w.if-not-is_put.false)),
       )

@@ -1,7 +1,7 @@
 use Rattle.std.proofs.Common.{◌≡◌, ◌++◌, List, ℕ, ap, arith, append_assoc, length, refl, sym, ◌∙◌}
 use Rattle.std.proofs.lemmas.List.{append-nil, length-append}
 use Rattle.mac_commands.specs.Commands.{command_bytes}
-use Rattle.mac_commands.specs.Front.{command_of}
+use Rattle.mac_commands.specs.Front.{front_command}
 use Rattle.mac_commands.specs.Reading.{reported_bytes}
 use Rattle.mac_commands.proofs.CommandsIn.{few_told, is_kept, is_left_out, none_told}
 use Rattle.mac_commands.proofs.uplink.read_reported.Goals as goal
@@ -10,7 +10,7 @@ use Rattle.mac_commands.proofs.uplink.read_reported.Goals.{then-is_reported+in_o
 pub loop-front-preserved : goal.loop-front-preserved
 loop-front-preserved c =
     let found = c.in-Some.ensures.found in
-    let command = command_of c.in-Some.front in
+    let command = front_command c.in-Some.front in
     let told = c.loop-front.told.items in
     let after = c.in-Some.front.rest.now in
     elim c.if-is_reported.branch [

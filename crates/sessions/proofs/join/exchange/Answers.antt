@@ -15,4 +15,4 @@ returns c =
     let told = subst (λ (text : List ℕ). IsJoinAns text a.0) (sym c.deref-2.ensures) a.4 in
     let same = c.each_text_is_of_one_message.ensures.answers _ a.0 ans a.1 read.0 told read.1 in
     ap (λ (x : JoinAns). (x, c.in_ok-answer.after)) (sym same)
-    ∙ reply_to_text c.each_text_is_of_one_message.ensures.questions c.args.state.now ask _ (a.0, c.in_ok-answer.after) c.in_range.ensures asked a.2
+    ∙ reply_to_text c.each_text_is_of_one_message.ensures.questions c.args.state.now ask _ (a.0, c.in_ok-answer.after) c.ask_in_range.ensures asked a.2

@@ -13,7 +13,7 @@ use Rattle.store_layout.specs.Entries.{EntryValue, IsEntry, IsEntryOf, entry}
 use Rattle.store_layout.specs.Entries.EntryValue.{Changed, Whole}
 use Rattle.store_layout.proofs.entries.put_decision.Goals as goal
 
-pub put_change-requires : goal.put_change-requires
+pub put_change-requires : goal.put_change_entry-requires
 put_change-requires c =
     let d = c.args.decision.now in
     subst (λ (o : Option Device). IfSome o (λ before. MayBecome before d.after)) c.in-Some.is (c.a_decision_is_a_step.ensures d)
@@ -40,4 +40,4 @@ returns-in-None c = whole_put newest c.args.decision.now c.args.out.now.items c.
 
 pub returns-in-Some : goal.returns-in-Some
 returns-in-Some c =
-    change_put newest c.args.decision.now c.args.out.now.items c.put_change.new.out.items c.put_change.result c.in-Some.before c.in-Some.is c.put_change.ensures
+    change_put newest c.args.decision.now c.args.out.now.items c.put_change_entry.new.out.items c.put_change_entry.result c.in-Some.before c.in-Some.is c.put_change_entry.ensures

@@ -5,7 +5,7 @@ use Rattle.sessions.specs.Decision.{AnswersTo, Decides, FitsTable, with_decision
 use Rattle.sessions.specs.declared.decision.Decision.{Decision}
 use Rattle.session_core.specs.State.{DecisionsState, IsLawful, now_of, last_number}
 use Rattle.session_core.specs.Deciding.{Makes, has_room, step_if_room}
-use Rattle.session_core.specs.Kept.{state_of}
+use Rattle.session_core.specs.Kept.{kept_state}
 use Rattle.session_core.proofs.Lawful.{full-there, not-kept, refused-there, room-few, step-made, lawful-made, now-made, state-made, decided-made, decided}
 use Rattle.session_core.proofs.decisions.Decisions.keep.Goals as goal
 
@@ -14,7 +14,7 @@ room_is same is held = same ∙ (sym is ∙ held)
 
 pub invariant_of-self-2 : goal.invariant_of-self-2
 invariant_of-self-2 c =
-    let s = state_of c.self.inside in
+    let s = kept_state c.self.inside in
     let d = c.in_ok-decision.decision in
     let log : c.push_back_reserved.new.self.items ≡ s.log ++ d ∷ [] = c.push_back_reserved.ensures.items ∙ ap (λ (l : List Decision). l ++ d ∷ []) c.reserve.ensures.items in
     let table : c.apply.new.self ≡ with_decision (now_of s) d = c.in_ok-apply.ensures ∙ ap (λ (t : TableState). with_decision t d) c.self.invariant.table in
@@ -37,7 +37,7 @@ invariant_of-self-2 c =
 
 pub returns-clause-lawful : goal.returns-clause-lawful
 returns-clause-lawful c =
-    let s = state_of c.self.inside in
+    let s = kept_state c.self.inside in
     let d = c.in_ok-decision.decision in
     let log : c.push_back_reserved.new.self.items ≡ s.log ++ d ∷ [] = c.push_back_reserved.ensures.items ∙ ap (λ (l : List Decision). l ++ d ∷ []) c.reserve.ensures.items in
     let table : c.apply.new.self ≡ with_decision (now_of s) d = c.in_ok-apply.ensures ∙ ap (λ (t : TableState). with_decision t d) c.self.invariant.table in
@@ -57,7 +57,7 @@ returns-clause-lawful c =
 
 pub returns-clause-made : goal.returns-clause-made
 returns-clause-made c =
-    let s = state_of c.self.inside in
+    let s = kept_state c.self.inside in
     let d = c.in_ok-decision.decision in
     let log : c.push_back_reserved.new.self.items ≡ s.log ++ d ∷ [] = c.push_back_reserved.ensures.items ∙ ap (λ (l : List Decision). l ++ d ∷ []) c.reserve.ensures.items in
     let table : c.apply.new.self ≡ with_decision (now_of s) d = c.in_ok-apply.ensures ∙ ap (λ (t : TableState). with_decision t d) c.self.invariant.table in
@@ -94,4 +94,4 @@ returns-in_err-apply-clause-made c =
 
 pub returns-then-not-has_room-clause-made : goal.returns-then-not-has_room-clause-made
 returns-then-not-has_room-clause-made c =
-    full-there c.args.self.now c.args.command (λ st _. Makes c.args.self.now c.args.command st (state_of c.self.inside)) (sym c.has_room.ensures.room ∙ c.if-not-has_room.true)
+    full-there c.args.self.now c.args.command (λ st _. Makes c.args.self.now c.args.command st (kept_state c.self.inside)) (sym c.has_room.ensures.room ∙ c.if-not-has_room.true)

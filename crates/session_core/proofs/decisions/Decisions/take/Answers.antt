@@ -2,13 +2,13 @@ use Rattle.std.proofs.Common.{◌≡◌, ◌≤◌, ◌∙◌, min, length, take
 use Rattle.std.proofs.lemmas.List.{take_min}
 use Rattle.session_core.specs.State.{DecisionsState, IsLawful, now_of}
 use Rattle.session_core.specs.Deciding.{after_taking}
-use Rattle.session_core.specs.Kept.{state_of}
+use Rattle.session_core.specs.Kept.{kept_state}
 use Rattle.session_core.proofs.Lawful.{lawful-taken, now-taken, state-taken, taken-min}
 use Rattle.session_core.proofs.decisions.Decisions.take.Goals as goal
 
 pub invariant_of-self : goal.invariant_of-self
 invariant_of-self c =
-    let s = state_of c.self.inside in
+    let s = kept_state c.self.inside in
     let n = c.min-count.result in
     let within : n ≤ length s.log = omega (arith, c.self.inside.log.ok.0) in
     let same =
@@ -21,7 +21,7 @@ invariant_of-self c =
 
 pub returns-clause-taken : goal.returns-clause-taken
 returns-clause-taken c =
-    let s = state_of c.self.inside in
+    let s = kept_state c.self.inside in
     let n = c.min-count.result in
     let most = c.args.max in
     let within : n ≤ length s.log = omega (arith, c.self.inside.log.ok.0) in

@@ -8,7 +8,7 @@ use Rattle.lw_types.specs.declared.identifiers.DevAddr.{DevAddr}
 use Rattle.devices.specs.declared.device.Device.{Device}
 use Rattle.uplinks.specs.Chain.{◌>>=◌}
 use Rattle.uplinks.specs.Step.{uplink_at}
-use Rattle.sessions.specs.Served.{frame_in, heard_command}
+use Rattle.sessions.specs.Served.{served_frame, heard_command}
 use Rattle.sessions.specs.Table.{step, step_at}
 use Rattle.sessions.proofs.Frames.{step-uplink, uplink-received}
 use Rattle.sessions.proofs.Exact.{exact-ok, exact-refused}
@@ -23,7 +23,7 @@ looked_up devices found slot d same within at =
 pub message_of-requires : goal.message_of-requires
 message_of-requires c =
     let h : Heard = record { phy_payload = c.args.phy_payload.now; hearings = c.args.hearings.now } in
-    ap frame_in c.as_slice.ensures.bytes ∙ uplink-received h c.args.uplink.now c.requires
+    ap served_frame c.as_slice.ensures.bytes ∙ uplink-received h c.args.uplink.now c.requires
 
 pub returns-in-Ok : goal.returns-in-Ok
 returns-in-Ok c =

@@ -4,7 +4,7 @@ use Rattle.phy_payload.specs.Reading.{phy_at}
 use Rattle.phy_payload.specs.Seen.{phy_of}
 use Rattle.sessions.proofs.table.hear.read_frame.Goals as goal
 
-pub request_of-requires : goal.request_of-requires
+pub request_of-requires : goal.request_bytes-requires
 request_of-requires c =
     let bytes = c.args.bytes.now in
     let request = c.in-Ok-JoinRequest.field-0-0 in

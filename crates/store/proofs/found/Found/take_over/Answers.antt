@@ -1,7 +1,7 @@
 use Rattle.std.proofs.Common.{◌≡◌, ◌∙◌, ◌+◌, inl, inr, length, ap, subst, sym}
 use Rattle.disk.specs.Outlook.{IsArmed}
 use Rattle.disk.specs.State.{IsPermitted}
-use Rattle.gate_log.specs.Log.{disk_of as disk_of_log}
+use Rattle.gate_log.specs.Log.{log_disk as disk_of_log}
 use Rattle.gate_log.specs.Opening.{disk_in_opening}
 use Rattle.store.specs.Image.{HoldsTable}
 use Rattle.store.specs.State.{IsOpened, StoreState}

@@ -1,5 +1,0 @@
-use Rattle.std.proofs.Common.{rules}
-use Rattle.link_messages.proofs.read_message.copy.Goals as goal
-
-pub returns : goal.returns
-returns c = search rules

@@ -1,8 +1,0 @@
-use Rattle.std.proofs.Common.{◌≡◌, ◌+◌, length, sum}
-use Rattle.session_core.proofs.shared.gather.Given as goal
-
--- what was joined, with what is still to come
-abbrev pub invariant-loop-seat : goal.invariant-loop-seat
-invariant-loop-seat g l =
-    (l.spare.parts + length l.seat-iterator.rest.items ≡ l.left + length l.fn.seats.items)
-    × (l.spare.amount + sum l.seat-iterator.rest.items ≡ sum l.fn.seats.items)
