@@ -9,7 +9,7 @@ ghost use Rattle.downlinks.specs.Reply.{acknowledgement_step, address, answer_st
 ghost use Rattle.downlinks.specs.Reply.{downlink, more_waits, name_of, sending_step, windows_for};
 
 use crate::frame::{DownlinkFields, next_counter};
-use crate::load::{Demand, Load, is_due, rx1_of};
+use crate::load::{Demand, Load, is_downlink_due, rx1_of};
 use devices::{
     CurrentSession, Device, Downlink, Effect, Effects, Hearing, Item, ReceiveWindows, Report,
     SessionName, Tag, dev_addr,
@@ -57,7 +57,7 @@ pub fn answer(
         (device.new ≡ reply.device) × (effects.new ≡ effects.old ++ reply.effects))
         (λ e. e ≡ OutOfMemory) }
 {
-    if !is_due(device, asked) {
+    if !is_downlink_due(device, asked) {
         return Ok(());
     }
     if is_spent(&session.current) {

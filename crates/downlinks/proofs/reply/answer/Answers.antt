@@ -41,5 +41,5 @@ returns c =
     let loaded = c.in_ok-f_opts.ensures.load in
     subst (Leaves c.send.result c.send.new.device c.args.effects.now c.send.new.effects)
     (is_sent s.net_id s.slot c.args.device.now c.take.new.device s.current c.args.asked.now (address s.net_id s.slot s.current) _ _ c.more_waits-f_pending.result
-    (sym c.is_due.ensures ∙ c.if-not-is_due.false) (sym c.is_spent.ensures.value ∙ c.if-is_spent.false) loaded.0 loaded.1 loaded.2 c.more_waits-f_pending.ensures refl)
+    (sym c.is_downlink_due.ensures ∙ c.if-not-is_downlink_due.false) (sym c.is_spent.ensures.value ∙ c.if-is_spent.false) loaded.0 loaded.1 loaded.2 c.more_waits-f_pending.ensures refl)
     c.send.ensures
