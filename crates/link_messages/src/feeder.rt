@@ -309,7 +309,7 @@ impl Feeder {
             return Ok(Fed { messages, fault });
         }
         let mut peer = self.peer;
-        match hear_piece(self.alloc, &mut peer, &mut self.rest, piece, &mut messages) {
+        match collect_piece(self.alloc, &mut peer, &mut self.rest, piece, &mut messages) {
             Ok(fault) => {
                 self.peer = peer;
                 self.fault = fault;

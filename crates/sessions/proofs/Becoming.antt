@@ -53,7 +53,7 @@ kept d dev_nonce activation awaited mac_queue items after = record {
 -- ---- queues
 
 queued : (d : Device) (q : Queueing) → Follows d (item_queued d q)
-queued d q = kept d _ _ _ _ _ (inr (inr (queueing.item_of q, refl)))
+queued d q = kept d _ _ _ _ _ (inr (inr (queueing.queued_item q, refl)))
 
 queue-follows : (d : Device) (q : Queueing) (o : DeviceStep) → queue_at d q ≡ Ok o → Follows d o
 queue-follows d q o is =

@@ -28,4 +28,4 @@ pub returns-in-Err : goal.returns-in-Err
 returns-in-Err c =
     inr
     (refused_is c.args.state.now c.args.ask.now c.in_ok-ans.ans c.in_ok-ans.after c.requires c.in_ok-ans.ensures c.in-Err.cause c.in-Err.is
-    ∙ ap Err (sym c.refusal_of.ensures))
+    ∙ ap Err (sym c.cause_refusal.ensures))

@@ -13,8 +13,8 @@ use Rattle.store_layout.specs.Entries.{EntryValue, IsEntry, IsEntryOf, entry}
 use Rattle.store_layout.specs.Entries.EntryValue.{Changed, Whole}
 use Rattle.store_layout.proofs.entries.put_decision.Goals as goal
 
-pub put_change-requires : goal.put_change_entry-requires
-put_change-requires c =
+pub put_change_entry-requires : goal.put_change_entry-requires
+put_change_entry-requires c =
     let d = c.args.decision.now in
     subst (λ (o : Option Device). IfSome o (λ before. MayBecome before d.after)) c.in-Some.is (c.a_decision_is_a_step.ensures d)
 

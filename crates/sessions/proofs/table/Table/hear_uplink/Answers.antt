@@ -20,8 +20,8 @@ looked_up : (devices found : List Device) (slot : ℕ) (d : Device) → found �
 looked_up devices found slot d same within at =
     subst (λ (ds : List Device). slice_get ds slot ≡ Some d) same (slice_get_read found (length found) slot d refl (ltb-true slot (length found) (sym within)) at)
 
-pub message_of-requires : goal.message_of-requires
-message_of-requires c =
+pub without_mic-requires : goal.without_mic-requires
+without_mic-requires c =
     let h : Heard = record { phy_payload = c.args.phy_payload.now; hearings = c.args.hearings.now } in
     ap served_frame c.as_slice.ensures.bytes ∙ uplink-received h c.args.uplink.now c.requires
 

@@ -4,8 +4,8 @@ use Rattle.phy_payload.specs.Reading.{phy_at}
 use Rattle.phy_payload.specs.Seen.{phy_of}
 use Rattle.sessions.proofs.table.hear.read_frame.Goals as goal
 
-pub request_of-requires : goal.request_bytes-requires
-request_of-requires c =
+pub request_bytes-requires : goal.request_bytes-requires
+request_bytes-requires c =
     let bytes = c.args.bytes.now in
     let request = c.in-Ok-JoinRequest.field-0-0 in
     let read : phy_at bytes ≡ Ok (JoinRequest request) = sym c.in-Ok-JoinRequest.ensures ∙ ap (λ frame. Ok (phy_of frame)) c.in-Ok-JoinRequest.field-0-is in

@@ -46,20 +46,20 @@ returns c =
     let reach = c.args.heard.now in
     let commands : c.as_slice.result.now ≡ sent_commands s u = c.as_slice.ensures.bytes ∙ c.in_ok-commands.ensures in
     let again : c.as_slice-2.result.now ≡ sent_commands s u = c.as_slice-2.ensures.bytes ∙ c.in_ok-commands.ensures in
-    let asked : c.asked-demand_of.result ≡ demand_of s u reach.copies reach.best = c.asked-demand_of.ensures ∙ ap (asking u reach.copies reach.best) commands in
+    let asked : c.demand_of-asked.result ≡ demand_of s u reach.copies reach.best = c.demand_of-asked.ensures ∙ ap (asking u reach.copies reach.best) commands in
     let awaited : c.tell_awaited.new.effects ≡ c.args.effects.now ++ awaited_report d (is_acknowledgement fit u) d.awaited =
     c.in_ok-tell_awaited.ensures.told ∙ ap (λ (b : Bool). c.args.effects.now ++ awaited_report d b d.awaited) c.acknowledges.ensures in
     let reported : c.report_commands.new.effects ≡ c.tell_awaited.new.effects ++ mac_report d s (reported_bytes (sent_commands s u)) =
     c.in_ok-report_commands.ensures.told ∙ ap (λ (b : List ℕ). c.tell_awaited.new.effects ++ mac_report d s (reported_bytes b)) again in
     let told = in_order (awaited_report d (is_acknowledgement fit u) d.awaited) (mac_report d s (reported_bytes (sent_commands s u))) (forward_effects u.frame.dev_addr d s reach.copies reach.best u.frame.contents.message)
     c.args.effects.now c.tell_awaited.new.effects c.report_commands.new.effects c.forward.new.effects c.requires.none awaited reported c.in_ok-forward.ensures.told in
-    let same : answer_step place.net_id place.slot c.enter.new.device s c.asked-demand_of.result ≡ answer_step place.net_id place.slot (with_uplink d fit) s (demand_of s u reach.copies reach.best) =
-    ap (λ (x : Device). answer_step place.net_id place.slot x s c.asked-demand_of.result) c.enter.ensures ∙ ap (answer_step place.net_id place.slot (with_uplink d fit) s) asked in
+    let same : answer_step place.net_id place.slot c.enter.new.device s c.demand_of-asked.result ≡ answer_step place.net_id place.slot (with_uplink d fit) s (demand_of s u reach.copies reach.best) =
+    ap (λ (x : Device). answer_step place.net_id place.slot x s c.demand_of-asked.result) c.enter.ensures ∙ ap (answer_step place.net_id place.slot (with_uplink d fit) s) asked in
     let answered =
     subst (λ (p : SessionAt). Leaves c.answer.result c.answer.new.device c.answer.new.effects
-    (let o = answer_step p.net_id p.slot c.enter.new.device p.current c.asked-demand_of.result in device_step o.device (c.forward.new.effects ++ o.effects)))
+    (let o = answer_step p.net_id p.slot c.enter.new.device p.current c.demand_of-asked.result in device_step o.device (c.forward.new.effects ++ o.effects)))
     c.session-place.ensures c.answer.ensures in
     subst (λ (s : CurrentSession). Leaves c.answer.result c.answer.new.device c.answer.new.effects
     (with_effects (awaited_report d (is_acknowledgement fit u) d.awaited ++ (mac_report d s (reported_bytes (sent_commands s u)) ++ forward_effects u.frame.dev_addr d s reach.copies reach.best u.frame.contents.message))
     (answer_step place.net_id place.slot (with_uplink d fit) s (demand_of s u reach.copies reach.best)))) c.session_after-session.ensures
-    (after c.answer.result c.answer.new.device c.answer.new.effects c.forward.new.effects _ (answer_step place.net_id place.slot c.enter.new.device s c.asked-demand_of.result) _ told same answered)
+    (after c.answer.result c.answer.new.device c.answer.new.effects c.forward.new.effects _ (answer_step place.net_id place.slot c.enter.new.device s c.demand_of-asked.result) _ told same answered)
