@@ -51,7 +51,7 @@ made_of false (Err refusal) Is done give h = absurd h
 one : (old : DecisionsState) (command : Command) (result : Result (Unit {0}) Refusal) (new : DecisionsState) → Keeps old command result new → HasDecided old new
 one old command (Err e) new k = nothing old new k.same
 one old command (Ok done) new k =
-    made_of (is_frugal command) (step_if_room old command) (λ s _. Makes old command s new) done
+    made_of (is_frugal command (step_if_room old command)) (step_if_room old command) (λ s _. Makes old command s new) done
     (λ (s : TableStep) (makes : Makes old command s new). (makes.decision ∷ [], makes.new_is)) k.made
 
 -- an outcome is noted beside them

@@ -42,10 +42,10 @@ exact_err false e f Is h = inr (ap Err h)
 
 decides : (command : Command) (outcome : Result TableStep Refusal) (refused : Option Refusal) → IsRefusal outcome refused
     → AnswersTo command outcome (λ _ (_ : Unit {0}). Unit {0}) (verdict_of refused)
-decides command (Ok s) None h = exact_ok (is_frugal command) s (tt {0}) (λ _ _. Unit {0}) (tt {0})
+decides command (Ok s) None h = exact_ok (is_frugal command (Ok s)) s (tt {0}) (λ _ _. Unit {0}) (tt {0})
 decides command (Ok s) (Some e) h = absurd (some_is_none e h)
 decides command (Err e) None h = absurd (some_is_none e (sym h))
-decides command (Err f) (Some e) h = exact_err (is_frugal command) f e (λ _ _. Unit {0}) (same_refusal f e h)
+decides command (Err f) (Some e) h = exact_err (is_frugal command (Err f)) f e (λ _ _. Unit {0}) (same_refusal f e h)
 
 -- where there is no room, Backlog is wanted
 is_full : (origin : Origin) (c : Course) (command : Command) (refused : Option Refusal) → IsRefusal (step_if_room origin c command) refused
@@ -207,7 +207,7 @@ taken t c d (Err e) none = absurd none
 
 module _ (command : Command) (outcome : Result TableStep Refusal) where
   pub refused_is : {B : Type 0} (Is : TableStep → B → Type 0) (e : Refusal) → e ≢ OutOfMemory → AnswersTo command outcome Is (Err e) → outcome ≡ Err e
-  refused_is {B} Is e memory answers = by_frugal (is_frugal command) outcome answers
+  refused_is {B} Is e memory answers = by_frugal (is_frugal command outcome) outcome answers
     where
       same : (f : Refusal) → ◌≡◌ {A = Result B Refusal} (Err e) (Err f) → ◌≡◌ {A = Result TableStep Refusal} (Err f) (Err e)
       same f h = cc

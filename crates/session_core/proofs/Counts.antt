@@ -44,7 +44,7 @@ made-grows false command (Ok step) old new done h = makes-grows command step old
 made-grows false command (Err refusal) old new done h = absurd h
 
 kept-grows : (command : Command) (result : Result (Unit {0}) Refusal) (old new : DecisionsState) → Keeps old command result new → Grows old new
-kept-grows command (Ok done) old new h = made-grows (is_frugal command) command (step_if_room old command) old new done h.made
+kept-grows command (Ok done) old new h = made-grows (is_frugal command (step_if_room old command)) command (step_if_room old command) old new done h.made
 kept-grows command (Err refusal) old new h = same-grows old new h.same
 
 pub outcome-decisions : (s : CoreState) (d : DecisionsState) (r : Result (Unit {0}) Refusal) → (with_outcome s d r).decisions ≡ d

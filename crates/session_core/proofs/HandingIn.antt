@@ -200,7 +200,7 @@ one_refused old command decisions e new is same few lawful =
 one : (old : CoreState) (command : Command) (result : Result (Unit {0}) Refusal) (new : CoreState) → Handles old command result new → Few old → IsLawful old.decisions
     → One old command result new
 one old command (Ok done) new h few lawful =
-    made_of (is_frugal command) (step_if_room old.decisions command) (λ s _. Makes old.decisions command s h.decisions) done
+    made_of (is_frugal command (step_if_room old.decisions command)) (step_if_room old.decisions command) (λ s _. Makes old.decisions command s h.decisions) done
     (λ s makes. one_made old command h.decisions done new h.new_is h.kept.lawful s makes) h.kept.made
 one old command (Err e) new h few lawful = one_refused old command h.decisions e new h.new_is h.kept.same few lawful
 

@@ -54,7 +54,7 @@ answers_ok false Is x y h = h
 -- the step of a decision that was made
 pub step-made : (t : TableState) (seq : ℕ) (c : Command) (d : Decision) → Decides t seq c (Ok d)
     → (st : TableStep) × (step t c ≡ Ok st) × IsDecision t seq c st d
-step-made t seq c d made = answered_ok (is_frugal c) (step t c) (IsDecision t seq c) d made
+step-made t seq c d made = answered_ok (is_frugal c (step t c)) (step t c) (IsDecision t seq c) d made
 
 -- a decided command was wanted
 pub decided-made : (s : DecisionsState) (c : Command) (d : Decision) → has_room s ≡ true → Decides (now_of s) (last_number s + 1) c (Ok d) → (new : DecisionsState)
@@ -62,7 +62,7 @@ pub decided-made : (s : DecisionsState) (c : Command) (d : Decision) → has_roo
 decided-made s c d room made new is =
     let st = step-made (now_of s) (last_number s + 1) c d made in
     subst (λ w. AnswersTo c w (λ st _. Makes s c st new) decided) (sym (wanted-room s c room ∙ st.1))
-    (answers_ok (is_frugal c) (λ st _. Makes s c st new) st.0 (tt {0}) (record { decision = d; is_step = st.2; new_is = is }))
+    (answers_ok (is_frugal c (Ok st.0)) (λ st _. Makes s c st new) st.0 (tt {0}) (record { decision = d; is_step = st.2; new_is = is }))
 
 -- ---- where there is no memory
 
@@ -89,11 +89,11 @@ NoStep _ _ = ⊥
 
 pub lacks-full : (s : DecisionsState) (c : Command) → has_room s ≡ false → IsWithoutMemory s c Backlog
 lacks-full s c full =
-    subst (λ w. AnswersTo c w NoStep (Err Backlog)) (sym (ap (λ b. cond b (step (now_of s) c) (Err Backlog)) full)) (no_room NoStep (is_frugal c))
+    subst (λ w. AnswersTo c w NoStep (Err Backlog)) (sym (ap (λ b. cond b (step (now_of s) c) (Err Backlog)) full)) (no_room NoStep (is_frugal c (Err Backlog)))
 
 -- no room is answered before anything else
 pub full-there : (s : DecisionsState) (c : Command) (Is : TableStep → Unit {0} → Type 0) → has_room s ≡ false → AnswersTo c (step_if_room s c) Is (Err Backlog)
-full-there s c Is full = subst (λ w. AnswersTo c w Is (Err Backlog)) (sym (ap (λ b. cond b (step (now_of s) c) (Err Backlog)) full)) (no_room Is (is_frugal c))
+full-there s c Is full = subst (λ w. AnswersTo c w Is (Err Backlog)) (sym (ap (λ b. cond b (step (now_of s) c) (Err Backlog)) full)) (no_room Is (is_frugal c (Err Backlog)))
 
 module _ (s : DecisionsState) (t : TableState) (c : Command) (now : t ≡ now_of s) (room : has_room s ≡ true) where
   here : step_if_room s c ≡ step t c
@@ -105,30 +105,30 @@ module _ (s : DecisionsState) (t : TableState) (c : Command) (now : t ≡ now_of
   refused-there seq Is e result handed answer =
       let r = err_from_is_err_and result handed in
       subst (AnswersTo c (step_if_room s c) Is) (sym (r.1 ∙ ap Err r.2))
-      (subst (λ w. AnswersTo c w Is (Err e)) (sym here) (refused_as (IsDecision t seq c) Is (is_frugal c) (step t c) e answer))
+      (subst (λ w. AnswersTo c w Is (Err e)) (sym here) (refused_as (IsDecision t seq c) Is (is_frugal c (step t c)) (step t c) e answer))
 
   -- and there is no memory to keep what was decided
   pub not-kept : (seq : ℕ) (Is : TableStep → Unit {0} → Type 0) (d : Decision) (result : Result (Unit {0}) Refusal) → IsErrAnd result (λ x. x ≡ OutOfMemory)
       → Decides t seq c (Ok d) → AnswersTo c (step_if_room s c) Is result
   not-kept seq Is d result none made =
       let r = err_from_is_err_and result none in
-      let st = answered_ok (is_frugal c) (step t c) (IsDecision t seq c) d made in
+      let st = answered_ok (is_frugal c (step t c)) (step t c) (IsDecision t seq c) d made in
       subst (AnswersTo c (step_if_room s c) Is) (sym (r.1 ∙ ap Err r.2))
-      (subst (λ w. AnswersTo c w Is (Err OutOfMemory)) (sym (here ∙ st.1)) (no_memory Is (is_frugal c) st.0))
+      (subst (λ w. AnswersTo c w Is (Err OutOfMemory)) (sym (here ∙ st.1)) (no_memory Is (is_frugal c (Ok st.0)) st.0))
 
   -- a command that would be decided
   pub lacks-ok : AnswersTo c (step t c) AnyStep (Ok tt) → IsWithoutMemory s c OutOfMemory
   lacks-ok weighed =
-      let st = answered_ok (is_frugal c) (step t c) AnyStep tt weighed in
-      subst (λ w. AnswersTo c w NoStep (Err OutOfMemory)) (sym (here ∙ st.1)) (no_memory NoStep (is_frugal c) st.0)
+      let st = answered_ok (is_frugal c (step t c)) (step t c) AnyStep tt weighed in
+      subst (λ w. AnswersTo c w NoStep (Err OutOfMemory)) (sym (here ∙ st.1)) (no_memory NoStep (is_frugal c (Ok st.0)) st.0)
 
   -- and one that wouldn't
   pub lacks-err : (e : Refusal) → AnswersTo c (step t c) AnyStep (Err e) → IsWithoutMemory s c e
-  lacks-err e weighed = subst (λ w. AnswersTo c w NoStep (Err e)) (sym here) (refused_as AnyStep NoStep (is_frugal c) (step t c) e weighed)
+  lacks-err e weighed = subst (λ w. AnswersTo c w NoStep (Err e)) (sym here) (refused_as AnyStep NoStep (is_frugal c (step t c)) (step t c) e weighed)
 
 -- so its turn is refused so
 pub lacks-turned : (s : DecisionsState) (c : Command) (Is : TableStep → Unit {0} → Type 0) (e : Refusal) → IsWithoutMemory s c e → AnswersTo c (step_if_room s c) Is (Err e)
-lacks-turned s c Is e lacks = refused_as NoStep Is (is_frugal c) (step_if_room s c) e lacks
+lacks-turned s c Is e lacks = refused_as NoStep Is (is_frugal c (step_if_room s c)) (step_if_room s c) e lacks
 
 drop_min : {X : Type 0} (n : ℕ) (xs : List X) → drop (min n (length xs)) xs ≡ drop n xs
 drop_min zero xs = let on : min zero (length xs) ≡ zero = omega arith in ap (λ k. drop k xs) on

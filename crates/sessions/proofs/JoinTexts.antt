@@ -1,5 +1,5 @@
 -- What the texts of a question and of its answer say of the join server's answer.
-use Rattle.std.proofs.Common.{◌≡◌, ◌<◌, arith, ◌∙◌, ◌⊎◌, inl, inr, ℕ, Bool, true, false, cond, List, Option, Some, None, Result, Ok, Err, sym, ap, subst, refl}
+use Rattle.std.proofs.Common.{◌≡◌, ◌<◌, arith, ◌∙◌, ◌⊎◌, inl, inr, ℕ, Bool, true, false, not, MatchBool, cond, List, Option, Some, None, Result, Ok, Err, sym, ap, subst, refl}
 use Rattle.std.specs.Option.{unwrap_or}
 use Rattle.std.specs.Result.{MatchResult, result_and}
 use Rattle.lw_types.specs.Answer.{Answers, AnswersWithMemory}
@@ -21,7 +21,13 @@ use Rattle.backend_json.specs.Replies.{IsReply, accepted_of, ans_to, cause_of, r
 use Rattle.devices.specs.declared.device.Device.{Device}
 use Rattle.devices.specs.declared.heard.Hearing.{Hearing}
 use Rattle.uplinks.specs.Chain.{◌>>=◌}
-use Rattle.sessions.specs.Join.{grant_step, join_state, join_step, cause_refusal}
+use Rattle.devices.specs.DeviceStep.{DeviceStep}
+use Rattle.devices.specs.declared.command.Command.TheVariants.{Heard as HeardCommand}
+use Rattle.devices.specs.declared.heard.Heard.{Heard}
+use Rattle.sessions.specs.Decision.{AnswersTo, is_frugal}
+use Rattle.sessions.specs.Join.{grant_step, is_told_by_text, join_state, join_step, cause_refusal}
+use Rattle.sessions.specs.Served.{is_request, received_in}
+use Rattle.sessions.specs.declared.served.Served.TheVariants.{Request}
 use Rattle.sessions.proofs.Joins.{no_ok, ok_is}
 
 -- ---- from texts to the reply
@@ -73,6 +79,48 @@ answered_caused s ask = and_then (admission s ask.request) admitted
         → IsCaused {A = JoinState × JoinGrant} (result_and r (Ok (state_after_join s ask, grant_of s ask)))
     and_then (Ok x) is = caused_ok {A = JoinState × JoinGrant} (state_after_join s ask, grant_of s ask)
     and_then (Err e) is = caused_err e (is e refl)
+
+-- a refusal of this answer is told by a text
+abbrev AreTold : {A : Type 0} → Result A Refusal → Type 0
+AreTold r = (e : Refusal) → r ≡ Err e → is_told_by_text e ≡ true
+
+told_ok : {A : Type 0} (x : A) → AreTold (Ok x)
+told_ok x e is = no_ok e x _ (sym is)
+
+told_err : {A : Type 0} (x : Refusal) → is_told_by_text x ≡ true → AreTold {A = A} (Err x)
+told_err {A} x told e is = subst (λ y. is_told_by_text y ≡ true) (same x e is) told
+  where
+    same : (x e : Refusal) → ◌≡◌ {A = Result A Refusal} (Err x) (Err e) → x ≡ e
+    same x e is = cc
+
+told_if : {A : Type 0} (b : Bool) (r s : Result A Refusal) → AreTold r → AreTold s → AreTold (cond b r s)
+told_if true r s one two = one
+told_if false r s one two = two
+
+answered_told : (s : JoinState) (ask : JoinAsk) → AreTold (answer_to s ask)
+answered_told s ask = and_then (admission s ask.request) admitted
+  where
+    admitted : AreTold {A = Unit {0}} (admission s ask.request)
+    admitted =
+        told_if _ _ _ (told_err WrongJoinEui refl)
+        (told_if _ _ _ (told_err BadMic refl)
+        (told_if _ _ _ (told_err DevNonceUsed refl)
+        (told_if _ _ _ (told_err JoinNonceSpent refl) (told_ok {A = Unit {0}} tt))))
+
+    and_then : (r : Result (Unit {0}) Refusal) → AreTold {A = Unit {0}} r
+        → AreTold {A = JoinState × JoinGrant} (result_and r (Ok (state_after_join s ask, grant_of s ask)))
+    and_then (Ok x) is = told_ok {A = JoinState × JoinGrant} (state_after_join s ask, grant_of s ask)
+    and_then (Err e) is = told_err e (is e refl)
+
+-- so is a refusal of the table, where it is the join server's
+pub step-told : {A : Type 0} (d : Device) (hearings : List Hearing) (ask : JoinAsk) (f : DeviceStep → A)
+    → AreTold (join_step d hearings ask >>= λ o. Ok (f o))
+step-told {A} d hearings ask f = joined (answer_to (join_state d) ask) (answered_told (join_state d) ask)
+  where
+    joined : (r : Result (JoinState × JoinGrant) Refusal) → AreTold r
+        → AreTold {A = A} ((r >>= λ granted. Ok (grant_step d hearings granted)) >>= λ o. Ok (f o))
+    joined (Ok granted) told = told_ok (f (grant_step d hearings granted))
+    joined (Err e) told = told_err e (told e refl)
 
 -- what is granted is the state and the grant of the definition
 pub answered_is : (s : JoinState) (ask : JoinAsk) (granted : JoinState × JoinGrant) → answer_to s ask ≡ Ok granted → (state_after_join s ask, grant_of s ask) ≡ granted
@@ -162,6 +210,22 @@ pub memory-err : {A B : Type 0} (wanted : Result A Refusal) (other : Result B Re
     → (e ≡ OutOfMemory) ⊎ (other ≡ Err e) → (e ≡ OutOfMemory) ⊎ (wanted ≡ Err e)
 memory-err {A} {B} wanted other e then (inl none) = inl none
 memory-err {A} {B} wanted other e then (inr is) = inr (then is)
+
+-- of a Join-Request each of whose refusals is told by a text, memory may be out in the place of one
+pub answers-by-text : {A B : Type 0} (h : Heard) (request : List ℕ) (wanted : Result A Refusal) (Is : A → B → Type 0) (result : Result B Refusal)
+    → received_in h ≡ Ok (Request request) → AreTold wanted → AnswersWithMemory wanted Is result → AnswersTo (HeardCommand h) wanted Is result
+answers-by-text {A} {B} h request (Ok x) Is result asks told answer = value (is_frugal (HeardCommand h) (Ok x)) result answer
+  where
+    value : (frugal : Bool) (result : Result B Refusal) → AnswersWithMemory (Ok x) Is result
+        → MatchBool frugal (Answers (Ok x) Is result) (AnswersWithMemory (Ok x) Is result)
+    value true (Ok found) is = is
+    value true (Err e) (inl none) = none
+    value true (Err e) (inr other) = no_ok e x _ (sym other)
+    value false result is = is
+answers-by-text {A} {B} h request (Err e) Is result asks told answer =
+    let asked : is_frugal {A = A} (HeardCommand h) (Err e) ≡ false =
+    ap (λ r. cond (is_request r) (not (is_told_by_text e)) true) asks ∙ ap not (told e refl) in
+    subst (λ b. MatchBool b (Answers (Err e) Is result) (AnswersWithMemory (Err e) Is result)) (sym asked) answer
 
 -- a value that was answered in memory is the one that is wanted
 pub memory-value : {A : Type 0} (wanted : Result A Refusal) (found : A) → AnswersWithMemory wanted (λ (x y : A). y ≡ x) (Ok found) → wanted ≡ Ok found

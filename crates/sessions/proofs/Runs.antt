@@ -246,7 +246,7 @@ applied_all-next t n d ds within item =
 -- an answer that is no refusal is what is wanted
 pub AnswersTo-ok : {A B : Type 0} (c : Command) (wanted : Result A Refusal) (Is : A → B → Type 0) (found : B) → AnswersTo c wanted Is (Ok found)
     → (x : A) × (wanted ≡ Ok x) × Is x found
-AnswersTo-ok {A} {B} c wanted Is found answers = by_frugal (is_frugal c) wanted answers
+AnswersTo-ok {A} {B} c wanted Is found answers = by_frugal (is_frugal c wanted) wanted answers
   where
     by_frugal : (frugal : Bool) (wanted : Result A Refusal) → MatchBool frugal (Answers wanted Is (Ok found)) (AnswersWithMemory wanted Is (Ok found))
         → (x : A) × (wanted ≡ Ok x) × Is x found
@@ -257,7 +257,7 @@ AnswersTo-ok {A} {B} c wanted Is found answers = by_frugal (is_frugal c) wanted 
 
 pub AnswersTo-is : {A B : Type 0} (c : Command) (wanted : Result A Refusal) (Is : A → B → Type 0) (x : A) (found : B) → wanted ≡ Ok x → Is x found
     → AnswersTo c wanted Is (Ok found)
-AnswersTo-is {A} {B} c wanted Is x found ok is = subst (λ (w : Result A Refusal). AnswersTo c w Is (Ok found)) (sym ok) (by_frugal (is_frugal c))
+AnswersTo-is {A} {B} c wanted Is x found ok is = subst (λ (w : Result A Refusal). AnswersTo c w Is (Ok found)) (sym ok) (by_frugal (is_frugal c (Ok x)))
   where
     by_frugal : (frugal : Bool) → MatchBool frugal (Answers (Ok x) Is (Ok found)) (AnswersWithMemory (Ok x) Is (Ok found))
     by_frugal true = is
@@ -266,7 +266,7 @@ AnswersTo-is {A} {B} c wanted Is x found ok is = subst (λ (w : Result A Refusal
 -- a refusal that is handed on is answered as it was
 pub AnswersTo-handed : {A B C : Type 0} (c : Command) (wanted : Result A Refusal) (Is : A → B → Type 0) (Is' : A → C → Type 0) (e : Refusal)
     → AnswersTo c wanted Is (Err e) → AnswersTo c wanted Is' (Err e)
-AnswersTo-handed {A} {B} {C} c wanted Is Is' e answers = by_frugal (is_frugal c) wanted answers
+AnswersTo-handed {A} {B} {C} c wanted Is Is' e answers = by_frugal (is_frugal c wanted) wanted answers
   where
     by_frugal : (frugal : Bool) (wanted : Result A Refusal) → MatchBool frugal (Answers wanted Is (Err e)) (AnswersWithMemory wanted Is (Err e))
         → MatchBool frugal (Answers {B = C} wanted Is' (Err e)) (AnswersWithMemory {B = C} wanted Is' (Err e))
@@ -285,7 +285,7 @@ pub AnswersTo-memory : {A B : Type 0} (c : Command) (wanted : Result A Refusal) 
     → IsErrAnd result (λ y. y ≡ e) → e ≡ OutOfMemory → AnswersTo c wanted Is result
 AnswersTo-memory {A} {B} c wanted Is x e result ok handed none =
     let r = err_from_is_err_and result handed in
-    subst (AnswersTo c wanted Is) (sym (r.1 ∙ ap Err r.2)) (subst (λ (w : Result A Refusal). AnswersTo c w Is (Err e)) (sym ok) (by_frugal (is_frugal c)))
+    subst (AnswersTo c wanted Is) (sym (r.1 ∙ ap Err r.2)) (subst (λ (w : Result A Refusal). AnswersTo c w Is (Err e)) (sym ok) (by_frugal (is_frugal c (Ok x))))
   where
     by_frugal : (frugal : Bool) → MatchBool frugal (Answers (Ok x) Is (Err e)) (AnswersWithMemory (Ok x) Is (Err e))
     by_frugal true = none

@@ -1,6 +1,6 @@
 -- Decisions that continue a table.
 use Rattle.std.specs.Prelude.{◌≡◌, ◌≢◌, ◌+◌, ◌<◌, ℕ, Bool, true, not, MatchBool, List, [], ◌∷◌}
-use Rattle.std.specs.Prelude.{Option, Some, None, Result, map, slice_get, take}
+use Rattle.std.specs.Prelude.{Option, Some, None, Result, if◌then◌else◌, map, slice_get, take}
 use Rattle.std.specs.List.{flat_map}
 use Rattle.std.specs.Option.{MatchOption}
 use Rattle.lw_types.specs.Answer.{Answers, AnswersWithMemory}
@@ -9,6 +9,7 @@ use Rattle.devices.specs.declared.device.Device.{Device}
 use Rattle.devices.specs.declared.command.Command.{Command}
 use Rattle.devices.specs.declared.command.Command.TheVariants.{Provision, Heard, Queue, QueueMac}
 use Rattle.devices.specs.declared.effect.Effect.{Effect}
+use Rattle.sessions.specs.Join.{is_refused_by_text}
 use Rattle.sessions.specs.Served.{is_request, received_in}
 use Rattle.sessions.specs.Table.{TableState, TableStep, TakesNext, slot_of, step, with_record}
 use Rattle.sessions.specs.declared.table.decide.Stepped.{Stepped}
@@ -92,20 +93,21 @@ pub record IsDecision (t : TableState) (seq : ℕ) (asked : Command) (s : TableS
   pub after : d.after ≡ s.after
   pub effects : d.effects ≡ s.effects
 
--- whether each refusal of a command is known before any memory is taken for it: of all but a
--- Join-Request on one of the first channels, of which the join server is asked by texts
-abbrev pub is_frugal : Command → Bool
-is_frugal (Provision p) = true
-is_frugal (Heard h) = not (is_request (received_in h))
-is_frugal (Queue q) = true
-is_frugal (QueueMac q) = true
+-- whether a refusal of a command is known before any memory is taken for it: each is, but of a
+-- Join-Request those of the join server, which is asked by texts
+abbrev pub is_frugal : {A : Type 0} → Command → Result A Refusal → Bool
+is_frugal (Provision p) outcome = true
+is_frugal (Heard h) outcome =
+    if is_request (received_in h) then not (is_refused_by_text outcome) else true
+is_frugal (Queue q) outcome = true
+is_frugal (QueueMac q) outcome = true
 
--- what is answered to a command: exactly what is wanted, unless memory is out; and where the
--- command isn't frugal, OutOfMemory may stand in the place of a refusal too
+-- what is answered to a command: exactly what is wanted, unless memory is out; and where a refusal
+-- is wanted that isn't frugal, OutOfMemory may stand in its place
 abbrev pub AnswersTo : {A B : Type 0} → Command → Result A Refusal → (A → B → Type 0)
     → Result B Refusal → Type 0
 AnswersTo command wanted Is result =
-    MatchBool (is_frugal command) (Answers wanted Is result) (AnswersWithMemory wanted Is result)
+    MatchBool (is_frugal command wanted) (Answers wanted Is result) (AnswersWithMemory wanted Is result)
 
 -- the step of the command is decided, or its refusal is answered
 abbrev pub Decides : TableState → ℕ → Command → Result Decision Refusal → Type 0

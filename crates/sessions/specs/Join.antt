@@ -1,6 +1,6 @@
 -- A device is granted a session (TS001-1.0.4 §6.2).
-use Rattle.std.specs.Prelude.{ℕ, ◌==◌, ◌*◌, ◌%◌, ◌^◌, if◌then◌else◌, List, [], ◌∷◌, Option, Some}
-use Rattle.std.specs.Prelude.{None, Result, Ok, Err}
+use Rattle.std.specs.Prelude.{ℕ, ◌==◌, ◌*◌, ◌%◌, ◌^◌, Bool, true, false, if◌then◌else◌, List, []}
+use Rattle.std.specs.Prelude.{◌∷◌, Option, Some, None, Result, Ok, Err}
 use Rattle.lw_types.specs.declared.identifiers.Eui.{Eui}
 use Rattle.lw_types.specs.declared.refusal.Refusal.{Refusal}
 use Rattle.lw_types.specs.declared.refusal.Refusal.TheVariants.{UnknownDevEui, WrongJoinEui, BadMic}
@@ -66,6 +66,18 @@ cause_refusal causes.BadMic = BadMic
 cause_refusal causes.DevNonceUsed = DevNonceUsed
 cause_refusal causes.JoinNonceSpent = JoinNonceSpent
 cause_refusal causes.BadMessage = BadMessage
+
+-- the refusals of the join server, each of which it tells by a text
+abbrev pub is_told_by_text : Refusal → Bool
+is_told_by_text WrongJoinEui = true
+is_told_by_text BadMic = true
+is_told_by_text DevNonceUsed = true
+is_told_by_text JoinNonceSpent = true
+is_told_by_text refusal = false
+
+abbrev pub is_refused_by_text : {A : Type 0} → Result A Refusal → Bool
+is_refused_by_text (Ok value) = false
+is_refused_by_text (Err refusal) = is_told_by_text refusal
 
 -- ---- what is granted
 

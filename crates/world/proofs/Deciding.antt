@@ -132,6 +132,6 @@ module _ (laws : RunLaws) (origin : Origin) (c : Course) (s : StoreState) (core 
       × IsLife origin (answered c command (step_if_room origin c command) result) s new commit)
   becomes command result new keeps =
       let found =
-      subst (λ w. Became (is_frugal command) command new w result) (wanted_is command)
-      (became_by (is_frugal command) command new (core_step_if_room core command) result keeps.made keeps.same) in
+      subst (λ w. Became (is_frugal command w) command new w result) (wanted_is command)
+      (became_by (is_frugal command (core_step_if_room core command)) command new (core_step_if_room core command) result keeps.made keeps.same) in
       (λ none. keeps.full (room_is ∙ none), (found.0, found.1))

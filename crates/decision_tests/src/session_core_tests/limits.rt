@@ -1,12 +1,22 @@
 // The limits of a core: how many outcomes are kept, windows are open, copies are gathered, and
 // decisions wait.
 use crate::fixture::REQUEST_1;
-use crate::network::Comes;
+use crate::network::{Asked, Comes};
 use crate::session_core_tests::core_script::{Event, Step};
 use lw_types::Refusal;
 use session_core::Outcome;
 
-// The gateway B1 hears a frame of no device.
+// An item of one byte for the device 0.
+const ITEM: Asked = Asked {
+    application: 3,
+    dev_eui: 0,
+    tag: 9,
+    port: 5,
+    confirmed: true,
+    len: 1,
+};
+
+// The gateway B1 hears a frame of no device, which is among those of a crowd.
 const B1_HEARS: Event = Event::Copy(0xB1, 868_100_000, 5);
 
 // The last 64 outcomes are kept.
@@ -51,6 +61,18 @@ pub(super) const WINDOWS: &[Step] = &[
     Step::Core(8, 0),
     Step::Crowd(1025, 1, Some(Refusal::WindowsFull)),
     Step::At(200, Event::Time, (0, 0, None), 1024),
+    // a copy of a frame whose window is open is taken, and a new frame once they are closed
+    Step::Core(8, 0),
+    Step::Crowd(1025, 1, Some(Refusal::WindowsFull)),
+    Step::At(0, B1_HEARS, (0, 0, None), 0),
+    Step::At(
+        199,
+        Event::Uplink(0xB1),
+        (0, 0, Some(Refusal::WindowsFull)),
+        0,
+    ),
+    Step::At(200, Event::Uplink(0xB1), (0, 0, None), 1024),
+    Step::At(400, Event::Time, (0, 0, None), 1),
     // the 33rd copy of a frame is refused
     Step::Core(8, 0),
     Step::Crowd(1, 32, None),
@@ -58,8 +80,8 @@ pub(super) const WINDOWS: &[Step] = &[
     Step::Crowd(1, 33, Some(Refusal::CopiesFull)),
 ];
 
-// As many decisions wait as there is room for, and no more: be it a provisioning, a join, a command
-// without memory or the frame of a window that is due.
+// As many decisions wait as there is room for, and no more: be it a provisioning, a join, an item, a
+// command without memory or the frame of a window that is due.
 pub(super) const WAITING: &[Step] = &[
     Step::Core(4096, 0),
     Step::Fill(4096),
@@ -77,6 +99,12 @@ pub(super) const WAITING: &[Step] = &[
         0,
     ),
     Step::DevNonce(None),
+    Step::At(
+        0,
+        Event::Ask(Comes::Item(ITEM)),
+        (4096, 4096, Some(Refusal::Backlog)),
+        0,
+    ),
     Step::At(
         0,
         Event::Starve(Comes::Device(5000)),
@@ -131,6 +159,17 @@ pub(super) const NUMBERS: &[Step] = &[
         (1, 1, Some(Refusal::TableFull)),
         0,
     ),
+    // that of a Join-Request where no device has its DevEUI, also of its window
+    Step::At(
+        0,
+        Event::Starve(Comes::Frame(REQUEST_1)),
+        (1, 1, Some(Refusal::UnknownDevEui)),
+        0,
+    ),
+    Step::At(0, Event::Request(0xB1), (1, 1, None), 0),
+    Step::At(200, Event::Time, (1, 1, None), 1),
+    Step::Outcome(4, Outcome::Refused(Refusal::UnknownDevEui)),
+    Step::Outcomes(5),
     // one number is left
     Step::Core(8, (1 << 63) - 2),
     Step::At(

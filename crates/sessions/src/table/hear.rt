@@ -1,6 +1,6 @@
 // A frame that gateways heard becomes a step of the device that sent it.
 ghost use Rattle.std.specs.Prelude.{◌≡◌, None, Ok, Some, MatchOption, slice_get};
-ghost use Rattle.lw_types.specs.Answer.{Answers, AnswersWithMemory};
+ghost use Rattle.lw_types.specs.Answer.{Answers};
 ghost use Rattle.phy_payload.specs.Frame.{data_mic_input};
 ghost use Rattle.join_server.specs.Request.{dev_eui_of, IsRequest};
 ghost use Rattle.sessions.specs.Served.{served_frame, heard_command, heard_frame, received_in};
@@ -87,8 +87,8 @@ impl Table {
     ) -> Result<Stepped, Refusal>
         requires { received_in (heard_frame phy_payload.now hearings.now)
             ≡ Ok (Served.Request request) }
-        ensures { AnswersWithMemory (step self.now (heard_command phy_payload.now hearings.now))
-            IsStepped result }
+        ensures { let command = heard_command phy_payload.now hearings.now in
+            AnswersTo command (step self.now command) IsStepped result }
     {
         match self.question(seq, &request) {
             Some(question) => match join(alloc, question.device, &question.ask, hearings) {

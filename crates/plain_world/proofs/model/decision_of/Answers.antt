@@ -16,7 +16,7 @@ exact t c (Err e) is = λ memory. refused_is c (step t c) (IsDecision t 1 c) e m
 
 made : (t : TableState) (c : Command) (r : Result Decision Refusal) → AnswersTo c (step t c) (IsDecision t 1 c) r
     → IfOk r (λ d. MatchResult (step t c) (λ s. IsDecision t 1 c s d) (λ _. ⊥))
-made t c (Ok d) is = by_frugal (is_frugal c) (step t c) is
+made t c (Ok d) is = by_frugal (is_frugal c (step t c)) (step t c) is
   where
     not_both : (e : Refusal) → ◌≡◌ {A = Result Decision Refusal} (Ok d) (Err e) → ⊥
     not_both e h = cc
