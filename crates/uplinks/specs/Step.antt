@@ -33,9 +33,10 @@ if_on_channel best fit =
     if may_use (fitted_session fit).channels best.reception.frequency
     then Ok fit else Err UnknownChannel
 
--- an uplink that was heard by `copies` gateways, and best in this copy
+-- an uplink that was heard by `copies` gateways, and best in this copy; there is one, since a frame
+-- that was heard has a copy at least
 abbrev pub step_of_best : ℕ → ℕ → Device → Uplink → ℕ → Option Hearing → Result DeviceStep Refusal
-step_of_best net_id slot d u copies None = Err UnknownDevAddr
+step_of_best net_id slot d u copies None = Err UnknownDevAddr  -- not reached
 step_of_best net_id slot d u copies (Some best) =
     fit_of net_id slot d.activation u.frame >>= if_on_channel best
     >>= step_in_session net_id slot d u copies best
