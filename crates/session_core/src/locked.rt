@@ -14,6 +14,9 @@ use std::sync::{Mutex, Wait};
 /// for as long as that call alone. What is known across threads is what a caller's own share says:
 /// that it grew by just what the call made. A call that waits for the lock need not return.
 pub trait Sessions<B: Books> {
+    /// How many decisions were made in this life.
+    fn made<R: Wait>(&self, rt: &R) -> u64;
+
     /// A gateway heard a frame.
     fn hear<R: Wait>(&self, rt: &R, seat: &mut Seat<B>, moment: Moment, copy: FrameCopy) -> Turn
         ensures share { HasMade seat.old seat.new result };
@@ -63,6 +66,10 @@ pub trait Sessions<B: Books> {
 }
 
 impl<B: Books> Sessions<B> for Mutex<Shared<B>> {
+    fn made<R: Wait>(&self, rt: &R) -> u64 {
+        self.lock(rt).made()
+    }
+
     fn hear<R: Wait>(&self, rt: &R, seat: &mut Seat<B>, moment: Moment, copy: FrameCopy) -> Turn {
         self.lock(rt).hear(seat, moment, copy)
     }

@@ -138,8 +138,9 @@ impl<B: Books> Shared<B> {
     }
 
     /// Takes the oldest untaken decisions, at most `max` of them ([`Core::take`]). After an `Err`,
-    /// which is want of memory, nothing has changed.
+    /// which is want of memory, nothing has changed. What was taken before is the taker's share.
     pub fn take(&mut self, taker: &mut Taker<B>, max: Most) -> Result<Batch, Refusal>
+        ensures before { self.old.core.decisions.taken ≡ taker.old }
         ensures taken { MatchResult result
             (λ batch. (batch ≡ take max self.old.core.decisions.log)
             × (self.new.core ≡ record self.old.core
@@ -150,6 +151,7 @@ impl<B: Books> Shared<B> {
             (λ _. taker.new ≡ taker.old) }
         ensures left { self.new.left ≡ self.old.left }
     {
+        self.taken.audit(&mut taker.share);
         let batch = self.core.take(max)?;
         note(&mut self.taken, taker, batch.len() as u64);
         Ok(batch)

@@ -22,6 +22,9 @@ pub const REQUEST: &str = "000807060504030201181716151413121101009E7419CE";
 
 pub const UPLINK: &str = "4001000054000000073AE48AC412E3";
 
+/// An uplink of a device that no table here has.
+pub const STRANGE: &str = "40F17DBE4900020001954378762B11FF0D";
+
 /// A core at the beginning of a life, over a table of network 00002A without devices.
 pub fn new_core(alloc: Global, slots: u64) -> Result<Core, Refusal>
     ensures made { IfOk result (λ core. core.decisions.made ≡ 0) }
@@ -78,13 +81,18 @@ pub fn mac_command(alloc: Global, dev_eui: u64) -> Result<MacQueueing, Refusal> 
     })
 }
 
-/// A gateway's copy of a frame.
-pub fn copy(alloc: Global, gateway: u64, digits: &str) -> Result<FrameCopy, Refusal> {
+/// A gateway's copy of a frame, heard at a frequency in Hz.
+pub fn copy(
+    alloc: Global,
+    gateway: u64,
+    frequency: u32,
+    digits: &str,
+) -> Result<FrameCopy, Refusal> {
     let phy_payload = PhyPayload::new(read_hex(alloc, digits)?);
     Ok(FrameCopy {
         reception: Reception {
             gateway: Eui(gateway),
-            frequency: 868_100_000,
+            frequency,
             data_rate: 5,
             snr: -20,
             rssi: -95,

@@ -2,10 +2,10 @@
 ghost use Rattle.std.specs.Prelude.{◌≡◌};
 
 use crate::asked::{
-    JOINER, REQUEST, UPLINK, copy, item, mac_command, moment, new_core, provisioning,
+    JOINER, REQUEST, STRANGE, UPLINK, copy, item, mac_command, moment, new_core, provisioning,
 };
 use lw_types::Refusal;
-use session_core::{Books, Core, Moment, Most, Seat, Sessions, Shared, Taker, Turn};
+use session_core::{Books, Core, Moment, Most, Outcome, Seat, Sessions, Shared, Taker, Turn};
 use sessions::{Batch, Decision};
 use std::alloc::Global;
 use std::marker::Brand;
@@ -19,40 +19,97 @@ enum Event {
     /// An item for a device, under a tag.
     Queue(u64, u32),
     Mac(u64),
-    /// A gateway's copy of a frame.
-    Hear(u64, &'static str),
+    /// A gateway's copy of a frame, at a frequency in Hz.
+    Hear(u64, u32, &'static str),
     Tick,
 }
 
-// At a moment this comes: the decisions made before and after it in this life, and the refusal.
-type Row = (u64, Event, (u64, u64, Option<Refusal>));
+// At a moment this comes: the decisions made before and after it in this life, and the refusal; and
+// where there is a decision, the tags of the items in the record that it found.
+type Row = (u64, Event, (u64, u64, Option<Refusal>), &'static [u32]);
+
+const CHANNEL: u32 = 868_100_000;
 
 // A device is provisioned, once; items are queued for it, the second behind the first; and MAC
 // commands. It joins. Its first uplink is heard at 0, 199 and 200 ms: the third copy opens a window
 // of its own, and is a repeat. (The outcomes tell.)
-const ROWS: &[Row] = &[
-    (0, Event::Provision(JOINER), (0, 1, None)),
+const DEVICE: &[Row] = &[
+    (0, Event::Provision(JOINER), (0, 1, None), &[]),
     (
         0,
         Event::Provision(JOINER),
         (1, 1, Some(Refusal::DevEuiTaken)),
+        &[],
     ),
-    (0, Event::Queue(JOINER, 9), (1, 2, None)),
-    (0, Event::Queue(JOINER, 10), (2, 3, None)),
-    (0, Event::Mac(JOINER), (3, 4, None)),
-    (0, Event::Mac(5), (4, 4, Some(Refusal::UnknownDevEui))),
-    (1000, Event::Hear(0xB1, REQUEST), (4, 4, None)),
-    (1200, Event::Tick, (4, 5, None)),
-    (9000, Event::Hear(0xB1, UPLINK), (5, 5, None)),
-    (9199, Event::Hear(0xB2, UPLINK), (5, 5, None)),
+    (0, Event::Queue(JOINER, 9), (1, 2, None), &[]),
+    (0, Event::Queue(JOINER, 10), (2, 3, None), &[9]),
+    (0, Event::Mac(JOINER), (3, 4, None), &[9, 10]),
+    (0, Event::Mac(5), (4, 4, Some(Refusal::UnknownDevEui)), &[]),
+    (1000, Event::Hear(0xB1, CHANNEL, REQUEST), (4, 4, None), &[]),
+    (1200, Event::Tick, (4, 5, None), &[9, 10]),
+    (9000, Event::Hear(0xB1, CHANNEL, UPLINK), (5, 5, None), &[]),
+    (9199, Event::Hear(0xB2, CHANNEL, UPLINK), (5, 5, None), &[]),
     (
         9199,
-        Event::Hear(0xB2, UPLINK),
+        Event::Hear(0xB2, CHANNEL, UPLINK),
         (5, 5, Some(Refusal::SameGateway)),
+        &[],
     ),
-    (9200, Event::Hear(0xB3, UPLINK), (5, 6, None)),
-    (9400, Event::Tick, (6, 6, None)),
-    (100, Event::Tick, (6, 6, None)),
+    (
+        9200,
+        Event::Hear(0xB3, CHANNEL, UPLINK),
+        (5, 6, None),
+        &[9, 10],
+    ),
+    (9400, Event::Tick, (6, 6, None), &[]),
+    (100, Event::Tick, (6, 6, None), &[]),
+];
+
+// A frame of no device. What comes with an earlier moment comes at the latest one so far; what is
+// heard on no channel is refused once the window is closed, and the next copy opens another.
+const WINDOWS: &[Row] = &[
+    (0, Event::Hear(0xB1, CHANNEL, STRANGE), (0, 0, None), &[]),
+    (199, Event::Hear(0xB2, CHANNEL, STRANGE), (0, 0, None), &[]),
+    (
+        199,
+        Event::Hear(0xB1, CHANNEL, STRANGE),
+        (0, 0, Some(Refusal::SameGateway)),
+        &[],
+    ),
+    (100, Event::Hear(0xB3, CHANNEL, STRANGE), (0, 0, None), &[]),
+    (
+        200,
+        Event::Hear(0xB1, 868_200_000, STRANGE),
+        (0, 0, Some(Refusal::UnknownChannel)),
+        &[],
+    ),
+    (200, Event::Hear(0xB1, CHANNEL, STRANGE), (0, 0, None), &[]),
+    (400, Event::Tick, (0, 0, None), &[]),
+];
+
+// The rows, what comes of their commands, and how many decisions there are.
+fn script_of(script: u8) -> (&'static [Row], &'static [Outcome], u64) {
+    match script {
+        0 => (DEVICE, DECIDED, 6),
+        _ => (WINDOWS, CLOSED, 0),
+    }
+}
+
+const DECIDED: &[Outcome] = &[
+    Outcome::Decided(1),
+    Outcome::Refused(Refusal::DevEuiTaken),
+    Outcome::Decided(2),
+    Outcome::Decided(3),
+    Outcome::Decided(4),
+    Outcome::Refused(Refusal::UnknownDevEui),
+    Outcome::Decided(5),
+    Outcome::Decided(6),
+    Outcome::Refused(Refusal::Repeat),
+];
+
+const CLOSED: &[Outcome] = &[
+    Outcome::Refused(Refusal::UnknownDevAddr),
+    Outcome::Refused(Refusal::UnknownDevAddr),
 ];
 
 fn answer(alloc: Global, core: &mut Core, at: Moment, event: &Event) -> Result<Turn, Refusal> {
@@ -60,7 +117,9 @@ fn answer(alloc: Global, core: &mut Core, at: Moment, event: &Event) -> Result<T
         Event::Provision(dev_eui) => Ok(core.provision(at, provisioning(*dev_eui)?)),
         Event::Queue(dev_eui, tag) => Ok(core.queue(at, item(alloc, *dev_eui, *tag)?)),
         Event::Mac(dev_eui) => Ok(core.queue_mac(at, mac_command(alloc, *dev_eui)?)),
-        Event::Hear(gateway, digits) => Ok(core.hear(at, copy(alloc, *gateway, digits)?)),
+        Event::Hear(gateway, frequency, digits) => {
+            Ok(core.hear(at, copy(alloc, *gateway, *frequency, digits)?))
+        }
         Event::Tick => Ok(core.tick(at)),
     }
 }
@@ -82,8 +141,8 @@ fn locked_answer<B: Books, R: Wait>(
             item(alloc, *dev_eui, *tag)?,
         )),
         Event::Mac(dev_eui) => Ok(sessions.queue_mac(rt, seat, at, mac_command(alloc, *dev_eui)?)),
-        Event::Hear(gateway, digits) => {
-            Ok(sessions.hear(rt, seat, at, copy(alloc, *gateway, digits)?))
+        Event::Hear(gateway, frequency, digits) => {
+            Ok(sessions.hear(rt, seat, at, copy(alloc, *gateway, *frequency, digits)?))
         }
         Event::Tick => Ok(sessions.tick(rt, seat, at)),
     }
@@ -108,31 +167,76 @@ fn is_same(a: &Decision, b: &Decision) -> bool {
     before && effects && a.seq == b.seq && a.slot == b.slot && a.after.same_as(&b.after)
 }
 
-// Whether both answer each row so, and give the same decisions, all of them, and the same outcomes;
-// and whether each share has counted its own.
-fn agree<B: Books, R: Wait>(
-    rt: &R,
-    alloc: Global,
-    core: &mut Core,
-    sessions: &Mutex<Shared<B>>,
-    seat: &mut Seat<B>,
-    taker: &mut Taker<B>,
-) -> Result<bool, Refusal> {
-    let most = Most::new(64).ok_or(Refusal::Damaged)?;
-    let mut same = true;
-    for (at, event, wanted) in ROWS {
-        let plain = answer(alloc, core, moment(*at)?, event)?;
-        let locked = locked_answer(rt, alloc, sessions, seat, moment(*at)?, event)?;
-        let told = (locked.from, locked.to, locked.refused);
-        same = same && plain == locked && told == *wanted;
-        let decided = core.take(most)?;
-        same = same && are_same(&decided, &sessions.take(rt, taker, most)?);
+// Whether the first decision, if there is one, found items of these tags, in order.
+fn found(batch: &Batch, tags: &[u32]) -> bool {
+    let before = match batch.as_slice().first() {
+        Some(decision) => &decision.before,
+        None => &None,
+    };
+    let items = match before {
+        Some(device) => device.items.as_slice(),
+        None => &[],
+    };
+    let mut same = items.len() == tags.len();
+    for (item, tag) in items.iter().zip(tags) {
+        same = same && item.tag.0 == *tag;
     }
-    let outcomes = sessions.outcomes(rt, alloc)?;
-    let noted = core.outcomes().to_vec(alloc)?;
-    same = same && noted.as_slice() == outcomes.as_slice();
-    same = same && sessions.effective_time(rt) == core.effective_time();
-    Ok(same && sessions.next_due(rt).is_none() && (seat.share(), taker.share()) == (6, 6))
+    same
+}
+
+// A life of a core and one behind a lock, with one seat.
+#[derive(Drop)]
+struct Lives<'a, B: Books> {
+    alloc: Global,
+    core: &'a mut Core,
+    sessions: &'a Mutex<Shared<B>>,
+    seat: &'a mut Seat<B>,
+    taker: &'a mut Taker<B>,
+}
+
+impl<B: Books> Lives<'_, B> {
+    // Whether both answer a row so, and know the same of moments and numbers then.
+    fn answer<R: Wait>(&mut self, rt: &R, row: &Row) -> Result<bool, Refusal> {
+        let (at, event, wanted, _) = row;
+        let at = moment(*at)?;
+        let plain = answer(self.alloc, self.core, at, event)?;
+        let locked = locked_answer(rt, self.alloc, self.sessions, self.seat, at, event)?;
+        let told = (locked.from, locked.to, locked.refused);
+        let moments = self.sessions.effective_time(rt) == self.core.effective_time()
+            && self.sessions.next_due(rt) == self.core.next_due();
+        let made = self.sessions.made(rt) == locked.to;
+        Ok(moments && made && plain == locked && told == *wanted)
+    }
+
+    // What both give, at most 64 decisions, where they give the same.
+    fn take<R: Wait>(&mut self, rt: &R) -> Result<Option<Batch>, Refusal> {
+        let most = Most::new(64).ok_or(Refusal::Damaged)?;
+        let decided = self.core.take(most)?;
+        let same = are_same(&decided, &self.sessions.take(rt, self.taker, most)?);
+        Ok(if same { Some(decided) } else { None })
+    }
+
+    // Whether all is seen so, where what is decided is taken behind each row, or behind the last.
+    fn agree<R: Wait>(&mut self, rt: &R, rows: &[Row], each: bool) -> Result<bool, Refusal> {
+        for row in rows {
+            let mut same = self.answer(rt, row)?;
+            if each {
+                same = same && self.take(rt)?.is_some_and(|batch| found(&batch, row.3));
+            }
+            if !same {
+                return Ok(false);
+            }
+        }
+        Ok(self.take(rt)?.is_some())
+    }
+
+    // What came of the commands, where both say the same; and how many decisions each share has.
+    fn end<R: Wait>(&self, rt: &R, wanted: &[Outcome], shares: u64) -> Result<bool, Refusal> {
+        let outcomes = self.sessions.outcomes(rt, self.alloc)?;
+        let noted = self.core.outcomes().to_vec(self.alloc)?;
+        let same = noted.as_slice() == wanted && outcomes.as_slice() == wanted;
+        Ok(same && (self.seat.share(), self.taker.share()) == (shares, shares))
+    }
 }
 
 fn plays<B: Books, R: Wait>(
@@ -140,6 +244,8 @@ fn plays<B: Books, R: Wait>(
     alloc: Global,
     made: Blank,
     taken: Blank,
+    script: u8,
+    each: bool,
 ) -> Result<bool, Refusal>
     requires made { (made.name ≡ B.made_name) × (made.parts ≡ B.made_parts) × (made.parts ≡ 1) }
     requires taken { (taken.name ≡ B.taken_name) × (taken.parts ≡ 1) }
@@ -148,15 +254,28 @@ fn plays<B: Books, R: Wait>(
     let (mut shared, mut taker) = Shared::<B>::new(new_core(alloc, 8)?, 1, made, taken);
     let mut seat = shared.seat();
     let sessions = Mutex::new(shared);
-    agree(rt, alloc, &mut core, &sessions, &mut seat, &mut taker)
+    let mut lives = Lives {
+        alloc,
+        core: &mut core,
+        sessions: &sessions,
+        seat: &mut seat,
+        taker: &mut taker,
+    };
+    let (rows, outcomes, shares) = script_of(script);
+    Ok(lives.agree(rt, rows, each)? && lives.end(rt, outcomes, shares)?)
 }
 
 // A life with one seat.
-fn plays_alone<R: Wait>(rt: &R, alloc: Global) -> Result<bool, Refusal> {
-    plays::<Brand, R>(rt, alloc, Blank::new(1), Blank::new(1))
+fn plays_alone<R: Wait>(rt: &R, alloc: Global, script: u8, each: bool) -> Result<bool, Refusal> {
+    plays::<Brand, R>(rt, alloc, Blank::new(1), Blank::new(1), script, each)
 }
 
 #[test]
 fn a_lock_answers_as_a_core(rt: HostRuntime) {
-    assert!(rt; plays_alone(&rt, rt.alloc()) == Ok(true));
+    for (script, each) in [(0, true), (0, false), (1, true), (1, false)] {
+        assert!(rt;
+            plays_alone(&rt, rt.alloc(), script, each) == Ok(true),
+            "{script} {each}"
+        );
+    }
 }

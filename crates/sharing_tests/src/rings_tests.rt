@@ -1,11 +1,15 @@
 // What is put into a ring comes out in order, once; a full ring gives it back.
+ghost use Rattle.std.specs.Prelude.{IfSome};
+ghost use Rattle.outbox.specs.Ring.{Ends, SameInlet, SameOutlet};
+ghost use Rattle.outbox.specs.declared.ends.Outlet.{Outlet};
+
 use crate::asked::{moment, new_core, provisioning};
 use crate::stores::new_store;
 use devices::{Effect, Report};
 use disk::MemDisk;
 use flusher::{Released, StoredBatches, cycle};
 use lw_types::Refusal;
-use outbox::{Inlet, Outlet, ring};
+use outbox::{Ended, Inlet, Outlet, ring};
 use session_core::{Core, Most};
 use std::alloc::Global;
 use std::thread;
@@ -104,51 +108,88 @@ fn a_full_ring_gives_back(rt: HostRuntime) {
     }
 }
 
-// Puts them all, in order, and says that there are no more. Whether there was room in time.
-fn put_all(outlet: Outlet, all: Vec<Released>) -> bool {
+// Puts them all, in order. `None` where there was no room in time.
+fn put_all(outlet: Outlet, all: Vec<Released>) -> Option<Outlet>
+    ensures { IfSome result (λ last. SameOutlet outlet last) }
+{
     let mut outlet = outlet;
     for released in all {
-        let mut waiting = Some(released);
-        for _ in 0..TURNS {
-            let Some(released) = waiting.take() else {
-                break;
-            };
-            if let Err(back) = outlet.put(released) {
-                waiting = Some(back);
-                thread::yield_now();
-            }
-        }
-        if waiting.is_some() {
-            return false;
+        if !put_in_time(&mut outlet, released) {
+            return None;
         }
     }
-    outlet.finish().is_some()
+    Some(outlet)
 }
 
-// Takes effects until there are no more. How many, where they come in order.
-fn take_all(inlet: Inlet) -> Option<u16> {
+// Puts one. Whether there was room in time.
+fn put_in_time(outlet: &mut Outlet, released: Released) -> bool
+    ensures { SameOutlet outlet.old outlet.new }
+{
+    let mut waiting = released;
+    for _ in 0..TURNS {
+        match outlet.put(waiting) {
+            Ok(()) => return true,
+            Err(back) => waiting = back,
+        }
+        thread::yield_now();
+    }
+    false
+}
+
+// Puts them all, in order, and says that there are no more.
+fn put_and_finish(outlet: Outlet, all: Vec<Released>) -> Option<Ended>
+    ensures { IfSome result (λ ended. (last : Outlet) × SameOutlet outlet last × Ends last ended) }
+{
+    put_all(outlet, all)?.finish()
+}
+
+// Takes effects until so many were taken or there are no more. How many, where they come in order.
+fn take_some(inlet: Inlet, most: u16) -> (Inlet, Option<u16>)
+    ensures { SameInlet inlet result.0 }
+{
     let mut inlet = inlet;
     let mut next = 0;
     for _ in 0..TURNS {
+        if next == most {
+            break;
+        }
         let finished = inlet.is_finished();
         match inlet.take() {
             Some(effect) if is_of(&effect, next) => next = u16::saturating_add(next, 1),
-            Some(_) => return None,
-            None if finished => return Some(next),
+            Some(_) => return (inlet, None),
+            None if finished => break,
             None => thread::yield_now(),
         }
     }
-    None
+    (inlet, Some(next))
 }
 
-fn pass<R: Threads + Sync>(rt: &R, alloc: Global, count: u16) -> Result<Option<u16>, Refusal> {
+// One thread puts so many effects and says that there are no more, and another takes them until
+// there are none: how many are taken in order, and whether the ring is drained then.
+fn pass<R: Threads + Sync>(
+    rt: &R,
+    alloc: Global,
+    count: u16,
+) -> Result<Option<(u16, bool)>, Refusal> {
     let all = released(alloc, count)?;
     let (outlet, inlet) = ring(alloc, 16)?;
-    let (put, taken) = join(rt, move || put_all(outlet, all), move || take_all(inlet));
-    Ok(if put { taken } else { None })
+    let (ended, (mut inlet, taken)) = join(
+        rt,
+        move || -> Option<Ended>
+            ensures { IfSome result
+                (λ ended. (last : Outlet) × SameOutlet outlet last × Ends last ended) }
+        { put_and_finish(outlet, all) },
+        move || -> (Inlet, Option<u16>)
+            ensures { SameInlet inlet result.0 }
+        { take_some(inlet, u16::MAX) },
+    );
+    let (Some(mut ended), Some(taken)) = (ended, taken) else {
+        return Ok(None);
+    };
+    Ok(Some((taken, inlet.is_drained(&mut ended))))
 }
 
 #[test]
 fn a_ring_passes_effects_between_threads(rt: HostRuntime) {
-    assert!(rt; pass(&rt, rt.alloc(), 2000) == Ok(Some(2000)));
+    assert!(rt; pass(&rt, rt.alloc(), 2000) == Ok(Some((2000, true))));
 }
