@@ -8,3 +8,4 @@ pub mod DeviceStep
 pub mod Parts
 pub mod Channels
 pub mod Becoming
+pub mod Command

@@ -44,3 +44,30 @@ pub enum Command {
     /// An application queues MAC commands for its device.
     QueueMac(MacQueueing),
 }
+
+/// What an application asks for: each command but a frame that was heard.
+#[derive(Clone, PartialEq, Eq, Drop)]
+pub enum ApplicationCommand {
+    /// A new device is provisioned.
+    Provision(Provisioning),
+    /// An item is queued for its device.
+    Queue(Queueing),
+    /// MAC commands are queued for its device.
+    QueueMac(MacQueueing),
+}
+
+impl ApplicationCommand {
+    ghost use Rattle.std.specs.Prelude.{◌≡◌};
+    ghost use Rattle.devices.specs.Command.{as_command};
+
+    /// The command that it is.
+    pub fn into_command(self) -> Command
+        ensures { result ≡ as_command self }
+    {
+        match self {
+            ApplicationCommand::Provision(provisioning) => Command::Provision(provisioning),
+            ApplicationCommand::Queue(queueing) => Command::Queue(queueing),
+            ApplicationCommand::QueueMac(queueing) => Command::QueueMac(queueing),
+        }
+    }
+}

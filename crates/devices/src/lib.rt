@@ -20,7 +20,7 @@ mod queue;
 pub use activation::{Activation, CurrentSession, Session};
 pub use address::{dev_addr, slot_at};
 pub use channels::Channels;
-pub use command::{Command, MacQueueing, Provisioning, Queueing};
+pub use command::{ApplicationCommand, Command, MacQueueing, Provisioning, Queueing};
 pub use device::Device;
 pub use effect::{Downlink, Effect, ReceiveWindows, Report};
 pub use effects::Effects;

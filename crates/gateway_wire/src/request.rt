@@ -7,6 +7,7 @@ ghost use Rattle.gateway_wire.specs.declared.request.Request.{Request};
 ghost use Rattle.lw_types.specs.declared.identifiers.Eui.{Eui};
 ghost use Rattle.lw_types.specs.declared.key.Key.{Key};
 ghost use Rattle.devices.specs.declared.Tag.{Tag};
+ghost use Rattle.devices.specs.Command.{as_command};
 ghost use Rattle.gateway_wire.specs.Request.{command_of, request_words, request_line};
 ghost use Rattle.gateway_wire.specs.Request.{IsRequestInRange, IsRequestLine, IsRequestOf};
 ghost use Rattle.gateway_wire.specs.Request.{AreRequestWords};
@@ -14,7 +15,8 @@ ghost use Rattle.gateway_wire.specs.Finding.{item_words, AreItemFields, Finds};
 
 use crate::word_values::{Confirmed, last_bytes, next_ranged, next_value};
 use devices::{
-    Application, AskedBytes, Command, MacQueueing, Provisioning, Queueing, Rx1Offset, RxDelay, Tag,
+    Application, ApplicationCommand, AskedBytes, Command, MacQueueing, Provisioning, Queueing,
+    Rx1Offset, RxDelay, Tag,
 };
 use lw_types::{Eui, Key, Refusal, Words, laws};
 use std::alloc::Global;
@@ -50,6 +52,13 @@ impl Request {
     pub fn into_command(self, application: Application) -> Command
         ensures { result ≡ command_of application self }
     {
+        self.asked_by(application).into_command()
+    }
+
+    /// What an application asks for by this request.
+    pub fn asked_by(self, application: Application) -> ApplicationCommand
+        ensures { as_command result ≡ command_of application self }
+    {
         match self {
             Request::Provision {
                 dev_eui,
@@ -57,7 +66,7 @@ impl Request {
                 app_key,
                 rx1_offset,
                 rx_delay,
-            } => Command::Provision(Provisioning {
+            } => ApplicationCommand::Provision(Provisioning {
                 application,
                 dev_eui,
                 join_eui,
@@ -71,7 +80,7 @@ impl Request {
                 port,
                 confirmed,
                 payload,
-            } => Command::Queue(Queueing {
+            } => ApplicationCommand::Queue(Queueing {
                 application,
                 dev_eui,
                 tag,
@@ -79,7 +88,7 @@ impl Request {
                 confirmed,
                 payload,
             }),
-            Request::Mac { dev_eui, commands } => Command::QueueMac(MacQueueing {
+            Request::Mac { dev_eui, commands } => ApplicationCommand::QueueMac(MacQueueing {
                 application,
                 dev_eui,
                 commands,

@@ -7,7 +7,7 @@ use crate::gate::Gate;
 use crate::link::Link;
 use crate::moments::LifeClock;
 use crate::server::LiveServer;
-use devices::{Application, Command};
+use devices::Application;
 use gateway_wire::{Recipient, Request, read_line};
 use link_messages::{Fed, Feeder, Line, Message, Peer};
 use lw_types::{FrameCopy, Refusal};
@@ -188,14 +188,11 @@ impl<'x, B: Books, R: Wait, G: Gate, C: LifeClock> Worker<'x, B, R, G, C> {
     fn ask(&mut self, application: Application, request: Request) -> Option<Refusal> {
         self.pass_gate();
         let moment = self.context.clock.now();
-        let sessions = &self.server.sessions;
-        let seat = &mut self.seat;
-        let turn = match request.into_command(application) {
-            Command::Provision(value) => sessions.provision(self.context.rt, seat, moment, value),
-            Command::Queue(value) => sessions.queue(self.context.rt, seat, moment, value),
-            Command::Heard(_) => unreachable!(),
-            Command::QueueMac(value) => sessions.queue_mac(self.context.rt, seat, moment, value),
-        };
+        let asked = request.asked_by(application);
+        let turn = self
+            .server
+            .sessions
+            .ask(self.context.rt, &mut self.seat, moment, asked);
         if has_decided(&turn) {
             self.server.signals.ring_flusher();
         }

@@ -130,7 +130,8 @@ impl Core {
     }
 
     /// What came of the last commands that were handed in to be decided, at most 64, the oldest
-    /// first. A command that was refused for want of memory has no outcome.
+    /// first. A command that was refused for want of memory has no outcome. It is for whoever looks
+    /// at a core, as tests do: what a command's own caller has to know is in its [`Turn`].
     pub fn outcomes(&self) -> &HeapCircularBuffer<Outcome>
         ensures outcomes { result.now.items ≡ self.now.outcomes }
         ensures few { length self.now.outcomes ≤ MOST_OUTCOMES }

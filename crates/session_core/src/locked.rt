@@ -4,7 +4,7 @@ ghost use Rattle.lw_types.specs.declared.refusal.Refusal.TheVariants.{OutOfMemor
 ghost use Rattle.session_core.specs.Seats.{HasMade};
 
 use crate::{Books, Moment, Most, Outcome, Seat, Shared, Taker, Turn};
-use devices::{MacQueueing, Provisioning, Queueing};
+use devices::{ApplicationCommand, MacQueueing, Provisioning, Queueing};
 use lw_types::{FrameCopy, Refusal};
 use sessions::Batch;
 use std::alloc::Global;
@@ -14,7 +14,7 @@ use std::sync::{Mutex, Wait};
 /// for as long as that call alone. What is known across threads is what a caller's own share says:
 /// that it grew by just what the call made. A call that waits for the lock need not return.
 pub trait Sessions<B: Books> {
-    /// How many decisions were made in this life.
+    /// How many decisions were made in this life, for whoever looks at a core, as tests do.
     fn made<R: Wait>(&self, rt: &R) -> u64;
 
     /// A gateway heard a frame.
@@ -25,7 +25,18 @@ pub trait Sessions<B: Books> {
     fn tick<R: Wait>(&self, rt: &R, seat: &mut Seat<B>, moment: Moment) -> Turn
         ensures share { HasMade seat.old seat.new result };
 
-    /// An application provisions a device.
+    /// An application asks for a command.
+    fn ask<R: Wait>(
+        &self,
+        rt: &R,
+        seat: &mut Seat<B>,
+        moment: Moment,
+        asked: ApplicationCommand,
+    ) -> Turn
+        ensures share { HasMade seat.old seat.new result };
+
+    /// An application provisions a device. The server calls [`Sessions::ask`]; this call, and those
+    /// that queue, are for whoever has one command, as tests.
     fn provision<R: Wait>(
         &self,
         rt: &R,
@@ -55,7 +66,8 @@ pub trait Sessions<B: Books> {
             (λ batch. taker.new ≡ taker.old + length batch)
             (λ e. (e ≡ OutOfMemory) × (taker.new ≡ taker.old)) };
 
-    /// What came of the last commands that were handed in to be decided.
+    /// What came of the last commands that were handed in to be decided, for whoever looks at a
+    /// core, as tests do.
     fn outcomes<R: Wait>(&self, rt: &R, alloc: Global) -> Result<Vec<Outcome>, Refusal>;
 
     /// The moment at which the oldest window is due.
@@ -76,6 +88,16 @@ impl<B: Books> Sessions<B> for Mutex<Shared<B>> {
 
     fn tick<R: Wait>(&self, rt: &R, seat: &mut Seat<B>, moment: Moment) -> Turn {
         self.lock(rt).tick(seat, moment)
+    }
+
+    fn ask<R: Wait>(
+        &self,
+        rt: &R,
+        seat: &mut Seat<B>,
+        moment: Moment,
+        asked: ApplicationCommand,
+    ) -> Turn {
+        self.lock(rt).ask(seat, moment, asked)
     }
 
     fn provision<R: Wait>(

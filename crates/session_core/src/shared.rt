@@ -2,13 +2,14 @@
 ghost use Rattle.std.specs.Prelude.{◌≡◌, ◌+◌, ◌≤◌, ◌<◌, ◌^◌, ◌↔◌, length, sum, take, IfSome};
 ghost use Rattle.std.specs.Prelude.{IsSome, IsTrue, MatchResult};
 ghost use Rattle.lw_types.specs.declared.refusal.Refusal.TheVariants.{OutOfMemory};
+ghost use Rattle.devices.specs.Command.{as_command};
 ghost use Rattle.devices.specs.declared.command.Command.TheVariants as commands;
 ghost use Rattle.session_core.specs.Deciding.{after_taking};
 ghost use Rattle.session_core.specs.Events.{Asks, Hears, IsTurn, Ticks, next_due};
 ghost use Rattle.session_core.specs.Seats.{HasMade};
 
 use crate::{Books, Core, Made, Moment, Most, Outcome, Seat, Taken, Taker, Turn};
-use devices::{Command, MacQueueing, Provisioning, Queueing};
+use devices::{ApplicationCommand, MacQueueing, Provisioning, Queueing};
 use lw_types::{FrameCopy, Refusal};
 use sessions::Batch;
 use std::alloc::Global;
@@ -67,7 +68,7 @@ impl<B: Books> Shared<B> {
         Seat::new(share)
     }
 
-    /// How many decisions were made in this life.
+    /// How many decisions were made in this life, for whoever looks at a core, as tests do.
     pub fn made(&self) -> u64
         ensures { result ≡ self.now.core.decisions.made }
     {
@@ -96,14 +97,15 @@ impl<B: Books> Shared<B> {
         turn
     }
 
-    /// An application provisions a device ([`Core::provision`]).
+    /// An application provisions a device ([`Core::provision`]). The server calls [`Shared::ask`];
+    /// this call, and those that queue, are for whoever has one command, as tests.
     pub fn provision(&mut self, seat: &mut Seat<B>, moment: Moment, value: Provisioning) -> Turn
         ensures turn { IsTurn self.old.core moment
             (Asks (commands.Provision value)) result self.new.core }
         ensures share { HasMade seat.old seat.new result }
         ensures left { self.new.left ≡ self.old.left }
     {
-        self.decide(seat, moment, Command::Provision(value))
+        self.ask(seat, moment, ApplicationCommand::Provision(value))
     }
 
     /// An application queues an item for its device ([`Core::queue`]).
@@ -113,7 +115,7 @@ impl<B: Books> Shared<B> {
         ensures share { HasMade seat.old seat.new result }
         ensures left { self.new.left ≡ self.old.left }
     {
-        self.decide(seat, moment, Command::Queue(value))
+        self.ask(seat, moment, ApplicationCommand::Queue(value))
     }
 
     /// An application queues MAC commands for its device ([`Core::queue_mac`]).
@@ -123,16 +125,17 @@ impl<B: Books> Shared<B> {
         ensures share { HasMade seat.old seat.new result }
         ensures left { self.new.left ≡ self.old.left }
     {
-        self.decide(seat, moment, Command::QueueMac(value))
+        self.ask(seat, moment, ApplicationCommand::QueueMac(value))
     }
 
-    // A command comes.
-    fn decide(&mut self, seat: &mut Seat<B>, moment: Moment, command: Command) -> Turn
-        ensures turn { IsTurn self.old.core moment (Asks command) result self.new.core }
+    /// An application asks for a command ([`Core::decide`]).
+    pub fn ask(&mut self, seat: &mut Seat<B>, moment: Moment, asked: ApplicationCommand) -> Turn
+        ensures turn { IsTurn self.old.core moment
+            (Asks (as_command asked)) result self.new.core }
         ensures share { HasMade seat.old seat.new result }
         ensures left { self.new.left ≡ self.old.left }
     {
-        let turn = self.core.decide(moment, command);
+        let turn = self.core.decide(moment, asked.into_command());
         count(&mut self.made, seat, &turn);
         turn
     }
@@ -157,8 +160,8 @@ impl<B: Books> Shared<B> {
         Ok(batch)
     }
 
-    /// What came of the last commands that were handed in to be decided ([`Core::outcomes`]).
-    /// Refused with `OutOfMemory` for want of memory.
+    /// What came of the last commands that were handed in to be decided ([`Core::outcomes`]), for
+    /// whoever looks at a core, as tests do. Refused with `OutOfMemory` for want of memory.
     pub fn outcomes(&self, alloc: Global) -> Result<Vec<Outcome>, Refusal>
         ensures { MatchResult result (λ outcomes. outcomes.items ≡ self.now.core.outcomes)
             (λ e. e ≡ OutOfMemory) }

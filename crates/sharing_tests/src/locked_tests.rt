@@ -1,9 +1,11 @@
-// What is asked through a lock is answered, decided and noted as by a core that one thread has.
+// What is asked through a lock, by the call of its kind or by the one call for applications, is
+// answered, decided and noted as by a core that one thread has.
 ghost use Rattle.std.specs.Prelude.{◌≡◌};
 
 use crate::asked::{
     JOINER, REQUEST, STRANGE, UPLINK, copy, item, mac_command, moment, new_core, provisioning,
 };
+use devices::ApplicationCommand;
 use lw_types::Refusal;
 use session_core::{Books, Core, Moment, Most, Outcome, Seat, Sessions, Shared, Taker, Turn};
 use sessions::{Batch, Decision};
@@ -124,6 +126,7 @@ fn answer(alloc: Global, core: &mut Core, at: Moment, event: &Event) -> Result<T
     }
 }
 
+// By the call of its kind.
 fn locked_answer<B: Books, R: Wait>(
     rt: &R,
     alloc: Global,
@@ -146,6 +149,20 @@ fn locked_answer<B: Books, R: Wait>(
         }
         Event::Tick => Ok(sessions.tick(rt, seat, at)),
     }
+}
+
+// What an application asks for by an event.
+fn asked(alloc: Global, event: &Event) -> Result<Option<ApplicationCommand>, Refusal> {
+    Ok(match event {
+        Event::Provision(dev_eui) => {
+            Some(ApplicationCommand::Provision(provisioning(*dev_eui)?))
+        }
+        Event::Queue(dev_eui, tag) => {
+            Some(ApplicationCommand::Queue(item(alloc, *dev_eui, *tag)?))
+        }
+        Event::Mac(dev_eui) => Some(ApplicationCommand::QueueMac(mac_command(alloc, *dev_eui)?)),
+        Event::Hear(..) | Event::Tick => None,
+    })
 }
 
 // Whether two batches have the same decisions.
@@ -192,6 +209,8 @@ struct Lives<'a, B: Books> {
     sessions: &'a Mutex<Shared<B>>,
     seat: &'a mut Seat<B>,
     taker: &'a mut Taker<B>,
+    // Whether applications ask by the one call for all that they ask.
+    asks: bool,
 }
 
 impl<B: Books> Lives<'_, B> {
@@ -200,7 +219,10 @@ impl<B: Books> Lives<'_, B> {
         let (at, event, wanted, _) = row;
         let at = moment(*at)?;
         let plain = answer(self.alloc, self.core, at, event)?;
-        let locked = locked_answer(rt, self.alloc, self.sessions, self.seat, at, event)?;
+        let locked = match asked(self.alloc, event)? {
+            Some(asked) if self.asks => self.sessions.ask(rt, self.seat, at, asked),
+            _ => locked_answer(rt, self.alloc, self.sessions, self.seat, at, event)?,
+        };
         let told = (locked.from, locked.to, locked.refused);
         let moments = self.sessions.effective_time(rt) == self.core.effective_time()
             && self.sessions.next_due(rt) == self.core.next_due();
@@ -260,6 +282,7 @@ fn plays<B: Books, R: Wait>(
         sessions: &sessions,
         seat: &mut seat,
         taker: &mut taker,
+        asks: !each,
     };
     let (rows, outcomes, shares) = script_of(script);
     Ok(lives.agree(rt, rows, each)? && lives.end(rt, outcomes, shares)?)

@@ -63,9 +63,11 @@ fn is_of(effect: &Effect, wanted: u16) -> bool {
     }
 }
 
-// How many effects are taken, where they are those from the first on, in order.
-fn taken_in_order(inlet: &mut Inlet) -> Option<u16> {
-    let mut next = 0;
+// Takes the effects that are there: the slot behind the last, where they come in order from one on.
+fn taken_in_order(inlet: &mut Inlet, first: u16) -> Option<u16>
+    ensures { SameInlet inlet.old inlet.new }
+{
+    let mut next = first;
     for _ in 0..u16::MAX {
         match inlet.take() {
             None => return Some(next),
@@ -90,7 +92,7 @@ fn overfill(alloc: Global, places: u16) -> Result<(u16, bool, Option<u16>, bool)
         }
     }
     let open = inlet.is_finished();
-    let taken = taken_in_order(&mut inlet);
+    let taken = taken_in_order(&mut inlet, 0);
     let ended = outlet.finish().is_some() && inlet.is_finished();
     Ok((
         fits,
@@ -192,4 +194,44 @@ fn pass<R: Threads + Sync>(
 #[test]
 fn a_ring_passes_effects_between_threads(rt: HostRuntime) {
     assert!(rt; pass(&rt, rt.alloc(), 2000) == Ok(Some((2000, true))));
+}
+
+// One thread puts so many effects, and another takes all but the last few; then both ends stand in
+// one: whether the ring is drained once nothing more is put, how many were taken in order when the
+// others are, and whether it is drained then.
+fn pass_all_but<R: Threads + Sync>(
+    rt: &R,
+    alloc: Global,
+    count: u16,
+    left: u16,
+) -> Result<Option<(bool, u16, bool)>, Refusal> {
+    let all = released(alloc, count)?;
+    let (outlet, inlet) = ring(alloc, 16)?;
+    let most = count.saturating_sub(left);
+    let (outlet, (mut inlet, taken)) = join(
+        rt,
+        move || -> Option<Outlet>
+            ensures { IfSome result (λ last. SameOutlet outlet last) }
+        { put_all(outlet, all) },
+        move || -> (Inlet, Option<u16>)
+            ensures { SameInlet inlet result.0 }
+        { take_some(inlet, most) },
+    );
+    let (Some(mut outlet), Some(taken)) = (outlet, taken) else {
+        return Ok(None);
+    };
+    inlet.look(&mut outlet);
+    let Some(mut ended) = outlet.finish() else {
+        return Ok(None);
+    };
+    let is_early = inlet.is_drained(&mut ended);
+    let Some(taken) = taken_in_order(&mut inlet, taken) else {
+        return Ok(None);
+    };
+    Ok(Some((is_early, taken, inlet.is_drained(&mut ended))))
+}
+
+#[test]
+fn ends_come_together_from_two_threads(rt: HostRuntime) {
+    assert!(rt; pass_all_but(&rt, rt.alloc(), 2000, 8) == Ok(Some((false, 2000, true))));
 }

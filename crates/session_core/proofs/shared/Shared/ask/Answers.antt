@@ -1,14 +1,14 @@
 use Rattle.std.proofs.Common.{arith, ◌∙◌}
 use Rattle.session_core.proofs.Counts.{asked-grows}
-use Rattle.session_core.proofs.shared.Shared.decide.Goals as goal
+use Rattle.session_core.proofs.shared.Shared.ask.Goals as goal
 
 pub count-requires-clause-order : goal.count-requires-clause-order
 count-requires-clause-order g c =
     let h = c.decide-turn.ensures.turn in
-    let grows = (asked-grows c.args.command _ _ _ _ h).made in
+    let grows = (asked-grows c.into_command.result _ _ _ _ h).made in
     omega (arith, h.from, h.to, grows)
 
 pub invariant_of-self-clause-taken_is : goal.invariant_of-self-clause-taken_is
 invariant_of-self-clause-taken_is g c =
     let h = c.decide-turn.ensures.turn in
-    (asked-grows c.args.command _ _ _ _ h).taken ∙ c.args.self.now.taken_is
+    (asked-grows c.into_command.result _ _ _ _ h).taken ∙ c.args.self.now.taken_is
