@@ -122,7 +122,7 @@ fn a_table_admits_what_was_made_of_it(rt: HostRuntime) {
 // left of its decisions.
 fn restored(alloc: Global, batch: Batch, end: u64) -> Result<(Table, usize), Refusal> {
     let mut table = new_table(alloc, 64)?;
-    let Some(last) = table.continuation_end(0, batch.as_slice()) else {
+    let Some(last) = table.continuation_end_behind(&[], 0, batch.as_slice()) else {
         return Err(Refusal::OutOfStep);
     };
     if last != end {

@@ -86,7 +86,7 @@ impl Inlet {
     }
 
     /// Sees all that was put, where both ends stand in one thread: what was taken is a beginning of
-    /// it.
+    /// it. In a server they stand in two, so that only tests look.
     pub fn look(&mut self, outlet: &mut Outlet)
         requires { AreEnds outlet.old self.old }
         ensures ring { SameInlet self.old self.new × SameOutlet outlet.old outlet.new }
@@ -98,7 +98,8 @@ impl Inlet {
     }
 
     /// Whether all that was put is taken, once nothing more is put. Where it is, what was taken is
-    /// what was put, in order, each once.
+    /// what was put, in order, each once. It is for whoever has the word in the inlet's thread, as
+    /// tests: a server's sender, which has none, takes until [`Inlet::is_finished`].
     pub fn is_drained(&mut self, ended: &mut Ended) -> bool
         requires { IsEndOf ended.old self.old }
         ensures ring { SameInlet self.old self.new × SameEnded ended.old ended.new }

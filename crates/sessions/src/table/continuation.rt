@@ -10,8 +10,9 @@ use devices::Device;
 use lw_types::Refusal;
 
 impl Table {
-    /// Whether the decision was made of this table and has the sequence number after `seq`. The
-    /// cost doesn't grow with the number of devices.
+    /// Whether the decision was made of this table and has the sequence number after `seq`: what
+    /// whoever calls [`Table::apply`] asks of a decision that another made. A core applies its own
+    /// alone, so that only tests ask. The cost doesn't grow with the number of devices.
     pub fn admits(&self, seq: u64, decision: &Decision) -> bool
         ensures { IsTrue result ↔ Continues self.now seq decision.now }
     {

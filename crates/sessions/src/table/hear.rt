@@ -65,7 +65,8 @@ impl Table {
     }
 
     /// The question to the join server of a Join-Request, under the number of the decision that it
-    /// would lead to. `None` where no device has its DevEUI.
+    /// would lead to. `None` where no device has its DevEUI. A decision asks it; others than tests
+    /// have no need to.
     pub fn question(&self, seq: u64, request: &JoinRequestBytes) -> Option<Question<'_>>
         ensures { MatchOption result
             (slot_of (dev_eui_of request.now) self.now.devices ≡ None)

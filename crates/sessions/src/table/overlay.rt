@@ -12,23 +12,11 @@ use devices::Device;
 use lw_types::Eui;
 
 impl Table {
-    /// The number of the last of decisions that continue the table, the first of them under the
-    /// number after `seq`; `None` exactly where they don't. Each is tried on what those before it
-    /// leave, which is looked up among them before the table. Takes no memory. The cost grows with
-    /// the square of the number of decisions, and not with the devices.
-    pub fn continuation_end(&self, seq: u64, decisions: &[Decision]) -> Option<u64>
-        ensures { MatchOption result
-            (¬ (ContinueAll self.now seq decisions.now))
-            (λ last. ContinueAll self.now seq decisions.now × (last ≡ seq + length decisions.now)) }
-    {
-        self.continuation_end_behind(&[], seq, decisions)
-    }
-
-    /// The same behind `earlier` decisions that fit the table and aren't put there yet: the number
-    /// of the last of decisions that continue what those leave, where the last of those has the
-    /// number `seq`. What an own decision leaves is found before what an earlier one does, and that
-    /// before the table. Takes no memory. The cost grows with the number of decisions, times that
-    /// of both runs together, and not with the devices.
+    /// The number of the last of decisions that continue what `earlier` ones leave, which fit the
+    /// table and aren't put there yet, where the last of those has the number `seq`; `None` exactly
+    /// where they don't. Each is tried on what those before it leave: that is looked up among its
+    /// own, then among the earlier ones, then in the table. Takes no memory. The cost grows with
+    /// the number of decisions, times that of both runs together, and not with the devices.
     pub fn continuation_end_behind(
         &self,
         earlier: &[Decision],
