@@ -22,58 +22,79 @@ use crate::network::{Asked, Comes, FRESH, Items, Refused, Row, State, told};
 use lw_types::Refusal;
 use std::alloc::Global;
 
-// The tables of rows. (A test that names them all has each of their rows in its proof; one that
-// calls this has none.)
-fn rows_of(table: u8) -> &'static [Row] {
+// The tables of rows, each with its file and name. (A test that names them all has each of their
+// rows in its proof; one that calls this has none.)
+fn rows_of(table: u8) -> (&'static str, &'static [Row]) {
     match table {
-        0 => payloads::MAC_COMMANDS,
-        1 => payloads::PORTS,
-        2 => session_choice::SESSIONS,
-        3 => session_choice::AWAITED,
-        4 => fcnt::COUNTERS,
-        5 => fcnt::REPEATS,
-        6 => loads::LOADS,
-        7 => loads::ITEMS,
-        8 => windows::LINK_CHECKS,
-        9 => stories::STORIES,
-        10 => joins::JOINS,
-        11 => channels::CHANNELS,
-        12 => counts::COUNTS,
-        _ => queueing::QUEUED,
+        0 => ("payloads.rt MAC_COMMANDS", payloads::MAC_COMMANDS),
+        1 => ("payloads.rt PORTS", payloads::PORTS),
+        2 => ("session_choice.rt SESSIONS", session_choice::SESSIONS),
+        3 => ("session_choice.rt AWAITED", session_choice::AWAITED),
+        4 => ("fcnt.rt COUNTERS", fcnt::COUNTERS),
+        5 => ("fcnt.rt REPEATS", fcnt::REPEATS),
+        6 => ("loads.rt LOADS", loads::LOADS),
+        7 => ("loads.rt ITEMS", loads::ITEMS),
+        8 => ("windows.rt LINK_CHECKS", windows::LINK_CHECKS),
+        9 => ("stories.rt STORIES", stories::STORIES),
+        10 => ("joins.rt JOINS", joins::JOINS),
+        11 => ("channels.rt CHANNELS", channels::CHANNELS),
+        12 => ("counts.rt COUNTS", counts::COUNTS),
+        _ => ("queueing.rt QUEUED", queueing::QUEUED),
     }
+}
+
+// What is wrong in the tables, a line each: the table, the number of the row, what was wanted, and
+// what came.
+fn wrong_rows(alloc: Global) -> Result<String, Refusal> {
+    let mut wrong = String::new(alloc);
+    for table in 0..14 {
+        let (name, rows) = rows_of(table);
+        for (number, row) in rows.iter().enumerate() {
+            if let Some(got) = row.fault(alloc)? {
+                let wanted = row.wanted;
+                let line = format!(in alloc; "\n{name} {number}: wanted {wanted}, got {got}")?;
+                wrong.push_str(&line)?;
+            }
+        }
+    }
+    Ok(wrong)
 }
 
 #[test]
 fn a_command_leaves_a_record_and_effects(rt: HostRuntime) {
-    for table in 0..14 {
-        for row in rows_of(table) {
-            assert!(rt;
-                row.holds(rt.alloc()) == Ok(true),
-                "{table}: {}",
-                row.wanted
-            );
-        }
-    }
+    let wrong = wrong_rows(rt.alloc()).expect(&rt, "tables");
+    assert!(rt; wrong.is_empty(), "{wrong}");
 }
 
 // The tables of refusals: of uplinks, of joins, by channels, and of items and MAC commands.
-fn refusals_of(table: u8) -> &'static [Refused] {
+fn refusals_of(table: u8) -> (&'static str, &'static [Refused]) {
     match table {
-        0 => refusals::REFUSALS,
-        1 => joins::REFUSALS,
-        2 => channels::REFUSALS,
-        _ => queueing::REFUSALS,
+        0 => ("refusals.rt REFUSALS", refusals::REFUSALS),
+        1 => ("joins.rt REFUSALS", joins::REFUSALS),
+        2 => ("channels.rt REFUSALS", channels::REFUSALS),
+        _ => ("queueing.rt REFUSALS", queueing::REFUSALS),
     }
+}
+
+fn wrong_refusals(alloc: Global) -> Result<String, Refusal> {
+    let mut wrong = String::new(alloc);
+    for table in 0..4 {
+        let (name, rows) = refusals_of(table);
+        for (number, (before, comes, refusal)) in rows.iter().enumerate() {
+            if !before.refuses(alloc, comes, *refusal)? {
+                let got = before.outcome(alloc, comes)?;
+                let line = format!(in alloc; "\n{name} {number}: wanted {refusal}, got {got}")?;
+                wrong.push_str(&line)?;
+            }
+        }
+    }
+    Ok(wrong)
 }
 
 #[test]
 fn a_command_is_refused_for_its_first_cause(rt: HostRuntime) {
-    for table in 0..4 {
-        for (before, comes, refusal) in refusals_of(table) {
-            let refused = before.refuses(rt.alloc(), comes, *refusal);
-            assert!(rt; refused == Ok(true), "{table}: {refusal}");
-        }
-    }
+    let wrong = wrong_refusals(rt.alloc()).expect(&rt, "tables");
+    assert!(rt; wrong.is_empty(), "{wrong}");
 }
 
 // Whether the acknowledgement of an uplink at a data rate leaves for RX1 at another, where the
@@ -91,7 +112,7 @@ fn lowers(alloc: Global, rx1_offset: u64, data_rate: u8, rx1: usize) -> Result<b
             ..ANSWERED
         },
     };
-    row.holds(alloc)
+    Ok(row.fault(alloc)?.is_none())
 }
 
 #[test]
@@ -119,7 +140,7 @@ fn waits_behind(alloc: Global, waiting: u8) -> Result<bool, Refusal> {
             ..FIFTY
         },
     };
-    row.holds(alloc)
+    Ok(row.fault(alloc)?.is_none())
 }
 
 #[test]

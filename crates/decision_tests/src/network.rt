@@ -124,11 +124,20 @@ pub(crate) struct Row {
 pub(crate) type Refused = (State, Comes, Refusal);
 
 impl Row {
-    /// Whether all comes so.
-    pub fn holds(&self, alloc: Global) -> Result<bool, Refusal> {
+    /// What comes in the place of what is wanted, if all doesn't come so.
+    pub fn fault(&self, alloc: Global) -> Result<Option<String>, Refusal> {
         let mut table = self.before.table(alloc)?;
-        let told = told(alloc, &mut table, &self.comes)?;
-        Ok(told.as_str() == self.wanted && self.after.is_in(alloc, &table)?)
+        let told = match told(alloc, &mut table, &self.comes) {
+            Ok(told) => told,
+            Err(refusal) => return Ok(Some(format!(in alloc; "{refusal}")?)),
+        };
+        if told.as_str() != self.wanted {
+            return Ok(Some(told));
+        }
+        if !self.after.is_in(alloc, &table)? {
+            return Ok(Some(format!(in alloc; "it with another record")?));
+        }
+        Ok(None)
     }
 }
 
@@ -186,6 +195,15 @@ impl State {
     pub fn refuses(&self, alloc: Global, comes: &Comes, refusal: Refusal) -> Result<bool, Refusal> {
         let mut table = self.table(alloc)?;
         Ok(told(alloc, &mut table, comes).err() == Some(refusal))
+    }
+
+    /// What leaves by what comes, or why it is refused.
+    pub fn outcome(&self, alloc: Global, comes: &Comes) -> Result<String, Refusal> {
+        let mut table = self.table(alloc)?;
+        match told(alloc, &mut table, comes) {
+            Ok(told) => Ok(told),
+            Err(refusal) => Ok(format!(in alloc; "{refusal}")?),
+        }
     }
 
     /// A table of 8 slots with this record.

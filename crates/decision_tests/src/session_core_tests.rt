@@ -4,29 +4,39 @@ mod core_script;
 mod limits;
 mod windows;
 
-use crate::session_core_tests::core_script::{Step, is_seen};
+use crate::session_core_tests::core_script::{Step, wrong_steps};
+use lw_types::Refusal;
 use session_core::Moment;
+use std::alloc::Global;
 
-// The scripts. (A test that names them all has each of their steps in its proof; one that calls
-// this has none.)
-fn script(number: u8) -> &'static [Step] {
+// The scripts, each with its file and name. (A test that names them all has each of their steps in
+// its proof; one that calls this has none.)
+fn script(number: u8) -> (&'static str, &'static [Step]) {
     match number {
-        0 => commands::TURNS,
-        1 => commands::DUE,
-        2 => commands::TAKEN,
-        3 => limits::OUTCOMES,
-        4 => limits::WINDOWS,
-        5 => limits::WAITING,
-        6 => limits::NUMBERS,
-        _ => windows::MOMENTS,
+        0 => ("commands.rt TURNS", commands::TURNS),
+        1 => ("commands.rt DUE", commands::DUE),
+        2 => ("commands.rt TAKEN", commands::TAKEN),
+        3 => ("limits.rt OUTCOMES", limits::OUTCOMES),
+        4 => ("limits.rt WINDOWS", limits::WINDOWS),
+        5 => ("limits.rt WAITING", limits::WAITING),
+        6 => ("limits.rt NUMBERS", limits::NUMBERS),
+        _ => ("windows.rt MOMENTS", windows::MOMENTS),
     }
+}
+
+fn wrong_scripts(alloc: Global) -> Result<String, Refusal> {
+    let mut wrong = String::new(alloc);
+    for number in 0..8 {
+        let (name, steps) = script(number);
+        wrong.push_str(&wrong_steps(alloc, name, steps)?)?;
+    }
+    Ok(wrong)
 }
 
 #[test]
 fn a_core_answers_events_one_after_another(rt: HostRuntime) {
-    for number in 0..8 {
-        assert!(rt; is_seen(rt.alloc(), script(number)) == Ok(true), "{number}");
-    }
+    let wrong = wrong_scripts(rt.alloc()).expect(&rt, "scripts");
+    assert!(rt; wrong.is_empty(), "{wrong}");
 }
 
 #[test]

@@ -68,15 +68,43 @@ pub(super) enum Step {
     DevNonce(Option<u16>),
 }
 
-/// Whether all is seen so, step by step.
-pub(super) fn is_seen(alloc: Global, steps: &[Step]) -> Result<bool, Refusal> {
+/// What isn't seen so, a line each: the script, the number of the step, what was wanted, and what
+/// came.
+pub(super) fn wrong_steps(alloc: Global, name: &str, steps: &[Step]) -> Result<String, Refusal> {
+    let mut wrong = String::new(alloc);
     let mut core = new_core(alloc, 1, 0)?;
-    for step in steps {
-        if !goes_on(alloc, &mut core, step)? {
-            return Ok(false);
+    for (number, step) in steps.iter().enumerate() {
+        if let Some(fault) = fault(alloc, &mut core, step)? {
+            let line = format!(in alloc; "\n{name} {number}: {fault}")?;
+            wrong.push_str(&line)?;
         }
     }
-    Ok(true)
+    Ok(wrong)
+}
+
+// What is wanted and what comes, where a step isn't seen so.
+fn fault(alloc: Global, core: &mut Core, step: &Step) -> Result<Option<String>, Refusal> {
+    let Step::At(moment, event, wanted, closings) = step else {
+        return Ok(if goes_on(alloc, core, step)? {
+            None
+        } else {
+            Some(format!(in alloc; "another state")?)
+        });
+    };
+    let got = answer_at(alloc, core, *moment, event)?;
+    let closed = core.closings();
+    if (got, closed) == (*wanted, *closings) {
+        return Ok(None);
+    }
+    let wanted = answer_text(alloc, *wanted, *closings)?;
+    let got = answer_text(alloc, got, closed)?;
+    Ok(Some(format!(in alloc; "wanted {wanted}, got {got}")?))
+}
+
+fn answer_text(alloc: Global, answer: Answer, closings: usize) -> Result<String, Refusal> {
+    let (from, to, refused) = answer;
+    let refused = refused.map_or(0, |refusal| refusal.number());
+    Ok(format!(in alloc; "{from} to {to}, refused {refused}, {closings} closed")?)
 }
 
 fn new_core(alloc: Global, slots: u64, seq: u64) -> Result<Core, Refusal> {
@@ -87,9 +115,8 @@ fn new_core(alloc: Global, slots: u64, seq: u64) -> Result<Core, Refusal> {
 fn goes_on(alloc: Global, core: &mut Core, step: &Step) -> Result<bool, Refusal> {
     match step {
         Step::Core(slots, seq) => begin(alloc, core, *slots, *seq),
-        Step::At(moment, event, wanted, closings) => {
-            let is_so = answers(alloc, core, *moment, event, *wanted)?;
-            Ok(is_so && core.closings() == *closings)
+        Step::At(moment, event, wanted, _) => {
+            Ok(answer_at(alloc, core, *moment, event)? == *wanted)
         }
         Step::Again(times, event, wanted) => come_again(alloc, core, *times, event, *wanted),
         Step::Crowd(frames, gateways, refused) => {
@@ -114,17 +141,16 @@ fn begin(alloc: Global, core: &mut Core, slots: u64, seq: u64) -> Result<bool, R
     Ok(true)
 }
 
-// Whether this is answered so.
-fn answers(
+// What this is answered.
+fn answer_at(
     alloc: Global,
     core: &mut Core,
     moment: u64,
     event: &Event,
-    wanted: Answer,
-) -> Result<bool, Refusal> {
+) -> Result<Answer, Refusal> {
     let moment = Moment::new(moment).ok_or(Refusal::Damaged)?;
     let Turn { from, to, refused } = answer(alloc, core, moment, event)?;
-    Ok((from, to, refused) == wanted)
+    Ok((from, to, refused))
 }
 
 fn answer(alloc: Global, core: &mut Core, moment: Moment, event: &Event) -> Result<Turn, Refusal> {
@@ -187,7 +213,7 @@ fn come_again(
     wanted: Answer,
 ) -> Result<bool, Refusal> {
     for _ in 0..times {
-        if !answers(alloc, core, 0, event, wanted)? {
+        if answer_at(alloc, core, 0, event)? != wanted {
             return Ok(false);
         }
     }
@@ -216,7 +242,7 @@ fn crowd(
 fn fills(alloc: Global, core: &mut Core, devices: u64) -> Result<bool, Refusal> {
     for made in 0..devices {
         let event = Event::Ask(Comes::Device(made));
-        if !answers(alloc, core, 0, &event, (made, made + 1, None))? {
+        if answer_at(alloc, core, 0, &event)? != (made, made + 1, None) {
             return Ok(false);
         }
     }
