@@ -1,8 +1,9 @@
 -- Calls of a store's disk, one after another.
-use Rattle.std.proofs.Common.{◌≡◌, ◌≢◌, ◌⊎◌, ◌∙◌, ◌+◌, ◌<◌, ◌≤◌, ℕ, List, Bool, true, false, Result, Ok, Err, MatchBool, MatchResult, ap, subst, sym, refl, inl, inr, arith}
+use Rattle.std.proofs.Common.{◌≡◌, ◌≢◌, ◌⊎◌, ◌∙◌, ◌+◌, ◌-◌, ◌<◌, ◌≤◌, ℕ, zero, suc, List, Bool, true, false, Result, Ok, Err, MatchBool, MatchResult, ap, subst, sym, refl, inl, inr, arith}
 use Rattle.lw_types.specs.declared.refusal.Refusal.{Refusal}
 use Rattle.lw_types.specs.declared.refusal.Refusal.TheVariants.{Damaged, DeviceFailed, Failed, OutOfMemory, OutOfStep}
 use Rattle.disk.specs.Outlook.{IsForeseen, Outlook}
+use Rattle.disk.specs.Outlook.Outlook.{Unknown, AllSucceed, FailsAfter}
 use Rattle.disk.specs.State.{State}
 use Rattle.sessions.specs.Decision.{IsLegalContinuation}
 use Rattle.sessions.specs.Table.{TableState}
@@ -10,7 +11,7 @@ use Rattle.sessions.specs.declared.decision.Decision.{Decision}
 use Rattle.store.specs.declared.areas.TheConstants.{LAST_GENERATION}
 use Rattle.store.specs.declared.store.Store.{Store}
 use Rattle.store.specs.State.{IsOneCall, IsSettled, disk_of, store_state}
-use Rattle.flusher.specs.Calls.{AreStoreCalls, IsUntouched, LastFailed, NoneFailed}
+use Rattle.flusher.specs.Calls.{AreStoreCalls, HasFailedBehind, HasFailedWithin, HaveSucceeded, IsUntouched, LastFailed, NoneFailed}
 
 pub none_untouched : {D : Type 0} {g : _} (state : D → State) (failures : D → ℕ) (outlook : D → Outlook) (old new : Store D g)
     → IsUntouched state old new → NoneFailed failures outlook old new
@@ -76,6 +77,50 @@ pub settled_still : {D : Type 0} {g : _} (state : D → State) (failures : D →
 settled_still state failures outlook old mid new e first (inl same) settled none = subst IsSettled (sym same.0) settled
 settled_still state failures outlook old mid new e first (inr (is, last)) settled none =
     absurd (omega (arith, none.count, first.count, last.count))
+
+-- ---- how many calls were made
+
+pub no_calls : (o : Outlook) → HaveSucceeded 0 o o
+no_calls Unknown = refl
+no_calls AllSucceed = refl
+no_calls (FailsAfter left) = (omega arith, ap FailsAfter (let same : left ≡ left - 0 = omega arith in same))
+
+pub one_more : (made : ℕ) (a b c : Outlook) → HaveSucceeded made a b → IsForeseen b true c → HaveSucceeded (made + 1) a c
+one_more made Unknown b c was is = subst (λ b. IsForeseen b true c) was is
+one_more made AllSucceed b c was is = (subst (λ b. IsForeseen b true c) was is).1
+one_more made (FailsAfter left) b c (few, was) is = by (left - made) refl (subst (λ b. IsForeseen b true c) was is)
+  where
+    by : (n : ℕ) → left - made ≡ n → IsForeseen (FailsAfter n) true c → (made + 1 ≤ left) × (c ≡ FailsAfter (left - (made + 1)))
+    by zero same h = let no : true ≡ false = h.0 in cc
+    by (suc n) same h = (omega (arith, same), h.1 ∙ ap FailsAfter (let less : n ≡ left - (made + 1) = omega (arith, same) in less))
+
+pub then_fails : (made : ℕ) (a b c : Outlook) → HaveSucceeded made a b → IsForeseen b false c → HasFailedBehind made a c
+then_fails made Unknown b c was is = subst (λ b. IsForeseen b false c) was is
+then_fails made AllSucceed b c was is = let no : false ≡ true = (subst (λ b. IsForeseen b false c) was is).0 in cc
+then_fails made (FailsAfter left) b c (few, was) is = by (left - made) refl (subst (λ b. IsForeseen b false c) was is)
+  where
+    by : (n : ℕ) → left - made ≡ n → IsForeseen (FailsAfter n) false c → (left ≡ made) × (c ≡ AllSucceed)
+    by zero same h = (omega (arith, same, few), h.1)
+    by (suc n) same h = let no : false ≡ true = h.0 in cc
+
+pub more_succeed : (j k : ℕ) (a b c : Outlook) → HaveSucceeded j a b → HaveSucceeded k b c → HaveSucceeded (j + k) a c
+more_succeed j k Unknown b c was is = subst (λ b. HaveSucceeded k b c) was is
+more_succeed j k AllSucceed b c was is = subst (λ b. HaveSucceeded k b c) was is
+more_succeed j k (FailsAfter left) b c (few, was) is =
+    let h = subst (λ b. HaveSucceeded k b c) was is in
+    let less = h.0 in
+    (omega (arith, few, less), h.1 ∙ ap FailsAfter (let same : left - j - k ≡ left - (j + k) = omega (arith, few, less) in same))
+
+more_fail : (j k : ℕ) (a b c : Outlook) → HaveSucceeded j a b → HasFailedBehind k b c → HasFailedBehind (j + k) a c
+more_fail j k Unknown b c was is = subst (λ b. HasFailedBehind k b c) was is
+more_fail j k AllSucceed b c was is = subst (λ b. HasFailedBehind k b c) was is
+more_fail j k (FailsAfter left) b c (few, was) is =
+    let h = subst (λ b. HasFailedBehind k b c) was is in
+    let same = h.0 in
+    (omega (arith, few, same), h.1)
+
+pub more_within : (j least most : ℕ) (a b c : Outlook) → HaveSucceeded j a b → HasFailedWithin least most b c → HasFailedWithin (j + least) (j + most) a c
+more_within j least most a b c was (made, (from, (less, is))) = (j + made, (omega (arith, from), (omega (arith, less), more_fail j made a b c was is)))
 
 -- ---- why a batch wasn't committed
 

@@ -15,7 +15,7 @@ use Rattle.store.specs.Image.{HoldsTable}
 use Rattle.store.specs.Pairing.{IsRoomyBehind}
 use Rattle.store.specs.Phases.{begun_sequel, body_synced_sequel, durable_decisions, gate_written_sequel, gate_written_size, written_sequel}
 use Rattle.store.specs.Pairing.{following_sequel, paired_sequel}
-use Rattle.store.specs.State.{IsOneCall, IsRoomy, IsSettled, StoreState, store_state}
+use Rattle.store.specs.State.{IsOneCall, IsRoomy, IsSettled, StoreState, disk_of, store_state}
 use Rattle.store.specs.UnderWay.{HasTip, HoldsLeft, IsNextCall, IsOnItsWay, flight, flights_in}
 use Rattle.store.specs.declared.phases.Durable.{Durable}
 use Rattle.store.specs.declared.phases.GateWritten.{GateWritten as Opened}
@@ -25,15 +25,16 @@ use Rattle.store.specs.declared.under_way.Called.TheVariants as called
 use Rattle.store.specs.declared.under_way.UnderWay.{UnderWay}
 use Rattle.store.specs.declared.under_way.UnderWay.TheVariants.{Begun, Written, BodySynced, GateWritten, Following, Paired, Checkpoint}
 use Rattle.flusher.specs.declared.room.Room.{Room}
-use Rattle.flusher.specs.Calls.{IsUntouched, LastFailed, NoneFailed}
+use Rattle.flusher.specs.Calls.{HaveSucceeded, IsUntouched, LastFailed, NoneFailed, calls_of_room}
 use Rattle.flusher.specs.Chain.HasBroken.{FeedRefused, HadNoRoom, WasUncommitted}
-use Rattle.flusher.specs.Chain.{GivesAll, FeedGives, HasBroken, HasEnded, IsChainOfSome, IsFollowRefusal, LeaveInOrder, NoneFollows, batched_decisions, store_behind, store_behind_opened}
+use Rattle.flusher.specs.Chain.{GivesAll, FeedGives, HasBroken, HasEnded, IsChainOfSome, IsFollowRefusal, LeaveInOrder, NoneFollows, calls_of_batches, batched_decisions, store_behind, store_behind_opened}
 use Rattle.flusher.specs.Cycle.{Commits, HoldsWithOrWithout, IsUncommitted}
 use Rattle.flusher.proofs.Calling.{calls_then, none_then, one_call}
 use Rattle.flusher.proofs.Chains.{FoldLaws, batches_of}
 use Rattle.flusher.proofs.Holding.{held_along, with_or_without_along}
 use Rattle.flusher.proofs.Links.{BeginsDurable, IsBehind, IsFlying, IsUpTo, commits', counted', durable_length, failed_seq, failed_table, given', leave', split}
 use Rattle.flusher.proofs.Living.{IsOnDisk as IsSettledOnDisk}
+use Rattle.flusher.proofs.Making.{HasMade, made_all, made_within}
 
 -- ---- a call failed
 
@@ -147,7 +148,8 @@ module _ (laws : FoldLaws) (on_disk : IsSettledOnDisk) {D F C V : Type 0} (disk 
     (old now new : Store D disk) (before feed : F) (old_out mid_out : C) (under_way : UnderWay Room) (more count : ℕ) (end : Result (Unit {0}) Refusal)
     (roomy : IsRoomy (store_state disk.state old)) (alive : (store_state disk.state old).failed ≡ false)
     (flying : IsFlying disk old now under_way more count)
-    (up_to : IsUpTo disk gives effects step most old now before feed old_out mid_out under_way more count end) where
+    (up_to : IsUpTo disk gives effects step most old now before feed old_out mid_out under_way more count end)
+    (making : HasMade disk old now under_way most more) where
   abbrev s0 : StoreState
   s0 = store_state disk.state old
 
@@ -193,6 +195,7 @@ module _ (laws : FoldLaws) (on_disk : IsSettledOnDisk) {D F C V : Type 0} (disk 
                 ]),
           );
           calls = inr (is, last);
+          made = inr (inr (made_within disk old now new under_way most more some making roomy up_to.done number refusal call));
           settled = λ honest settled none. absurd (let a = none.count in let b = last.count in omega (arith, a, b));
           images = λ honest settled image p. by_left torn.torn table seq torn.legal torn.left image (e.images honest (flying.on_disk honest settled) image p);
         },
@@ -266,6 +269,11 @@ module _ (laws : FoldLaws) (on_disk : IsSettledOnDisk) {D F C V : Type 0} (disk 
     left : LeaveInOrder effects step s0.table batches old_out out
     left = leave' laws disk gives effects step most old now new before feed old_out mid_out out under_way more count end flying up_to durable along None e released all made
 
+    made_calls : HaveSucceeded (calls_of_room s0 + calls_of_batches batches) (disk.outlook (disk_of old)) (disk.outlook (disk_of new))
+    made_calls =
+        made_all disk old now new under_way most more flying.some making roomy up_to.done up_to.number durable along (durable_decisions durable) batches e.flights one not_none
+        long call
+
     rests : disk.honest → IsSettled s0 → IsSettled s2
     rests honest settled = e.on_disk honest (flying.on_disk honest settled)
 
@@ -300,6 +308,7 @@ module _ (laws : FoldLaws) (on_disk : IsSettledOnDisk) {D F C V : Type 0} (disk 
           ),
         );
         calls = calls;
+        made = made_calls;
         settled = λ honest settled none. rests honest settled;
         images = λ honest settled image p. inl (on_disk s2 (rests honest settled) image p);
       },
@@ -341,6 +350,7 @@ module _ (laws : FoldLaws) (on_disk : IsSettledOnDisk) {D F C V : Type 0} (disk 
             leave = left;
             ends = (omega (arith, number, long, one, some), why.why);
             calls = inl calls;
+            made = inl made_calls;
             settled = λ honest settled none. rests honest settled;
             images = λ honest settled image p. inl (on_disk s2 (rests honest settled) image p);
           },

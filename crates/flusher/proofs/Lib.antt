@@ -9,6 +9,7 @@ pub mod Leading
 pub mod Leaving
 pub mod Links
 pub mod Living
+pub mod Making
 pub mod Once
 pub mod Single
 pub mod Starts

@@ -134,18 +134,18 @@ no_durable (Paired phase along behind) is = is
 no_durable (Checkpoint phase) is = is
 
 -- each call is one less of those that are left
+pub rank_succeeded : (under_way : UnderWay Room) → 1 ≤ length (flights_in under_way) → rank_of (all_succeeded (flights_in under_way)) + 1 ≡ rank_of (flights_in under_way)
+rank_succeeded (Begun phase along) some = refl
+rank_succeeded (Written phase along) some = refl
+rank_succeeded (BodySynced phase along) some = refl
+rank_succeeded (GateWritten phase along) some = refl
+rank_succeeded (Following opened along following behind) some = refl
+rank_succeeded (Paired phase along behind) some = refl
+rank_succeeded (Checkpoint phase) some = absurd (omega (arith, some))
+
 pub rank_less : (under_way next : UnderWay Room) → 1 ≤ length (flights_in under_way) → flights_in next ≡ all_succeeded (flights_in under_way)
-    → rank_of (flights_in next) + 1 ≤ rank_of (flights_in under_way)
-rank_less under_way next some is = subst (λ fs. rank_of fs + 1 ≤ rank_of (flights_in under_way)) (sym is) (less under_way some)
-  where
-    less : (under_way : UnderWay Room) → 1 ≤ length (flights_in under_way) → rank_of (all_succeeded (flights_in under_way)) + 1 ≤ rank_of (flights_in under_way)
-    less (Begun phase along) some = omega arith
-    less (Written phase along) some = omega arith
-    less (BodySynced phase along) some = omega arith
-    less (GateWritten phase along) some = omega arith
-    less (Following opened along following behind) some = omega arith
-    less (Paired phase along behind) some = omega arith
-    less (Checkpoint phase) some = absurd (omega (arith, some))
+    → rank_of (flights_in next) + 1 ≡ rank_of (flights_in under_way)
+rank_less under_way next some is = ap (λ fs. rank_of fs + 1) is ∙ rank_succeeded under_way some
 
 -- behind a durable batch none but the others are under way
 pub some_behind : (here there : StoreState) (under_way next : UnderWay Room) → 1 ≤ length (flights_in under_way)
@@ -420,7 +420,7 @@ not_alone gives more s at_feed feed end (Checkpoint phase) other behind = behind
 
 -- each call is one less of those that are left, also where a batch is durable by it
 pub rank_durable : (under_way next : UnderWay Room) (ds : List Decision) → flight Stage.Durable ds ∷ flights_in next ≡ all_succeeded (flights_in under_way)
-    → 1 ≤ length (flights_in next) → rank_of (flights_in next) + 1 ≤ rank_of (flights_in under_way)
+    → 1 ≤ length (flights_in next) → rank_of (flights_in next) + 1 ≡ rank_of (flights_in under_way)
 rank_durable under_way next ds is some = by under_way is
   where
     tail : (flight : Flight Decision) (flights : List (Flight Decision)) → 1 ≤ length flights → rank_of (flight ∷ flights) ≡ rank_of flights
@@ -430,7 +430,7 @@ rank_durable under_way next ds is some = by under_way is
     one : (n : ℕ) → suc (length (flights_in next)) ≡ n → n ≡ 1 → ⊥
     one n long single = omega (arith, long, single, some)
 
-    by : (u : UnderWay Room) → flight Stage.Durable ds ∷ flights_in next ≡ all_succeeded (flights_in u) → rank_of (flights_in next) + 1 ≤ rank_of (flights_in u)
+    by : (u : UnderWay Room) → flight Stage.Durable ds ∷ flights_in next ≡ all_succeeded (flights_in u) → rank_of (flights_in next) + 1 ≡ rank_of (flights_in u)
     by (Begun phase along) is = absurd (one 1 (ap (length {A = Flight Decision}) is) refl)
     by (Written phase along) is = absurd (one 1 (ap (length {A = Flight Decision}) is) refl)
     by (BodySynced phase along) is = absurd (one 1 (ap (length {A = Flight Decision}) is) refl)

@@ -1,5 +1,7 @@
 -- A chain of one batch.
 use Rattle.std.proofs.Common.{◌≡◌, ◌≢◌, ◌⊎◌, ◌<◌, ◌≤◌, ◌+◌, ◌==◌, ◌∙◌, ◌++◌, ℕ, true, MatchBool, MatchResult, List, [], ◌∷◌, length, Result, Ok, Err, IfOk, IfErr, OnErr, inl, inr, sym, ap, subst, refl, arith, append-nil}
+use Rattle.std.proofs.lemmas.Bool.{ne_eqb}
+use Rattle.std.specs.Prelude.{if◌then◌else◌}
 use Rattle.devices.specs.declared.effect.Effect.{Effect}
 use Rattle.disk.specs.State.{EveryImage}
 use Rattle.disk.specs.declared.disk.Disk.{Ghosts}
@@ -12,9 +14,9 @@ use Rattle.sessions.specs.declared.decision.Decision.{Decision}
 use Rattle.store.specs.Image.{HoldsTable}
 use Rattle.store.specs.State.{IsSettled, StoreState, disk_of, store_state}
 use Rattle.store.specs.declared.store.Store.{Store}
-use Rattle.flusher.specs.Calls.{IsUntouched, LastFailed}
+use Rattle.flusher.specs.Calls.{HaveSucceeded, IsUntouched, LastFailed, calls_of_room}
 use Rattle.flusher.specs.Chain.HasBroken.{FeedRefused, HadNoRoom, WasUncommitted, WasUnready}
-use Rattle.flusher.specs.Chain.{GivesAll, FeedGives, HasBroken, HasEnded, IsChain, LeaveInOrder, batched_decisions, store_behind}
+use Rattle.flusher.specs.Chain.{GivesAll, FeedGives, HasBroken, HasEnded, IsChain, LeaveInOrder, calls_of_batches, batched_decisions, store_behind}
 use Rattle.flusher.specs.Cycle.{Commits, HoldsWithOrWithout, IsReady, IsUncommitted, IsUnready}
 use Rattle.flusher.specs.Lived.{GoOn, HaveLed}
 use Rattle.flusher.specs.Lives.{Lives, lives_after}
@@ -84,6 +86,28 @@ module _ {D F C V : Type 0} (disk : Ghosts D) (gives : FeedGives F) (effects : V
   pub done : (r : Result ℕ Refusal) → IsChain disk gives effects step 1 old new feed feed' out out' r → IfOk r IsDone
   done (Ok count) chain = done_by count chain.batches chain.feed chain.given chain.few chain.commits chain.leave chain.ends.0 chain.ends.1.1
   done (Err e) chain = tt
+
+  -- how many calls that took
+  abbrev MadeFor : ℕ → Type 0
+  MadeFor count = HaveSucceeded (calls_of_room s + (if count == 0 then 0 else 4)) (disk.outlook (disk_of old)) (disk.outlook (disk_of new))
+
+  pub made : (r : Result ℕ Refusal) → IsChain disk gives effects step 1 old new feed feed' out out' r
+      → IfOk r (λ count. HaveSucceeded (calls_of_room s + (if count == 0 then 0 else 4)) (disk.outlook (disk_of old)) (disk.outlook (disk_of new)))
+  made (Err e) chain = tt
+  made (Ok count) chain = by chain.batches chain.feed chain.given chain.few chain.ends.0 chain.made
+    where
+      none : (b : List Decision) → b ≢ [] → length b ≡ 0 → ⊥
+      none [] some zero = some refl
+      none (d ∷ ds) some zero = omega (arith, zero)
+
+      by : (batches : List (List Decision)) (here : F) → GivesAll gives feed batches here → length batches ≤ 1 → count ≡ length (batched_decisions batches)
+          → HaveSucceeded (calls_of_room s + calls_of_batches batches) (disk.outlook (disk_of old)) (disk.outlook (disk_of new)) → MadeFor count
+      by [] here given few counted is = subst MadeFor (sym counted) is
+      by (b ∷ []) here (next, (some, given), last) few counted is =
+          let long : count ≡ length b = counted ∙ ap (length {A = Decision}) (append-nil b) in
+          subst (λ t. HaveSucceeded (calls_of_room s + (if t then 0 else 4)) (disk.outlook (disk_of old)) (disk.outlook (disk_of new)))
+          (sym (ne_eqb count 0 (λ zero. none b some (sym long ∙ zero)))) is
+      by (b ∷ c ∷ batches) here given few counted is = absurd (no_more b c batches few)
 
   -- ---- it was refused
 

@@ -1,5 +1,5 @@
 -- How a chain starts, and where it leads.
-use Rattle.std.proofs.Common.{◌≢◌, ◌≡◌, ◌⊎◌, ◌<◌, ◌≤◌, ◌+◌, ◌∙◌, ℕ, Bool, true, false, MatchBool, MatchResult, List, [], ◌∷◌, ◌++◌, length, flat_map, Result, Ok, Err, OnOk, inl, inr, sym, ap, subst, refl, arith, append_assoc, append-nil, length-append}
+use Rattle.std.proofs.Common.{◌≢◌, ◌≡◌, ◌⊎◌, ◌<◌, ◌≤◌, ◌+◌, ◌*◌, ◌∙◌, ℕ, Bool, true, false, MatchBool, MatchResult, List, [], ◌∷◌, ◌++◌, length, flat_map, Result, Ok, Err, OnOk, inl, inr, sym, ap, subst, refl, arith, append_assoc, append-nil, length-append}
 use Rattle.std.specs.List.{FoldsTo}
 use Rattle.std.proofs.lemmas.List.{length-map, map-append}
 use Rattle.devices.specs.declared.effect.Effect.{Effect}
@@ -14,17 +14,18 @@ use Rattle.sessions.specs.declared.decision.Decision.{Decision}
 use Rattle.store.specs.Image.{HoldsTable}
 use Rattle.store.specs.State.{IsRoomy, IsSettled, StoreState, disk_of, store_state}
 use Rattle.store.specs.declared.store.Store.{Store}
-use Rattle.flusher.specs.Calls.{IsUntouched, LastFailed, NoneFailed}
+use Rattle.flusher.specs.Calls.{HaveSucceeded, IsUntouched, LastFailed, NoneFailed, calls_of_room}
 use Rattle.flusher.specs.Chain.HasBroken.{FeedRefused, HadNoRoom, WasUncommitted, WasUnready}
-use Rattle.flusher.specs.Chain.{FeedGives, HasBroken, HasEnded, IsChain, IsChainOfSome, LeaveInOrder, batched_decisions, store_behind}
+use Rattle.flusher.specs.Chain.{FeedGives, HasBroken, HasEnded, IsChain, IsChainOfSome, LeaveInOrder, MakesCalls, calls_of_batches, batched_decisions, store_behind}
 use Rattle.flusher.specs.Cycle.{HoldsWithOrWithout, IsReady}
 use Rattle.flusher.specs.Lived.{HaveLed, HoldsWithTorn, LeadOn}
 use Rattle.flusher.specs.Lives.{LifeEvent, Lives, lives_after, lives_after_all}
 use Rattle.flusher.specs.Lives.LifeEvent.{Released, Torn}
-use Rattle.flusher.proofs.Calling.{none_then}
+use Rattle.flusher.proofs.Calling.{more_succeed, more_within, no_calls, none_then}
 use Rattle.flusher.proofs.Ends.{why_not}
 use Rattle.flusher.proofs.Holding.{commits_along}
 use Rattle.flusher.proofs.Leading.{all_then}
+use Rattle.flusher.proofs.Making.{no_calls_of_room}
 use Rattle.flusher.proofs.Living.{AreComposed, IsOnDisk, either_way}
 
 -- ---- a chain without a batch
@@ -36,11 +37,12 @@ pub no_batch : {D F C V : Type 0} (disk : Ghosts D) (gives : FeedGives F) (effec
     (λ e. HasBroken gives most (IsUntouched disk.state old new) (LastFailed disk.failures disk.outlook old new) (store_state disk.state old) [] torn feed feed' e)
     → MatchResult r (λ _. NoneFailed disk.failures disk.outlook old new)
     (λ e. NoneFailed disk.failures disk.outlook old new ⊎ ((e ≡ DeviceFailed) × LastFailed disk.failures disk.outlook old new))
+    → MakesCalls (disk.outlook (disk_of old)) (disk.outlook (disk_of new)) (calls_of_room (store_state disk.state old)) [] r
     → (disk.honest → IsSettled (store_state disk.state old) → NoneFailed disk.failures disk.outlook old new → IsSettled (store_state disk.state new))
     → (disk.honest → IsSettled (store_state disk.state old)
     → EveryImage (disk.state (disk_of new)) (HoldsTable (store_state disk.state new).table (store_state disk.state new).seq))
     → IsChain disk gives effects step most old new feed feed' out out r
-no_batch disk gives effects step most old new feed feed' out torn r some table seq ends calls settled images =
+no_batch disk gives effects step most old new feed feed' out torn r some table seq ends calls made settled images =
     record {
       batches = [];
       torn = torn;
@@ -51,6 +53,7 @@ no_batch disk gives effects step most old new feed feed' out torn r some table s
       leave = refl;
       ends = by r ends;
       calls = calls;
+      made = made;
       settled = settled;
       images = λ honest is image p. inl (images honest is image p);
     }
@@ -76,7 +79,8 @@ on_ok (Err e) X Y step is = tt
 module _ {D F C V : Type 0} (disk : Ghosts D) (gives : FeedGives F) (effects : V → List Effect) (step : C → V → C → Type 0) (most : ℕ)
     (old mid new : Store D disk) (feed feed' : F) (out out' : C)
     (first : NoneFailed disk.failures disk.outlook old mid) (table : (store_state disk.state mid).table ≡ (store_state disk.state old).table)
-    (seq : (store_state disk.state mid).seq ≡ (store_state disk.state old).seq) (roomy : IsRoomy (store_state disk.state mid)) (ready : IsReady (store_state disk.state old))
+    (seq : (store_state disk.state mid).seq ≡ (store_state disk.state old).seq)
+    (made : HaveSucceeded (calls_of_room (store_state disk.state old)) (disk.outlook (disk_of old)) (disk.outlook (disk_of mid))) (roomy : IsRoomy (store_state disk.state mid)) (ready : IsReady (store_state disk.state old))
     (settled : disk.honest → IsSettled (store_state disk.state old) → IsSettled (store_state disk.state mid)) where
   last_along : LastFailed disk.failures disk.outlook mid new → LastFailed disk.failures disk.outlook old new
   last_along last = record {
@@ -101,6 +105,33 @@ module _ {D F C V : Type 0} (disk : Ghosts D) (gives : FeedGives F) (effects : V
   calls_along (Ok n) none = none_then disk.failures disk.outlook old mid new first none
   calls_along (Err e) (inl none) = inl (none_then disk.failures disk.outlook old mid new first none)
   calls_along (Err e) (inr (is, last)) = inr (is, last_along last)
+
+  made_along : (batches : List (List Decision)) (r : Result ℕ Refusal)
+      → MakesCalls (disk.outlook (disk_of mid)) (disk.outlook (disk_of new)) (calls_of_room (store_state disk.state mid)) batches r
+      → MakesCalls (disk.outlook (disk_of old)) (disk.outlook (disk_of new)) (calls_of_room (store_state disk.state old)) batches r
+  made_along batches r is = by r (subst (λ n. MakesCalls (disk.outlook (disk_of mid)) (disk.outlook (disk_of new)) n batches r) (no_calls_of_room (store_state disk.state mid) roomy) is)
+    where
+      all : HaveSucceeded (0 + calls_of_batches batches) (disk.outlook (disk_of mid)) (disk.outlook (disk_of new))
+          → HaveSucceeded (calls_of_room (store_state disk.state old) + calls_of_batches batches) (disk.outlook (disk_of old)) (disk.outlook (disk_of new))
+      all is =
+          more_succeed (calls_of_room (store_state disk.state old)) (calls_of_batches batches) (disk.outlook (disk_of old)) (disk.outlook (disk_of mid)) (disk.outlook (disk_of new)) made
+          (subst (λ n. HaveSucceeded n (disk.outlook (disk_of mid)) (disk.outlook (disk_of new))) (let same : 0 + calls_of_batches batches ≡ calls_of_batches batches = omega arith in same) is)
+
+      by : (r : Result ℕ Refusal) → MakesCalls (disk.outlook (disk_of mid)) (disk.outlook (disk_of new)) 0 batches r
+          → MakesCalls (disk.outlook (disk_of old)) (disk.outlook (disk_of new)) (calls_of_room (store_state disk.state old)) batches r
+      by (Ok n) is = all is
+      by (Err e) (inl is) = inl (all is)
+      by (Err e) (inr (inl (none, inl same))) =
+          inl (all (subst (λ n. HaveSucceeded n (disk.outlook (disk_of mid)) (disk.outlook (disk_of new))) (let zero : 0 ≡ 0 + calls_of_batches batches = ap (λ b. 0 + calls_of_batches b) (sym none) in zero)
+          (subst (HaveSucceeded 0 (disk.outlook (disk_of mid))) (sym same) (no_calls (disk.outlook (disk_of mid))))))
+      by (Err e) (inr (inl (none, inr (n, (least, (most, is)))))) = absurd (omega (arith, most))
+      by (Err e) (inr (inr is)) =
+          let first = calls_of_room (store_state disk.state old) in
+          let within =
+          more_within first (0 + calls_of_batches batches) (0 + 3 * length batches + 5) (disk.outlook (disk_of old)) (disk.outlook (disk_of mid)) (disk.outlook (disk_of new)) made is in
+          let least = within.1.0 in
+          let most = within.1.1.0 in
+          inr (inr (within.0, (omega (arith, least), (omega (arith, most), within.1.1.1))))
 
   broken_along : (batches : List (List Decision)) (torn : List Decision) (here : F) (e : Refusal) → (batches ≡ [] → torn ≢ [])
       → HasBroken gives most (IsUntouched disk.state mid new) (LastFailed disk.failures disk.outlook mid new) (store_state disk.state mid) batches torn here feed' e
@@ -127,6 +158,7 @@ module _ {D F C V : Type 0} (disk : Ghosts D) (gives : FeedGives F) (effects : V
     leave = subst (λ t. LeaveInOrder effects step t chain.batches out out') table chain.leave;
     ends = by r chain.ends;
     calls = calls_along r chain.calls;
+    made = made_along chain.batches r chain.made;
     settled = λ honest is none. chain.settled honest (settled honest is) (none_back r chain.calls none);
     images = λ honest is. chain.images honest (settled honest is);
   }

@@ -1,12 +1,14 @@
 -- Several calls of a store's disk.
-use Rattle.std.specs.Prelude.{◌≡◌, ◌≢◌, ◌+◌, ℕ, true, Result, MatchResult}
+use Rattle.std.specs.Prelude.{◌≡◌, ◌≢◌, ◌≤◌, ◌<◌, ◌+◌, ◌-◌, ℕ, true, Result, MatchResult}
+use Rattle.std.specs.Prelude.{nat_le, if◌then◌else◌}
 use Rattle.disk.specs.State.{State}
 use Rattle.lw_types.specs.declared.refusal.Refusal.{Refusal}
 use Rattle.lw_types.specs.declared.refusal.Refusal.TheVariants.{DeviceFailed}
 use Rattle.disk.specs.Outlook.{Outlook}
-use Rattle.disk.specs.Outlook.Outlook.{AllSucceed}
+use Rattle.disk.specs.Outlook.Outlook.{Unknown, AllSucceed, FailsAfter}
 use Rattle.store.specs.declared.store.Store.{Store}
-use Rattle.store.specs.State.{disk_of, store_state}
+use Rattle.store.specs.declared.store.TheConstants.{LARGEST_BATCH}
+use Rattle.store.specs.State.{StoreState, disk_of, store_state}
 
 -- none of them failed
 pub record NoneFailed {D : Type 0} {g : _} (failures : D → ℕ) (outlook : D → Outlook)
@@ -33,3 +35,29 @@ AreStoreCalls failures outlook old new result =
 abbrev pub IsUntouched : {D : Type 0} {g : _} → (D → State) → Store D g → Store D g → Type 0
 IsUntouched state old new =
     (store_state state new ≡ store_state state old) × (disk_of new ≡ disk_of old)
+
+-- ---- how many calls were made: by what was known of the coming ones before them, and is after
+
+-- so many succeeded
+abbrev pub HaveSucceeded : ℕ → Outlook → Outlook → Type 0
+HaveSucceeded made Unknown new = new ≡ Unknown
+HaveSucceeded made AllSucceed new = new ≡ AllSucceed
+HaveSucceeded made (FailsAfter left) new = (made ≤ left) × (new ≡ FailsAfter (left - made))
+
+-- so many succeeded, and the one behind them failed
+abbrev pub HasFailedBehind : ℕ → Outlook → Outlook → Type 0
+HasFailedBehind made Unknown new = new ≡ Unknown
+HasFailedBehind made AllSucceed new = ⊥
+HasFailedBehind made (FailsAfter left) new = (left ≡ made) × (new ≡ AllSucceed)
+
+-- one failed, behind at least so many that succeeded and fewer than that many
+abbrev pub HasFailedWithin : ℕ → ℕ → Outlook → Outlook → Type 0
+HasFailedWithin least most old new =
+    (made : ℕ) × ((least ≤ made) × ((made < most) × HasFailedBehind made old new))
+
+-- how many make room for the largest batch: where the journal lacks it, those of a checkpoint, with
+-- two more where the other area's gate has to be closed first
+abbrev pub calls_of_room : StoreState → ℕ
+calls_of_room s =
+    if nat_le (s.log.next + LARGEST_BATCH) s.log.areas.live.end
+    then 0 else if s.log.other_open then 6 else 4

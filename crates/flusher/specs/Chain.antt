@@ -1,8 +1,10 @@
 -- What a chain of commits does, and why it ends.
-use Rattle.std.specs.Prelude.{◌≡◌, ◌≢◌, ◌⊎◌, ◌<◌, ◌≤◌, ◌+◌, ℕ, List, [], ◌∷◌, length, flat_map}
+use Rattle.std.specs.Prelude.{◌≡◌, ◌≢◌, ◌⊎◌, ◌<◌, ◌≤◌, ◌+◌, ◌*◌, ℕ, List, [], ◌∷◌, length}
+use Rattle.std.specs.Prelude.{flat_map}
 use Rattle.std.specs.List.{FoldsTo}
 use Rattle.std.specs.Prelude.{Result, Ok, Err, MatchResult}
 use Rattle.devices.specs.declared.effect.Effect.{Effect}
+use Rattle.disk.specs.Outlook.{Outlook}
 use Rattle.disk.specs.State.{EveryImage}
 use Rattle.disk.specs.declared.disk.Disk.{Ghosts}
 use Rattle.lw_types.specs.declared.refusal.Refusal.{Refusal}
@@ -17,7 +19,8 @@ use Rattle.store.specs.State.{StoreState, IsRoomy, IsSettled, disk_of, store_sta
 use Rattle.store.specs.declared.phases.Begun.{Begun}
 use Rattle.store.specs.declared.phases.GateWritten.{GateWritten}
 use Rattle.store.specs.declared.store.Store.{Store}
-use Rattle.flusher.specs.Calls.{IsUntouched, LastFailed, NoneFailed}
+use Rattle.flusher.specs.Calls.{HasFailedWithin, HaveSucceeded, IsUntouched, LastFailed}
+use Rattle.flusher.specs.Calls.{NoneFailed, calls_of_room}
 use Rattle.flusher.specs.Cycle.{Commits, HoldsWithOrWithout, IsReady, IsUncommitted, IsUnready}
 
 -- a feed as it was, how many decisions were asked for at most, its answer, and the feed then
@@ -78,6 +81,24 @@ pub data HasBroken {F : Type 0} (gives : FeedGives F) (most : ℕ) (untouched fa
       × ((answer : Result (List Decision) Refusal) × gives next MOST answer new_feed)))
       → HasBroken gives most untouched failure s batches torn old_feed new_feed e
 
+-- how many calls of the disk commit these batches: the gate of each shares its sync with the body
+-- of the one behind it
+abbrev pub calls_of_batches : List (List Decision) → ℕ
+calls_of_batches [] = 0
+calls_of_batches (batch ∷ batches) = 3 * length (batch ∷ batches) + 1
+
+-- The calls of a chain that commits these batches, behind those that make room. Where it is refused
+-- and none failed, they are as many, or none at all without room. Where one failed, it is one of
+-- those that make room; or as many succeeded as these batches take, and no more than one batch more
+-- would.
+abbrev pub MakesCalls : Outlook → Outlook → ℕ → List (List Decision) → Result ℕ Refusal → Type 0
+MakesCalls old new room batches result =
+    MatchResult result
+    (λ _. HaveSucceeded (room + calls_of_batches batches) old new)
+    (λ _. HaveSucceeded (room + calls_of_batches batches) old new
+    ⊎ (((batches ≡ []) × ((new ≡ old) ⊎ HasFailedWithin 0 room old new))
+    ⊎ HasFailedWithin (room + calls_of_batches batches) (room + 3 * length batches + 5) old new))
+
 -- A chain of at most so many commits. These batches came from the feed, were committed, and their
 -- effects left. The one that was given up behind them is the torn one, which is empty where there
 -- is none: whatever a crash leaves holds what the store has, or that with this batch.
@@ -104,6 +125,8 @@ pub record IsChain {D F C V : Type 0} (disk : Ghosts D) (gives : FeedGives F)
       (λ _. NoneFailed disk.failures disk.outlook old new)
       (λ e. NoneFailed disk.failures disk.outlook old new
       ⊎ ((e ≡ DeviceFailed) × LastFailed disk.failures disk.outlook old new))
+  pub made : MakesCalls (disk.outlook (disk_of old)) (disk.outlook (disk_of new))
+      (calls_of_room (store_state disk.state old)) batches result
   pub settled : disk.honest → IsSettled (store_state disk.state old)
       → NoneFailed disk.failures disk.outlook old new → IsSettled (store_state disk.state new)
   pub images : disk.honest → IsSettled (store_state disk.state old)

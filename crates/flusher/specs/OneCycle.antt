@@ -1,6 +1,6 @@
 -- What one cycle of a flusher does.
-use Rattle.std.specs.Prelude.{◌≡◌, ◌≢◌, ◌⊎◌, ◌==◌, ℕ, List, [], length, Result, Ok, Err, IfOk}
-use Rattle.std.specs.Prelude.{IfErr, OnErr, MatchBool, MatchResult}
+use Rattle.std.specs.Prelude.{◌≡◌, ◌≢◌, ◌⊎◌, ◌==◌, ◌+◌, ℕ, List, [], length, Result, Ok, Err}
+use Rattle.std.specs.Prelude.{IfErr, IfOk, OnErr, MatchBool, MatchResult, if◌then◌else◌}
 use Rattle.devices.specs.declared.effect.Effect.{Effect}
 use Rattle.disk.specs.State.{EveryImage}
 use Rattle.disk.specs.declared.disk.Disk.{Ghosts}
@@ -13,7 +13,7 @@ use Rattle.sessions.specs.declared.decision.Decision.{Decision}
 use Rattle.store.specs.Image.{HoldsTable}
 use Rattle.store.specs.State.{StoreState, IsSettled, disk_of, store_state}
 use Rattle.store.specs.declared.store.Store.{Store}
-use Rattle.flusher.specs.Calls.{IsUntouched, LastFailed, NoneFailed}
+use Rattle.flusher.specs.Calls.{HaveSucceeded, IsUntouched, LastFailed, NoneFailed, calls_of_room}
 use Rattle.flusher.specs.Chain.{FeedGives}
 use Rattle.flusher.specs.Cycle.{Commits, HoldsWithOrWithout, IsReady, IsUncommitted, IsUnready}
 
@@ -62,6 +62,10 @@ pub record IsCycle {D F C V : Type 0} (disk : Ghosts D) (gives : FeedGives F)
       (λ _. NoneFailed disk.failures disk.outlook old new)
       (λ e. NoneFailed disk.failures disk.outlook old new
       ⊎ ((e ≡ DeviceFailed) × LastFailed disk.failures disk.outlook old new))
+  -- a batch takes four calls, behind those that make room
+  pub made : IfOk result (λ count.
+      HaveSucceeded (calls_of_room (store_state disk.state old) + (if count == 0 then 0 else 4))
+      (disk.outlook (disk_of old)) (disk.outlook (disk_of new)))
   -- where no call of the disk failed, nothing is under way
   pub settled : disk.honest → IsSettled (store_state disk.state old)
       → NoneFailed disk.failures disk.outlook old new → IsSettled (store_state disk.state new)

@@ -1,10 +1,13 @@
 // Whole checkpoints.
 ghost use Rattle.std.specs.Prelude.{◌≡◌, ◌⊎◌, ◌+◌, true, IfErr, OnOk, MatchResult};
-ghost use Rattle.flusher.specs.Calls.{AreStoreCalls, IsUntouched, LastFailed, NoneFailed};
+ghost use Rattle.flusher.specs.Calls.{AreStoreCalls, HasFailedWithin, HaveSucceeded};
+ghost use Rattle.flusher.specs.Calls.{IsUntouched, LastFailed, NoneFailed, calls_of_room};
 ghost use Rattle.flusher.specs.Cycle.{ChecksWhereFull, IsReady, IsUnready};
 ghost use Rattle.lw_types.specs.declared.refusal.Refusal.TheVariants.{DeviceFailed};
 ghost use Rattle.store.specs.Checkpointing.{FitsOther, IsCheckpointOn, checkpoint_size};
+ghost use Rattle.store.specs.Publishing.{calls_left};
 ghost use Rattle.store.specs.State.{store_state, disk_of, EachImageHolds, IsRoomy, IsSettled};
+ghost use Rattle.store.specs.declared.publishing.Publishing.TheVariants.{Begun};
 
 use disk::Disk;
 use lw_types::Refusal;
@@ -17,6 +20,12 @@ pub(crate) fn make_room<D: Disk>(alloc: Global, store: &mut Store<D>) -> Result<
         (λ _. NoneFailed D.failures D.outlook store.old store.new)
         (λ e. IsUnready (store_state D.state store.old) (IsUntouched D.state store.old store.new)
         (LastFailed D.failures D.outlook store.old store.new) e) }
+    ensures made { MatchResult result
+        (λ _. HaveSucceeded (calls_of_room (store_state D.state store.old))
+        (D.outlook (disk_of store.old)) (D.outlook (disk_of store.new)))
+        (λ _. (D.outlook (disk_of store.new) ≡ D.outlook (disk_of store.old))
+        ⊎ HasFailedWithin 0 (calls_of_room (store_state D.state store.old))
+        (D.outlook (disk_of store.old)) (D.outlook (disk_of store.new))) }
     ensures ready { OnOk result (IsReady (store_state D.state store.old)) }
     ensures roomy { OnOk result (IsRoomy (store_state D.state store.new)) }
     ensures checkpoint { D.honest → IsSettled (store_state D.state store.old) → OnOk result
@@ -43,6 +52,11 @@ pub(crate) fn make_room<D: Disk>(alloc: Global, store: &mut Store<D>) -> Result<
 fn publish<D: Disk>(store: &mut Store<D>, checkpoint: Checkpoint) -> Result<(), Refusal>
     requires { FitsOther (store_state D.state store.old) (checkpoint_size checkpoint) }
     ensures calls { AreStoreCalls D.failures D.outlook store.old store.new result }
+    ensures made { MatchResult result
+        (λ _. HaveSucceeded (calls_left (store_state D.state store.old) (Begun checkpoint))
+        (D.outlook (disk_of store.old)) (D.outlook (disk_of store.new)))
+        (λ _. HasFailedWithin 0 (calls_left (store_state D.state store.old) (Begun checkpoint))
+        (D.outlook (disk_of store.old)) (D.outlook (disk_of store.new))) }
     ensures roomy { OnOk result (IsRoomy (store_state D.state store.new)) }
     ensures generation { D.honest → IsCheckpointOn (store_state D.state store.old) checkpoint
         → OnOk result ((store_state D.state store.new).log.generation

@@ -1,12 +1,13 @@
 use denote.Param.Members.{Called}
-use Rattle.std.proofs.Common.{◌≡◌, ◌≢◌, ◌+◌, ◌-◌, ◌∙◌, List, [], ◌∷◌, Vec, Global, false, Ok, Err, inl, inr, ap, subst, sym, refl, arith}
+use Rattle.std.proofs.Common.{◌≡◌, ◌≢◌, ◌+◌, ◌-◌, ◌∙◌, ℕ, List, [], ◌∷◌, Vec, Global, false, Ok, Err, inl, inr, ap, subst, sym, refl, arith}
 use Rattle.std.proofs.lemmas.Result.{err_from_is_err_and}
 use Rattle.devices.specs.declared.effect.Effect.{Effect}
 use Rattle.lw_types.specs.declared.refusal.Refusal.TheVariants.{Failed}
 use Rattle.store.specs.Phases.{begun_sequel}
-use Rattle.store.specs.State.{IsRoomy, IsSettled, StoreState, store_state}
+use Rattle.disk.specs.Outlook.{Outlook}
+use Rattle.store.specs.State.{IsRoomy, IsSettled, StoreState, disk_of, store_state}
 use Rattle.store.specs.declared.phases.Begun.{Begun}
-use Rattle.flusher.specs.Calls.{LastFailed}
+use Rattle.flusher.specs.Calls.{HaveSucceeded, LastFailed, calls_of_room}
 use Rattle.flusher.specs.Chain.HasBroken.{FeedRefused, WasUncommitted, WasUnready}
 use Rattle.flusher.specs.Chain.{GivesAll, IsChain, IsChainOfSome, store_behind}
 use Rattle.flusher.specs.Lived.{HaveLed}
@@ -19,6 +20,10 @@ use Rattle.flusher.proofs.Starts.{chain_along, chain_leads, no_batch, not_failed
 use Rattle.flusher.proofs.Ends.{why_not}
 use Rattle.flusher.proofs.chaining.chain.Goals as goal
 
+-- no batch takes no call
+for_none : (room : ℕ) (o n : Outlook) → HaveSucceeded room o n → HaveSucceeded (room + 0) o n
+for_none room o n is = subst (λ k. HaveSucceeded k o n) (let same : room ≡ room + 0 = omega arith in same) is
+
 pub returns-in_err-room-clause-chain : goal.returns-in_err-room-clause-chain
 returns-in_err-room-clause-chain g c =
     let refused = err_from_is_err_and c.from_residual.result c.from_residual.ensures.1 in
@@ -28,7 +33,8 @@ returns-in_err-room-clause-chain g c =
     let step : g.row.C.Denot → Vec Released Global → g.row.C.Denot → Type 0 = λ before released after. Called g.C.FnMut before (released, tt) tt after in
     subst (λ r. IsChain g.D.Disk g.F.Feed.gives effects step c.args.most store store feed feed c.args.out.now c.args.out.now r) (sym (refused.1 ∙ ap Err refused.2))
     (no_batch g.D.Disk g.F.Feed.gives effects step c.args.most store store feed feed c.args.out.now [] (Err c.in_err-room.field-0.0) (omega arith) refl refl
-    (WasUnready refl refl refl (inl (refl, refl), inl c.in_err-room.ensures)) (inl (none_yet g.D.Disk.failures g.D.Disk.outlook store)) (λ honest settled none. settled)
+    (WasUnready refl refl refl (inl (refl, refl), inl c.in_err-room.ensures)) (inl (none_yet g.D.Disk.failures g.D.Disk.outlook store)) (inr (inl (refl, inl refl)))
+    (λ honest settled none. settled)
     (λ honest settled. c.a_settled_store_is_on_its_disk.ensures (store_state g.D.Disk.state store) settled))
 
 pub returns-in_err-make_room-clause-chain : goal.returns-in_err-make_room-clause-chain
@@ -47,7 +53,7 @@ returns-in_err-make_room-clause-chain g c =
     subst (λ r. IsChain g.D.Disk g.F.Feed.gives effects step c.args.most store new feed feed c.args.out.now c.args.out.now r) (sym (refused.1 ∙ ap Err refused.2))
     (no_batch g.D.Disk g.F.Feed.gives effects step c.args.most store new feed feed c.args.out.now [] (Err e) (omega arith) is.table is.seq
     (WasUnready refl refl refl is.calls)
-    (then_refused g.D.Disk.state g.D.Disk.failures g.D.Disk.outlook store store new e (none_yet g.D.Disk.failures g.D.Disk.outlook store) is.refused)
+    (then_refused g.D.Disk.state g.D.Disk.failures g.D.Disk.outlook store store new e (none_yet g.D.Disk.failures g.D.Disk.outlook store) is.refused) (inr (inl (refl, is.made)))
     (λ honest settled none.
     settled_still g.D.Disk.state g.D.Disk.failures g.D.Disk.outlook store store new e (none_yet g.D.Disk.failures g.D.Disk.outlook store) is.refused settled none)
     (λ honest settled image p. held_along s' s image (sym is.table) (sym is.seq) (is.images honest settled image p)))
@@ -76,7 +82,7 @@ returns-in_err-batch-clause-chain g c =
     let step : g.row.C.Denot → Vec Released Global → g.row.C.Denot → Type 0 = λ before released after. Called g.C.FnMut before (released, tt) tt after in
     subst (λ r. IsChain g.D.Disk g.F.Feed.gives effects step c.args.most store new c.args.feed.now c.take.new.feed c.args.out.now c.args.out.now r) (sym (refused.1 ∙ ap Err refused.2))
     (no_batch g.D.Disk g.F.Feed.gives effects step c.args.most store new c.args.feed.now c.take.new.feed c.args.out.now [] (Err c.in_err-batch.field-0.0) (omega arith)
-    ready.table ready.seq (FeedRefused ready.ready refl c.in_err-batch.ensures) (inl ready.calls) (λ honest settled none. ready.images honest settled)
+    ready.table ready.seq (FeedRefused ready.ready refl c.in_err-batch.ensures) (inl ready.calls) (inl (for_none _ _ _ ready.made)) (λ honest settled none. ready.images honest settled)
     (λ honest settled. c.a_settled_store_is_on_its_disk.ensures (store_state g.D.Disk.state new) (ready.images honest settled)))
 
 pub returns-in_err-batch-clause-lives : goal.returns-in_err-batch-clause-lives
@@ -98,7 +104,7 @@ returns-then-is_empty-clause-chain g c =
     let effects : Vec Released Global → List Effect = λ released. effects_of_all released.items in
     let step : g.row.C.Denot → Vec Released Global → g.row.C.Denot → Type 0 = λ before released after. Called g.C.FnMut before (released, tt) tt after in
     no_batch g.D.Disk g.F.Feed.gives effects step c.args.most store new c.args.feed.now c.take.new.feed c.args.out.now [] (Ok 0) (omega arith) ready.table ready.seq
-    (refl, (refl, subst (λ b. g.F.Feed.gives c.args.feed.now 64 (Ok b) c.take.new.feed) empty c.in_ok-batch.ensures)) ready.calls
+    (refl, (refl, subst (λ b. g.F.Feed.gives c.args.feed.now 64 (Ok b) c.take.new.feed) empty c.in_ok-batch.ensures)) ready.calls (for_none _ _ _ ready.made)
     (λ honest settled none. ready.images honest settled)
     (λ honest settled. c.a_settled_store_is_on_its_disk.ensures (store_state g.D.Disk.state new) (ready.images honest settled))
 
@@ -139,7 +145,8 @@ returns-in_err-begun-clause-chain g c =
     (no_batch g.D.Disk g.F.Feed.gives effects step c.args.most store new c.args.feed.now c.take.new.feed c.args.out.now batch (Err e) (omega arith)
     (ap (λ (x : StoreState). x.table) began.same ∙ ready.table) (ap (λ (x : StoreState). x.seq) began.same ∙ ready.seq)
     (WasUncommitted ready.ready c.take.new.feed (c.take.new.feed, (some, c.in_ok-batch.ensures), refl) why (inl refl))
-    (inl none) (λ honest settled all. subst IsSettled (sym began.same) (ready.images honest settled))
+    (inl none) (inl (subst (λ d. HaveSucceeded (calls_of_room s + 0) (outlook (disk_of store)) (outlook d)) (sym began.disk) (for_none _ _ _ ready.made)))
+    (λ honest settled all. subst IsSettled (sym began.same) (ready.images honest settled))
     (λ honest settled. c.a_settled_store_is_on_its_disk.ensures (store_state g.D.Disk.state new) (subst IsSettled (sym began.same) (ready.images honest settled))))
 
 pub returns-in_err-begun-clause-lives : goal.returns-in_err-begun-clause-lives
@@ -171,7 +178,9 @@ returns-clause-chain g c =
     let step : g.row.C.Denot → Vec Released Global → g.row.C.Denot → Type 0 = λ before released after. Called g.C.FnMut before (released, tt) tt after in
     let most : c.get.result - 1 + 1 ≡ c.args.most = (let value = c.get.ensures.value in let least = c.get.ensures.least in omega (arith, value, least)) in
     chain_along g.D.Disk g.F.Feed.gives effects step c.args.most store mid c.follow.new.store c.args.feed.now c.follow.new.feed c.args.out.now c.follow.new.out none
-    (ap (λ (x : StoreState). x.table) began.same ∙ ready.table) (ap (λ (x : StoreState). x.seq) began.same ∙ ready.seq) (subst IsRoomy (sym began.same) ready.roomy) ready.ready
+    (ap (λ (x : StoreState). x.table) began.same ∙ ready.table) (ap (λ (x : StoreState). x.seq) began.same ∙ ready.seq)
+    (subst (λ d. HaveSucceeded (calls_of_room (store_state g.D.Disk.state store)) (outlook (disk_of store)) (outlook d)) (sym began.disk) ready.made)
+    (subst IsRoomy (sym began.same) ready.roomy) ready.ready
     (λ honest settled. subst IsSettled (sym began.same) (ready.images honest settled)) c.follow.result
     (subst (λ n. IsChainOfSome g.D.Disk g.F.Feed.gives effects step n mid c.follow.new.store c.args.feed.now c.follow.new.feed c.args.out.now c.follow.new.out c.follow.result) most
     (c.follow.ensures.chain c.args.feed.now given))

@@ -1,9 +1,9 @@
 use denote.Param.Always.{mut_next}
 use denote.Param.Members.{Called}
-use Rattle.std.proofs.Common.{◌<◌, ◌+◌, ◌-◌, ◌*◌, ◌∙◌, List, [], Vec, Global, Ok, Err, MatchOption, MatchResult, ap, subst, sym, refl, arith}
+use Rattle.std.proofs.Common.{◌<◌, ◌+◌, ◌-◌, ◌*◌, ◌∙◌, List, [], Vec, Global, Ok, Err, MatchOption, MatchResult, inl, ap, subst, sym, refl, arith}
 use Rattle.std.proofs.lemmas.Result.{err_from_is_err_and}
 use Rattle.devices.specs.declared.effect.Effect.{Effect}
-use Rattle.store.specs.State.{IsOneCall, store_state}
+use Rattle.store.specs.State.{IsOneCall, disk_of, store_state}
 use Rattle.store.specs.UnderWay.{IsNextCall, flights_in}
 use Rattle.store.specs.declared.under_way.Called.{Called as NextCalled}
 use Rattle.store.specs.declared.under_way.Called.TheVariants as called
@@ -12,10 +12,11 @@ use Rattle.flusher.specs.Chain.{FollowsOpened, IsChainOfSome, IsFollowRefusal, N
 use Rattle.flusher.specs.Released.{effects_of_all}
 use Rattle.flusher.specs.declared.released.Released.{Released}
 use Rattle.flusher.specs.declared.room.Room.{Room}
-use Rattle.flusher.proofs.Calling.{none_yet}
+use Rattle.flusher.proofs.Calling.{no_calls, none_yet}
 use Rattle.flusher.proofs.Chains.{FoldLaws, commits_none, rank_of}
 use Rattle.flusher.proofs.Ends.{breaks, ends_refused, ends_well}
 use Rattle.flusher.proofs.Links.{IsFlying, IsUpTo, flying_durable, flying_follows, flying_next, none_behind, not_alone, pair_behind, rank_durable, rank_less, some_behind, up_to_asked, up_to_durable, up_to_follows}
+use Rattle.flusher.proofs.Making.{HasMade, made_durable, made_follows, made_next}
 use Rattle.flusher.proofs.chaining.follow.Goals as goal
 
 pub calls-init : goal.calls-init
@@ -30,18 +31,26 @@ calls-init g c = (
       on_disk = λ honest settled. c.requires.begun settled;
       generation = λ honest settled. refl;
     },
-    λ before given. record {
-      done = [];
-      mid = before;
-      here = c.args.feed.now;
-      given = refl;
-      taken = given;
-      number = omega arith;
-      commits = commits_none (store_state g.D.Disk.state c.args.store.now);
-      leave = refl;
-      counted = refl;
-      behind = (refl, refl);
-    },
+    (
+      record {
+        made = 0;
+        foreseen = no_calls (g.D.Disk.outlook (disk_of c.args.store.now));
+        left = omega arith;
+        late = inl refl;
+      },
+      λ before given. record {
+        done = [];
+        mid = before;
+        here = c.args.feed.now;
+        given = refl;
+        taken = given;
+        number = omega arith;
+        commits = commits_none (store_state g.D.Disk.state c.args.store.now);
+        leave = refl;
+        counted = refl;
+        behind = (refl, refl);
+      },
+    ),
   ),
 )
 
@@ -63,7 +72,7 @@ returns-in_err-next-clause-chain g c before given =
     (sym (refused.1 ∙ ap Err refused.2))
     (breaks laws c.a_settled_store_is_on_its_disk.ensures g.D.Disk g.F.Feed.gives effects step (c.args.more + 1) c.args.store.now c.calls.store c.call.new.store before c.calls.feed
     c.args.out.now c.calls.out c.calls.under_way c.calls.more c.calls.count c.calls.end c.requires.roomy c.requires.alive c.calls.invariant.1.0
-    (c.calls.invariant.1.1 before given) refusal c.in_err-next.ensures.next c.in_err-next.ensures.call)
+    (c.calls.invariant.1.1.1 before given) c.calls.invariant.1.1.0 refusal c.in_err-next.ensures.next c.in_err-next.ensures.call)
 
 pub calls-preserved-in-Ok-Some : goal.calls-preserved-in-Ok-Some
 calls-preserved-in-Ok-Some g c =
@@ -85,12 +94,17 @@ calls-preserved-in-Ok-Some g c =
             (flying_follows g.D.Disk c.args.store.now c.calls.store c.call.new.store c.calls.under_way c.calls.more c.calls.count c.calls.invariant.1.0 opened room e call
             g.F.Feed.gives effects step (c.args.more + 1) c.args.feed.now c.calls.feed c.begin_following.new.feed c.args.out.now c.calls.out c.calls.end c.in-Ok-Some.following
             c.in-Ok-Some.behind follows),
-        λ before given.
-            subst (λ w. IsUpTo g.D.Disk g.F.Feed.gives effects step (c.args.more + 1) c.args.store.now c.call.new.store before c.begin_following.new.feed c.args.out.now c.calls.out w
-            (c.calls.more - 1) c.calls.count c.calls.end) is_followed
-            (up_to_follows g.D.Disk c.args.store.now c.calls.store c.call.new.store c.calls.under_way c.calls.more c.calls.count c.calls.invariant.1.0 opened room e call
-            g.F.Feed.gives effects step (c.args.more + 1) before c.calls.feed c.begin_following.new.feed c.args.out.now c.calls.out c.calls.end c.in-Ok-Some.following
-            c.in-Ok-Some.behind follows (c.calls.invariant.1.1 before given)),
+        (
+          subst (λ w. HasMade g.D.Disk c.args.store.now c.call.new.store w (c.args.more + 1) (c.calls.more - 1)) is_followed
+              (made_follows g.D.Disk c.args.store.now c.calls.store c.call.new.store c.calls.under_way (c.args.more + 1) c.calls.more c.calls.invariant.1.0.some
+              c.calls.invariant.1.1.0 opened room c.in-Ok-Some.following c.in-Ok-Some.behind e call follows.more_may),
+          λ before given.
+              subst (λ w. IsUpTo g.D.Disk g.F.Feed.gives effects step (c.args.more + 1) c.args.store.now c.call.new.store before c.begin_following.new.feed c.args.out.now c.calls.out w
+              (c.calls.more - 1) c.calls.count c.calls.end) is_followed
+              (up_to_follows g.D.Disk c.args.store.now c.calls.store c.call.new.store c.calls.under_way c.calls.more c.calls.count c.calls.invariant.1.0 opened room e call
+              g.F.Feed.gives effects step (c.args.more + 1) before c.calls.feed c.begin_following.new.feed c.args.out.now c.calls.out c.calls.end c.in-Ok-Some.following
+              c.in-Ok-Some.behind follows (c.calls.invariant.1.1.1 before given)),
+        ),
       ),
     )
 
@@ -110,16 +124,20 @@ calls-preserved-in-Ok-None g c =
       c.calls.invariant.0,
       (
         flying_next g.D.Disk c.args.store.now c.calls.store c.call.new.store c.calls.under_way c.calls.more c.calls.count c.calls.invariant.1.0 next e call,
-        λ before given.
-            let up_to = c.calls.invariant.1.1 before given in
-            let behind =
-            none_behind g.D.Disk c.args.store.now c.calls.store c.call.new.store c.calls.under_way c.calls.more c.calls.count c.calls.invariant.1.0 next e call g.F.Feed.gives
-            effects step (c.args.more + 1) before c.calls.feed c.args.out.now c.calls.out c.calls.end up_to in
-            up_to_asked g.D.Disk c.args.store.now c.calls.store c.call.new.store c.calls.under_way c.calls.more c.calls.count c.calls.invariant.1.0 next e call g.F.Feed.gives
-            effects step (c.args.more + 1) before c.calls.feed c.args.out.now c.calls.out c.calls.end up_to c.calls.more c.begin_following.new.feed c.calls.end refl
-            (subst (λ r. MatchResult r (λ _. NoneFollows g.F.Feed.gives c.calls.more s opened up_to.here c.begin_following.new.feed)
-            (λ e. IsFollowRefusal g.F.Feed.gives c.calls.more s opened up_to.here c.begin_following.new.feed e)) (sym behind.1)
-            (subst (λ f. NoneFollows g.F.Feed.gives c.calls.more s opened f c.begin_following.new.feed) behind.0 none)),
+        (
+          made_next g.D.Disk c.args.store.now c.calls.store c.call.new.store c.calls.under_way (c.args.more + 1) c.calls.more c.calls.invariant.1.0.some c.calls.invariant.1.1.0 next e
+              call,
+          λ before given.
+              let up_to = c.calls.invariant.1.1.1 before given in
+              let behind =
+              none_behind g.D.Disk c.args.store.now c.calls.store c.call.new.store c.calls.under_way c.calls.more c.calls.count c.calls.invariant.1.0 next e call g.F.Feed.gives
+              effects step (c.args.more + 1) before c.calls.feed c.args.out.now c.calls.out c.calls.end up_to in
+              up_to_asked g.D.Disk c.args.store.now c.calls.store c.call.new.store c.calls.under_way c.calls.more c.calls.count c.calls.invariant.1.0 next e call g.F.Feed.gives
+              effects step (c.args.more + 1) before c.calls.feed c.args.out.now c.calls.out c.calls.end up_to c.calls.more c.begin_following.new.feed c.calls.end refl
+              (subst (λ r. MatchResult r (λ _. NoneFollows g.F.Feed.gives c.calls.more s opened up_to.here c.begin_following.new.feed)
+              (λ e. IsFollowRefusal g.F.Feed.gives c.calls.more s opened up_to.here c.begin_following.new.feed e)) (sym behind.1)
+              (subst (λ f. NoneFollows g.F.Feed.gives c.calls.more s opened f c.begin_following.new.feed) behind.0 none)),
+        ),
       ),
     )
 
@@ -137,14 +155,18 @@ calls-preserved-in-Err g c =
       c.calls.invariant.0,
       (
         flying_next g.D.Disk c.args.store.now c.calls.store c.call.new.store c.calls.under_way c.calls.more c.calls.count c.calls.invariant.1.0 next e call,
-        λ before given.
-            let up_to = c.calls.invariant.1.1 before given in
-            let behind =
-            none_behind g.D.Disk c.args.store.now c.calls.store c.call.new.store c.calls.under_way c.calls.more c.calls.count c.calls.invariant.1.0 next e call g.F.Feed.gives
-            effects step (c.args.more + 1) before c.calls.feed c.args.out.now c.calls.out c.calls.end up_to in
-            up_to_asked g.D.Disk c.args.store.now c.calls.store c.call.new.store c.calls.under_way c.calls.more c.calls.count c.calls.invariant.1.0 next e call g.F.Feed.gives
-            effects step (c.args.more + 1) before c.calls.feed c.args.out.now c.calls.out c.calls.end up_to c.calls.more c.begin_following.new.feed (Err c.in-Err.refusal) refl
-            (subst (λ f. IsFollowRefusal g.F.Feed.gives c.calls.more s opened f c.begin_following.new.feed c.in-Err.refusal) behind.0 refused),
+        (
+          made_next g.D.Disk c.args.store.now c.calls.store c.call.new.store c.calls.under_way (c.args.more + 1) c.calls.more c.calls.invariant.1.0.some c.calls.invariant.1.1.0 next e
+              call,
+          λ before given.
+              let up_to = c.calls.invariant.1.1.1 before given in
+              let behind =
+              none_behind g.D.Disk c.args.store.now c.calls.store c.call.new.store c.calls.under_way c.calls.more c.calls.count c.calls.invariant.1.0 next e call g.F.Feed.gives
+              effects step (c.args.more + 1) before c.calls.feed c.args.out.now c.calls.out c.calls.end up_to in
+              up_to_asked g.D.Disk c.args.store.now c.calls.store c.call.new.store c.calls.under_way c.calls.more c.calls.count c.calls.invariant.1.0 next e call g.F.Feed.gives
+              effects step (c.args.more + 1) before c.calls.feed c.args.out.now c.calls.out c.calls.end up_to c.calls.more c.begin_following.new.feed (Err c.in-Err.refusal) refl
+              (subst (λ f. IsFollowRefusal g.F.Feed.gives c.calls.more s opened f c.begin_following.new.feed c.in-Err.refusal) behind.0 refused),
+        ),
       ),
     )
 
@@ -167,14 +189,18 @@ calls-preserved-in_default g c =
       c.calls.invariant.0,
       (
         flying_next g.D.Disk c.args.store.now c.calls.store c.call.new.store c.calls.under_way c.calls.more c.calls.count c.calls.invariant.1.0 next e call,
-        λ before given.
-            let up_to = c.calls.invariant.1.1 before given in
-            let behind =
-            none_behind g.D.Disk c.args.store.now c.calls.store c.call.new.store c.calls.under_way c.calls.more c.calls.count c.calls.invariant.1.0 next e call g.F.Feed.gives
-            effects step (c.args.more + 1) before c.calls.feed c.args.out.now c.calls.out c.calls.end up_to in
-            up_to_asked g.D.Disk c.args.store.now c.calls.store c.call.new.store c.calls.under_way c.calls.more c.calls.count c.calls.invariant.1.0 next e call g.F.Feed.gives
-            effects step (c.args.more + 1) before c.calls.feed c.args.out.now c.calls.out c.calls.end up_to c.calls.more c.calls.feed c.calls.end refl
-            (not_alone g.F.Feed.gives c.calls.more s up_to.here c.calls.feed c.calls.end next c.in_default.not-GateWritten behind),
+        (
+          made_next g.D.Disk c.args.store.now c.calls.store c.call.new.store c.calls.under_way (c.args.more + 1) c.calls.more c.calls.invariant.1.0.some c.calls.invariant.1.1.0 next e
+              call,
+          λ before given.
+              let up_to = c.calls.invariant.1.1.1 before given in
+              let behind =
+              none_behind g.D.Disk c.args.store.now c.calls.store c.call.new.store c.calls.under_way c.calls.more c.calls.count c.calls.invariant.1.0 next e call g.F.Feed.gives
+              effects step (c.args.more + 1) before c.calls.feed c.args.out.now c.calls.out c.calls.end up_to in
+              up_to_asked g.D.Disk c.args.store.now c.calls.store c.call.new.store c.calls.under_way c.calls.more c.calls.count c.calls.invariant.1.0 next e call g.F.Feed.gives
+              effects step (c.args.more + 1) before c.calls.feed c.args.out.now c.calls.out c.calls.end up_to c.calls.more c.calls.feed c.calls.end refl
+              (not_alone g.F.Feed.gives c.calls.more s up_to.here c.calls.feed c.calls.end next c.in_default.not-GateWritten behind),
+        ),
       ),
     )
 
@@ -217,12 +243,16 @@ calls-preserved g c =
       (
         flying_durable g.D.Disk c.args.store.now c.calls.store c.call.new.store c.calls.under_way c.calls.more c.calls.count c.calls.invariant.1.0 durable room next e' call
             c.release-count.result c.release-count.ensures.few,
-        λ before given.
-            let up_to = c.calls.invariant.1.1 before given in
-            up_to_durable laws g.D.Disk g.F.Feed.gives effects step (c.args.more + 1) c.args.store.now c.calls.store c.call.new.store before c.calls.feed c.args.out.now
-            c.calls.out c.release-count.new.out c.calls.under_way c.calls.more c.calls.count c.calls.end c.calls.invariant.1.0 up_to durable room c.in-Durable.behind e out.0 out.1.0
-            out.1.1 next c.in-Some.is c.release-count.result c.release-count.ensures.count
-            (pair_behind g.F.Feed.gives c.calls.more s s' up_to.here c.calls.feed c.calls.end c.calls.under_way next _ e'.flights some up_to.behind),
+        (
+          made_durable g.D.Disk c.args.store.now c.calls.store c.call.new.store c.calls.under_way (c.args.more + 1) c.calls.more c.calls.invariant.1.0.some c.calls.invariant.1.1.0
+              durable room next _ e'.flights some call,
+          λ before given.
+              let up_to = c.calls.invariant.1.1.1 before given in
+              up_to_durable laws g.D.Disk g.F.Feed.gives effects step (c.args.more + 1) c.args.store.now c.calls.store c.call.new.store before c.calls.feed c.args.out.now
+              c.calls.out c.release-count.new.out c.calls.under_way c.calls.more c.calls.count c.calls.end c.calls.invariant.1.0 up_to durable room c.in-Durable.behind e out.0 out.1.0
+              out.1.1 next c.in-Some.is c.release-count.result c.release-count.ensures.count
+              (pair_behind g.F.Feed.gives c.calls.more s s' up_to.here c.calls.feed c.calls.end c.calls.under_way next _ e'.flights some up_to.behind),
+        ),
       ),
     )
 
@@ -244,9 +274,9 @@ returns-in-None-clause-chain g c before given =
     let e = subst (λ x. IsNextCall g.D.Disk c.calls.store c.calls.under_way (Ok x) c.call.new.store) is c.in_ok-next.ensures.next in
     let call = subst (λ x. IsOneCall {T = NextCalled Room} g.D.Disk.failures g.D.Disk.outlook c.calls.store c.call.new.store (Ok x)) is c.in_ok-next.ensures.call in
     let out = c.release-count.ensures.released in
-    let up_to = c.calls.invariant.1.1 before given in
+    let up_to = c.calls.invariant.1.1.1 before given in
     ends_well laws c.a_settled_store_is_on_its_disk.ensures g.D.Disk g.F.Feed.gives effects step (c.args.more + 1) c.args.store.now c.calls.store c.call.new.store before c.calls.feed
-    c.args.out.now c.calls.out c.calls.under_way c.calls.more c.calls.count c.calls.end c.requires.roomy c.requires.alive c.calls.invariant.1.0 up_to durable room e call
+    c.args.out.now c.calls.out c.calls.under_way c.calls.more c.calls.count c.calls.end c.requires.roomy c.requires.alive c.calls.invariant.1.0 up_to c.calls.invariant.1.1.0 durable room e call
     c.release-count.new.out out.0 out.1.0 out.1.1 c.release-count.result c.release-count.ensures.count c.in_ok-end-in-None.was
 
 pub returns-in_err-end-in-None-clause-chain : goal.returns-in_err-end-in-None-clause-chain
@@ -267,10 +297,10 @@ returns-in_err-end-in-None-clause-chain g c before given =
     let e = subst (λ x. IsNextCall g.D.Disk c.calls.store c.calls.under_way (Ok x) c.call.new.store) is c.in_ok-next.ensures.next in
     let call = subst (λ x. IsOneCall {T = NextCalled Room} g.D.Disk.failures g.D.Disk.outlook c.calls.store c.call.new.store (Ok x)) is c.in_ok-next.ensures.call in
     let out = c.release-count.ensures.released in
-    let up_to = c.calls.invariant.1.1 before given in
+    let up_to = c.calls.invariant.1.1.1 before given in
     let refused = err_from_is_err_and c.from_residual-in_err-end-in-None.result c.from_residual-in_err-end-in-None.ensures.1 in
     subst (λ r. IsChainOfSome g.D.Disk g.F.Feed.gives effects step (c.args.more + 1) c.args.store.now c.call.new.store before c.calls.feed c.args.out.now c.release-count.new.out r)
     (sym (refused.1 ∙ ap Err refused.2))
     (ends_refused laws c.a_settled_store_is_on_its_disk.ensures g.D.Disk g.F.Feed.gives effects step (c.args.more + 1) c.args.store.now c.calls.store c.call.new.store before c.calls.feed
-    c.args.out.now c.calls.out c.calls.under_way c.calls.more c.calls.count c.calls.end c.requires.roomy c.requires.alive c.calls.invariant.1.0 up_to durable room e call
+    c.args.out.now c.calls.out c.calls.under_way c.calls.more c.calls.count c.calls.end c.requires.roomy c.requires.alive c.calls.invariant.1.0 up_to c.calls.invariant.1.1.0 durable room e call
     c.release-count.new.out out.0 out.1.0 out.1.1 c.release-count.result c.release-count.ensures.count c.in_err-end-in-None.field-0.0 c.in_err-end-in-None.was)

@@ -4,7 +4,7 @@ use Rattle.devices.specs.declared.effect.Effect.{Effect}
 use Rattle.flusher.specs.Chain.{IsChain}
 use Rattle.flusher.specs.Released.{effects_of_all}
 use Rattle.flusher.specs.declared.released.Released.{Released}
-use Rattle.flusher.proofs.Single.{done, held_back, keeps_seq, keeps_table, leads_once, leaves, refused}
+use Rattle.flusher.proofs.Single.{done, held_back, keeps_seq, keeps_table, leads_once, leaves, made, refused}
 use Rattle.flusher.proofs.cycles.cycle.Goals as goal
 
 pub returns-clause-cycle : goal.returns-clause-cycle
@@ -28,6 +28,7 @@ returns-clause-cycle g c =
       seq = keeps_seq disk gives effects step store new feed feed' out out' r is;
       refused = refused disk gives effects step store new feed feed' out out' r is;
       calls = is.calls;
+      made = made disk gives effects step store new feed feed' out out' r is;
       settled = is.settled;
       images = leaves disk gives effects step store new feed feed' out out' c.a_settled_store_is_on_its_disk.ensures r is;
     }
