@@ -1,21 +1,21 @@
 -- Chains of a core one after another, and the crash behind them.
-use Rattle.std.proofs.Common.{◌≡◌, ◌∙◌, ◌+◌, ◌⊎◌, inl, inr, ℕ, zero, suc, List, [], ◌++◌, length, flat_map, sym, ap, subst, refl, arith, append_assoc, length-append}
+use Rattle.std.proofs.Common.{◌≡◌, ◌∙◌, ◌+◌, inl, inr, ℕ, zero, suc, List, [], ◌++◌, length, flat_map, sym, ap, subst, refl, arith, append_assoc, length-append}
 use Rattle.std.specs.List.{FoldsTo}
 use Rattle.std.proofs.lemmas.Grind.{flat_map-append}
 use Rattle.std.proofs.lemmas.List.{append-nil, length-map, map-append}
 use Rattle.devices.specs.declared.command.Command.{Command}
 use Rattle.devices.specs.declared.effect.Effect.{Effect}
 use Rattle.devices.specs.declared.mark.Mark.{Mark}
-use Rattle.disk.specs.State.{EveryImage, IsPermitted}
+use Rattle.disk.specs.State.{EveryImage}
 use Rattle.sessions.specs.Decision.{ContinueAll, with_decisions, commands_of}
 use Rattle.sessions.specs.Marks.{HasUsedUp, IsSubsequence, marks_of}
 use Rattle.sessions.specs.Table.{TableState, effects_of, fold_of}
 use Rattle.sessions.specs.declared.decision.Decision.{Decision}
 use Rattle.session_core.specs.State.{DecisionsState, new_decisions}
 use Rattle.store.specs.Image.{HoldsTable}
-use Rattle.store.specs.State.{StoreState, IsOpened, IsSettled}
+use Rattle.store.specs.State.{StoreState, IsSettled}
 use Rattle.flusher.specs.Cycle.{HoldsWithOrWithout}
-use Rattle.flusher.specs.Deciding.{CommitsDecided, HaveDecided, IsInStep, KeepsDecided, LeaveInAll, StaysInStep}
+use Rattle.flusher.specs.Deciding.{CommitsDecided, EachHolds, HaveDecided, IsInStep, KeepsDecided, LeaveInAll, NumberedTable, StaysInStep}
 use Rattle.flusher.proofs.Decided.{TakingLaws, folds_then}
 
 module _ {C V : Type 0} (honest : Type 0) (effects : V → List Effect) (call : C → V → C → Type 0) where
@@ -120,11 +120,16 @@ module _ {C V : Type 0} (honest : Type 0) (effects : V → List Effect) (call : 
     (second.1.0, (second.1.1.0, (second.1.1.1.0, λ is settled. second.1.1.1.1 is (first.1.1.1.1 is settled)))),
   )
 
-  -- a crash, and an opening of what it left
-  pub kept : (laws : TakingLaws) (s0 s1 opened : StoreState) (p q : C) → honest → IsSettled s0
-      → CommitsDecided honest effects call s0 s1 (new_decisions s0.table s0.seq) p q → (left : List ℕ) → IsPermitted s1.log.disk left → IsOpened left opened
-      → KeepsDecided effects call s0 opened p q
-  kept laws s0 s1 opened p q is settled x left permitted found = by (x.images is settled left permitted)
+  same_table : (x : NumberedTable) (t : TableState) (n : ℕ) → x.table ≡ t → x.seq ≡ n → x ≡ record { table = t; seq = n }
+  same_table x t n table seq = ap (λ t. record { table = t; seq = x.seq }) table ∙ ap (λ n. record { table = t; seq = n }) seq
+
+  -- what a crash leaves of a store that was opened with this table
+  pub kept : (laws : TakingLaws) (s0 s1 : StoreState) (p q : C) → honest → IsSettled s0
+      → CommitsDecided honest effects call s0 s1 (new_decisions s0.table s0.seq) p q → (first : NumberedTable) → first.table ≡ s0.table → first.seq ≡ s0.seq
+      → EachHolds s1.log.disk (λ last. KeepsDecided effects call first last p q)
+  kept laws s0 s1 p q is settled x first table seq image permitted =
+      subst (λ first. (found : NumberedTable) × (HoldsTable found.table found.seq image × KeepsDecided effects call first found p q))
+      (sym (same_table first s0.table s0.seq table seq)) (by (x.images is settled image permitted))
     where
       all : (n : ℕ) → n + 0 ≡ n
       all n = omega arith
@@ -132,9 +137,12 @@ module _ {C V : Type 0} (honest : Type 0) (effects : V → List Effect) (call : 
       continues : ContinueAll s0.table s0.seq x.decided
       continues = subst (λ n. ContinueAll s0.table n x.decided) (all s0.seq) x.continues
 
-      by : HoldsWithOrWithout s1 x.torn left → KeepsDecided effects call s0 opened p q
-      by (inl without) =
-          let only = found.only s1.table s1.seq without in
+      by : HoldsWithOrWithout s1 x.torn image
+          → (found : NumberedTable) × (HoldsTable found.table found.seq image × KeepsDecided effects call (record { table = s0.table; seq = s0.seq }) found p q)
+      by (inl without) = (
+        record { table = s1.table; seq = s1.seq },
+        (
+          without,
           record {
             decided = x.decided;
             committed = x.committed;
@@ -142,14 +150,18 @@ module _ {C V : Type 0} (honest : Type 0) (effects : V → List Effect) (call : 
             lost = x.torn ++ x.waiting;
             beginning = x.beginning;
             continues = continues;
-            table = sym only.0 ∙ (x.table ∙ ap (λ l. fold_of s0.table (commands_of l)) (sym (append-nil x.committed)));
-            seq = sym only.1 ∙ (x.seq ∙ ap (λ (l : List Decision). s0.seq + length l) (sym (append-nil x.committed)));
+            table = x.table ∙ ap (λ l. fold_of s0.table (commands_of l)) (sym (append-nil x.committed));
+            seq = x.seq ∙ ap (λ (l : List Decision). s0.seq + length l) (sym (append-nil x.committed));
             calls = x.calls;
             left = x.left;
             given = x.given;
-          }
-      by (inr with) =
-          let only = found.only (fold_of s1.table (commands_of x.torn)) (s1.seq + length x.torn) with in
+          },
+        ),
+      )
+      by (inr with) = (
+        record { table = fold_of s1.table (commands_of x.torn); seq = s1.seq + length x.torn },
+        (
+          with,
           record {
             decided = x.decided;
             committed = x.committed;
@@ -158,20 +170,38 @@ module _ {C V : Type 0} (honest : Type 0) (effects : V → List Effect) (call : 
             beginning = x.beginning;
             continues = continues;
             table =
-                sym only.0
-                ∙ (ap (λ t. fold_of t (commands_of x.torn)) x.table
+                ap (λ t. fold_of t (commands_of x.torn)) x.table
                 ∙ (sym (laws.composing s0.table (commands_of x.committed) (commands_of x.torn))
-                ∙ ap (fold_of s0.table) (sym (map-append (λ (d : Decision). d.command) x.committed x.torn))));
+                ∙ ap (fold_of s0.table) (sym (map-append (λ (d : Decision). d.command) x.committed x.torn)));
             seq =
-                let a = only.1 in let b = x.seq in let c = length-append x.committed x.torn in omega (arith, a, b, c);
+                let b = x.seq in let c = length-append x.committed x.torn in omega (arith, b, c);
             calls = x.calls;
             left = x.left;
             given = x.given;
-          }
+          },
+        ),
+      )
+
+  -- nothing happened
+  pub keeps_all : (x : NumberedTable) (p : C) → KeepsDecided effects call x x p p
+  keeps_all x p =
+      record {
+        decided = [];
+        committed = [];
+        found = [];
+        lost = [];
+        beginning = refl;
+        continues = record { fit = tt; numbered = tt };
+        table = refl;
+        seq = omega arith;
+        calls = [];
+        left = refl;
+        given = refl;
+      }
 
   -- ---- all lives together
 
-  record Part (old new : StoreState) (p q : C) : Type 0 where
+  record Part (old new : NumberedTable) (p q : C) : Type 0 where
     commands : List Command
     table : new.table ≡ fold_of old.table commands
     seq : new.seq ≡ old.seq + length commands
@@ -182,7 +212,7 @@ module _ {C V : Type 0} (honest : Type 0) (effects : V → List Effect) (call : 
   module _ (laws : TakingLaws)
       (longer : (left whole more : List Effect) → IsSubsequence left whole → IsSubsequence left (whole ++ more))
       (extended : (left whole more : List Effect) → IsSubsequence left whole → IsSubsequence (left ++ more) (whole ++ more)) where
-    one_life_more : (old between new : StoreState) (p o q : C) → Part old between p o → KeepsDecided effects call between new o q → Part old new p q
+    one_life_more : (old between new : NumberedTable) (p o q : C) → Part old between p o → KeepsDecided effects call between new o q → Part old new p q
     one_life_more old between new p o q x k =
         record {
           commands = x.commands ++ commands_of (k.committed ++ k.found);
@@ -215,12 +245,12 @@ module _ {C V : Type 0} (honest : Type 0) (effects : V → List Effect) (call : 
             ∙ (ap (λ l. effects_of old.table x.commands ++ l) (laws.effects between.table (commands_of k.committed) (commands_of k.found))
             ∙ sym (append_assoc (effects_of old.table x.commands) (effects_of between.table (commands_of k.committed)) (effects_of (fold_of between.table (commands_of k.committed)) (commands_of k.found))))))
 
-    all_parts : (n : ℕ) (old new : StoreState) (p q : C) → HaveDecided effects call n old new p q → Part old new p q
+    all_parts : (n : ℕ) (old new : NumberedTable) (p q : C) → HaveDecided effects call n old new p q → Part old new p q
     all_parts zero old new p q (same, same_out) =
         record {
           commands = [];
-          table = ap (λ (s : StoreState). s.table) same;
-          seq = let is = ap (λ (s : StoreState). s.seq) same in omega (arith, is);
+          table = ap (λ (s : NumberedTable). s.table) same;
+          seq = let is = ap (λ (s : NumberedTable). s.seq) same in omega (arith, is);
           calls = [];
           given = sym same_out;
           part = refl;
@@ -229,7 +259,7 @@ module _ {C V : Type 0} (honest : Type 0) (effects : V → List Effect) (call : 
 
     pub in_all : ((t : TableState) (marks : List Mark) (commands : List Command) → HasUsedUp t marks → HasUsedUp (fold_of t commands) (marks ++ marks_of (effects_of t commands)))
         → ((t : TableState) (marks : List Mark) (all left : List Effect) → IsSubsequence left all → HasUsedUp t (marks ++ marks_of all) → HasUsedUp t (marks ++ marks_of left))
-        → (n : ℕ) (old new : StoreState) (p q : C) → HaveDecided effects call n old new p q → LeaveInAll effects call old new p q
+        → (n : ℕ) (old new : NumberedTable) (p q : C) → HaveDecided effects call n old new p q → LeaveInAll effects call old new p q
     in_all after what_left n old new p q lives =
         let x = all_parts n old new p q lives in
         record {

@@ -1,5 +1,5 @@
 -- What a flusher takes of a core continues what it took before.
-use Rattle.std.proofs.Common.{◌≡◌, ◌≢◌, ◌∙◌, ◌+◌, ◌↔◌, ◌⊎◌, ◌<◌, inl, inr, ℕ, Bool, true, false, List, [], ◌∷◌, ◌++◌, length, take, drop, flat_map, Result, Ok, Err, MatchBool, MatchResult, sym, ap, subst, refl, rules, arith, append_assoc, length-append, take-append-drop}
+use Rattle.std.proofs.Common.{◌≡◌, ◌≢◌, ◌∙◌, ◌+◌, ◌↔◌, ◌⊎◌, ◌<◌, inl, inr, ℕ, Bool, true, false, List, [], ◌∷◌, ◌++◌, length, take, flat_map, Result, Ok, Err, MatchBool, MatchResult, sym, ap, subst, refl, arith, append_assoc, length-append, take-append-drop}
 use Rattle.std.specs.Prelude.{IfErr, OnOk}
 use Rattle.std.specs.List.{FoldsTo}
 use Rattle.std.proofs.lemmas.Grind.{flat_map-append}
@@ -11,8 +11,7 @@ use Rattle.sessions.specs.Decision.{ContinueAll, FitAll, IsLegalContinuation, wi
 use Rattle.sessions.specs.Table.{TableState, effects_of, fold_of}
 use Rattle.sessions.specs.declared.batch.TheConstants.Batch.{MOST}
 use Rattle.sessions.specs.declared.decision.Decision.{Decision}
-use Rattle.session_core.specs.Deciding.{after_taking}
-use Rattle.session_core.specs.State.{DecisionsState, IsLawful}
+use Rattle.session_core.specs.State.{DecisionsState}
 use Rattle.devices.specs.declared.effect.Effect.{Effect}
 use Rattle.disk.specs.declared.disk.Disk.{Ghosts}
 use Rattle.disk.specs.State.{EveryImage}
@@ -22,8 +21,10 @@ use Rattle.flusher.specs.Calls.{IsUntouched, LastFailed, NoneFailed}
 use Rattle.flusher.specs.declared.core_feed.CoreFeed.{CoreFeed}
 use Rattle.flusher.specs.Chain.HasBroken.{FeedRefused, HadNoRoom, WasUncommitted, WasUnready}
 use Rattle.flusher.specs.Chain.{FeedGives, GivesAll, HasBroken, HasEnded, IsChain, LeaveInOrder, batched_decisions, store_behind}
+use Rattle.flusher.specs.Coming.{GivesBehindComing}
 use Rattle.flusher.specs.Cycle.{HoldsWithOrWithout}
-use Rattle.flusher.specs.Deciding.{CommitsDecided, IsInStep, StaysInStep, TakesBehind, with_decided}
+use Rattle.flusher.specs.Deciding.{CommitsDecided, IsInStep, StaysInStep}
+use Rattle.flusher.proofs.Turned.{TakesBehind, gives_decided}
 
 pub record TakingLaws : Type 0 where
   pub folding : (t : TableState) (ds : List Decision) → FitAll t ds → fold_of t (commands_of ds) ≡ with_decisions t ds
@@ -242,11 +243,11 @@ left_in_calls laws effects call t (b ∷ batches) p q (released, (next, (all, (m
 -- ---- chains of a core
 
 abbrev core_gives : CoreFeed → ℕ → Result (List Decision) Refusal → CoreFeed → Type 0
-core_gives old most answer new = (decided : List Decision) × TakesBehind old.core.decisions decided most answer new.core.decisions
+core_gives = GivesBehindComing
 
 core_tells : (f g : CoreFeed) (answer : Result (List Decision) Refusal) → core_gives f MOST answer g
     → (decided : List Decision) × TakesBehind f.core.decisions decided MOST answer g.core.decisions
-core_tells f g answer given = given
+core_tells f g answer given = gives_decided f g MOST answer given
 
 module _ (laws : TakingLaws) {D C V : Type 0} (disk : Ghosts D) (effects : V → List Effect) (call : C → V → C → Type 0) (most : ℕ)
     (old new : Store D disk) (f g : CoreFeed) (p q : C) (result : Result ℕ Refusal)

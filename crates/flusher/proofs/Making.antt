@@ -1,11 +1,11 @@
 -- How many calls of the disk a chain has made.
-use Rattle.std.proofs.Common.{◌≡◌, ◌≢◌, ◌⊎◌, ◌≤◌, ◌<◌, ◌+◌, ◌-◌, ◌*◌, ◌∙◌, ℕ, true, false, List, [], ◌∷◌, length, Some, None, Ok, Err, inl, inr, ap, sym, subst, refl, arith}
+use Rattle.std.proofs.Common.{◌≡◌, ◌≢◌, ◌⊎◌, ◌≤◌, ◌+◌, ◌-◌, ◌*◌, ◌∙◌, ℕ, List, [], ◌∷◌, length, Some, None, Ok, Err, inl, inr, ap, sym, subst, refl, arith}
 use Rattle.std.proofs.lemmas.Bool.{le-leb, lt-leb}
 use Rattle.std.specs.Prelude.{if◌then◌else◌}
 use Rattle.disk.specs.declared.disk.Disk.{Ghosts}
 use Rattle.lw_types.specs.declared.refusal.Refusal.{Refusal}
 use Rattle.sessions.specs.declared.decision.Decision.{Decision}
-use Rattle.store.specs.Flights.{Flight, Stage, all_succeeded}
+use Rattle.store.specs.Flights.{Stage, all_succeeded}
 use Rattle.store.specs.State.{IsOneCall, IsRoomy, StoreState, disk_of, store_state}
 use Rattle.store.specs.UnderWay.{IsNextCall, flight, flights_in}
 use Rattle.store.specs.declared.phases.Begun.{Begun as BegunBatch}

@@ -1,6 +1,7 @@
 -- What an event of a core does to its decisions: some more are made, and nothing is taken.
-use Rattle.std.proofs.Common.{◌≡◌, ◌∙◌, ◌+◌, ℕ, zero, suc, Bool, true, false, List, [], ◌∷◌, ◌++◌, length, Option, Some, None, Result, Ok, Err, MatchBool, sym, ap, refl, arith, rules, append_assoc, length-append}
-use Rattle.std.specs.Prelude.{OnErr}
+use Rattle.std.proofs.Common.{◌≡◌, ◌∙◌, ◌+◌, ℕ, zero, suc, Bool, true, false, List, [], ◌∷◌, ◌++◌, length, Option, Some, None, Result, Ok, Err, MatchBool, sym, ap, subst, refl, arith, rules, append_assoc, length-append}
+use Rattle.std.specs.Prelude.{MatchResult, take}
+use Rattle.std.specs.List.{FoldsTo}
 use Rattle.std.proofs.lemmas.List.{append-nil}
 use Rattle.lw_types.specs.Answer.{Answers, AnswersWithMemory}
 use Rattle.lw_types.specs.declared.refusal.Refusal.{Refusal}
@@ -12,12 +13,33 @@ use Rattle.sessions.specs.Decision.{is_frugal}
 use Rattle.sessions.specs.Table.{TableStep}
 use Rattle.sessions.specs.declared.decision.Decision.{Decision}
 use Rattle.dedup.specs.Windows.{windows_with}
-use Rattle.session_core.specs.State.{DecisionsState}
+use Rattle.session_core.specs.State.{DecisionsState, IsLawful}
 use Rattle.session_core.specs.Core.{CoreState, with_outcome}
-use Rattle.session_core.specs.Deciding.{Keeps, Makes, step_if_room, verdict_of}
+use Rattle.session_core.specs.Deciding.{after_taking, Keeps, Makes, step_if_room, verdict_of}
 use Rattle.session_core.specs.Events.{Asks, Closes, Handles, Hears, IsTurn, Starves, Ticks, has_due, core_at_moment}
 use Rattle.session_core.specs.declared.turn.Turn.{Turn}
-use Rattle.flusher.specs.Deciding.{HasDecided, with_decided}
+use Rattle.flusher.specs.Coming.{Comes, GivesBehindComing, coming_first}
+use Rattle.flusher.specs.declared.core_feed.CoreEvent.{CoreEvent}
+use Rattle.flusher.specs.declared.core_feed.CoreEvent.TheVariants.{Copy, Provision, Queue, QueueMac, Tick}
+use Rattle.flusher.specs.declared.core_feed.CoreFeed.{CoreFeed}
+
+-- a core's decisions, once these more are made
+abbrev pub with_decided : DecisionsState → List Decision → DecisionsState
+with_decided s decided =
+    record s { log = s.log ++ decided; made = s.made + length decided }
+
+-- these and no others were decided meanwhile, and nothing was taken
+abbrev pub HasDecided : DecisionsState → DecisionsState → Type 0
+HasDecided old new = (decided : List Decision) × (new ≡ with_decided old decided)
+
+-- what a take of at most so many answers, and leaves, behind these that were decided since the last
+pub record TakesBehind (old : DecisionsState) (decided : List Decision) (most : ℕ)
+    (answer : Result (List Decision) Refusal) (new : DecisionsState) : Type 0 where
+  pub lawful : IsLawful (with_decided old decided)
+  pub took : MatchResult answer
+      (λ batch. (batch ≡ take most (with_decided old decided).log)
+      × (new ≡ after_taking (with_decided old decided) most))
+      (λ e. (e ≡ OutOfMemory) × (new ≡ with_decided old decided))
 
 -- the same log and the same number
 same_decisions : (s : DecisionsState) (l m : List Decision) (n k : ℕ) → l ≡ m → n ≡ k → record s { log = l; made = n } ≡ record s { log = m; made = k }
@@ -108,3 +130,40 @@ heard_own copy s None new h = taken (windows_with s.windows s.clock copy) (h.rec
 pub heard : (copy : FrameCopy) (old : CoreState) (moment : ℕ) (turn : Turn) (new : CoreState) → IsTurn old moment (Hears copy) turn new
     → HasDecided old.decisions new.decisions
 heard copy = turned (Hears copy) (heard_own copy)
+
+-- whatever comes to a core
+comes : (old : CoreState) (at : ℕ × CoreEvent) (new : CoreState) → Comes old at new → HasDecided old.decisions new.decisions
+comes old (moment, Copy copy) new (turn, is) = heard copy old moment turn new is
+comes old (moment, Provision value) new (turn, is) = asked (commands.Provision value) old moment turn new is
+comes old (moment, Queue value) new (turn, is) = asked (commands.Queue value) old moment turn new is
+comes old (moment, QueueMac value) new (turn, is) = asked (commands.QueueMac value) old moment turn new is
+comes old (moment, Tick) new (turn, is) = ticked old moment turn new is
+
+all_come : (coming : List (ℕ × CoreEvent)) (old new : CoreState) → FoldsTo Comes old coming new → HasDecided old.decisions new.decisions
+all_come [] old new same = nothing old.decisions new.decisions (ap (λ (s : CoreState). s.decisions) (sym same))
+all_come (at ∷ coming) old new (next, first, rest) =
+    and_then old.decisions next.decisions new.decisions (comes old at next first) (all_come coming next new rest)
+
+-- what a take leaves of the decisions
+taken : (between new : CoreState) (most : ℕ) (answer : Result (List Decision) Refusal)
+    → MatchResult answer
+    (λ batch. (batch ≡ take most between.decisions.log) × (new ≡ record between { decisions = after_taking between.decisions most }))
+    (λ e. (e ≡ OutOfMemory) × (new ≡ between))
+    → MatchResult answer (λ batch. (batch ≡ take most between.decisions.log) × (new.decisions ≡ after_taking between.decisions most))
+    (λ e. (e ≡ OutOfMemory) × (new.decisions ≡ between.decisions))
+taken between new most (Ok batch) (is, new_is) = (is, ap (λ (s : CoreState). s.decisions) new_is)
+taken between new most (Err e) (is, same) = (is, ap (λ (s : CoreState). s.decisions) same)
+
+-- what a core gives behind what came to it
+pub gives_decided : (old new : CoreFeed) (most : ℕ) (answer : Result (List Decision) Refusal) → GivesBehindComing old most answer new
+    → (decided : List Decision) × TakesBehind old.core.decisions decided most answer new.core.decisions
+gives_decided old new most answer is =
+    let made = all_come (coming_first old.coming.items) old.core is.between is.came in (
+      made.0,
+      subst (λ (s : DecisionsState).
+          IsLawful s
+          → MatchResult answer (λ batch. (batch ≡ take most s.log) × (new.core.decisions ≡ after_taking s most))
+          (λ e. (e ≡ OutOfMemory) × (new.core.decisions ≡ s))
+          → TakesBehind old.core.decisions made.0 most answer new.core.decisions) (sym made.1)
+          (λ lawful took. record { lawful = lawful; took = took }) is.lawful.decisions (taken is.between new.core most answer is.took),
+    )

@@ -1,45 +1,18 @@
 -- A core from which a flusher takes, while more is decided.
-use Rattle.std.specs.Prelude.{◌≡◌, ◌+◌, ◌++◌, ℕ, zero, suc, List, [], length, take, flat_map}
-use Rattle.std.specs.Prelude.{Result, MatchResult}
+use Rattle.std.specs.Prelude.{◌≡◌, ◌+◌, ◌++◌, ℕ, zero, suc, List, [], length, flat_map}
 use Rattle.std.specs.List.{FoldsTo}
 use Rattle.devices.specs.declared.command.Command.{Command}
 use Rattle.devices.specs.declared.effect.Effect.{Effect}
 use Rattle.devices.specs.declared.mark.Mark.{Mark}
-use Rattle.lw_types.specs.declared.refusal.Refusal.{Refusal}
-use Rattle.lw_types.specs.declared.refusal.Refusal.TheVariants.{OutOfMemory}
 use Rattle.sessions.specs.Decision.{ContinueAll, commands_of}
 use Rattle.sessions.specs.Marks.{HasUsedUp, IsSubsequence, marks_of}
-use Rattle.sessions.specs.Table.{effects_of, fold_of}
+use Rattle.sessions.specs.Table.{TableState, effects_of, fold_of}
 use Rattle.sessions.specs.declared.decision.Decision.{Decision}
-use Rattle.session_core.specs.Deciding.{after_taking}
-use Rattle.session_core.specs.State.{DecisionsState, IsLawful, last_number, now_of}
-use Rattle.disk.specs.State.{EveryImage}
+use Rattle.session_core.specs.State.{DecisionsState}
+use Rattle.disk.specs.State.{EveryImage, State}
+use Rattle.store.specs.Image.{HoldsTable}
 use Rattle.store.specs.State.{StoreState, IsSettled}
 use Rattle.flusher.specs.Cycle.{HoldsWithOrWithout}
-
--- a core's decisions, once these more are made
-abbrev pub with_decided : DecisionsState → List Decision → DecisionsState
-with_decided s decided =
-    record s { log = s.log ++ decided; made = s.made + length decided }
-
--- these and no others were decided meanwhile, and nothing was taken
-abbrev pub HasDecided : DecisionsState → DecisionsState → Type 0
-HasDecided old new = (decided : List Decision) × (new ≡ with_decided old decided)
-
--- what a take of at most so many answers, and leaves, behind these that were decided since the last
-pub record TakesBehind (old : DecisionsState) (decided : List Decision) (most : ℕ)
-    (answer : Result (List Decision) Refusal) (new : DecisionsState) : Type 0 where
-  pub lawful : IsLawful (with_decided old decided)
-  pub took : MatchResult answer
-      (λ batch. (batch ≡ take most (with_decided old decided).log)
-      × (new ≡ after_taking (with_decided old decided) most))
-      (λ e. (e ≡ OutOfMemory) × (new ≡ with_decided old decided))
-
--- a core as a feed: some more were decided since its last take
-abbrev pub GivesDecided : DecisionsState → ℕ → Result (List Decision) Refusal → DecisionsState
-    → Type 0
-GivesDecided old most answer new =
-    (decided : List Decision) × TakesBehind old decided most answer new
 
 -- what is taken next goes on from what the store has
 pub record IsInStep (s : StoreState) (core : DecisionsState) : Type 0 where
@@ -76,11 +49,22 @@ StaysInStep honest effects call old new old_core new_core old_out new_out =
 
 -- ---- lives
 
--- A life of a store: what the store that was opened behind it has is what it began with and the
--- first of the commands that were decided in this life, one after another. Among these are all that
--- were committed, whose effects, complete and in order, were given away in calls.
+-- a table, and the number of its last decision
+pub record NumberedTable : Type 0 where
+  pub table : TableState
+  pub seq : ℕ
+
+-- whatever a crash leaves of this disk holds a table of which this is so
+abbrev pub EachHolds : State → (NumberedTable → Type 0) → Type 0
+EachHolds disk P =
+    EveryImage disk (λ image. (found : NumberedTable)
+    × (HoldsTable found.table found.seq image × P found))
+
+-- A life of a store: what is found behind it is what it began with and the first of the commands
+-- that were decided in this life, one after another. Among these are all that were committed, whose
+-- effects, complete and in order, were given away in calls.
 pub record KeepsDecided {C V : Type 0} (effects : V → List Effect) (call : C → V → C → Type 0)
-    (old new : StoreState) (old_out new_out : C) : Type 0 where
+    (old new : NumberedTable) (old_out new_out : C) : Type 0 where
   pub decided : List Decision
   pub committed : List Decision
   pub found : List Decision
@@ -95,18 +79,18 @@ pub record KeepsDecided {C V : Type 0} (effects : V → List Effect) (call : C �
 
 -- so many lives, one after another
 abbrev pub HaveDecided : {C V : Type 0} → (V → List Effect) → (C → V → C → Type 0) → ℕ
-    → StoreState → StoreState → C → C → Type 0
+    → NumberedTable → NumberedTable → C → C → Type 0
 HaveDecided effects call zero old new old_out new_out = (new ≡ old) × (new_out ≡ old_out)
 HaveDecided {C} effects call (suc lives) old new old_out new_out =
-    (between : StoreState) × ((out : C)
+    (between : NumberedTable) × ((out : C)
     × (HaveDecided effects call lives old between old_out out
     × KeepsDecided effects call between new out new_out))
 
--- What lives make of a store all together: it has the fold of these commands, and what was given
--- away is a part of their effects, in order. Whatever marks were used up before, none stands twice
--- among them and those of what was given away, and the table that the store has covers them all.
+-- What lives make of a table all together: the fold of these commands, and what was given away is a
+-- part of their effects, in order. Whatever marks were used up before, none stands twice among them
+-- and those of what was given away, and the table covers them all then.
 pub record LeaveInAll {C V : Type 0} (effects : V → List Effect) (call : C → V → C → Type 0)
-    (old new : StoreState) (old_out new_out : C) : Type 0 where
+    (old new : NumberedTable) (old_out new_out : C) : Type 0 where
   pub commands : List Command
   pub table : new.table ≡ fold_of old.table commands
   pub seq : new.seq ≡ old.seq + length commands

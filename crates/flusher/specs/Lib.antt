@@ -1,5 +1,7 @@
 pub mod Calls
 pub mod Chain
+pub mod Coming
+pub mod CoreLives
 pub mod Cycle
 pub mod Deciding
 pub mod Feed

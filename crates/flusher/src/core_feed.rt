@@ -1,9 +1,10 @@
 // A core as a feed: what is decided between its takes.
 ghost use Rattle.std.specs.Global.{Global};
 ghost use Rattle.std.specs.Prelude.{◌≢◌, IfErr, OnOk, Vec};
+ghost use Rattle.std.specs.List.{FoldsTo};
 ghost use Rattle.flusher.specs.Chain.{IsChain};
-ghost use Rattle.flusher.specs.Deciding.{CommitsDecided, GivesDecided, HasDecided, IsInStep};
-ghost use Rattle.flusher.specs.Deciding.{StaysInStep};
+ghost use Rattle.flusher.specs.Coming.{Comes, GivesBehindComing};
+ghost use Rattle.flusher.specs.Deciding.{CommitsDecided, IsInStep, StaysInStep};
 ghost use Rattle.flusher.specs.Released.{effects_of_all};
 ghost use Rattle.lw_types.specs.declared.refusal.Refusal.TheVariants.{OutOfStep};
 ghost use Rattle.flusher.specs.Lived.{LeadOn};
@@ -47,19 +48,19 @@ pub struct CoreFeed {
 impl CoreFeed {
     ghost use Rattle.std.specs.Prelude.{◌≡◌};
 
-    /// A feed of this core. Takes no memory.
+    /// A feed of this core, and of what comes to it before each take. Takes no memory.
     pub fn new(core: Core, coming: VecDeque<Coming>) -> Self
-        ensures { result.core ≡ core }
+        ensures core { result.core ≡ core }
+        ensures coming { result.coming.items ≡ coming.items }
     {
         CoreFeed { core, coming }
     }
 }
 
 impl Feed for CoreFeed {
-    ghost use Rattle.flusher.specs.Deciding.{GivesDecided};
+    ghost use Rattle.flusher.specs.Coming.{GivesBehindComing};
 
-    ghost gives = { λ old most answer new.
-        GivesDecided old.core.decisions most answer new.core.decisions };
+    ghost gives = { GivesBehindComing };
 
     fn next(&mut self, most: Most) -> Result<Batch, Refusal> {
         if let Some(coming) = self.coming.pop_front() {
@@ -70,7 +71,7 @@ impl Feed for CoreFeed {
 }
 
 fn play_all(core: &mut Core, coming: Coming)
-    ensures { HasDecided core.old.decisions core.new.decisions }
+    ensures { FoldsTo Comes core.old coming.items core.new }
 {
     for (moment, event) in coming {
         take_event(core, moment, event);
@@ -78,7 +79,7 @@ fn play_all(core: &mut Core, coming: Coming)
 }
 
 fn take_event(core: &mut Core, moment: Moment, event: CoreEvent)
-    ensures { HasDecided core.old.decisions core.new.decisions }
+    ensures { Comes core.old (moment, event) core.new }
 {
     let _ = match event {
         CoreEvent::Copy(copy) => core.hear(moment, copy),
@@ -104,8 +105,7 @@ pub fn chain_of_core<D: Disk, C: FnMut(Vec<Released>)>(
     requires out { C.IsAlwaysCallable out.old }
     requires goes_on { IsInStep (store_state D.state store.old) feed.old.core.decisions }
     ensures callable { C.IsAlwaysCallable out.new }
-    ensures chain { IsChain D.Disk
-        (λ old asked answer new. GivesDecided old.core.decisions asked answer new.core.decisions)
+    ensures chain { IsChain D.Disk GivesBehindComing
         (λ (released : Vec Released Global). effects_of_all released.items)
         (λ before released after. C.step before released tt after) most
         store.old store.new feed.old feed.new out.old out.new result }

@@ -1,131 +1,141 @@
 // A flusher over several lives of its store, each with a core of its own, on a simulated disk.
 ghost use Rattle.std.specs.Global.{Global};
-ghost use Rattle.std.specs.Prelude.{◌≡◌, IfOk, Vec, length};
-ghost use Rattle.flusher.specs.Deciding.{CommitsDecided, HaveDecided, KeepsDecided, LeaveInAll};
+ghost use Rattle.std.specs.Prelude.{◌≡◌, Vec, length};
+ghost use Rattle.disk.specs.State.{EveryImage, IsPermitted};
+ghost use Rattle.flusher.specs.CoreLives.{AreCoreLives, DecidesUpTo, IsCoreLife};
+ghost use Rattle.flusher.specs.Deciding.{CommitsDecided, EachHolds, HaveDecided, KeepsDecided};
+ghost use Rattle.flusher.specs.Deciding.{LeaveInAll, NumberedTable};
 ghost use Rattle.flusher.specs.Released.{effects_of_all};
 ghost use Rattle.session_core.specs.State.{new_decisions};
-ghost use Rattle.store.specs.State.{store_state, IsSettled};
+ghost use Rattle.store.specs.Image.{HoldsTable};
+ghost use Rattle.store.specs.State.{store_state};
 
-use crate::{ChainLength, Coming, CoreFeed, Released, chain_of_core};
+use crate::over_lives::power_on;
+use crate::{CallNumber, ChainLength, Coming, CoreFeed, Released, chain_of_core};
 use disk::{Disk, Image, Sim};
 use lw_types::Refusal;
 use session_core::Core;
 use std::alloc::Global;
 use std::collections::VecDeque;
-use store::{Store, open};
+use store::Store;
 
-/// A life of a server's store: a core begins with what the store has, and decides what comes; a
-/// flusher commits it, until the power fails.
+/// A life of a server's store: the power comes on, the store is opened, and a core begins with what
+/// it has and decides what comes; a flusher commits it, until the power fails.
 #[derive(Drop)]
 pub struct CoreLife {
+    /// What the crash before it left of the disk.
+    pub image: Image,
+    /// The call of the disk that fails, counted from the opening's first one; or none does.
+    pub failing: Option<CallNumber>,
     /// What comes to the core before each take.
     pub coming: VecDeque<Coming>,
-    /// How many chains are made at most.
+    /// How many chains are made, where none is refused.
     pub chains: u64,
-    /// Which call of the disk fails, from 1 on; 0 for none.
-    pub failing: u64,
-    /// What the crash leaves that ends the life.
-    pub image: Image,
+    /// How many batches each of them has at most.
+    pub most: ChainLength,
 }
 
-/// Lives of a store, one after another: in each a new core decides what comes to it, and chains
-/// commit that, of so many batches at most, until a chain is refused or so many were made; then the
-/// disk crashes to an image, and the store is opened. A call of the disk that fails is the moment
-/// at which the power does. Refused with the refusal of an opening.
+/// Lives of a store, one after another, on this disk: each begins with a crash and an opening, as
+/// those of [`flush_over_lives`](crate::flush_over_lives) do, and in each a new core decides what
+/// comes to it, and chains commit that. Where there is no memory for a core, the life makes no
+/// chain, and where the opening is refused, it has no core. The next life begins with the disk that
+/// it leaves, which comes back at the end.
 ///
-/// What the last store has is what the first one had and, of each life, the first of the commands
-/// that were decided in it: those that were committed, whose effects were given to `out`, complete
-/// and in order, and where the power failed perhaps the next ones. So over all lives no mark is
-/// used up twice by what was given to `out`, nor one of those that were used up before, where the
-/// first table covers these: and the last table covers them all. How many chains were made, which
-/// call failed and which image was left no clause says; [`flush_over_lives`](crate::flush_over_lives)
-/// says it of its lives.
-pub fn decide_over_lives<D: Sim + Drop, C: FnMut(Vec<Released>)>(
+/// Where the disk holds a table and a number, whatever a crash leaves of it: what a crash leaves at
+/// the end is that table and, of each life, the first of the commands that were decided in it: those
+/// that were committed, whose effects were given to `out`, complete and in order, and where the
+/// power failed perhaps the next ones. So over all lives no mark is used up twice by what was given
+/// to `out`, nor one of those that were used up before, where the first table covers these: and the
+/// last table covers them all.
+pub fn decide_over_lives<D: Sim, C: FnMut(Vec<Released>)>(
     alloc: Global,
-    store: Store<D>,
-    most: ChainLength,
+    disk: D,
     lives: Vec<CoreLife>,
     out: &mut C,
-) -> Result<Store<D>, Refusal>
-    requires out { C.IsAlwaysCallable out.old }
-    requires settled { IsSettled (store_state D.state store) }
-    ensures decided { IfOk result (λ last. HaveDecided
-        (λ (released : Vec Released Global). effects_of_all released.items)
-        (λ before released after. C.step before released tt after) (length lives.items)
-        (store_state D.state store) (store_state D.state last) out.old out.new) }
-    ensures left { IfOk result (λ last. LeaveInAll
+) -> D
+    requires { C.IsAlwaysCallable out.old }
+    ensures callable { C.IsAlwaysCallable out.new }
+
+    // Each life, in order, from what was handed in to what is left.
+    ensures course { AreCoreLives D.Disk
         (λ (released : Vec Released Global). effects_of_all released.items)
         (λ before released after. C.step before released tt after)
-        (store_state D.state store) (store_state D.state last) out.old out.new) }
-    ensures settled { IfOk result (λ last. IsSettled (store_state D.state last)) }
+        lives.items disk result out.old out.new }
+    ensures decided { (first : NumberedTable)
+        → EveryImage (D.state disk) (HoldsTable first.table first.seq)
+        → EachHolds (D.state result) (λ last. HaveDecided
+        (λ (released : Vec Released Global). effects_of_all released.items)
+        (λ before released after. C.step before released tt after) (length lives.items)
+        first last out.old out.new) }
+    ensures left { (first : NumberedTable)
+        → EveryImage (D.state disk) (HoldsTable first.table first.seq)
+        → EachHolds (D.state result) (λ last. LeaveInAll
+        (λ (released : Vec Released Global). effects_of_all released.items)
+        (λ before released after. C.step before released tt after)
+        first last out.old out.new) }
 {
     sessions::laws::folding();
     sessions::laws::joining();
     sessions::laws::composing();
     sessions::laws::parts_of_longer_lists();
     sessions::laws::no_mark_stands_twice();
-    let mut store = store;
+    let mut disk = disk;
     for life in lives {
-        store = live(alloc, store, most, life, out)?;
+        disk = live(alloc, disk, life, out);
     }
-    Ok(store)
+    disk
 }
 
-// One life, to the opening behind it.
-fn live<D: Sim + Drop, C: FnMut(Vec<Released>)>(
-    alloc: Global,
-    store: Store<D>,
-    most: ChainLength,
-    life: CoreLife,
-    out: &mut C,
-) -> Result<Store<D>, Refusal>
-    requires out { C.IsAlwaysCallable out.old }
-    requires settled { IsSettled (store_state D.state store) }
+// One life.
+fn live<D: Sim, C: FnMut(Vec<Released>)>(alloc: Global, disk: D, life: CoreLife, out: &mut C) -> D
+    requires { C.IsAlwaysCallable out.old }
     ensures callable { C.IsAlwaysCallable out.new }
-    ensures kept { IfOk result (λ last. KeepsDecided
+    ensures course { IsCoreLife D.Disk
         (λ (released : Vec Released Global). effects_of_all released.items)
         (λ before released after. C.step before released tt after)
-        (store_state D.state store) (store_state D.state last) out.old out.new) }
-    ensures settled { IfOk result (λ last. IsSettled (store_state D.state last)) }
+        life disk result out.old out.new }
+    ensures kept { (left : _) × (IsPermitted (D.state disk) left
+        × ((found : NumberedTable) → HoldsTable found.table found.seq left
+        → EachHolds (D.state result) (λ last. KeepsDecided
+        (λ (released : Vec Released Global). effects_of_all released.items)
+        (λ before released after. C.step before released tt after)
+        found last out.old out.new))) }
 {
     let CoreLife {
+        image,
+        failing,
         coming,
         chains,
-        failing,
-        image,
+        most,
     } = life;
     sessions::laws::folding();
     sessions::laws::joining();
     sessions::laws::composing();
-    let mut store = armed(store, failing);
-    decide(alloc, &mut store, most, coming, chains, out);
-    let mut disk = store.close();
-    disk.crash(&image);
-    open(alloc, disk)
-}
-
-// The store, whose disk fails at this call from now, from 1 on; 0 for none.
-fn armed<D: Sim>(store: Store<D>, failing: u64) -> Store<D>
-    ensures { store_state D.state result ≡ store_state D.state store }
-{
-    let mut store = store;
-    if failing > 0 {
-        store.arm(failing);
+    match power_on(alloc, disk, &image, failing) {
+        Ok(store) => {
+            let mut store = store;
+            let _ = decide(alloc, &mut store, coming, most, chains, out);
+            store.close()
+        }
+        Err((disk, _)) => disk,
     }
-    store
 }
 
-// The chains of a life.
+// So many chains of what a new core decides, or fewer behind which one is refused.
 fn decide<D: Disk, C: FnMut(Vec<Released>)>(
     alloc: Global,
     store: &mut Store<D>,
-    most: ChainLength,
     coming: VecDeque<Coming>,
+    most: ChainLength,
     chains: u64,
     out: &mut C,
-)
+) -> Result<(), Refusal>
     requires out { C.IsAlwaysCallable out.old }
     ensures callable { C.IsAlwaysCallable out.new }
+    ensures course { DecidesUpTo D.Disk
+        (λ (released : Vec Released Global). effects_of_all released.items)
+        (λ before released after. C.step before released tt after)
+        coming.items most chains store.old store.new out.old out.new result }
     ensures decided { CommitsDecided D.honest
         (λ (released : Vec Released Global). effects_of_all released.items)
         (λ before released after. C.step before released tt after)
@@ -137,13 +147,10 @@ fn decide<D: Disk, C: FnMut(Vec<Released>)>(
     sessions::laws::joining();
     sessions::laws::composing();
     store::laws::a_settled_store_is_on_its_disk();
-    let Ok(core) = Core::new(alloc, store.table(), store.seq()) else {
-        return;
-    };
+    let core = Core::new(alloc, store.table(), store.seq())?;
     let mut feed = CoreFeed::new(core, coming);
     for _ in 0..chains {
-        let Ok(_count) = chain_of_core(store, &mut feed, alloc, most, out) else {
-            return;
-        };
+        chain_of_core(store, &mut feed, alloc, most, out)?;
     }
+    Ok(())
 }

@@ -159,7 +159,7 @@ fn live<D: Sim, F: Feed, C: FnMut(Vec<Released>)>(
 }
 
 // Lets the disk crash to this image, has this call of it fail, and opens the store.
-fn power_on<D: Sim>(
+pub(crate) fn power_on<D: Sim>(
     alloc: Global,
     disk: D,
     image: &Image,

@@ -1,14 +1,14 @@
 // What lives of cores leave, and what the store has behind them.
+use crate::over_lives_tests::calls_of_opening;
 use devices::Command;
 use disk::Image;
-use flusher::{ChainLength, Coming, CoreEvent, CoreLife, Released, decide_over_lives};
+use flusher::{CallNumber, ChainLength, Coming, CoreEvent, CoreLife, Released, decide_over_lives};
 use lw_types::Refusal;
 use session_core::Moment;
 use std::alloc::Global;
 use std::collections::VecDeque;
-use store::{disk_len, format};
-use test_stores::devices_under_test::{bringing, net_id, slots};
-use test_stores::stores_under_test::{blank, state_of};
+use test_stores::devices_under_test::bringing;
+use test_stores::stores_under_test::{found, new_store};
 
 // A device is provisioned before a take.
 fn provision(alloc: Global, dev_eui: u64) -> Result<Coming, Refusal> {
@@ -19,39 +19,48 @@ fn provision(alloc: Global, dev_eui: u64) -> Result<Coming, Refusal> {
     Ok(vec![in alloc; (moment, CoreEvent::Provision(value))]?)
 }
 
-// A life in which two devices come, each before a take, whose nth call of the disk fails, if one
-// does, and then the power.
-fn life(alloc: Global, first: u64, failing: u64, is_kept: bool) -> Result<CoreLife, Refusal> {
+// A life behind this image in which two devices come, each before a take, and whose nth call of the
+// disk fails, if one does.
+fn life(alloc: Global, image: Image, first: u64, failing: u64) -> Result<CoreLife, Refusal> {
     let coming = vec![in alloc;
         provision(alloc, first)?,
         provision(alloc, first.saturating_add(1))?,
     ]?;
     Ok(CoreLife {
+        image,
+        failing: CallNumber::new(failing),
         coming: VecDeque::from(coming),
         chains: 1,
-        failing,
-        image: if is_kept { Image::New } else { Image::Old },
+        most: ChainLength::new(64).ok_or(Refusal::Damaged)?,
     })
 }
 
-// How many effects leave in a life whose nth call fails and in one behind it, and the devices and
-// the number of the store then. The second life brings the devices that the first has lost.
+// How many effects leave in a life in whose chain the nth call fails, in one whose opening is
+// refused and in one behind that, and how many devices and which number are found then. The last
+// life brings the devices that the first has lost.
 fn lived(
     alloc: Global,
     failing: u64,
     is_kept: bool,
-    found: u64,
+    found_then: u64,
 ) -> Result<(usize, (usize, u64)), Refusal> {
-    let disk = blank(alloc, disk_len(slots(8)?) as usize)?;
-    let store = format(alloc, disk, net_id()?, 8)?;
-    let first = life(alloc, 1, failing, is_kept)?;
-    let second = life(alloc, found.saturating_add(1), 0, false)?;
+    let opening = calls_of_opening(alloc)?;
+    let failing = if failing > 0 {
+        opening.saturating_add(failing)
+    } else {
+        0
+    };
+    let image = if is_kept { Image::New } else { Image::Old };
+    let lives = vec![in alloc;
+        life(alloc, Image::New, 1, failing)?,
+        life(alloc, image, 1, 1)?,
+        life(alloc, Image::New, found_then.saturating_add(1), 0)?,
+    ]?;
     let mut left: usize = 0;
     let mut out = |released: Vec<Released>| left = left.saturating_add(released.len());
-    let most = ChainLength::new(64).ok_or(Refusal::Damaged)?;
-    let lives = vec![in alloc; first, second]?;
-    let last = decide_over_lives(alloc, store, most, lives, &mut out)?;
-    Ok((left, state_of(&last)?))
+    let disk = new_store(alloc, 64)?.close();
+    let last = decide_over_lives(alloc, disk, lives, &mut out);
+    Ok((left, found(alloc, last)?))
 }
 
 // Which call of the first life fails (two batches take seven: body; sync; gate; the second's body;
@@ -70,9 +79,9 @@ const ROWS: &[(u64, bool, u64, usize)] = &[
 
 #[test]
 fn lives_keep_what_was_decided(rt: HostRuntime) {
-    for (failing, is_kept, found, left) in ROWS {
-        let lived = lived(rt.alloc(), *failing, *is_kept, *found);
-        let all = found.saturating_add(2);
+    for (failing, is_kept, found_then, left) in ROWS {
+        let lived = lived(rt.alloc(), *failing, *is_kept, *found_then);
+        let all = found_then.saturating_add(2);
         assert!(rt;
             lived == Ok((*left + 2, (all as usize, all))),
             "{failing} {is_kept}"

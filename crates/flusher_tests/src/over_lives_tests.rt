@@ -9,8 +9,8 @@ use store::{disk_len, open_back};
 use test_stores::devices_under_test::{net_id, slots};
 use test_stores::stores_under_test::{blank, found, new_store};
 
-// How many calls of the disk the opening of a new store makes.
-fn calls_of_opening(alloc: Global) -> Result<u64, Refusal> {
+/// How many calls of the disk the opening of a new store makes.
+pub fn calls_of_opening(alloc: Global) -> Result<u64, Refusal> {
     let mut disk = new_store(alloc, 64)?.close();
     for calls in 0..64 {
         disk.arm(calls + 1);

@@ -1,19 +1,9 @@
 use denote.Param.Members.{Called}
-use Rattle.std.proofs.Common.{Vec, Global, List, ℕ, Result, Ok, Err, ◌≢◌, ◌≡◌}
-use Rattle.lw_types.specs.declared.refusal.Refusal.{Refusal}
-use Rattle.devices.specs.declared.effect.Effect.{Effect}
-use Rattle.sessions.specs.declared.decision.Decision.{Decision}
-use Rattle.session_core.specs.State.{DecisionsState}
-use Rattle.disk.specs.declared.disk.Disk.{Ghosts}
-use Rattle.store.specs.State.{store_state}
-use Rattle.store.specs.declared.store.Store.{Store}
-use Rattle.flusher.specs.Chain.{IsChain}
-use Rattle.flusher.specs.Deciding.{TakesBehind}
+use Rattle.std.proofs.Common.{Vec, Global}
 use Rattle.flusher.specs.Released.{effects_of_all}
-use Rattle.flusher.specs.declared.core_feed.CoreFeed.{CoreFeed}
 use Rattle.flusher.specs.declared.released.Released.{Released}
 use Rattle.flusher.proofs.Leading.{leaves_callable}
-use Rattle.flusher.proofs.Decided.{TakingLaws, commits_decided, ends_in_step, in_step_behind}
+use Rattle.flusher.proofs.Decided.{commits_decided, ends_in_step, in_step_behind}
 use Rattle.flusher.proofs.core_feed.chain_of_core.Goals as goal
 
 pub returns-clause-callable : goal.returns-clause-callable
