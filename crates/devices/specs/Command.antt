@@ -1,6 +1,7 @@
 -- What applications ask for.
 use Rattle.devices.specs.declared.command.ApplicationCommand.{ApplicationCommand}
-use Rattle.devices.specs.declared.command.ApplicationCommand.TheVariants.{Provision, Queue, QueueMac}
+use Rattle.devices.specs.declared.command.ApplicationCommand.TheVariants.{Provision, Queue}
+use Rattle.devices.specs.declared.command.ApplicationCommand.TheVariants.{QueueMac}
 use Rattle.devices.specs.declared.command.Command.{Command}
 use Rattle.devices.specs.declared.command.Command.TheVariants as command
 

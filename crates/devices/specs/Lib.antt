@@ -9,3 +9,4 @@ pub mod Parts
 pub mod Channels
 pub mod Becoming
 pub mod Command
+pub mod Restored

@@ -1,8 +1,8 @@
 // Joins granted to a device, and its sessions (TS001-1.0.4 §6.2).
-ghost use Rattle.std.specs.Prelude.{◌≡◌, ◌≤◌, ◌<◌, ◌↔◌, IsTrue, IfSome, option_map, unwrap_or};
+ghost use Rattle.std.specs.Prelude.{◌≡◌, ◌≤◌, ◌<◌, ◌↔◌, ◌^◌, IsTrue, IfSome, option_map, unwrap_or};
 ghost use Rattle.devices.specs.Activation.{current_nonce};
 
-use crate::{Channels, NextDown};
+use crate::{Channels, GrantsSince, NextDown};
 use lw_types::{JoinNonce, Key};
 use std::marker::Model;
 
@@ -47,9 +47,10 @@ impl Model for Activation {
 }
 
 impl Activation {
-    ghost use Rattle.std.specs.Prelude.{◌≡◌, ◌^◌, Some, SomeIff};
+    ghost use Rattle.std.specs.Prelude.{◌≡◌, ◌^◌, Some, SomeIff, true};
     ghost use Rattle.devices.specs.Activation.{with_last_up, with_current, grants_of, no_grants};
     ghost use Rattle.devices.specs.Activation.{with_down_used, with_grant, AreInOrder};
+    ghost use Rattle.devices.specs.Restored.{has_grants_left, restored_grants};
 
     /// Nothing granted yet.
     pub fn none() -> Self
@@ -147,6 +148,20 @@ impl Activation {
         });
     }
 
+    /// The grants of an older copy, as if so many more had been made behind it: no session is left.
+    /// `None` exactly where there are no so many JoinNonces above the last one granted.
+    pub fn restored(&self, since: GrantsSince) -> Option<Self>
+        ensures { SomeIff result (has_grants_left since self.now ≡ true)
+            (restored_grants since self.now) }
+    {
+        let granted = JoinNonce::new(granted_nonce(&self.granted) + since.get() as u32)?;
+        Some(Activation {
+            granted: Some(granted),
+            current: None,
+            pending: None,
+        })
+    }
+
     /// The pending session, which had no uplink yet.
     pub fn pending(&self) -> Option<Session>
         ensures { result ≡ self.now.pending }
@@ -202,7 +217,8 @@ fn counters_of(current: &Option<CurrentSession>) -> Option<(u32, NextDown)>
 
 // The number of the last grant, 0 where there is none.
 fn granted_nonce(granted: &Option<JoinNonce>) -> u32
-    ensures { result ≡ unwrap_or granted.now 0 }
+    ensures value { result ≡ unwrap_or granted.now 0 }
+    ensures range { result < 2 ^ 24 }
 {
     match granted {
         None => 0,

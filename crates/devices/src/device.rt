@@ -3,8 +3,8 @@ ghost use Rattle.std.specs.Prelude.{◌≡◌, ◌↔◌, IsTrue, MatchResult};
 ghost use Rattle.lw_types.specs.declared.refusal.Refusal.TheVariants.{OutOfMemory};
 
 use crate::{
-    Activation, Application, ItemQueue, LAST_HEARD, MacQueue, Provisioning, Rx1Offset, RxDelay,
-    Tag, UplinkCount,
+    Activation, Application, GrantsSince, ItemQueue, LAST_HEARD, MacQueue, Provisioning, Rx1Offset,
+    RxDelay, Tag, UplinkCount,
 };
 use lw_types::{Eui, Key, Refusal};
 use std::alloc::Global;
@@ -31,7 +31,9 @@ pub struct Device {
 }
 
 impl Device {
+    ghost use Rattle.std.specs.Prelude.{true, false};
     ghost use Rattle.devices.specs.Device.{new_device, one_more_heard};
+    ghost use Rattle.devices.specs.Restored.{has_grants_left, restored_device};
 
     /// The record of a device that was just provisioned. Takes no memory.
     pub fn provisioned(alloc: Global, provisioning: &Provisioning) -> Self
@@ -60,6 +62,30 @@ impl Device {
         let heard = self.heard.get();
         if heard < LAST_HEARD {
             self.heard = UplinkCount::new(heard + 1).unwrap();
+        }
+    }
+
+    /// Whether there are so many JoinNonces above the last one granted.
+    pub fn has_grants_left(&self, since: GrantsSince) -> bool
+        ensures { result ≡ has_grants_left since self.now.activation }
+    {
+        self.activation.restored(since).is_some()
+    }
+
+    /// Takes the record of an older copy back, as if the device had been granted so many joins more
+    /// behind it: no session is left, and all else stays. Whether there were so many JoinNonces:
+    /// where not, nothing changes.
+    pub fn restore(&mut self, since: GrantsSince) -> bool
+        ensures left { result ≡ has_grants_left since self.old.activation }
+        ensures restored { result ≡ true → self.new ≡ restored_device since self.old }
+        ensures same { result ≡ false → self.new ≡ self.old }
+    {
+        match self.activation.restored(since) {
+            Some(activation) => {
+                self.activation = activation;
+                true
+            }
+            None => false,
         }
     }
 

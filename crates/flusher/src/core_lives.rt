@@ -42,11 +42,11 @@ pub struct CoreLife {
 /// it leaves, which comes back at the end.
 ///
 /// Where the disk holds a table and a number, whatever a crash leaves of it: what a crash leaves at
-/// the end is that table and, of each life, the first of the commands that were decided in it: those
-/// that were committed, whose effects were given to `out`, complete and in order, and where the
-/// power failed perhaps the next ones. So over all lives no mark is used up twice by what was given
-/// to `out`, nor one of those that were used up before, where the first table covers these: and the
-/// last table covers them all.
+/// the end is that table and, of each life, the first of the commands that were decided in it:
+/// those that were committed, whose effects were given to `out`, complete and in order, and where
+/// the power failed perhaps the next ones. So over all lives no mark is used up twice by what was
+/// given to `out`, nor one of those that were used up before, where the first table covers these:
+/// and the last table covers them all.
 pub fn decide_over_lives<D: Sim, C: FnMut(Vec<Released>)>(
     alloc: Global,
     disk: D,

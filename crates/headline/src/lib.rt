@@ -1,14 +1,17 @@
 //! What may be concluded of whole runs, in the words of their lists of steps alone.
 #![tactic(auto)]
 
-ghost use Rattle.std.specs.Prelude.{◌≡◌, ◌≢◌, ◌⊎◌, ◌++◌, ℕ, List, All, IfOk, IfErr, IsErrAnd};
+ghost use Rattle.std.specs.Prelude.{◌≡◌, ◌≢◌, ◌⊎◌, ◌++◌, ℕ, List, All, IfOk, IfErr, IsErrAnd, None};
 ghost use Rattle.std.specs.Prelude.{length};
 ghost use Rattle.devices.specs.declared.mark.Mark.{Mark};
 ghost use Rattle.disk.specs.Outlook.Outlook.{AllSucceed, FailsAfter};
 ghost use Rattle.flusher.specs.Released.{effects_of_all};
 ghost use Rattle.lw_types.specs.declared.refusal.Refusal.TheVariants.{DeviceFailed, OutOfMemory};
+ghost use Rattle.lw_types.specs.declared.refusal.Refusal.TheVariants.{JoinNonceSpent, WrongSize};
 ghost use Rattle.sessions.specs.Marks.{AreDistinct, Covers, HasUsedUp, marks_of};
+ghost use Rattle.sessions.specs.Restored.{restored_table, spent_device, IsSince};
 ghost use Rattle.sessions.specs.Table.{TableState};
+ghost use Rattle.store_layout.specs.Superblock.{disk_len};
 ghost use Rattle.store.specs.Faults.{IsFault, IsFormatRefusal};
 ghost use Rattle.store.specs.Image.{HoldsTable};
 ghost use Rattle.store.specs.State.{store_state};
@@ -22,11 +25,13 @@ ghost use Rattle.headline.specs.Crash.{IsOpenedAfterCrash, IsOpenedOf};
 ghost use Rattle.headline.specs.Failing.{ArmsNothing};
 ghost use Rattle.headline.specs.Recovers.{NoMarkTwice, Recovers};
 
+use devices::GrantsSince;
 use disk::{Image, Sim};
 use flusher::Released;
 use lw_types::{NetId, Refusal};
+use sessions::Table;
 use std::alloc::Global;
-use store::Store;
+use store::{Store, establish_back};
 use world::{Answer, Step, World, run};
 
 /// Takes the steps on a world with a new store on this disk, crashes among them, lets the disk
@@ -129,6 +134,87 @@ pub fn crash_after_adoption<D: Sim + Drop>(
     match World::adopt(alloc, disk) {
         Ok(world) => crash_from(alloc, world, steps, image),
         Err((_, refusal)) => Err(refusal),
+    }
+}
+
+/// The same of a network whose disk was lost, and that goes on with an older copy of its store: the
+/// copy's table is taken back as if each device had been granted so many joins more behind it, and
+/// a store of it and of the copy's number is made on this disk, which a world adopts. A refusal is
+/// `OutOfMemory`, `DeviceFailed`, `JoinNonceSpent` where a device hasn't so many JoinNonces left,
+/// or `WrongSize` where the disk hasn't the length of such a store.
+///
+/// Of all marks that were used up before the copy and behind it, where they are distinct and no
+/// device was granted more sessions behind the copy than were counted, and of those of what has
+/// left since, none stands twice, whatever the lost disk had; and the table that is recovered
+/// covers them all.
+pub fn crash_after_restoring<D: Sim + Drop>(
+    alloc: Global,
+    older: Table,
+    seq: u64,
+    since: GrantsSince,
+    disk: D,
+    steps: &[Step],
+    image: &Image,
+) -> Result<(Vec<Answer>, Store<D>), Refusal>
+    ensures recovers { IfOk result (λ found. (marks : List Mark) →
+        Recovers (adopted_store (restored_table since older) seq marks)
+        (course_of (adopted_store (restored_table since older) seq marks)
+        (beginning (adopted_store (restored_table since older) seq marks)) steps.now found.0.items)
+        (store_state D.state found.1).table (store_state D.state found.1).seq) }
+    ensures once { IfOk result (λ found. (marks : List Mark)
+        → All (λ m. IsSince since older m) marks → AreDistinct marks
+        → NoMarkTwice (adopted_store (restored_table since older) seq marks)
+        (course_of (adopted_store (restored_table since older) seq marks)
+        (beginning (adopted_store (restored_table since older) seq marks)) steps.now
+        found.0.items)) }
+    ensures covered { IfOk result (λ found. (marks : List Mark)
+        → All (λ m. IsSince since older m) marks → AreDistinct marks
+        → HasUsedUp (store_state D.state found.1).table (marks ++ marks_of
+        (course_of (adopted_store (restored_table since older) seq marks)
+        (beginning (adopted_store (restored_table since older) seq marks)) steps.now
+        found.0.items).left)) }
+    ensures refused { IfErr result (λ e. e ≢ DeviceFailed → e ≢ OutOfMemory
+        → ((e ≡ JoinNonceSpent) × (spent_device since older ≢ None))
+        ⊎ ((e ≡ WrongSize) × (length (D.state disk).content ≢ disk_len older.slots))) }
+{
+    sessions::laws::a_restored_table_covers();
+    let mut table = older;
+    match table.restore(since) {
+        Ok(()) => crash_from_table(alloc, table, seq, disk, steps, image),
+        Err(_) => Err(Refusal::JoinNonceSpent),
+    }
+}
+
+// The same of a table and a number, of which a store is made on this disk.
+fn crash_from_table<D: Sim + Drop>(
+    alloc: Global,
+    table: Table,
+    seq: u64,
+    disk: D,
+    steps: &[Step],
+    image: &Image,
+) -> Result<(Vec<Answer>, Store<D>), Refusal>
+    ensures recovers { IfOk result (λ found. (marks : List Mark) →
+        Recovers (adopted_store table seq marks)
+        (course_of (adopted_store table seq marks) (beginning (adopted_store table seq marks))
+        steps.now found.0.items)
+        (store_state D.state found.1).table (store_state D.state found.1).seq) }
+    ensures once { IfOk result (λ found. (marks : List Mark)
+        → All (λ m. Covers table m) marks → AreDistinct marks
+        → NoMarkTwice (adopted_store table seq marks)
+        (course_of (adopted_store table seq marks) (beginning (adopted_store table seq marks))
+        steps.now found.0.items)) }
+    ensures covered { IfOk result (λ found. (marks : List Mark)
+        → All (λ m. Covers table m) marks → AreDistinct marks
+        → HasUsedUp (store_state D.state found.1).table (marks ++ marks_of
+        (course_of (adopted_store table seq marks) (beginning (adopted_store table seq marks))
+        steps.now found.0.items).left)) }
+    ensures refused { IfErr result (λ e. e ≢ DeviceFailed → e ≢ OutOfMemory
+        → (e ≡ WrongSize) × (length (D.state disk).content ≢ disk_len table.slots)) }
+{
+    match establish_back(alloc, disk, table, seq) {
+        Ok(store) => crash_after_adoption(alloc, store.close(), steps, image),
+        Err((_disk, refusal)) => Err(refusal),
     }
 }
 

@@ -15,3 +15,4 @@ pub mod Subsequences
 pub mod Becoming
 pub mod Exact
 pub mod Wholes
+pub mod Restoring

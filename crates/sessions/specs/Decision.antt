@@ -107,7 +107,9 @@ is_frugal (QueueMac q) outcome = true
 abbrev pub AnswersTo : {A B : Type 0} → Command → Result A Refusal → (A → B → Type 0)
     → Result B Refusal → Type 0
 AnswersTo command wanted Is result =
-    MatchBool (is_frugal command wanted) (Answers wanted Is result) (AnswersWithMemory wanted Is result)
+    MatchBool (is_frugal command wanted)
+    (Answers wanted Is result)
+    (AnswersWithMemory wanted Is result)
 
 -- the step of the command is decided, or its refusal is answered
 abbrev pub Decides : TableState → ℕ → Command → Result Decision Refusal → Type 0

@@ -8,3 +8,4 @@ pub mod Decision
 pub mod Marks
 pub mod Leaving
 pub mod Placed
+pub mod Restored

@@ -1,12 +1,15 @@
 //! Laws on the definitions that the contracts of this crate cite. Nothing here is of use but its
 //! contracts.
-ghost use Rattle.std.specs.Prelude.{◌≡◌, ◌++◌, ◌↔◌, ◌≤◌, ◌+◌, ℕ, List, [], IfSome, SomeIff};
+ghost use Rattle.std.specs.Prelude.{◌≡◌, ◌++◌, ◌↔◌, ◌≤◌, ◌+◌, ℕ, List, [], All, IfSome, SomeIff};
 ghost use Rattle.std.specs.Prelude.{length};
 ghost use Rattle.devices.specs.Becoming.{MayBecome};
 ghost use Rattle.devices.specs.declared.command.Command.{Command};
 ghost use Rattle.devices.specs.declared.effect.Effect.{Effect};
 ghost use Rattle.devices.specs.declared.mark.Mark.{Mark};
-ghost use Rattle.sessions.specs.Marks.{AreOnce, HasUsedUp, IsSound, IsSubsequence, marks_of};
+ghost use Rattle.sessions.specs.Index.{HaveOwnSlots};
+ghost use Rattle.sessions.specs.Marks.{AreOnce, Covers, HasUsedUp, IsSound, IsSubsequence};
+ghost use Rattle.sessions.specs.Marks.{marks_of};
+ghost use Rattle.sessions.specs.Restored.{restored_table, IsSince};
 ghost use Rattle.sessions.specs.Table.{TableState, CanPut, IsSlots, empty_table, fold_of};
 ghost use Rattle.sessions.specs.Table.{effects_of};
 ghost use Rattle.sessions.specs.Decision.{FitsTable, FitAll, ContinueAll, with_decisions};
@@ -91,6 +94,16 @@ pub fn no_mark_stands_twice()
 {
     uplinks::laws::a_fit_is_of_its_device();
 }
+
+/// A table that is taken back of an older copy rules out each mark of before it, and of behind it
+/// where no device was granted more sessions than were counted: so a network that has used up these
+/// marks, none of them twice, goes on with it.
+pub fn a_restored_table_covers()
+    ensures covered { (since : ℕ) (t : TableState) (marks : List Mark) →
+        All (λ m. IsSince since t m) marks → All (λ m. Covers (restored_table since t) m) marks }
+    ensures sound { (since : ℕ) (t : TableState) → HaveOwnSlots t.devices
+        → IsSound (restored_table since t) }
+{}
 
 /// A table has from 1 to 4,096 slots.
 pub fn slots_of(number: u64) -> Option<Slots>

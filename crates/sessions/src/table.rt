@@ -7,6 +7,7 @@ mod decide;
 mod hear;
 mod overlay;
 mod queueing;
+mod restoring;
 
 use devices::Device;
 pub use hear::Question;

@@ -5,7 +5,7 @@ ghost use Rattle.std.specs.Prelude.{◌≡◌};
 use crate::asked::{
     JOINER, REQUEST, STRANGE, UPLINK, copy, item, mac_command, moment, new_core, provisioning,
 };
-use devices::ApplicationCommand;
+use devices::{ApplicationCommand, Item};
 use lw_types::Refusal;
 use session_core::{Books, Core, Moment, Most, Outcome, Seat, Sessions, Shared, Taker, Turn};
 use sessions::{Batch, Decision};
@@ -186,14 +186,20 @@ fn is_same(a: &Decision, b: &Decision) -> bool {
 
 // Whether the first decision, if there is one, found items of these tags, in order.
 fn found(batch: &Batch, tags: &[u32]) -> bool {
-    let before = match batch.as_slice().first() {
-        Some(decision) => &decision.before,
-        None => &None,
-    };
-    let items = match before {
-        Some(device) => device.items.as_slice(),
-        None => &[],
-    };
+    match batch.as_slice().first() {
+        Some(decision) => found_by(decision, tags),
+        None => tags.is_empty(),
+    }
+}
+
+fn found_by(decision: &Decision, tags: &[u32]) -> bool {
+    match &decision.before {
+        Some(device) => are_tagged(device.items.as_slice(), tags),
+        None => tags.is_empty(),
+    }
+}
+
+fn are_tagged(items: &[Item], tags: &[u32]) -> bool {
     let mut same = items.len() == tags.len();
     for (item, tag) in items.iter().zip(tags) {
         same = same && item.tag.0 == *tag;
@@ -238,14 +244,18 @@ impl<B: Books> Lives<'_, B> {
         Ok(if same { Some(decided) } else { None })
     }
 
+    // Whether both give the same, and the first of it found items of these tags.
+    fn gives<R: Wait>(&mut self, rt: &R, tags: &[u32]) -> Result<bool, Refusal> {
+        match self.take(rt)? {
+            Some(batch) => Ok(found(&batch, tags)),
+            None => Ok(false),
+        }
+    }
+
     // Whether all is seen so, where what is decided is taken behind each row, or behind the last.
     fn agree<R: Wait>(&mut self, rt: &R, rows: &[Row], each: bool) -> Result<bool, Refusal> {
         for row in rows {
-            let mut same = self.answer(rt, row)?;
-            if each {
-                same = same && self.take(rt)?.is_some_and(|batch| found(&batch, row.3));
-            }
-            if !same {
+            if !self.answer(rt, row)? || each && !self.gives(rt, row.3)? {
                 return Ok(false);
             }
         }

@@ -8,10 +8,11 @@ use Rattle.std.proofs.lemmas.Bool.{cases_eq}
 use Rattle.gate_log.specs.declared.layout.Areas.{Areas}
 use Rattle.gate_log.specs.declared.layout.TheConstants.{OPEN}
 use Rattle.gate_log.specs.Areas.{HoldsIn, IsClosedArea, IsOlder, bytes_in, contents_in}
+use Rattle.gate_log.specs.Log.{IsAtRest}
 use Rattle.gate_log.specs.Layout.{Journal, checkpoint, fresh_header, header_bytes}
 use Rattle.sessions.specs.Table.{empty_table}
 use Rattle.store_layout.specs.Superblock.{area_len, disk_len, superblock, superblock_body}
-use Rattle.store.specs.Formatting.{IsFormatImage, IsShut}
+use Rattle.store.specs.Formatting.{IsFormatImage, IsShut, IsShutImage}
 use Rattle.store.specs.Image.{area_a, area_b}
 use Rattle.store.specs.declared.areas.TheConstants.{RECORD_VERSION}
 use Rattle.store.specs.State.{IsSettled}
@@ -49,6 +50,27 @@ opened_range c4 c5 end is = ap (λ (l : List ℕ). slice_range l 32 end) is ∙ 
 abbrev pub ClosedLaw : Type 0
 ClosedLaw = (area : Area) (disk : List ℕ) (generation : ℕ) → area.start < area.end → IsClosedArea area disk → IsOlder generation area disk
 
+-- a log whose live area has no records and no batches, and whose other one is closed, is at rest
+pub empty_at_rest : ClosedLaw → (slots : ℕ) (state : State) → NothingOpen state → length state.content ≡ disk_len slots
+    → HoldsIn (area_a slots) (checkpoint (fresh_header RECORD_VERSION) []) state.content → IsClosedArea (area_b slots) state.content
+    → IsAtRest
+    (record { disk = state; areas = record { live = area_a slots; other = area_b slots }; next = (area_a slots).start + 30; generation = 1; other_open = false })
+    (contents_in (record { live = area_a slots; other = area_b slots }) state.content (checkpoint (fresh_header RECORD_VERSION) []))
+unfolding header_bytes
+empty_at_rest law slots state settled long held closed =
+    record {
+      settled = settled;
+      holds = record {
+        layout = laid_out slots (length state.content) long;
+        size = refl;
+        front = refl;
+        live = held;
+        other = law (area_b slots) state.content 1 (omega arith) closed;
+      };
+      knows = record { areas = refl; generation = refl; next = refl };
+      other_gate = closed;
+    }
+
 -- a disk with a superblock, an area without records or batches, and a closed one, is at rest
 pub settled_empty : ClosedLaw → (net_id slots : ℕ) (state : State) → net_id < 64 → (1 ≤ slots) × (slots ≤ 4096) → NothingOpen state → length state.content ≡ disk_len slots
     → HoldsIn (area_a slots) (checkpoint (fresh_header RECORD_VERSION) []) state.content → IsClosedArea (area_b slots) state.content → take 32 state.content ≡ superblock net_id slots
@@ -58,24 +80,12 @@ pub settled_empty : ClosedLaw → (net_id slots : ℕ) (state : State) → net_i
       seq = 0;
       failed = false;
     })
-unfolding header_bytes
 settled_empty law net_id slots state net range settled long held closed front =
     let areas : Areas = record { live = area_a slots; other = area_b slots } in
     let c = contents_in areas state.content (checkpoint (fresh_header RECORD_VERSION) []) in
     record {
       contents = c;
-      rest = record {
-        settled = settled;
-        holds = record {
-          layout = laid_out slots (length state.content) long;
-          size = refl;
-          front = refl;
-          live = held;
-          other = law (area_b slots) state.content 1 (omega arith) closed;
-        };
-        knows = record { areas = refl; generation = refl; next = refl };
-        other_gate = closed;
-      };
+      rest = empty_at_rest law slots state settled long held closed;
       says = record {
         net_id = net;
         slots = range;
@@ -108,7 +118,7 @@ shut_after at n old new behind opens shut = record {
         sym (get_or-take at ys 0 0 (omega arith)) ∙ (ap (λ (l : List ℕ). get_or l 0 0) same ∙ get_or-take at xs 0 0 (omega arith))
 
 -- a torn gate that reads open is the open one
-opened_image : (old image : List ℕ) → IsTorn 0 1 old image → 1 ≤ length old → get_or image 0 0 ≡ OPEN → image ≡ bytes_after_write old 0 (OPEN ∷ [])
+pub opened_image : (old image : List ℕ) → IsTorn 0 1 old image → 1 ≤ length old → get_or image 0 0 ≡ OPEN → image ≡ bytes_after_write old 0 (OPEN ∷ [])
 opened_image old [] torn some is = absurd (omega (arith, torn.same_length))
 opened_image old (x ∷ image) torn some is = (λ i. is i ∷ torn.after i)
 
@@ -135,3 +145,8 @@ formatted_image law net_id slots old image net range long outside held closed bo
           inr (inl (record { version = newest; contents = settled.contents; holds = settled.rest.holds; says = settled.says }))
       | inr other ↦ inl other
     ]
+
+-- a disk on which nothing was opened
+pub format_or_shut : (net_id slots : ℕ) (old image : List ℕ) → IsShutImage old image → IsFormatImage net_id slots old image
+format_or_shut net_id slots old image (inl closed) = inl closed
+format_or_shut net_id slots old image (inr same) = inr (inr same)

@@ -7,3 +7,4 @@ pub mod Finding
 pub mod Answering
 pub mod Republishing
 pub mod NextCalls
+pub mod Shut

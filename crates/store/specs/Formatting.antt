@@ -2,7 +2,7 @@
 use Rattle.std.specs.Prelude.{◌≡◌, ◌≢◌, ◌⊎◌, ℕ, false, List, drop, slice_index}
 use Rattle.disk.specs.State.{State}
 use Rattle.gate_log.specs.declared.layout.TheConstants.{OPEN}
-use Rattle.sessions.specs.Table.{empty_table}
+use Rattle.sessions.specs.Table.{TableState, empty_table}
 use Rattle.store.specs.Image.{HoldsTable}
 
 -- the superblock's gate is closed, and stays closed at a crash
@@ -10,9 +10,16 @@ pub record IsShut (state : State) : Type 0 where
   pub settled : state.is_open 0 ≡ false
   pub closed : slice_index state.content 0 ≢ OPEN
 
--- no store is there, or the new one without devices, or all behind the superblock's gate is as it
--- was
+-- no store is there, or all behind the superblock's gate is as it was
+abbrev pub IsShutImage : List ℕ → List ℕ → Type 0
+IsShutImage old image = (slice_index image 0 ≢ OPEN) ⊎ (drop 1 image ≡ drop 1 old)
+
+-- no store is there, or the new one with this table and number, or all behind the superblock's gate
+-- is as it was
+abbrev pub IsNewStoreImage : TableState → ℕ → List ℕ → List ℕ → Type 0
+IsNewStoreImage t seq old image =
+    (slice_index image 0 ≢ OPEN) ⊎ (HoldsTable t seq image ⊎ (drop 1 image ≡ drop 1 old))
+
+-- the new one has no devices
 abbrev pub IsFormatImage : ℕ → ℕ → List ℕ → List ℕ → Type 0
-IsFormatImage net_id slots old image =
-    (slice_index image 0 ≢ OPEN)
-    ⊎ (HoldsTable (empty_table net_id slots) 0 image ⊎ (drop 1 image ≡ drop 1 old))
+IsFormatImage net_id slots = IsNewStoreImage (empty_table net_id slots) 0

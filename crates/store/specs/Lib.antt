@@ -2,6 +2,7 @@ pub mod Image
 pub mod Found
 pub mod Faults
 pub mod Formatting
+pub mod Establishing
 pub mod State
 pub mod Commit
 pub mod Phases

@@ -11,7 +11,7 @@ ghost use Rattle.gate_log.specs.Layout.{checkpoint, fresh_header};
 ghost use Rattle.sessions.specs.Table.{IsSlots, empty_table};
 ghost use Rattle.store_layout.specs.Superblock.{disk_len, superblock as superblock_bytes};
 ghost use Rattle.store_layout.specs.Superblock.{superblock_body};
-ghost use Rattle.store.specs.Formatting.{IsFormatImage, IsShut};
+ghost use Rattle.store.specs.Formatting.{IsFormatImage, IsShut, IsShutImage};
 ghost use Rattle.store.specs.Image.{area_a, area_b};
 ghost use Rattle.store.specs.Made.{IsFormatAnswer};
 ghost use Rattle.store.specs.State.{store_state, disk_of, IsSettled};
@@ -114,10 +114,39 @@ fn write_empty<D: Disk>(disk: &mut D, superblock: &Superblock) -> Result<u64, di
 {
     laws::a_journal_stays_where_others_change();
     laws::a_closed_area_is_older();
+    let next = write_shut(disk, superblock)?;
+    open_front(disk)?;
+    Ok(next)
+}
+
+// Writes all but the superblock's open gate, and syncs it: behind the closed gate no store is
+// there.
+pub(crate) fn write_shut<D: Disk>(
+    disk: &mut D,
+    superblock: &Superblock,
+) -> Result<u64, disk::DeviceFailed>
+    requires { length (D.state disk.old).content ≡ disk_len superblock.now.slots }
+    ensures area { D.honest → OnOk result (HoldsIn (area_a superblock.now.slots)
+        (checkpoint (fresh_header RECORD_VERSION) []) (D.state disk.new).content) }
+    ensures other_area { D.honest → OnOk result
+        (IsClosedArea (area_b superblock.now.slots) (D.state disk.new).content) }
+    ensures body { D.honest → OnOk result (drop 1 (take Superblock.LEN (D.state disk.new).content)
+        ≡ superblock_body superblock.now.net_id superblock.now.slots) }
+    ensures shut { D.honest → OnOk result (IsShut (D.state disk.new)) }
+    ensures settled { D.honest → OnOk result (NothingOpen (D.state disk.new)) }
+    ensures images { D.honest → NothingOpen (D.state disk.old)
+        → EveryImage (D.state disk.new) (IsShutImage (D.state disk.old).content) }
+    ensures in_range { OnOk result ((superblock.now.net_id < 64) × IsSlots superblock.now.slots) }
+    ensures next { IfOk result (λ next. next ≡ (area_a superblock.now.slots).start + RECORDS_AT) }
+    ensures same_length { length (D.state disk.new).content ≡ length (D.state disk.old).content }
+    ensures cause { HasCause (D.failures disk.old) (D.failures disk.new) result }
+    ensures unarmed { D.outlook disk.old ≡ AllSucceed
+        → IsTrue (is_ok result) × (D.outlook disk.new ≡ AllSucceed) }
+{
+    disk::laws::settled_disk_keeps_its_content();
     shut(disk)?;
     let next = write_closed(disk, superblock)?;
     disk.sync()?;
-    open_front(disk)?;
     Ok(next)
 }
 
@@ -139,7 +168,7 @@ fn shut<D: Disk>(disk: &mut D) -> Result<(), disk::DeviceFailed>
 }
 
 // Opens the superblock's gate.
-fn open_front<D: Disk>(disk: &mut D) -> Result<(), disk::DeviceFailed>
+pub(crate) fn open_front<D: Disk>(disk: &mut D) -> Result<(), disk::DeviceFailed>
     requires { 1 ≤ length (D.state disk.old).content }
     ensures opened { D.honest → OnOk result ((D.state disk.new).content
         ≡ bytes_after_write (D.state disk.old).content 0 (OPEN ∷ [])) }

@@ -9,6 +9,7 @@ mod areas;
 mod begin;
 mod checkpointing;
 mod commit;
+mod establishing;
 mod formatting;
 mod found;
 pub mod laws;
@@ -27,6 +28,7 @@ pub use areas::{LAST_GENERATION, LAST_OLD_GENERATION, RECORD_VERSION};
 pub use checkpointing::{
     Checkpoint, CheckpointOpened, CheckpointSynced, CheckpointWritten, Retiring,
 };
+pub use establishing::establish_back;
 pub use formatting::{disk_len, format, format_back};
 pub use opening::{open, open_back};
 pub use pairing::Paired;

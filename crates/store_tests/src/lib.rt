@@ -16,6 +16,8 @@ mod store_images_tests;
 #[cfg(test)]
 mod store_joins_tests;
 #[cfg(test)]
+mod store_restoring_tests;
+#[cfg(test)]
 mod store_tests;
 #[cfg(test)]
 mod store_versions_tests;

@@ -80,8 +80,8 @@ pub(super) const WINDOWS: &[Step] = &[
     Step::Crowd(1, 33, Some(Refusal::CopiesFull)),
 ];
 
-// As many decisions wait as there is room for, and no more: be it a provisioning, a join, an item, a
-// command without memory or the frame of a window that is due.
+// As many decisions wait as there is room for, and no more: be it a provisioning, a join, an item,
+// a command without memory or the frame of a window that is due.
 pub(super) const WAITING: &[Step] = &[
     Step::Core(4096, 0),
     Step::Fill(4096),

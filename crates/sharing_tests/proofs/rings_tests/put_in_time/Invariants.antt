@@ -2,4 +2,4 @@ use Rattle.outbox.specs.Ring.{SameOutlet}
 use Rattle.sharing_tests.proofs.rings_tests.put_in_time.Given as goal
 
 abbrev pub invariant-loop : goal.invariant-loop
-invariant-loop g l = SameOutlet l.initial.outlet l.outlet
+invariant-loop l = SameOutlet l.initial.outlet l.outlet

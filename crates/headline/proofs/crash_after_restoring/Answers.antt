@@ -1,0 +1,46 @@
+use Rattle.std.proofs.Common.{◌++◌, sym, subst}
+use Rattle.std.specs.Prelude.{All}
+use Rattle.std.proofs.lemmas.Result.{IfOk-weaker}
+use Rattle.devices.specs.declared.mark.Mark.{Mark}
+use Rattle.sessions.specs.Marks.{Covers, HasUsedUp, marks_of}
+use Rattle.sessions.specs.Table.{TableState}
+use Rattle.store.specs.State.{store_state}
+use Rattle.world.specs.Course.{adopted_store, beginning, course_of}
+use Rattle.headline.specs.Recovers.{NoMarkTwice, Recovers}
+use Rattle.headline.proofs.crash_after_restoring.Goals as goal
+
+pub returns-in-Ok-clause-recovers : goal.returns-in-Ok-clause-recovers
+returns-in-Ok-clause-recovers g c =
+    let seq = c.args.seq in
+    let steps = c.args.steps.now in
+    IfOk-weaker c.crash_from_table.result _ _
+    (λ found recovers marks.
+    subst
+    (λ (t : TableState). Recovers (adopted_store t seq marks) (course_of (adopted_store t seq marks) (beginning (adopted_store t seq marks)) steps found.0.items)
+    (store_state g.D.Disk.state found.1).table (store_state g.D.Disk.state found.1).seq)
+    c.in-Ok.ensures.1 (recovers marks))
+    c.crash_from_table.ensures.recovers
+
+pub returns-in-Ok-clause-once : goal.returns-in-Ok-clause-once
+returns-in-Ok-clause-once g c =
+    let seq = c.args.seq in
+    let steps = c.args.steps.now in
+    IfOk-weaker c.crash_from_table.result _ _
+    (λ found once marks within distinct.
+    subst (λ (t : TableState). NoMarkTwice (adopted_store t seq marks) (course_of (adopted_store t seq marks) (beginning (adopted_store t seq marks)) steps found.0.items))
+    c.in-Ok.ensures.1
+    (once marks (subst (λ (t : TableState). All (λ (m : Mark). Covers t m) marks) (sym c.in-Ok.ensures.1) (c.a_restored_table_covers.ensures.covered c.args.since c.args.older marks within)) distinct))
+    c.crash_from_table.ensures.once
+
+pub returns-in-Ok-clause-covered : goal.returns-in-Ok-clause-covered
+returns-in-Ok-clause-covered g c =
+    let seq = c.args.seq in
+    let steps = c.args.steps.now in
+    IfOk-weaker c.crash_from_table.result _ _
+    (λ found covered marks within distinct.
+    subst
+    (λ (t : TableState). HasUsedUp (store_state g.D.Disk.state found.1).table
+    (marks ++ marks_of (course_of (adopted_store t seq marks) (beginning (adopted_store t seq marks)) steps found.0.items).left))
+    c.in-Ok.ensures.1
+    (covered marks (subst (λ (t : TableState). All (λ (m : Mark). Covers t m) marks) (sym c.in-Ok.ensures.1) (c.a_restored_table_covers.ensures.covered c.args.since c.args.older marks within)) distinct))
+    c.crash_from_table.ensures.covered
