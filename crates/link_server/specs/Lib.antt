@@ -1,3 +1,4 @@
+pub mod Linked
 pub mod Routing
 pub mod Sending
 pub mod Served

@@ -6,16 +6,13 @@
 
 mod closing;
 mod context;
-mod control;
-mod door;
+mod directory;
 mod flushing;
 mod gate;
 mod gathering;
-mod hosting;
 pub mod laws;
 mod link;
 mod moments;
-mod orders;
 mod outgoing;
 mod parts;
 mod reading;
@@ -25,13 +22,11 @@ mod running;
 mod server;
 mod serving;
 mod signals;
-mod status;
 mod threads;
 mod writing;
 
 pub use gate::{Gate, OpenGate};
-pub use link::{LinkCount, PlaceCount};
+pub use link::LinkCount;
 pub use moments::{LifeClock, Monotonic};
-pub use orders::Order;
 pub use report::{LifeReport, ServeFault, ServedLife};
-pub use serving::{serve_links, serve_on};
+pub use serving::serve_links;

@@ -27,7 +27,7 @@ pub fn new_store(alloc: Global) -> Result<Store<MemDisk>, Refusal> {
     store::open(alloc, new_disk(alloc)?)
 }
 
-pub fn of_socket<T>(res: io::Result<T>) -> Result<T, Refusal> {
+fn of_socket<T>(res: io::Result<T>) -> Result<T, Refusal> {
     res.map_err(|_| Refusal::DeviceFailed)
 }
 

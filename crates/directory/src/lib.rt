@@ -1,6 +1,0 @@
-//! Which link of a server each gateway and each application has.
-#![tactic(auto)]
-
-mod names;
-
-pub use names::{Directory, Full, MOST_GATEWAYS};
