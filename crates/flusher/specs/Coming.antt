@@ -32,8 +32,8 @@ abbrev pub coming_first : List (Vec (ℕ × CoreEvent) Global) → List (ℕ × 
 coming_first [] = []
 coming_first (coming ∷ rest) = coming.items
 
--- A core as a feed: what comes before this take came to it, one after another, and then it was taken
--- from.
+-- A core as a feed: what comes before this take came to it, one after another, and then it was
+-- taken from.
 pub record GivesBehindComing (old : CoreFeed) (most : ℕ) (answer : Result (List Decision) Refusal)
     (new : CoreFeed) : Type 0 where
   pub between : CoreState
