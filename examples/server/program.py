@@ -70,9 +70,21 @@ class Program:
         return out.splitlines()
 
     def serve(self, links, port=None, **how):
-        """Starts the server; its address."""
+        """Starts the server for so many links, which stay; its address."""
+        return self.start("serve", links, port, **how)
+
+    def run_on(self, links=96, port=None, **how):
+        """Starts the server for links that come and go; its address, once it listens there."""
+        host, port = self.start("run", links, port, **how)
+        said = self.server.stdout.readline().decode()
+        if said != f"listening {host}:{port}\n":
+            raise Failed(f"the server said {said!r}, and ended so: {self.ended()}")
+        return self.address
+
+    def start(self, mode, links, port=None, **how):
+        """Starts the server in this mode; its address."""
         self.address = (HOST, port or free_port())
-        words = ["serve", self.store, "--listen", f"{HOST}:{self.address[1]}"]
+        words = [mode, self.store, "--listen", f"{HOST}:{self.address[1]}"]
         self.server = subprocess.Popen(
             [self.path, *words, "--links", str(links)],
             stdin=subprocess.DEVNULL,
@@ -81,6 +93,20 @@ class Program:
             **how,
         )
         return self.address
+
+    def stop(self, seconds=60):
+        """Stops a server whose links come and go; how it ended."""
+        stopped = self.run("stop", self.store, seconds=seconds)
+        if stopped != (0, "", ""):
+            raise Failed(f"lnsd stop ended so: {stopped}")
+        return self.ended(seconds)
+
+    def status(self, wait=0):
+        """How it goes with a server whose links come and go: values by their names."""
+        status, out, said = self.run("status", self.store, "--wait", str(wait))
+        if status or said:
+            raise Failed(f"lnsd status ended with status {status}: {said.strip()}")
+        return dict(line.split(" ", 1) for line in out.splitlines())
 
     def ended(self, seconds=60):
         """Waits for the server's end; its status, standard output and standard error."""

@@ -171,6 +171,11 @@ class Seen:
         """How many uplinks of each device came out."""
         return Counter(name[0] for name, _ in self.ups)
 
+    def queue_anew(self):
+        """The store is an older copy: items that had left go out again."""
+        self.items.clear()
+        self.last = {key: last for key, last in self.last.items() if key[0] != "item"}
+
     def count_anew(self):
         """The store counts uplinks from 0."""
         self.uncounted = self.came_out()

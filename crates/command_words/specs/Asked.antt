@@ -18,24 +18,58 @@ IsNumberOf id rows n = (text : Text) × (one_of id rows ≡ Some text)
     × IsNumeral 10 (without_leading_plus text)
     × (digits_value 10 (without_leading_plus text) ≡ n)
 
+-- where links connect to, and how many there may be
+abbrev pub HasLinkOptions : List Row → Text → ℕ → Type 0
+HasLinkOptions rows listen links =
+    (first_of (codes "listen") rows ≡ Some listen) × IsNumberOf (codes "links") rows links
+
+-- the word of its command
+abbrev pub command_word : Mode → Text
+command_word (mode.Format file net_id slots) = codes "format"
+command_word (mode.List file) = codes "list"
+command_word (mode.Serve file listen links) = codes "serve"
+command_word (mode.Run file listen links) = codes "run"
+command_word (mode.Stop file) = codes "stop"
+command_word (mode.Status file wait) = codes "status"
+command_word (mode.Restore file new_file grants) = codes "restore"
+
+-- the file that it is about
+abbrev pub mode_file : Mode → Text
+mode_file (mode.Format file net_id slots) = file.now
+mode_file (mode.List file) = file.now
+mode_file (mode.Serve file listen links) = file.now
+mode_file (mode.Run file listen links) = file.now
+mode_file (mode.Stop file) = file.now
+mode_file (mode.Status file wait) = file.now
+mode_file (mode.Restore file new_file grants) = file.now
+
+-- its options have these values
+abbrev pub HasOptions : List Row → Mode → Type 0
+HasOptions rows (mode.Format file net_id slots) =
+    (first_of (codes "netid") rows ≡ Some (net_id_text net_id))
+    × IsNumberOf (codes "slots") rows slots
+HasOptions rows (mode.List file) = Unit
+HasOptions rows (mode.Serve file listen links) = HasLinkOptions rows listen.now links
+HasOptions rows (mode.Run file listen links) = HasLinkOptions rows listen.now links
+HasOptions rows (mode.Stop file) = Unit
+HasOptions rows (mode.Status file wait) = IsNumberOf (codes "wait") rows wait
+HasOptions rows (mode.Restore file new_file grants) =
+    (first_of (codes "new") rows ≡ Some new_file.now) × IsNumberOf (codes "grants") rows grants
+
 -- this is what a command asks for, with the values of its words and options
 abbrev pub IsModeOf : Option (Text × List Row) → Mode → Type 0
-IsModeOf asked (mode.Format file net_id slots) = (rows : List Row)
-    × (asked ≡ Some (codes "format", rows)) × (first_of (codes "file") rows ≡ Some file.now)
-    × (first_of (codes "netid") rows ≡ Some (net_id_text net_id))
-    × IsNumberOf (codes "slots") rows slots
-IsModeOf asked (mode.List file) = (rows : List Row)
-    × (asked ≡ Some (codes "list", rows)) × (first_of (codes "file") rows ≡ Some file.now)
-IsModeOf asked (mode.Serve file listen links) = (rows : List Row)
-    × (asked ≡ Some (codes "serve", rows)) × (first_of (codes "file") rows ≡ Some file.now)
-    × (first_of (codes "listen") rows ≡ Some listen.now)
-    × IsNumberOf (codes "links") rows links
+IsModeOf asked m = (rows : List Row) × (asked ≡ Some (command_word m, rows))
+    × (first_of (codes "file") rows ≡ Some (mode_file m)) × HasOptions rows m
 
 -- its numbers are in their ranges
 abbrev pub IsInRange : Mode → Type 0
 IsInRange (mode.Format file net_id slots) = (net_id < 64) × (1 ≤ slots) × (slots ≤ 4096)
 IsInRange (mode.List file) = Unit
 IsInRange (mode.Serve file listen links) = (1 ≤ links) × (links ≤ 80)
+IsInRange (mode.Run file listen links) = (1 ≤ links) × (links ≤ 96)
+IsInRange (mode.Stop file) = Unit
+IsInRange (mode.Status file wait) = wait ≤ 3600
+IsInRange (mode.Restore file new_file grants) = (1 ≤ grants) × (grants ≤ 65536)
 
 -- a command asks for nothing that is in its ranges
 abbrev pub HasNoMode : Option (Text × List Row) → Type 0

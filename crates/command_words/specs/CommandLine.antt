@@ -1,5 +1,5 @@
 -- The command line of `lnsd`, as clap reads it.
-use Rattle.std.specs.Prelude.{Some, codes, pos, ℤ, true}
+use Rattle.std.specs.Prelude.{◌∷◌, [], Some, codes, false, pos, ℤ, true}
 use Rattle.clap.specs.Words.{App, Rule, Text, new_app, new_rule, with_rule, with_subcommand}
 use Rattle.clap.specs.declared.builder.action.ArgAction.TheVariants.{Set}
 use Rattle.clap.specs.declared.builder.value_parser.ValueParser.TheVariants.{Signed}
@@ -12,9 +12,17 @@ word id = record (new_rule id) { value_names = 1; required = true; action = Some
 abbrev pub option : Text → Rule
 option id = record (word id) { long = Some id }
 
--- the same, whose value is a number from 1 to this one
+-- the same, whose value is a number from this one to that one
+abbrev pub range_option : Text → ℤ → ℤ → Rule
+range_option id least most = record (option id) { parser = Some (Signed least most) }
+
+-- from 1
 abbrev pub count_option : Text → ℤ → Rule
-count_option id most = record (option id) { parser = Some (Signed (pos 1) most) }
+count_option id most = range_option id (pos 1) most
+
+-- an option that may be left out, and has this value then
+abbrev pub or_else : Rule → Text → Rule
+or_else option value = record option { required = false; defaults = value ∷ [] }
 
 abbrev pub format_line : App
 format_line = with_rule (with_rule (with_rule (new_app (codes "format")) (word (codes "file")))
@@ -26,6 +34,21 @@ list_line = with_rule (new_app (codes "list")) (word (codes "file"))
 abbrev pub serve_line : App
 serve_line = with_rule (with_rule (with_rule (new_app (codes "serve")) (word (codes "file")))
     (option (codes "listen"))) (count_option (codes "links") (pos 80))
+
+abbrev pub run_line : App
+run_line = with_rule (with_rule (with_rule (new_app (codes "run")) (word (codes "file")))
+    (option (codes "listen"))) (or_else (count_option (codes "links") (pos 96)) (codes "96"))
+
+abbrev pub stop_line : App
+stop_line = with_rule (new_app (codes "stop")) (word (codes "file"))
+
+abbrev pub status_line : App
+status_line = with_rule (with_rule (new_app (codes "status")) (word (codes "file")))
+    (or_else (range_option (codes "wait") (pos 0) (pos 3600)) (codes "0"))
+
+abbrev pub restore_line : App
+restore_line = with_rule (with_rule (with_rule (new_app (codes "restore")) (word (codes "file")))
+    (word (codes "new"))) (or_else (count_option (codes "grants") (pos 65536)) (codes "1024"))
 
 -- `lnsd` without the name of the program, before its commands
 abbrev pub top_line : App
@@ -40,5 +63,6 @@ top_line =
     }
 
 abbrev pub lnsd_line : App
-lnsd_line = with_subcommand (with_subcommand (with_subcommand top_line format_line.top)
-    list_line.top) serve_line.top
+lnsd_line = with_subcommand (with_subcommand (with_subcommand (with_subcommand (with_subcommand
+    (with_subcommand (with_subcommand top_line format_line.top) list_line.top) serve_line.top)
+    run_line.top) stop_line.top) status_line.top) restore_line.top

@@ -21,6 +21,30 @@ pub enum Mode<'a> {
         listen: &'a str,
         links: Ranged<1, 80>,
     },
+    /// To serve links that come and go, so many at a time, from the store in a file, until it is
+    /// stopped.
+    Run {
+        file: &'a str,
+        listen: &'a str,
+        links: Ranged<1, 96>,
+    },
+    /// To end the server that runs on the store in a file.
+    Stop {
+        file: &'a str,
+    },
+    /// To make the store of a copy that is older than what was lost, in a new file, as if so many
+    /// joins of each device had been granted behind it.
+    Restore {
+        file: &'a str,
+        new: &'a str,
+        grants: Ranged<1, 65_536>,
+    },
+    /// To print how it goes with the server that runs on the store in a file, which may still begin
+    /// within so many seconds.
+    Status {
+        file: &'a str,
+        wait: Ranged<0, 3600>,
+    },
 }
 
 /// Why words ask for nothing that is to be done.

@@ -1,7 +1,9 @@
 // Words that are read.
-ghost use Rattle.std.specs.Prelude.{◌≡◌, [], IfErr, IfOk, IfSome, None, map};
-ghost use Rattle.clap.specs.Words.{fault_of, kind_of, subcommand_of, subcommand_rows_of};
-ghost use Rattle.command_words.specs.Asked.{AskFor, IsModeOf, HasNoMode, IsToldOf, IsUsageOf};
+ghost use Rattle.std.specs.Prelude.{◌≡◌, ◌<◌, ◌^◌, ℕ, [], IfErr, IfOk, IfSome, None, map};
+ghost use Rattle.clap.specs.Words.{fault_of, found_of, kind_of, rows_of, subcommand_of, Text};
+ghost use Rattle.clap.specs.Words.{subcommand_rows_of};
+ghost use Rattle.command_words.specs.Asked.{AskFor, HasLinkOptions, HasNoMode, IsModeOf};
+ghost use Rattle.command_words.specs.Asked.{IsNumberOf, IsToldOf, IsUsageOf};
 ghost use Rattle.command_words.specs.CommandLine.{lnsd_line};
 
 use crate::line::{format, lnsd};
@@ -72,7 +74,7 @@ fn mode_of<'a>(matches: &ArgMatches<'a>) -> Option<Mode<'a>>
     match name {
         "format" => {
             let net_id = NetId::from_text(matches.get_str("netid")?)?;
-            let slots = Ranged::new(u64::from(matches.get_one::<u16>("slots")?))?;
+            let slots = Ranged::new(option_number(matches, "slots")?)?;
             Some(Mode::Format {
                 file,
                 net_id,
@@ -81,14 +83,53 @@ fn mode_of<'a>(matches: &ArgMatches<'a>) -> Option<Mode<'a>>
         }
         "list" => Some(Mode::List { file }),
         "serve" => {
-            let listen = matches.get_str("listen")?;
-            let links = Ranged::new(u64::from(matches.get_one::<u16>("links")?))?;
+            let (listen, links) = link_options(matches)?;
+            let links = Ranged::new(links)?;
             Some(Mode::Serve {
                 file,
                 listen,
                 links,
             })
         }
+        "run" => {
+            let (listen, links) = link_options(matches)?;
+            let links = Ranged::new(links)?;
+            Some(Mode::Run {
+                file,
+                listen,
+                links,
+            })
+        }
+        "stop" => Some(Mode::Stop { file }),
+        "status" => {
+            let wait = Ranged::new(option_number(matches, "wait")?)?;
+            Some(Mode::Status { file, wait })
+        }
+        "restore" => {
+            let new = matches.get_str("new")?;
+            let grants = Ranged::new(option_number(matches, "grants")?)?;
+            Some(Mode::Restore { file, new, grants })
+        }
         _ => None,
     }
+}
+
+// The address that links connect to, and how many there may be.
+fn link_options<'a>(matches: &ArgMatches<'a>) -> Option<(&'a str, u64)>
+    ensures some { IfSome result
+        (λ r. HasLinkOptions (rows_of (found_of matches.now)) r.0.now r.1) }
+    ensures none { result ≡ None → (listen : Text) (links : ℕ) → links < 2 ^ 32
+        → HasLinkOptions (rows_of (found_of matches.now)) listen links → ⊥ }
+{
+    Some((matches.get_str("listen")?, option_number(matches, "links")?))
+}
+
+// The number of an option, below 2^32.
+fn option_number(matches: &ArgMatches<'_>, id: &str) -> Option<u64>
+    ensures some { IfSome result (IsNumberOf id.now (rows_of (found_of matches.now))) }
+    ensures none { result ≡ None → (n : ℕ) → n < 2 ^ 32
+        → IsNumberOf id.now (rows_of (found_of matches.now)) n → ⊥ }
+{
+    let number = matches.get_one::<u32>(id)?;
+    Some(u64::from(number))
 }

@@ -1,6 +1,6 @@
 // Why a command failed.
 use link_server::ServeFault;
-use lw_types::Refusal;
+use lw_types::{Eui, Refusal};
 use thiserror::Error;
 
 /// Why a command failed. Its text is what standard error has behind `lnsd: `.
@@ -15,6 +15,21 @@ pub enum Fault {
     /// An address can't be listened on, or no link could be accepted there.
     #[error("listen")]
     Listen,
+    /// The control socket can't be made, or isn't one.
+    #[error("control")]
+    Control,
+    /// No server runs on the store.
+    #[error("not running")]
+    NotRunning,
+    /// A server ran on the store, and left its control socket.
+    #[error("left over")]
+    LeftOver,
+    /// The server broke off before it was done, or didn't answer.
+    #[error("broken off")]
+    BrokenOff,
+    /// A device of an older copy hasn't so many JoinNonces left.
+    #[error("refused 10 {0}")]
+    Spent(Eui),
     /// The system's clock can't be read.
     #[error("clock")]
     Clock,

@@ -2,7 +2,9 @@
 //! crates below; here files, addresses, the clock and the words that a user reads come to it.
 #![tactic(auto)]
 
+mod control;
 mod fault;
+mod restoring;
 mod running;
 mod serving;
 mod stores;
@@ -10,7 +12,7 @@ mod stores;
 pub use command_words::{Mode, Usage, words};
 pub use fault::Fault;
 pub use link_server::{
-    Gate, LifeClock, LifeReport, LinkCount, Monotonic, OpenGate, ServeFault, ServedLife,
-    serve_links,
+    Gate, LifeClock, LifeReport, LinkCount, Monotonic, OpenGate, Order, PlaceCount, ServeFault,
+    ServedLife, serve_links, serve_on,
 };
 pub use running::{command, fail};

@@ -2,9 +2,12 @@
 ghost use Rattle.std.specs.Prelude.{◌≡◌, ◌≤◌, ◌⊎◌, IfErr, IfOk, map};
 ghost use Rattle.command_words.specs.Asked.{AreWrong, AskFor, AskForHelp};
 ghost use Rattle.command_words.specs.declared.mode.Mode.{Mode};
+ghost use Rattle.gateway_server.specs.Told.{TellsEarly};
 
 use crate::Fault;
-use crate::serving::serve;
+use crate::control::{status, stop};
+use crate::restoring::{Restored, restore};
+use crate::serving::{run_server, serve};
 use crate::stores::{format, list};
 use command_words::{Mode, Usage, words};
 use link_server::LifeReport;
@@ -72,7 +75,7 @@ where
     R: Files<File = File> + Net<Listener = TcpListener, Stream = TcpStream>,
     R: Clock + Threads + Wait + Sync,
     ensures status { IfOk result (λ status. status ≤ 1) }
-    ensures quiet { IfErr result (λ _. out.new ≡ out.old) }
+    ensures quiet { IfErr result (λ _. TellsEarly mode.now ⊎ (out.new ≡ out.old)) }
 {
     match *mode {
         Mode::Format {
@@ -95,6 +98,26 @@ where
             let report = serve(rt, alloc, file, listen, links)?;
             Ok(status_of(&tell_report(err, &report)))
         }
+        Mode::Run {
+            file,
+            listen,
+            links,
+        } => {
+            let report = run_server(rt, alloc, file, listen, links, out)?;
+            Ok(status_of(&tell_run(err, &report)))
+        }
+        Mode::Stop { file } => {
+            stop(rt, alloc, file)?;
+            Ok(0)
+        }
+        Mode::Restore { file, new, grants } => {
+            let restored = restore(rt, alloc, file, new, grants)?;
+            Ok(status_of(&tell_restored(out, &restored)))
+        }
+        Mode::Status { file, wait } => {
+            let text = status(rt, alloc, file, wait.get())?;
+            Ok(status_of(&tell(out, text.as_str())))
+        }
     }
 }
 
@@ -108,6 +131,24 @@ fn tell_report<E: Write>(err: &mut E, report: &LifeReport) -> io::Result<()> {
     writeln!(err, "dropped {dropped}")?;
     writeln!(err, "faulted {faulted}")?;
     err.flush()
+}
+
+fn tell_run<E: Write>(err: &mut E, report: &LifeReport) -> io::Result<()> {
+    let (taken_over, silent) = (report.taken_over, report.silent);
+    tell_report(err, report)?;
+    writeln!(err, "taken_over {taken_over}")?;
+    writeln!(err, "silent {silent}")?;
+    err.flush()
+}
+
+fn tell_restored<O: Write>(out: &mut O, restored: &Restored) -> io::Result<()> {
+    let Restored {
+        devices,
+        grants_left,
+    } = restored;
+    writeln!(out, "devices {devices}")?;
+    writeln!(out, "grants_left {grants_left}")?;
+    out.flush()
 }
 
 // The status of a command that was done, by whether what it has to tell could be written.

@@ -1,10 +1,15 @@
 // A store in a file, served.
 use crate::Fault;
+use crate::control::{ENDED, bind_control, path_of, remove};
 use crate::stores::open_store;
-use link_server::{LifeReport, LinkCount, Monotonic, OpenGate, ServedLife, serve_links};
+use link_server::{
+    LifeReport, LinkCount, Monotonic, OpenGate, PlaceCount, ServedLife, serve_links, serve_on,
+};
 use std::alloc::Global;
 use std::fs::File;
+use std::io::Write;
 use std::net::{Net, TcpListener, TcpStream};
+use std::os::unix::net::UnixStream;
 use std::rt::{Clock, Files};
 use std::sync::Wait;
 use std::thread::Threads;
@@ -28,9 +33,66 @@ where
     let Ok(clock) = Monotonic::start(rt) else {
         return Err(Fault::Clock);
     };
-    let ServedLife { store, result } = serve_links(
+    let ServedLife { store, result, .. } = serve_links(
         rt, alloc, store, listener, links, &OpenGate, &clock,
     );
     drop(store);
     Ok(result?)
+}
+
+/// Serves links that come and go, so many at a time, from the store in a file, until the server is
+/// stopped over its control socket. Tells on `out` where it listens, once whoever connects is
+/// served. Whoever stopped it is told of the end once the file is free.
+pub(crate) fn run_server<R, O: Write>(
+    rt: &R,
+    alloc: Global,
+    file: &str,
+    listen: &str,
+    links: PlaceCount,
+    out: &mut O,
+) -> Result<LifeReport, Fault>
+where
+    R: Files<File = File> + Net<Listener = TcpListener, Stream = TcpStream>,
+    R: Clock + Threads + Wait + Sync,
+{
+    let store = open_store(rt, alloc, file)?;
+    let Ok(listener) = TcpListener::bind(rt, listen) else {
+        return Err(Fault::Listen);
+    };
+    let Ok(address) = listener.local_addr() else {
+        return Err(Fault::Listen);
+    };
+    let Ok(clock) = Monotonic::start(rt) else {
+        return Err(Fault::Clock);
+    };
+    let path = path_of(alloc, file)?;
+    let control = bind_control(rt, path.as_str())?;
+    let _ = writeln!(out, "listening {address}");
+    let _ = out.flush();
+    let ServedLife {
+        store,
+        result,
+        waiting,
+    } = serve_on(
+        rt, alloc, store, listener, control, links, &OpenGate, &clock,
+    );
+    drop(store);
+    remove(rt, path.as_str());
+    let ended = match result {
+        Ok(report) => Ok(report),
+        Err(fault) => Err(Fault::from(fault)),
+    };
+    tell_end(waiting, &ended);
+    ended
+}
+
+// Whoever waits is told that it is done, or why not.
+fn tell_end(waiting: Vec<UnixStream>, ended: &Result<LifeReport, Fault>) {
+    for stream in waiting {
+        let mut stream = stream;
+        let _ = match ended {
+            Ok(_) => writeln!(stream, "{ENDED}"),
+            Err(fault) => writeln!(stream, "{fault}"),
+        };
+    }
 }

@@ -2,7 +2,7 @@
 use crate::Fault;
 use disk::FileDisk;
 use gateway_wire::list_text;
-use lw_types::NetId;
+use lw_types::{NetId, Refusal};
 use sessions::Slots;
 use std::alloc::Global;
 use std::fs;
@@ -20,20 +20,38 @@ pub(crate) fn format<R: Files<File = File>>(
     net_id: NetId,
     slots: Slots,
 ) -> Result<(), Fault> {
-    let disk = match FileDisk::create(rt, file, disk_len(slots)) {
-        Ok(disk) => disk,
-        Err(error) if error.kind() == ErrorKind::AlreadyExists => return Err(Fault::Exists),
-        Err(_) => return Err(Fault::File),
-    };
+    let disk = create(rt, file, slots)?;
     match format_back(alloc, disk, net_id, slots.get()) {
         Ok(_) => Ok(()),
-        Err((disk, refusal)) => {
-            // removed before its lock is given up, so that nobody opens it in between
-            let _ = fs::remove_file(rt, file);
-            drop(disk);
-            Err(Fault::Refused(refusal))
-        }
+        Err((disk, refusal)) => Err(remove(rt, file, disk, refusal)),
     }
+}
+
+/// A new file for a store with so many slots.
+pub(crate) fn create<R: Files<File = File>>(
+    rt: &R,
+    file: &str,
+    slots: Slots,
+) -> Result<FileDisk, Fault> {
+    match FileDisk::create(rt, file, disk_len(slots)) {
+        Ok(disk) => Ok(disk),
+        Err(error) if error.kind() == ErrorKind::AlreadyExists => Err(Fault::Exists),
+        Err(_) => Err(Fault::File),
+    }
+}
+
+/// Removes the file of a store that couldn't be made, and tells why. A removal that fails is passed
+/// over.
+pub(crate) fn remove<R: Files<File = File>>(
+    rt: &R,
+    file: &str,
+    disk: FileDisk,
+    refusal: Refusal,
+) -> Fault {
+    // removed before its lock is given up, so that nobody opens it in between
+    let _ = fs::remove_file(rt, file);
+    drop(disk);
+    Fault::Refused(refusal)
 }
 
 /// The list of the devices of the store in a file, and the number of its last decision.

@@ -9,7 +9,7 @@ use Rattle.devices.specs.declared.effect.Effect.{Effect}
 use Rattle.flusher.specs.Released.{effect_of, effects_of_all}
 use Rattle.flusher.specs.declared.released.Released.{Released}
 use Rattle.link_server.specs.Routing.{put_behind, rings_of, IsRouted, IsRoutedOne}
-use Rattle.link_server.specs.declared.directory.Directory.{Directory}
+use Rattle.directory.specs.declared.names.Directory.{Directory}
 use Rattle.outbox.specs.Ring.{put_in, room_of}
 use Rattle.outbox.specs.declared.ends.Outlet.{Outlet}
 

@@ -1,4 +1,3 @@
-pub mod Linked
 pub mod Routing
 pub mod Sending
 pub mod Served

@@ -4,8 +4,8 @@ use Rattle.std.specs.Prelude.{slice_index_or, slice_set, MatchOption}
 use Rattle.std.specs.Option.{option_map_or}
 use Rattle.devices.specs.declared.effect.Effect.{Effect}
 use Rattle.gateway_wire.specs.Emission.{recipient}
-use Rattle.link_server.specs.Linked.{link_of}
-use Rattle.link_server.specs.declared.directory.Directory.{Directory}
+use Rattle.directory.specs.Linked.{link_of}
+use Rattle.directory.specs.declared.names.Directory.{Directory}
 use Rattle.outbox.specs.Ring.{put_in, room_of}
 use Rattle.outbox.specs.declared.ends.Outlet.{Outlet}
 

@@ -2,9 +2,10 @@
 use Rattle.std.specs.Prelude.{◌≡◌, ◌+◌, ◌++◌, ◌∷◌, ◌⊎◌, ℕ, List, []}
 use Rattle.devices.specs.declared.effect.Effect.{Effect}
 use Rattle.gateway_wire.specs.Answer.{answer_frame}
-use Rattle.gateway_wire.specs.Emission.{emission}
+use Rattle.gateway_wire.specs.Emission.{emission, recipient}
 use Rattle.gateway_wire.specs.declared.emission.Emission.{Emission}
 use Rattle.gateway_wire.specs.declared.emission.Emission.TheVariants.{Gateway, Application}
+use Rattle.gateway_wire.specs.declared.recipient.Recipient.{Recipient}
 
 abbrev pub emission_frame : Emission → List ℕ
 emission_frame (Gateway gateway frame) = frame
@@ -14,9 +15,11 @@ emission_frame (Application application line) = answer_frame line
 abbrev pub effect_frame : Effect → List ℕ
 effect_frame effect = emission_frame (emission effect)
 
--- the frames of effects, one after another, without so many that are lost
-abbrev pub AreTogether : List Effect → ℕ → List ℕ → Type 0
-AreTogether [] lost bytes = (lost ≡ 0) × (bytes ≡ [])
-AreTogether (effect ∷ effects) lost bytes =
-    ((others : ℕ) × ((lost ≡ others + 1) × AreTogether effects others bytes))
-    ⊎ ((rest : List ℕ) × ((bytes ≡ effect_frame effect ++ rest) × AreTogether effects lost rest))
+-- the frames of effects, one after another, each of which is for the link of this name, without so
+-- many that are lost
+abbrev pub AreTogether : Recipient → List Effect → ℕ → List ℕ → Type 0
+AreTogether name [] lost bytes = (lost ≡ 0) × (bytes ≡ [])
+AreTogether name (effect ∷ effects) lost bytes =
+    ((others : ℕ) × ((lost ≡ others + 1) × AreTogether name effects others bytes))
+    ⊎ ((recipient effect ≡ name) × ((rest : List ℕ)
+    × ((bytes ≡ effect_frame effect ++ rest) × AreTogether name effects lost rest)))

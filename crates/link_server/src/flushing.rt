@@ -3,7 +3,7 @@ ghost use Rattle.std.specs.Prelude.{IsTrue};
 ghost use Rattle.link_server.specs.Served.{IsLedOn};
 ghost use Rattle.store.specs.State.{store_state};
 
-use crate::link::MOST_LINKS;
+use crate::link::MOST_PLACES;
 use crate::routing::route;
 use crate::server::LiveServer;
 use disk::Disk;
@@ -43,7 +43,7 @@ pub(crate) fn flush<B: Books, R: Wait, D: Disk>(
         serve(rt, store, &mut feed, alloc, &mut out, &mut done)
     };
     if served.is_err() {
-        server.stop();
+        server.stop(rt);
     }
     for outlet in outlets {
         let _ = outlet.finish();
@@ -59,7 +59,7 @@ fn let_out<B: Books, R: Wait>(
     outlets: &mut [Outlet],
     released: Vec<Released>,
 ) {
-    let mut marks = [false; MOST_LINKS as usize];
+    let mut marks = [false; MOST_PLACES as usize];
     let lost = route(&server.directory.lock(rt), outlets, released, &mut marks);
     server.signals.count_dropped(lost as u64);
     for (link, is_marked) in server.links.iter().zip(marks) {

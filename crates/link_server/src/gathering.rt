@@ -4,12 +4,14 @@ ghost use Rattle.std.specs.Prelude.{false, MatchResult};
 ghost use Rattle.lw_types.specs.declared.refusal.Refusal.TheVariants.{OutOfMemory};
 ghost use Rattle.devices.specs.declared.effect.Effect.{Effect};
 ghost use Rattle.gateway_wire.specs.Answer.{answer_frame, refused_line};
+ghost use Rattle.gateway_wire.specs.Emission.{recipient};
 ghost use Rattle.link_server.specs.Sending.{effect_frame, AreTogether};
 ghost use Rattle.outbox.specs.Ring.{seen_by, taken_from};
 
 use crate::outgoing::{MUCH, Outgoing};
+use crate::parts::PLACES;
 use devices::Effect;
-use gateway_wire::{Emission, answer_frame, refused_line};
+use gateway_wire::{Emission, Recipient, answer_frame, refused_line};
 use lw_types::Refusal;
 use outbox::Inlet;
 use std::alloc::Global;
@@ -24,11 +26,14 @@ pub(crate) struct Gathered {
     pub(crate) lost: u64,
 }
 
-/// Takes effects from a ring, and puts their frames behind those that are to be sent, until there
-/// are enough of either or no more is seen (`enough`). An effect for whose frame there is no memory
-/// is lost, and on a broken link each one is (`broken`); that no other one is, no clause says.
+/// Takes effects from the ring of a link, and puts the frames of those that are for the link of
+/// this name behind those that are to be sent, until there are enough of either or no more is seen
+/// (`enough`). An effect for another name is lost: whoever has the link now never hears what was
+/// for whoever had it before. So is one for whose frame there is no memory, and on a broken link
+/// each one (`broken`); that no other one is, no clause says.
 pub(crate) fn gather(
     alloc: Global,
+    name: &Recipient,
     inlet: &mut Inlet,
     outgoing: &mut Outgoing,
     is_broken: bool,
@@ -36,7 +41,7 @@ pub(crate) fn gather(
     ensures together { (effects : List Effect) × ((bytes : List ℕ)
         × ((taken_from inlet.new ≡ taken_from inlet.old ++ effects)
         × ((result.taken ≡ length effects) × ((outgoing.new ≡ outgoing.old ++ bytes)
-        × AreTogether effects result.lost bytes)))) }
+        × AreTogether name.now effects result.lost bytes)))) }
     ensures broken { IsTrue is_broken → result.lost ≡ result.taken }
     ensures enough { (result.taken ≡ SOME) ⊎ ((MUCH ≤ length outgoing.new)
         ⊎ (seen_by inlet.new ≡ [])) }
@@ -51,21 +56,45 @@ pub(crate) fn gather(
             break;
         };
         taken += 1;
-        if !is_put(alloc, effect, outgoing, is_broken) {
+        if !is_put(alloc, name, effect, outgoing, is_broken) {
             lost += 1;
         }
     }
     Gathered { taken, lost }
 }
 
-// Whether the frame of an effect is put behind the others. It isn't without memory, nor on a broken
-// link.
-fn is_put(alloc: Global, effect: Effect, outgoing: &mut Outgoing, is_broken: bool) -> bool
-    ensures framed { MatchBool result (outgoing.new ≡ outgoing.old ++ effect_frame effect)
+/// Takes what is seen in a ring, up to all that it has places for. How many effects that were.
+pub(crate) fn drop_all(inlet: &mut Inlet) -> u64
+    ensures taken { (effects : List Effect)
+        × ((taken_from inlet.new ≡ taken_from inlet.old ++ effects)
+        × (result ≡ length effects)) }
+    ensures all { (result ≡ PLACES) ⊎ (seen_by inlet.new ≡ []) }
+{
+    let mut taken: u64 = 0;
+    for _turn in 0..PLACES {
+        if inlet.take().is_none() {
+            break;
+        }
+        taken += 1;
+    }
+    taken
+}
+
+// Whether an effect is for the link of this name, and its frame is put behind the others. It isn't
+// without memory, nor on a broken link.
+fn is_put(
+    alloc: Global,
+    name: &Recipient,
+    effect: Effect,
+    outgoing: &mut Outgoing,
+    is_broken: bool,
+) -> bool
+    ensures framed { MatchBool result
+        ((recipient effect ≡ name.now) × (outgoing.new ≡ outgoing.old ++ effect_frame effect))
         (outgoing.new ≡ outgoing.old) }
     ensures broken { IsTrue is_broken → result ≡ false }
 {
-    !is_broken && add_effect(alloc, &effect, outgoing).is_ok()
+    !is_broken && Recipient::of(&effect) == *name && add_effect(alloc, &effect, outgoing).is_ok()
 }
 
 // Puts the frame of an effect behind the others. Refused with `OutOfMemory` for want of memory, and

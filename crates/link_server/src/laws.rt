@@ -1,16 +1,17 @@
 //! The numbers of a server's links. The function does nothing: its contract is the law.
 ghost use Rattle.std.specs.Prelude.{◌≡◌};
 
-use crate::directory::MOST_GATEWAYS;
 use crate::gathering::SOME;
-use crate::link::MOST_LINKS;
+use crate::link::{MOST_LINKS, MOST_PLACES};
 use crate::outgoing::MUCH;
+use directory::MOST_GATEWAYS;
 
-/// How many gateways are linked at most, how many links a life has, and how many effects and bytes
-/// are put together before they are sent.
+/// How many gateways are linked at most, how many links a life has that stay, and how many places
+/// for those that don't, and how many effects and bytes are put together before they are sent.
 pub fn limits_are_these()
     ensures gateways { MOST_GATEWAYS ≡ 64 }
     ensures links { MOST_LINKS ≡ 80 }
+    ensures places { MOST_PLACES ≡ 96 }
     ensures effects { SOME ≡ 64 }
     ensures bytes { MUCH ≡ 16384 }
 {}

@@ -6,13 +6,16 @@
 
 mod closing;
 mod context;
-mod directory;
+mod control;
+mod door;
 mod flushing;
 mod gate;
 mod gathering;
+mod hosting;
 pub mod laws;
 mod link;
 mod moments;
+mod orders;
 mod outgoing;
 mod parts;
 mod reading;
@@ -22,11 +25,13 @@ mod running;
 mod server;
 mod serving;
 mod signals;
+mod status;
 mod threads;
 mod writing;
 
 pub use gate::{Gate, OpenGate};
-pub use link::LinkCount;
+pub use link::{LinkCount, PlaceCount};
 pub use moments::{LifeClock, Monotonic};
+pub use orders::Order;
 pub use report::{LifeReport, ServeFault, ServedLife};
-pub use serving::serve_links;
+pub use serving::{serve_links, serve_on};

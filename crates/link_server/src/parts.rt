@@ -7,8 +7,8 @@ use rtrb::{Consumer, Producer, RingBuffer};
 use session_core::{Books, Seat, Shared};
 use std::alloc::Global;
 
-// The places of each of a link's two rings.
-const PLACES: usize = 1024;
+/// The places of each of a link's two rings.
+pub(crate) const PLACES: usize = 1024;
 
 /// What the two threads of a link own: the worker a seat and the end of a ring into which refusals
 /// go, the sender the ends from which effects and refusals come.

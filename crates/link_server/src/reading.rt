@@ -4,7 +4,7 @@ ghost use Rattle.link_messages.specs.declared.message.Peer.TheVariants.{Applicat
 
 use crate::context::Context;
 use crate::gate::Gate;
-use crate::link::Link;
+use crate::link::{Link, Socket};
 use crate::moments::LifeClock;
 use crate::server::LiveServer;
 use devices::Application;
@@ -18,7 +18,7 @@ use std::net::TcpStream;
 use std::sync::Wait;
 
 // How much is read at a time, in bytes.
-const PIECE: usize = 8192;
+pub(crate) const PIECE: usize = 8192;
 
 /// A link's worker.
 #[derive(Drop)]
@@ -33,22 +33,27 @@ pub(crate) struct Worker<'x, B: Books, R: Wait, G: Gate, C: LifeClock> {
     pub(crate) feeder: Feeder,
     pub(crate) seat: Seat<B>,
     pub(crate) refusals: Producer<Refusal>,
+    // It hands nothing in any more.
+    pub(crate) has_ended: bool,
 }
 
 /// What one read gave.
-enum Incoming {
+pub(crate) enum Incoming {
     Bytes(usize),
     Nothing,
+    /// Nothing in the time that the socket was given.
+    Late,
     End,
 }
 
-// A link that was reset has ended as one that was closed.
-fn read_some(stream: &TcpStream, buffer: &mut [u8]) -> Incoming {
+/// Reads what has come, or waits. A link that was reset has ended as one that was closed.
+pub(crate) fn read_some(stream: &TcpStream, buffer: &mut [u8]) -> Incoming {
     let mut stream = stream;
     match stream.read(buffer) {
         Ok(0) => Incoming::End,
         Ok(n) => Incoming::Bytes(n),
         Err(e) if e.kind() == ErrorKind::Interrupted => Incoming::Nothing,
+        Err(e) if e.kind() == ErrorKind::WouldBlock => Incoming::Late,
         Err(_) => Incoming::End,
     }
 }
@@ -70,8 +75,8 @@ fn has_decided(turn: &Turn) -> bool
     turn.from < turn.to
 }
 
-// As whom a peer is told of effects.
-fn recipient_of(peer: &Peer) -> Recipient {
+/// As whom a peer is told of effects.
+pub(crate) fn recipient_of(peer: &Peer) -> Recipient {
     match peer {
         Peer::Gateway(gateway) => Recipient::Gateway(*gateway),
         Peer::Application(application) => Recipient::Application(*application),
@@ -79,42 +84,63 @@ fn recipient_of(peer: &Peer) -> Recipient {
 }
 
 impl<'x, B: Books, R: Wait, G: Gate, C: LifeClock> Worker<'x, B, R, G, C> {
-    /// Reads the link until it says nothing more or may not, and gives the seat back.
+    /// Reads a link that stays until it says nothing more or may not, and gives the seat back.
     pub(crate) fn run(self) -> Seat<B> {
         let mut worker = self;
+        let link = worker.link;
+        if let Socket::Fixed(stream) = &link.socket {
+            worker.read(stream);
+        }
+        worker.end_input();
+        worker.seat
+    }
+
+    /// The worker hands nothing in any more.
+    pub(crate) fn end_input(&mut self) {
+        if !self.has_ended {
+            self.has_ended = true;
+            self.server.signals.end_input();
+        }
+    }
+
+    /// Reads a link until it says nothing more or may not.
+    pub(crate) fn read(&mut self, stream: &TcpStream) {
         let mut buffer = [0u8; PIECE];
-        for _ in worker.context.rt.forever() {
-            match read_some(&worker.link.stream, &mut buffer) {
-                Incoming::Nothing => {}
+        for _ in self.context.rt.forever() {
+            match read_some(stream, &mut buffer) {
+                Incoming::Nothing | Incoming::Late => {}
                 Incoming::End => {
-                    worker.end();
+                    self.end();
                     break;
                 }
                 Incoming::Bytes(n) => {
                     let piece = buffer.get(..n).unwrap_or(&[]);
-                    if !worker.hear_piece(piece) || worker.server.signals.is_stopped() {
+                    if !self.hear_piece(piece) || self.server.signals.is_stopped() {
                         break;
                     }
                 }
             }
         }
-        worker.server.signals.end_input();
-        worker.seat
     }
 
-    // The input has ended: inside a frame, that is a fault.
-    fn end(&self) {
-        if self.feeder.end().is_err() {
+    /// The input has ended: inside a frame, that is a fault, but where it was ended from here.
+    pub(crate) fn end(&self) {
+        let is_cut = self.link.is_taken() || self.server.signals.is_ending();
+        if self.feeder.end().is_err() && !is_cut {
             self.server.signals.count_fault();
         }
     }
 
-    // Whether the link is read on.
+    // Whether the link is read on. Without memory it isn't, which is no fault of its own.
     fn hear_piece(&mut self, piece: &[u8]) -> bool {
-        // Without memory the link is read no further, which is no fault of its own.
-        let Ok(fed) = self.feeder.feed(piece) else {
-            return false;
-        };
+        match self.feeder.feed(piece) {
+            Ok(fed) => self.hear_all(fed),
+            Err(_) => false,
+        }
+    }
+
+    /// Hears messages, and counts the fault behind them. Whether the link is read on.
+    pub(crate) fn hear_all(&mut self, fed: Fed) -> bool {
         let Fed { messages, fault } = fed;
         for message in messages {
             if !self.hear(message) {
@@ -142,14 +168,18 @@ impl<'x, B: Books, R: Wait, G: Gate, C: LifeClock> Worker<'x, B, R, G, C> {
         }
     }
 
-    // A name that is taken is a fault of whoever greets with it.
+    // A name that is taken is a fault of whoever greets with it. Where links come and go it was
+    // taken over before, if it could be.
     fn greet(&self, peer: &Peer) -> bool {
-        let name = recipient_of(peer);
+        if self.server.door.is_some() {
+            return true;
+        }
+        self.link.set_name(self.context.rt, recipient_of(peer));
         let is_new = self
             .server
             .directory
             .lock(self.context.rt)
-            .greet(name, self.number);
+            .greet(&recipient_of(peer), self.number);
         if !is_new {
             self.server.signals.count_fault();
         }

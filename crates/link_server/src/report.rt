@@ -1,6 +1,7 @@
 // What comes of serving.
 use disk::Disk;
 use lw_types::Refusal;
+use std::os::unix::net::UnixStream;
 use store::Store;
 use thiserror::Error;
 
@@ -13,17 +14,22 @@ pub struct LifeReport {
     pub dropped: u64,
     /// The links that were read no further because of what they said.
     pub faulted: u64,
+    /// The links that lost their name to one that greeted later, where links come and go.
+    pub taken_over: u64,
+    /// The links that hadn't greeted in time, where links come and go.
+    pub silent: u64,
     /// The decisions that were made.
     pub made: u64,
-    /// How many of them each worker made, in the order in which their links were accepted, and the
-    /// closer last.
+    /// How many of them each worker made, in the order in which their links were accepted, or of
+    /// their places, and the closer last.
     pub shares: Vec<u64>,
 }
 
 /// Why a life has no report.
 #[derive(Debug, Drop, Error)]
 pub enum ServeFault {
-    /// A link couldn't be accepted, a thousand times in a row.
+    /// A link couldn't be accepted, a thousand times in a row; or, where links come and go, the
+    /// system gave no second handle of the listener.
     #[error("listen")]
     Listen,
     /// The store, or want of memory.
@@ -36,4 +42,6 @@ pub enum ServeFault {
 pub struct ServedLife<D: Disk> {
     pub store: Store<D>,
     pub result: Result<LifeReport, ServeFault>,
+    /// Whoever told the life to end over its control socket, and waits until it has.
+    pub waiting: Vec<UnixStream>,
 }

@@ -3,7 +3,7 @@ ghost use Rattle.std.specs.Prelude.{◌≡◌, length};
 ghost use Rattle.flusher.specs.Released.{effect_of, effects_of_all};
 ghost use Rattle.link_server.specs.Routing.{IsRouted, IsRoutedOne};
 
-use crate::directory::Directory;
+use directory::Directory;
 use flusher::Released;
 use gateway_wire::Recipient;
 use outbox::Outlet;
@@ -13,7 +13,7 @@ use outbox::Outlet;
 fn route_one(directory: &Directory, outlets: &mut [Outlet], released: Released) -> Option<usize>
     ensures { IsRoutedOne directory.now (effect_of released) result outlets.old outlets.new }
 {
-    let number = directory.link_of(Recipient::of(released.effect()))?;
+    let number = directory.link_of(&Recipient::of(released.effect()))?;
     if number >= outlets.len() {
         return None;
     }

@@ -4,15 +4,18 @@ ghost use Rattle.store.specs.State.{store_state};
 
 use crate::closing::Closer;
 use crate::context::Context;
+use crate::control::{ATTENDANTS, Attendant};
 use crate::flushing::flush;
 use crate::gate::Gate;
+use crate::hosting::Host;
+use crate::link::Socket;
 use crate::moments::LifeClock;
 use crate::outgoing::Outgoing;
 use crate::parts::{LinkParts, Parts};
 use crate::reading::Worker;
 use crate::server::LiveServer;
-use crate::threads::{start_closer, start_sender, start_worker};
-use crate::writing::Sender;
+use crate::threads::{start_attendant, start_closer, start_host, start_sender, start_worker};
+use crate::writing::{Sender, Spare};
 use disk::Disk;
 use link_messages::Feeder;
 use lw_types::Refusal;
@@ -87,6 +90,7 @@ fn run_in<
     let mut started = Started {
         seated: Vec::new(context.alloc),
         senders: Vec::new(context.alloc),
+        attendants: Vec::new(context.alloc),
         is_whole: true,
     };
     for (number, parts) in links.into_iter().enumerate() {
@@ -98,6 +102,7 @@ fn run_in<
         seat: closer,
     };
     started.keep_seated(start_closer(context.alloc, scope, closer));
+    started.start_attendants(scope, context, server);
     let mut store = store;
     let result = if started.is_whole {
         flush(
@@ -109,13 +114,13 @@ fn run_in<
             outlets,
         )
     } else {
-        server.stop();
+        server.stop(context.rt);
         Err(Refusal::OutOfMemory)
     };
     LifeEnd {
         store,
         result,
-        seats: started.join(context.rt, context.alloc),
+        seats: started.join(context.rt, context.alloc, server),
     }
 }
 
@@ -125,6 +130,7 @@ struct Started<B: Books> {
     // In the order of their links, and the closer last.
     seated: Vec<JoinHandle<Seat<B>>>,
     senders: Vec<JoinHandle<()>>,
+    attendants: Vec<JoinHandle<()>>,
     is_whole: bool,
 }
 
@@ -155,6 +161,14 @@ impl<B: Books + Send + Sync> Started<B> {
             feeder: Feeder::new(context.alloc),
             seat,
             refusals: refused,
+            has_ended: false,
+        };
+        let outgoing = Outgoing::new(context.alloc);
+        let Socket::Fixed(stream) = &link.socket else {
+            link.set_spare(context.rt, Spare { inlet, outgoing });
+            let host = Host { worker };
+            self.keep_seated(start_host(context.alloc, scope, host));
+            return;
         };
         self.keep_seated(start_worker(context.alloc, scope, worker));
         let sender = Sender {
@@ -162,35 +176,56 @@ impl<B: Books + Send + Sync> Started<B> {
             alloc: context.alloc,
             signals: &server.signals,
             link,
+            stream,
+            name: None,
             inlet,
             refusals,
-            outgoing: Outgoing::new(context.alloc),
+            outgoing,
             is_broken: false,
         };
         self.keep_sender(start_sender(context.alloc, scope, number, sender));
     }
 
-    fn keep_seated(&mut self, thread: Option<JoinHandle<Seat<B>>>) {
-        let is_kept = match thread {
-            Some(thread) => self.seated.push(thread).is_ok(),
-            None => false,
+    fn start_attendants<'s, E, R: Threads + Wait + Sync, G: Gate + Sync, C: LifeClock + Sync>(
+        &mut self,
+        scope: &Scope<'s, E>,
+        context: &'s Context<'s, R, G, C>,
+        server: &'s LiveServer<B>,
+    ) {
+        let Some(control) = &server.control else {
+            return;
         };
-        self.is_whole = self.is_whole && is_kept;
+        for number in 0..ATTENDANTS {
+            let attendant = Attendant {
+                context,
+                server,
+                control,
+                number,
+            };
+            let thread = start_attendant(context.alloc, scope, attendant);
+            self.is_whole = keep_thread(&mut self.attendants, thread) && self.is_whole;
+        }
+    }
+
+    fn keep_seated(&mut self, thread: Option<JoinHandle<Seat<B>>>) {
+        self.is_whole = keep_thread(&mut self.seated, thread) && self.is_whole;
     }
 
     fn keep_sender(&mut self, thread: Option<JoinHandle<()>>) {
-        let is_kept = match thread {
-            Some(thread) => self.senders.push(thread).is_ok(),
-            None => false,
-        };
-        self.is_whole = self.is_whole && is_kept;
+        self.is_whole = keep_thread(&mut self.senders, thread) && self.is_whole;
     }
 
-    // The seats that come back.
-    fn join<R: Threads>(self, rt: &R, alloc: Global) -> Vec<Seat<B>> {
+    // The seats that come back. The attendants end last, so that operators are told of the end.
+    fn join<R: Threads + Wait>(
+        self,
+        rt: &R,
+        alloc: Global,
+        server: &LiveServer<B>,
+    ) -> Vec<Seat<B>> {
         let Started {
             seated,
             senders,
+            attendants,
             ..
         } = self;
         let mut seats = Vec::new(alloc);
@@ -200,6 +235,18 @@ impl<B: Books + Send + Sync> Started<B> {
         for thread in senders {
             thread.join(rt);
         }
+        server.close(rt);
+        for thread in attendants {
+            thread.join(rt);
+        }
         seats
+    }
+}
+
+// Whether there is a thread, and it is kept.
+fn keep_thread<T: Drop>(threads: &mut Vec<JoinHandle<T>>, thread: Option<JoinHandle<T>>) -> bool {
+    match thread {
+        Some(thread) => threads.push(thread).is_ok(),
+        None => false,
     }
 }

@@ -1,15 +1,21 @@
 // What the threads of a life share.
-use crate::directory::Directory;
+use crate::control::ControlSocket;
+use crate::door::Door;
 use crate::link::Link;
 use crate::signals::Signals;
+use directory::Directory;
 use session_core::{Books, Shared};
-use std::sync::Mutex;
+use std::net::TcpStream;
+use std::sync::{Mutex, Wait};
 
 /// The links, what stands behind a lock, and the signals. No thread holds both locks at once, nor
 /// one of them while it reads, writes or syncs.
 #[derive(Drop)]
 pub(crate) struct LiveServer<B: Books> {
     pub(crate) links: Vec<Link>,
+    // Where links and operators come in; none in a life of links that stay.
+    pub(crate) door: Option<Door>,
+    pub(crate) control: Option<ControlSocket>,
     pub(crate) sessions: Mutex<Shared<B>>,
     pub(crate) directory: Mutex<Directory>,
     pub(crate) signals: Signals,
@@ -17,10 +23,40 @@ pub(crate) struct LiveServer<B: Books> {
 
 impl<B: Books> LiveServer<B> {
     /// Closes the links, so that each thread ends.
-    pub(crate) fn stop(&self) {
+    pub(crate) fn stop<R: Wait>(&self, rt: &R) {
         self.signals.stop();
+        self.shut_door();
         for link in &self.links {
-            link.close();
+            link.close(rt);
+        }
+    }
+
+    /// Ends the inputs of the links, behind what has come, and lets nobody in any more. Each thread
+    /// that looks from here on sees that the life is ending.
+    pub(crate) fn end<R: Wait>(&self, rt: &R) {
+        self.signals.set_ending();
+        self.shut_door();
+        for link in &self.links {
+            link.close_input(rt);
+        }
+    }
+
+    /// Operators are attended to no longer.
+    pub(crate) fn close<R: Wait>(&self, rt: &R) {
+        self.signals.close();
+        if let Some(control) = &self.control {
+            control.close(rt);
+        }
+    }
+
+    /// The next link that comes in; `None` where it fails, or nobody comes in any more.
+    pub(crate) fn accept(&self) -> Option<TcpStream> {
+        self.door.as_ref()?.accept().ok()
+    }
+
+    fn shut_door(&self) {
+        if let Some(door) = &self.door {
+            door.shut();
         }
     }
 

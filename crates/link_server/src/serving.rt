@@ -5,21 +5,24 @@ ghost use Rattle.link_server.specs.Served.{IsLedOn};
 ghost use Rattle.store.specs.State.{store_state};
 
 use crate::context::Context;
-use crate::directory::Directory;
+use crate::control::ControlSocket;
+use crate::door::Door;
 use crate::gate::Gate;
-use crate::link::{Link, LinkCount, accept};
+use crate::link::{Link, LinkCount, PlaceCount, accept, empty_places};
 use crate::moments::LifeClock;
 use crate::parts::Parts;
 use crate::running::{LifeEnd, run};
 use crate::server::LiveServer;
 use crate::signals::Signals;
 use crate::{LifeReport, ServeFault, ServedLife};
+use directory::Directory;
 use disk::Disk;
 use lw_types::Refusal;
 use session_core::{Books, Core, Seat, Shared};
 use std::alloc::Global;
 use std::marker::Brand;
 use std::net::TcpListener;
+use std::os::unix::net::UnixListener;
 use std::sync::ledger::Blank;
 use std::sync::{Mutex, Wait};
 use std::thread::Threads;
@@ -67,11 +70,7 @@ pub fn serve_links<R: Threads + Wait + Sync, D: Disk + Drop, G: Gate + Sync, C: 
 {
     let links = match accept(alloc, listener, links) {
         Ok(links) => links,
-        Err(fault) => return failed(store, fault),
-    };
-    let core = match Core::new(alloc, store.table(), store.seq()) {
-        Ok(core) => core,
-        Err(refusal) => return failed(store, ServeFault::Refused(refusal)),
+        Err(fault) => return failed(alloc, store, fault),
     };
     let context = Context {
         rt,
@@ -79,18 +78,88 @@ pub fn serve_links<R: Threads + Wait + Sync, D: Disk + Drop, G: Gate + Sync, C: 
         gate,
         clock,
     };
-    let seats = links.len() as u64 + 1;
-    let new_life = NewLife { links, core };
-    serve_life::<Brand, R, D, G, C>(&context, store, new_life, Blank::new(seats), Blank::new(1))
+    begin(&context, store, links, None, None)
 }
 
-fn failed<D: Disk>(store: Store<D>, fault: ServeFault) -> ServedLife<D>
+/// Serves links that come in by a listener, as many at a time as there are places, until the life
+/// ends: what they say is decided and committed to the store, and what may leave goes out on them.
+/// Gives the store back with what came of it.
+///
+/// A link that has a place is served as by [`serve_links`], but for this. It has ten seconds to
+/// greet in, and is closed and counted where it doesn't. It ends where its input does, or by a
+/// fault; then its name and its place are free, its sender writes what waits, and gives up a peer
+/// that takes nothing for eight seconds. **A greeting with a name that has a link takes it over**:
+/// the older link is closed at once, and what waits for it is dropped, and counted. So is what
+/// finds no link of its name. What leaves on a link is for the name of that link, whoever had its
+/// place before. Who comes while all places are taken waits for one.
+///
+/// Operators come in by a listener of their own, eight at a time, and say an [`Order`] each.
+/// One who says nothing for two seconds is given up.
+pub fn serve_on<R: Threads + Wait + Sync, D: Disk + Drop, G: Gate + Sync, C: LifeClock + Sync>(
+    rt: &R,
+    alloc: Global,
+    store: Store<D>,
+    listener: TcpListener,
+    control: UnixListener,
+    count: PlaceCount,
+    gate: &G,
+    clock: &C,
+) -> ServedLife<D>
+    ensures shares { IfOk result.result (λ report. sum report.shares.items ≡ report.made) }
+    ensures lives { D.honest
+        → IsLedOn (store_state D.state store) (store_state D.state result.store) }
+{
+    let (Ok(door), Ok(control)) = (Door::new(listener), ControlSocket::new(alloc, control)) else {
+        return failed(alloc, store, ServeFault::Listen);
+    };
+    let links = match empty_places(alloc, count) {
+        Ok(links) => links,
+        Err(refusal) => return failed(alloc, store, ServeFault::Refused(refusal)),
+    };
+    let context = Context {
+        rt,
+        alloc,
+        gate,
+        clock,
+    };
+    begin(&context, store, links, Some(door), Some(control))
+}
+
+// Begins a life with these links.
+fn begin<R: Threads + Wait + Sync, D: Disk + Drop, G: Gate + Sync, C: LifeClock + Sync>(
+    context: &Context<'_, R, G, C>,
+    store: Store<D>,
+    links: Vec<Link>,
+    door: Option<Door>,
+    control: Option<ControlSocket>,
+) -> ServedLife<D>
+    requires { length links.items ≤ 96 }
+    ensures shares { IfOk result.result (λ report. sum report.shares.items ≡ report.made) }
+    ensures lives { D.honest
+        → IsLedOn (store_state D.state store) (store_state D.state result.store) }
+{
+    let core = match Core::new(context.alloc, store.table(), store.seq()) {
+        Ok(core) => core,
+        Err(refusal) => return failed(context.alloc, store, ServeFault::Refused(refusal)),
+    };
+    let seats = links.len() as u64 + 1;
+    let new_life = NewLife {
+        links,
+        door,
+        control,
+        core,
+    };
+    serve_life::<Brand, R, D, G, C>(context, store, new_life, Blank::new(seats), Blank::new(1))
+}
+
+fn failed<D: Disk>(alloc: Global, store: Store<D>, fault: ServeFault) -> ServedLife<D>
     ensures store { result.store ≡ store }
     ensures fault { result.result ≡ Err fault }
 {
     ServedLife {
         store,
         result: Err(fault),
+        waiting: Vec::new(alloc),
     }
 }
 
@@ -98,8 +167,10 @@ fn failed<D: Disk>(store: Store<D>, fault: ServeFault) -> ServedLife<D>
 #[derive(Drop)]
 struct NewLife {
     links: Vec<Link>,
+    door: Option<Door>,
+    control: Option<ControlSocket>,
     core: Core,
-    ghost few: { length links.items ≤ 80 },
+    ghost few: { length links.items ≤ 96 },
     ghost none_made: { core.decisions.made ≡ 0 },
     ghost none_taken: { core.decisions.taken ≡ 0 },
 }
@@ -124,20 +195,31 @@ fn serve_life<
     ensures lives { D.honest
         → IsLedOn (store_state D.state store) (store_state D.state result.store) }
 {
-    let NewLife { links, core } = new_life;
+    let NewLife {
+        links,
+        door,
+        control,
+        core,
+    } = new_life;
     let all = links.len() as u64 + 1;
     let (mut shared, taker) = Shared::<B>::new(core, all, made, taken);
     let parts = match Parts::new(context.alloc, &mut shared, links.len()) {
         Ok(parts) => parts,
-        Err(refusal) => return failed(store, ServeFault::Refused(refusal)),
+        Err(refusal) => return failed(context.alloc, store, ServeFault::Refused(refusal)),
     };
     let directory = match Directory::new(context.alloc) {
         Ok(directory) => directory,
-        Err(_) => return failed(store, ServeFault::Refused(Refusal::OutOfMemory)),
+        Err(_) => return failed(
+            context.alloc,
+            store,
+            ServeFault::Refused(Refusal::OutOfMemory),
+        ),
     };
     let server = LiveServer {
         signals: Signals::new(links.len() as u64),
         links,
+        door,
+        control,
         sessions: Mutex::new(shared),
         directory: Mutex::new(directory),
     };
@@ -149,13 +231,22 @@ fn serve_life<
     let LiveServer {
         sessions,
         signals,
+        control,
         ..
     } = server;
+    let waiting = match control {
+        Some(control) => control.into_waiting(),
+        None => Vec::new(context.alloc),
+    };
     let result = match result {
         Ok(()) => report(context.alloc, sessions.into_inner(), &signals, all, seats),
         Err(refusal) => Err(ServeFault::Refused(refusal)),
     };
-    ServedLife { store, result }
+    ServedLife {
+        store,
+        result,
+        waiting,
+    }
 }
 
 // A seat that didn't come back is of a thread that was never started, for want of memory.
@@ -179,6 +270,8 @@ fn report<B: Books>(
     Ok(LifeReport {
         dropped: signals.dropped(),
         faulted: signals.faulted(),
+        taken_over: signals.taken_over(),
+        silent: signals.silent(),
         made,
         shares,
     })

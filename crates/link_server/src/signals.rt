@@ -7,10 +7,18 @@ use std::thread::Parker;
 
 #[derive(Drop)]
 pub(crate) struct Signals {
-    // How many links may still say something.
+    // How many workers may still hand something in.
     open_inputs: AtomicU64,
     faulted: AtomicU64,
     dropped: AtomicU64,
+    taken_over: AtomicU64,
+    silent: AtomicU64,
+    // How many links are in their places.
+    linked: AtomicU64,
+    // Everything of the life is done but for the operators.
+    closed: AtomicBool,
+    // The life was told to end.
+    ending: AtomicBool,
     // The store is at fault, and the links are closed.
     stopped: AtomicBool,
     // The last tick was made.
@@ -31,6 +39,11 @@ impl Signals {
             open_inputs: AtomicU64::new(inputs),
             faulted: AtomicU64::new(0),
             dropped: AtomicU64::new(0),
+            taken_over: AtomicU64::new(0),
+            silent: AtomicU64::new(0),
+            linked: AtomicU64::new(0),
+            closed: AtomicBool::new(false),
+            ending: AtomicBool::new(false),
             stopped: AtomicBool::new(false),
             ticked: AtomicBool::new(false),
             closer_idle: AtomicBool::new(false),
@@ -58,11 +71,62 @@ impl Signals {
         self.dropped.load(SeqCst)
     }
 
-    /// A link says nothing more.
+    /// A link lost its name to one that greeted later.
+    pub(crate) fn count_taken_over(&self) {
+        self.taken_over.fetch_add(1, SeqCst);
+    }
+
+    pub(crate) fn taken_over(&self) -> u64 {
+        self.taken_over.load(SeqCst)
+    }
+
+    /// A link didn't greet in time.
+    pub(crate) fn count_silent(&self) {
+        self.silent.fetch_add(1, SeqCst);
+    }
+
+    pub(crate) fn silent(&self) -> u64 {
+        self.silent.load(SeqCst)
+    }
+
+    /// A link has come into a place.
+    pub(crate) fn count_linked(&self) {
+        self.linked.fetch_add(1, SeqCst);
+    }
+
+    /// It has left the place.
+    pub(crate) fn count_unlinked(&self) {
+        self.linked.fetch_sub(1, SeqCst);
+    }
+
+    pub(crate) fn linked(&self) -> u64 {
+        self.linked.load(SeqCst)
+    }
+
+    /// Operators are attended to no longer.
+    pub(crate) fn close(&self) {
+        self.closed.store(true, SeqCst);
+    }
+
+    pub(crate) fn is_closed(&self) -> bool {
+        self.closed.load(SeqCst)
+    }
+
+    /// Whoever reads links says nothing more.
     pub(crate) fn end_input(&self) {
         if self.open_inputs.fetch_sub(1, SeqCst) == 1 {
             self.opened.unpark();
         }
+    }
+
+    /// The life ends once what has come is decided and sent.
+    pub(crate) fn set_ending(&self) {
+        self.ending.store(true, SeqCst);
+    }
+
+    /// Whether the life was told to end, or is stopped.
+    pub(crate) fn is_ending(&self) -> bool {
+        self.ending.load(SeqCst) || self.is_stopped()
     }
 
     /// Whether no link says anything more, or the life is stopped.

@@ -1,13 +1,17 @@
 // The threads of a life, each with its name.
 use crate::closing::Closer;
+use crate::control::Attendant;
 use crate::gate::Gate;
+use crate::hosting::Host;
 use crate::moments::LifeClock;
 use crate::reading::Worker;
-use crate::writing::Sender;
+use crate::writing::{HostSender, Sender};
+use lw_types::Refusal;
+use rtrb::Consumer;
 use session_core::{Books, Seat};
 use std::alloc::Global;
 use std::sync::Wait;
-use std::thread::{Builder, JoinHandle, Scope};
+use std::thread::{Builder, JoinHandle, Scope, Threads};
 
 /// Starts a worker; `None` where that can't be.
 pub(crate) fn start_worker<
@@ -40,7 +44,41 @@ pub(crate) fn start_sender<'x, E, R: Wait + Sync>(
     let name = format!(in alloc; "link-{number}-out").ok()?;
     Builder::new()
         .name(name)
-        .spawn_scoped(scope, move || sender.run())
+        .spawn_scoped(scope, move || {
+            let _ = sender.run();
+        })
+        .ok()
+}
+
+/// Starts a worker that takes one link after another; `None` where that can't be.
+pub(crate) fn start_host<
+    'x,
+    E,
+    B: Books + Send + Sync,
+    R: Threads + Wait + Sync,
+    G: Gate + Sync,
+    C: LifeClock + Sync,
+>(alloc: Global, scope: &Scope<'x, E>, host: Host<'x, B, R, G, C>) -> Option<JoinHandle<Seat<B>>> {
+    let number = host.worker.number;
+    let name = format!(in alloc; "link-{number}-in").ok()?;
+    Builder::new()
+        .name(name)
+        .spawn_scoped(scope, move || host.run())
+        .ok()
+}
+
+/// Starts the sender of one link of a place; `None` where that can't be.
+pub(crate) fn start_host_sender<'x, E, R: Wait + Sync>(
+    alloc: Global,
+    scope: &Scope<'x, E>,
+    number: usize,
+    sender: HostSender<'x, R>,
+    refusals: Consumer<Refusal>,
+) -> Option<JoinHandle<()>> {
+    let name = format!(in alloc; "link-{number}-out").ok()?;
+    Builder::new()
+        .name(name)
+        .spawn_scoped(scope, move || sender.run(refusals))
         .ok()
 }
 
@@ -61,5 +99,26 @@ pub(crate) fn start_closer<
     Builder::new()
         .name(name)
         .spawn_scoped(scope, move || closer.run())
+        .ok()
+}
+
+/// Starts an attendant; `None` where that can't be.
+pub(crate) fn start_attendant<
+    'x,
+    E,
+    B: Books + Send + Sync,
+    R: Wait + Sync,
+    G: Gate + Sync,
+    C: LifeClock + Sync,
+>(
+    alloc: Global,
+    scope: &Scope<'x, E>,
+    attendant: Attendant<'x, B, R, G, C>,
+) -> Option<JoinHandle<()>> {
+    let number = attendant.number;
+    let name = format!(in alloc; "control-{number}").ok()?;
+    Builder::new()
+        .name(name)
+        .spawn_scoped(scope, move || attendant.run())
         .ok()
 }

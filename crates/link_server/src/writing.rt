@@ -3,6 +3,7 @@ use crate::gathering::{Gathered, add_refusal, gather};
 use crate::link::Link;
 use crate::outgoing::Outgoing;
 use crate::signals::Signals;
+use gateway_wire::Recipient;
 use lw_types::Refusal;
 use outbox::Inlet;
 use rtrb::Consumer;
@@ -24,6 +25,9 @@ pub(crate) struct Sender<'x, R: Wait> {
     pub(crate) alloc: Global,
     pub(crate) signals: &'x Signals,
     pub(crate) link: &'x Link,
+    pub(crate) stream: &'x TcpStream,
+    // Whose link it is, as far as the sender knows.
+    pub(crate) name: Option<&'x Recipient>,
     pub(crate) inlet: Inlet,
     pub(crate) refusals: Consumer<Refusal>,
     pub(crate) outgoing: Outgoing,
@@ -33,7 +37,8 @@ pub(crate) struct Sender<'x, R: Wait> {
 
 impl<'x, R: Wait> Sender<'x, R> {
     /// Writes what leaves on the link until nothing more can come, and says then that nothing will.
-    pub(crate) fn run(self) {
+    /// Gives back what the next sender of the place uses.
+    pub(crate) fn run(self) -> Spare {
         let mut sender = self;
         let _ = sender.outgoing.reserve();
         for _ in sender.rt.forever() {
@@ -41,7 +46,7 @@ impl<'x, R: Wait> Sender<'x, R> {
                 break;
             }
             // What was put before the end was told is seen by the looks behind this one.
-            let is_last = sender.inlet.is_finished();
+            let is_last = sender.is_last();
             if sender.send_some() {
                 continue;
             }
@@ -50,7 +55,16 @@ impl<'x, R: Wait> Sender<'x, R> {
             }
             sender.link.bell.park(sender.rt);
         }
-        let _ = sender.link.stream.shutdown(Shutdown::Write);
+        let _ = sender.stream.shutdown(Shutdown::Write);
+        Spare {
+            inlet: sender.inlet,
+            outgoing: sender.outgoing,
+        }
+    }
+
+    // Whether nothing more is put into the ring for this link.
+    fn is_last(&mut self) -> bool {
+        self.link.is_over() || self.inlet.is_finished()
     }
 
     // Sends some of what waits, refusals first. Whether there was something.
@@ -82,9 +96,17 @@ impl<'x, R: Wait> Sender<'x, R> {
         some
     }
 
+    // Nothing is there for a link on which nobody has greeted.
     fn gather_effects(&mut self) -> Gathered {
+        if self.name.is_none() {
+            self.name = self.link.name();
+        }
+        let Some(name) = self.name else {
+            return Gathered { taken: 0, lost: 0 };
+        };
         gather(
             self.alloc,
+            name,
             &mut self.inlet,
             &mut self.outgoing,
             self.is_broken,
@@ -103,17 +125,66 @@ impl<'x, R: Wait> Sender<'x, R> {
             if self.signals.is_stopped() || waits >= PATIENCE {
                 return false;
             }
-            match write_some(&self.link.stream, rest) {
+            match write_some(self.stream, rest) {
                 Wrote::Some(left) => {
                     rest = left;
                     waits = 0;
                 }
-                Wrote::Nothing if self.inlet.is_finished() => waits = waits.saturating_add(1),
+                Wrote::Nothing if self.link.is_over() || self.inlet.is_finished() => {
+                    waits = waits.saturating_add(1);
+                }
                 Wrote::Nothing => {}
                 Wrote::End => return false,
             }
         }
         unreachable!()
+    }
+}
+
+/// What the senders of a place use, one after another.
+#[derive(Drop)]
+pub(crate) struct Spare {
+    pub(crate) inlet: Inlet,
+    pub(crate) outgoing: Outgoing,
+}
+
+/// A link that has greeted: its socket, and its name.
+#[derive(Drop)]
+pub(crate) struct Call {
+    pub(crate) stream: TcpStream,
+    pub(crate) name: Recipient,
+}
+
+/// What a sender of a place has for its one link.
+#[derive(Drop)]
+pub(crate) struct HostSender<'x, R: Wait> {
+    pub(crate) rt: &'x R,
+    pub(crate) alloc: Global,
+    pub(crate) signals: &'x Signals,
+    pub(crate) link: &'x Link,
+    pub(crate) call: &'x Call,
+}
+
+impl<'x, R: Wait> HostSender<'x, R> {
+    /// Writes what leaves on the link, with what the place has for it.
+    pub(crate) fn run(self, refusals: Consumer<Refusal>) {
+        let Some(Spare { inlet, outgoing }) = self.link.spare.lock(self.rt).take() else {
+            return;
+        };
+        let sender = Sender {
+            rt: self.rt,
+            alloc: self.alloc,
+            signals: self.signals,
+            link: self.link,
+            stream: &self.call.stream,
+            name: Some(&self.call.name),
+            inlet,
+            refusals,
+            outgoing,
+            is_broken: false,
+        };
+        let spare = sender.run();
+        *self.link.spare.lock(self.rt) = Some(spare);
     }
 }
 

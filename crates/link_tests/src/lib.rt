@@ -15,6 +15,8 @@ mod held_tests;
 #[cfg(test)]
 mod lives;
 #[cfg(test)]
+mod places_tests;
+#[cfg(test)]
 mod rows_tests;
 #[cfg(test)]
 mod wire;

@@ -27,7 +27,7 @@ pub fn new_store(alloc: Global) -> Result<Store<MemDisk>, Refusal> {
     store::open(alloc, new_disk(alloc)?)
 }
 
-fn of_socket<T>(res: io::Result<T>) -> Result<T, Refusal> {
+pub fn of_socket<T>(res: io::Result<T>) -> Result<T, Refusal> {
     res.map_err(|_| Refusal::DeviceFailed)
 }
 

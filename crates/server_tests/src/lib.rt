@@ -10,6 +10,8 @@ mod faults_tests;
 #[cfg(test)]
 mod links_tests;
 #[cfg(test)]
+mod runs_tests;
+#[cfg(test)]
 mod stores_tests;
 #[cfg(test)]
 mod words_tests;

@@ -36,8 +36,8 @@ fn connect<R: Net<Stream = TcpStream>>(rt: &R, address: &str) -> io::Result<TcpS
     Err(io::Error::from(ErrorKind::TimedOut))
 }
 
-// What comes of the links, each of which ends its input at the end: whether the answers are those.
-fn talk<R: Net<Stream = TcpStream>>(rt: &R, address: &str) -> io::Result<bool> {
+/// What comes of the links, each of which ends its input at the end: whether the answers are those.
+pub fn talk<R: Net<Stream = TcpStream>>(rt: &R, address: &str) -> io::Result<bool> {
     let mut application = connect(rt, address)?;
     let mut gateway = connect(rt, address)?;
     application.write_all(PROVISION)?;
@@ -53,9 +53,9 @@ fn talk<R: Net<Stream = TcpStream>>(rt: &R, address: &str) -> io::Result<bool> {
     Ok(provisioned == *PROVISIONED && accept == *ACCEPT && more == 0)
 }
 
-// An address on this machine that no client is given for its own end.
-fn address_of(rt: &HostRuntime, alloc: Global) -> Option<String> {
-    let port = 20_000 + process::id(rt.process()) % 10_000;
+/// An address on this machine that no client is given for its own end, one for each test.
+pub fn address_of(rt: &HostRuntime, alloc: Global, test: u32) -> Option<String> {
+    let port = 20_000 + process::id(rt.process()) % 5_000 * 2 + test;
     format!(in alloc; "127.0.0.1:{port}").ok()
 }
 
@@ -65,7 +65,7 @@ fn a_device_joins_over_loopback(rt: HostRuntime) {
     let path = path_of(&rt, "loopback").expect(&rt, "a path");
     let file = path.as_str();
     assert!(rt; formats(&rt, alloc, file));
-    let address = address_of(&rt, alloc).expect(&rt, "memory");
+    let address = address_of(&rt, alloc, 0).expect(&rt, "memory");
     let told = Told {
         status: 0,
         out: "",

@@ -55,6 +55,34 @@ const ROWS: &[(&str, &str)] = &[
     ("serve store --links 2", "wrong"),
     ("serve --listen 127.0.0.1:5600 --links 2", "wrong"),
     ("serve --help", "help"),
+    (
+        "run store --listen 127.0.0.1:5600",
+        "run store 127.0.0.1:5600 96",
+    ),
+    (
+        "run --links 1 store --listen [::1]:5600",
+        "run store [::1]:5600 1",
+    ),
+    ("run store --listen 127.0.0.1:5600 --links 0", "wrong"),
+    ("run store --listen 127.0.0.1:5600 --links 97", "wrong"),
+    ("run store", "wrong"),
+    ("run --listen 127.0.0.1:5600", "wrong"),
+    ("run --help", "help"),
+    ("stop store", "stop store"),
+    ("stop store --wait 1", "wrong"),
+    ("stop --help", "help"),
+    ("status store", "status store 0"),
+    ("status --wait 3600 store", "status store 3600"),
+    ("status store --wait 3601", "wrong"),
+    ("status store --wait soon", "wrong"),
+    ("status", "wrong"),
+    ("status --help", "help"),
+    ("restore old new", "restore old new 1024"),
+    ("restore --grants 65536 old new", "restore old new 65536"),
+    ("restore old new --grants 0", "wrong"),
+    ("restore old new --grants 65537", "wrong"),
+    ("restore old", "wrong"),
+    ("restore --help", "help"),
     ("--help", "help"),
     ("-h", "help"),
     ("help", "help"),
@@ -99,6 +127,23 @@ fn asked_of(alloc: Global, mode: &Mode<'_>) -> Result<String, AllocError> {
             let links = links.get();
             format!(in alloc; "serve {file} {listen} {links}")
         }
+        Mode::Run {
+            file,
+            listen,
+            links,
+        } => {
+            let links = links.get();
+            format!(in alloc; "run {file} {listen} {links}")
+        }
+        Mode::Stop { file } => format!(in alloc; "stop {file}"),
+        Mode::Status { file, wait } => {
+            let wait = wait.get();
+            format!(in alloc; "status {file} {wait}")
+        }
+        Mode::Restore { file, new, grants } => {
+            let grants = grants.get();
+            format!(in alloc; "restore {file} {new} {grants}")
+        }
     }
 }
 
@@ -118,6 +163,9 @@ const HELPS: &[(&str, &[&str])] = &[
             "format",
             "list",
             "serve",
+            "run",
+            "stop",
+            "status",
             "lnsd format store --netid 00002A --slots 64",
         ],
     ),
@@ -139,6 +187,15 @@ const HELPS: &[(&str, &[&str])] = &[
             "from 1 to 80",
             "--listen 127.0.0.1:5600",
         ],
+    ),
+    (
+        "run --help",
+        &["FILE", "TCP port", "from 1 to 96", "lnsd run store"],
+    ),
+    ("stop --help", &["FILE", "lnsd stop store"]),
+    (
+        "status --help",
+        &["FILE", "from 0 to 3600", "lnsd status store"],
     ),
 ];
 

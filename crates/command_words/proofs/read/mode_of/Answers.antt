@@ -1,23 +1,21 @@
 use Rattle.std.proofs.Common.{rules, ◌≡◌, ◌∙◌, codes, sym, subst, refl, arith}
 use Rattle.std.proofs.lemmas.Option.{none-some}
-use Rattle.std.specs.Str.Parse.{ParsesUnsigned, ExplainsUnsignedError, HasUnsignedDigitsIfOk}
 use Rattle.clap.specs.Words.{found_of, rows_of, subcommand_rows_of}
 use Rattle.lw_types.specs.Hex.{net_id_text}
-use Rattle.command_words.specs.Asked.{IsNumberOf}
-use Rattle.command_words.proofs.Rows.{command_met, no_file, no_format, no_serve, number_met, number_missed, number_once, same, text_met, text_missed}
+use Rattle.command_words.specs.Asked.{HasLinkOptions, IsNumberOf}
+use Rattle.command_words.proofs.Rows.{command_met, no_file, no_format, no_restore, no_run, no_serve, no_status, number_once, same, text_met, text_missed}
 use Rattle.command_words.proofs.read.mode_of.Goals as goal
 
 pub returns-in_ok-slots-in-format-clause-some : goal.returns-in_ok-slots-in-format-clause-some
 returns-in_ok-slots-in-format-clause-some c =
-    let found = found_of c.in_ok-name.matches.now in
-    let spelled = number_met _ (λ bs r. ParsesUnsigned 16 10 bs r × ExplainsUnsignedError 10 bs r × HasUnsignedDigitsIfOk bs r)
-    (λ _ _ g. g.0) found (codes "slots") c.get_one.result c.in_ok-get_one-in-format.field-0
-    c.get_one.ensures.none c.get_one.ensures.value c.in_ok-get_one-in-format.was in (
+    let found = found_of c.in_ok-name.matches.now in (
       rows_of found,
       command_met c.args.matches.now c.in_ok-name.name.now (codes "format") (rows_of found) c.in-format.is c.in_ok-name.ensures.name c.in_ok-name.ensures.rows,
       text_met found (codes "file") c.in_ok-file.file.now c.in_ok-file.ensures,
-      text_met found (codes "netid") c.in_ok-get_str-in-format.field-0.now c.in_ok-get_str-in-format.ensures ∙ search rules,
-      subst (λ n. IsNumberOf (codes "slots") (rows_of found) n) (search rules) spelled,
+      (
+        text_met found (codes "netid") c.in_ok-get_str-in-format.field-0.now c.in_ok-get_str-in-format.ensures ∙ search rules,
+        subst (λ n. IsNumberOf (codes "slots") (rows_of found) n) (search rules) c.in_ok-option_number-in-format.ensures.some,
+      ),
     )
 
 pub returns-in-list-clause-some : goal.returns-in-list-clause-some
@@ -26,19 +24,43 @@ returns-in-list-clause-some c =
       rows_of found,
       command_met c.args.matches.now c.in_ok-name.name.now (codes "list") (rows_of found) c.in-list.is c.in_ok-name.ensures.name c.in_ok-name.ensures.rows,
       text_met found (codes "file") c.in_ok-file.file.now c.in_ok-file.ensures,
+      tt,
+    )
+
+pub returns-in-stop-clause-some : goal.returns-in-stop-clause-some
+returns-in-stop-clause-some c =
+    let found = found_of c.in_ok-name.matches.now in (
+      rows_of found,
+      command_met c.args.matches.now c.in_ok-name.name.now (codes "stop") (rows_of found) c.in-stop.is c.in_ok-name.ensures.name c.in_ok-name.ensures.rows,
+      text_met found (codes "file") c.in_ok-file.file.now c.in_ok-file.ensures,
+      tt,
     )
 
 pub returns-in_ok-links-in-serve-clause-some : goal.returns-in_ok-links-in-serve-clause-some
 returns-in_ok-links-in-serve-clause-some c =
-    let found = found_of c.in_ok-name.matches.now in
-    let spelled = number_met _ (λ bs r. ParsesUnsigned 16 10 bs r × ExplainsUnsignedError 10 bs r × HasUnsignedDigitsIfOk bs r)
-    (λ _ _ g. g.0) found (codes "links") c.get_one-in-serve.result c.in_ok-get_one-in-serve.field-0
-    c.get_one-in-serve.ensures.none c.get_one-in-serve.ensures.value c.in_ok-get_one-in-serve.was in (
+    let found = found_of c.in_ok-name.matches.now in (
       rows_of found,
       command_met c.args.matches.now c.in_ok-name.name.now (codes "serve") (rows_of found) c.in-serve.is c.in_ok-name.ensures.name c.in_ok-name.ensures.rows,
       text_met found (codes "file") c.in_ok-file.file.now c.in_ok-file.ensures,
-      text_met found (codes "listen") c.in_ok-listen-in-serve.listen.now c.in_ok-listen-in-serve.ensures,
-      subst (λ n. IsNumberOf (codes "links") (rows_of found) n) (search rules) spelled,
+      subst (λ n. HasLinkOptions (rows_of found) c.in_ok-listen-in-serve.listen.now n) (search rules) c.in_ok-listen-in-serve.ensures.some,
+    )
+
+pub returns-in_ok-links-in-run-clause-some : goal.returns-in_ok-links-in-run-clause-some
+returns-in_ok-links-in-run-clause-some c =
+    let found = found_of c.in_ok-name.matches.now in (
+      rows_of found,
+      command_met c.args.matches.now c.in_ok-name.name.now (codes "run") (rows_of found) c.in-run.is c.in_ok-name.ensures.name c.in_ok-name.ensures.rows,
+      text_met found (codes "file") c.in_ok-file.file.now c.in_ok-file.ensures,
+      subst (λ n. HasLinkOptions (rows_of found) c.in_ok-listen-in-run.listen.now n) (search rules) c.in_ok-listen-in-run.ensures.some,
+    )
+
+pub returns-in_ok-wait-in-status-clause-some : goal.returns-in_ok-wait-in-status-clause-some
+returns-in_ok-wait-in-status-clause-some c =
+    let found = found_of c.in_ok-name.matches.now in (
+      rows_of found,
+      command_met c.args.matches.now c.in_ok-name.name.now (codes "status") (rows_of found) c.in-status.is c.in_ok-name.ensures.name c.in_ok-name.ensures.rows,
+      text_met found (codes "file") c.in_ok-file.file.now c.in_ok-file.ensures,
+      subst (λ n. IsNumberOf (codes "wait") (rows_of found) n) (search rules) c.in_ok-option_number-in-status.ensures.some,
     )
 
 pub returns-in_err-file-clause-none : goal.returns-in_err-file-clause-none
@@ -48,8 +70,7 @@ returns-in_err-file-clause-none c _ =
     (command_met c.args.matches.now c.in_ok-name.name.now c.in_ok-name.name.now (rows_of found) refl c.in_ok-name.ensures.name c.in_ok-name.ensures.rows)
     (text_missed found (codes "file") (search rules))
 
-pub returns-in_err-get_str-in-format-clause-none :
-    goal.returns-in_err-get_str-in-format-clause-none
+pub returns-in_err-get_str-in-format-clause-none : goal.returns-in_err-get_str-in-format-clause-none
 returns-in_err-get_str-in-format-clause-none c _ =
     let found = found_of c.in_ok-name.matches.now in
     no_format (subcommand_rows_of c.args.matches.now) (rows_of found)
@@ -64,54 +85,59 @@ returns-in_err-net_id-in-format-clause-none c _ =
     (λ n s fits _ _ h _. none-some n (sym (search rules) ∙ c.from_text.ensures.only n fits
     (same _ _ (sym (text_met found (codes "netid") c.in_ok-get_str-in-format.field-0.now c.in_ok-get_str-in-format.ensures) ∙ h))))
 
-pub returns-in_err-get_one-in-format-clause-none :
-    goal.returns-in_err-get_one-in-format-clause-none
-returns-in_err-get_one-in-format-clause-none c _ =
+pub returns-in_err-option_number-in-format-clause-none :
+    goal.returns-in_err-option_number-in-format-clause-none
+returns-in_err-option_number-in-format-clause-none c _ =
     let found = found_of c.in_ok-name.matches.now in
     no_format (subcommand_rows_of c.args.matches.now) (rows_of found)
     (command_met c.args.matches.now c.in_ok-name.name.now (codes "format") (rows_of found) c.in-format.is c.in_ok-name.ensures.name c.in_ok-name.ensures.rows)
-    (λ _ s _ _ most _ spelled. number_missed _ (λ bs r. ParsesUnsigned 16 10 bs r × ExplainsUnsignedError 10 bs r × HasUnsignedDigitsIfOk bs r)
-    (λ _ _ g. g.0) found (codes "slots")
-    c.get_one.result s c.get_one.ensures.value c.in_err-get_one-in-format.was spelled (omega arith))
-
-pub returns-in_err-slots-in-format-clause-none : goal.returns-in_err-slots-in-format-clause-none
-returns-in_err-slots-in-format-clause-none c _ =
-    let found = found_of c.in_ok-name.matches.now in
-    no_format (subcommand_rows_of c.args.matches.now) (rows_of found)
-    (command_met c.args.matches.now c.in_ok-name.name.now (codes "format") (rows_of found) c.in-format.is c.in_ok-name.ensures.name c.in_ok-name.ensures.rows)
-    (λ _ s _ least most _ spelled.
-    let read = number_met _ (λ bs r. ParsesUnsigned 16 10 bs r × ExplainsUnsignedError 10 bs r × HasUnsignedDigitsIfOk bs r)
-    (λ _ _ g. g.0) found (codes "slots") c.get_one.result c.in_ok-get_one-in-format.field-0
-    c.get_one.ensures.none c.get_one.ensures.value c.in_ok-get_one-in-format.was in
-    let is : c.in_ok-get_one-in-format.field-0 ≡ s = number_once (codes "slots") (rows_of found) _ _ read spelled in
-    let from : c.from.result ≡ c.in_ok-get_one-in-format.field-0 = search rules in
-    c.in_err-slots-in-format.ensures (omega arith, omega arith))
+    (λ _ s _ _ most _ spelled. c.option_number.ensures.none c.in_err-option_number-in-format.was s (omega (arith, most)) spelled)
 
 pub returns-in_err-listen-in-serve-clause-none : goal.returns-in_err-listen-in-serve-clause-none
 returns-in_err-listen-in-serve-clause-none c _ =
     let found = found_of c.in_ok-name.matches.now in
     no_serve (subcommand_rows_of c.args.matches.now) (rows_of found)
     (command_met c.args.matches.now c.in_ok-name.name.now (codes "serve") (rows_of found) c.in-serve.is c.in_ok-name.ensures.name c.in_ok-name.ensures.rows)
-    (λ t s _ _ h _. none-some t (sym (text_missed found (codes "listen") (search rules)) ∙ h))
+    (λ t s least most h. c.link_options.ensures.none c.in_err-listen-in-serve.was t s (omega (arith, most)) h)
 
-pub returns-in_err-get_one-in-serve-clause-none : goal.returns-in_err-get_one-in-serve-clause-none
-returns-in_err-get_one-in-serve-clause-none c _ =
+pub returns-in_err-listen-in-run-clause-none : goal.returns-in_err-listen-in-run-clause-none
+returns-in_err-listen-in-run-clause-none c _ =
     let found = found_of c.in_ok-name.matches.now in
-    no_serve (subcommand_rows_of c.args.matches.now) (rows_of found)
-    (command_met c.args.matches.now c.in_ok-name.name.now (codes "serve") (rows_of found) c.in-serve.is c.in_ok-name.ensures.name c.in_ok-name.ensures.rows)
-    (λ _ s _ most _ spelled. number_missed _ (λ bs r. ParsesUnsigned 16 10 bs r × ExplainsUnsignedError 10 bs r × HasUnsignedDigitsIfOk bs r)
-    (λ _ _ g. g.0) found (codes "links")
-    c.get_one-in-serve.result s c.get_one-in-serve.ensures.value c.in_err-get_one-in-serve.was spelled (omega arith))
+    no_run (subcommand_rows_of c.args.matches.now) (rows_of found)
+    (command_met c.args.matches.now c.in_ok-name.name.now (codes "run") (rows_of found) c.in-run.is c.in_ok-name.ensures.name c.in_ok-name.ensures.rows)
+    (λ t s least most h. c.link_options-in-run.ensures.none c.in_err-listen-in-run.was t s (omega (arith, most)) h)
 
-pub returns-in_err-links-in-serve-clause-none : goal.returns-in_err-links-in-serve-clause-none
-returns-in_err-links-in-serve-clause-none c _ =
+pub returns-in_err-option_number-in-status-clause-none :
+    goal.returns-in_err-option_number-in-status-clause-none
+returns-in_err-option_number-in-status-clause-none c _ =
     let found = found_of c.in_ok-name.matches.now in
-    no_serve (subcommand_rows_of c.args.matches.now) (rows_of found)
-    (command_met c.args.matches.now c.in_ok-name.name.now (codes "serve") (rows_of found) c.in-serve.is c.in_ok-name.ensures.name c.in_ok-name.ensures.rows)
-    (λ _ s least most _ spelled.
-    let read = number_met _ (λ bs r. ParsesUnsigned 16 10 bs r × ExplainsUnsignedError 10 bs r × HasUnsignedDigitsIfOk bs r)
-    (λ _ _ g. g.0) found (codes "links") c.get_one-in-serve.result c.in_ok-get_one-in-serve.field-0
-    c.get_one-in-serve.ensures.none c.get_one-in-serve.ensures.value c.in_ok-get_one-in-serve.was in
-    let is : c.in_ok-get_one-in-serve.field-0 ≡ s = number_once (codes "links") (rows_of found) _ _ read spelled in
-    let from : c.from-in-serve.result ≡ c.in_ok-get_one-in-serve.field-0 = search rules in
-    c.in_err-links-in-serve.ensures (omega arith, omega arith))
+    no_status (subcommand_rows_of c.args.matches.now) (rows_of found)
+    (command_met c.args.matches.now c.in_ok-name.name.now (codes "status") (rows_of found) c.in-status.is c.in_ok-name.ensures.name c.in_ok-name.ensures.rows)
+    (λ s most spelled. c.option_number-in-status.ensures.none c.in_err-option_number-in-status.was s (omega (arith, most)) spelled)
+
+pub returns-in_ok-grants-in-restore-clause-some : goal.returns-in_ok-grants-in-restore-clause-some
+returns-in_ok-grants-in-restore-clause-some c =
+    let found = found_of c.in_ok-name.matches.now in (
+      rows_of found,
+      command_met c.args.matches.now c.in_ok-name.name.now (codes "restore") (rows_of found) c.in-restore.is c.in_ok-name.ensures.name c.in_ok-name.ensures.rows,
+      text_met found (codes "file") c.in_ok-file.file.now c.in_ok-file.ensures,
+      (
+        text_met found (codes "new") c.in_ok-new-in-restore.new.now c.in_ok-new-in-restore.ensures,
+        subst (λ n. IsNumberOf (codes "grants") (rows_of found) n) (search rules) c.in_ok-option_number-in-restore.ensures.some,
+      ),
+    )
+
+pub returns-in_err-new-in-restore-clause-none : goal.returns-in_err-new-in-restore-clause-none
+returns-in_err-new-in-restore-clause-none c _ =
+    let found = found_of c.in_ok-name.matches.now in
+    no_restore (subcommand_rows_of c.args.matches.now) (rows_of found)
+    (command_met c.args.matches.now c.in_ok-name.name.now (codes "restore") (rows_of found) c.in-restore.is c.in_ok-name.ensures.name c.in_ok-name.ensures.rows)
+    (λ t n _ _ h _. none-some t (sym (text_missed found (codes "new") (search rules)) ∙ h))
+
+pub returns-in_err-option_number-in-restore-clause-none :
+    goal.returns-in_err-option_number-in-restore-clause-none
+returns-in_err-option_number-in-restore-clause-none c _ =
+    let found = found_of c.in_ok-name.matches.now in
+    no_restore (subcommand_rows_of c.args.matches.now) (rows_of found)
+    (command_met c.args.matches.now c.in_ok-name.name.now (codes "restore") (rows_of found) c.in-restore.is c.in_ok-name.ensures.name c.in_ok-name.ensures.rows)
+    (λ t n _ most _ spelled. c.option_number-in-restore.ensures.none c.in_err-option_number-in-restore.was n (omega (arith, most)) spelled)

@@ -1,7 +1,7 @@
-use Rattle.std.proofs.Common.{◌≡◌, ◌∙◌, ap, subst, refl, true, map, List}
+use Rattle.std.proofs.Common.{rules, ◌≡◌, ◌∙◌, ap, subst, refl, true, map, List, []}
 use Rattle.clap.specs.Words.{HasKind, Text, app_of, fault_of, is_simple, is_simple_and_free, subcommand_of}
 use Rattle.clap.proofs.OnLiterals.{clap_on_literals}
-use Rattle.command_words.specs.Asked.{HasNoMode}
+use Rattle.command_words.specs.Asked.{HasNoMode, IsModeOf}
 use Rattle.command_words.specs.CommandLine.{lnsd_line}
 use Rattle.command_words.proofs.Told.{of_a_fault, of_no_mode}
 use Rattle.command_words.proofs.read.words.Goals as goal
@@ -27,3 +27,13 @@ returns-clause-usage c =
     let app : app_of c.in-Ok.command ≡ lnsd_line = c.in-Ok.ensures in
     let met = (c.in-Ok-try_get_matches_from_mut.ensures.ok.2 (ap is_simple app ∙ is_simple_too)).1 in
     of_no_mode texts _ (subst HasNoMode (met ∙ ap (λ a. subcommand_of a texts) app) (c.mode_of.ensures.none c.in-None.is)) c.wrong_net_id.ensures
+
+pub returns-in-Some-clause-mode : goal.returns-in-Some-clause-mode
+returns-in-Some-clause-mode c =
+    let texts : List Text = map (λ w. w.now) c.args.words.now in
+    let app : app_of c.in-Ok.command ≡ lnsd_line = c.in-Ok.ensures in
+    let met = (c.in-Ok-try_get_matches_from_mut.ensures.ok.2 (ap is_simple app ∙ is_simple_too)).1 in
+    let none : fault_of (app_of c.in-Ok.command) texts ≡ [] = search rules in (
+      subst (λ a. IsModeOf a c.in-Some.mode) (met ∙ ap (λ a. subcommand_of a texts) app) c.in-Some.ensures.some,
+      subst (λ a. fault_of a texts ≡ []) app none,
+    )

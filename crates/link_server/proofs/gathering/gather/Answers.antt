@@ -18,12 +18,12 @@ loop-turn-preserved c =
     let count' : c.loop-turn.taken + 1 ≡ length (effects ++ effect ∷ []) = omega (arith, count, length-append effects (effect ∷ [])) in
     elim c.if-not-is_put.branch [
       | then-not-is_put w ↦ (
-        (effects ++ effect ∷ [], (bytes, (taken', (count', ((rw w.if-not-is_put.true at c.is_put.ensures.framed) ∙ out, rw w.lost-is (lost_one effects effect c.loop-turn.lost bytes together)))))),
+        (effects ++ effect ∷ [], (bytes, (taken', (count', ((rw w.if-not-is_put.true at c.is_put.ensures.framed) ∙ out, rw w.lost-is (lost_one c.args.name.now effects effect c.loop-turn.lost bytes together)))))),
         (omega (arith, c.loop-turn.invariant.1), omega (arith, w.lost-is, c.loop-turn.invariant.1)),
         λ broken. omega (arith, w.lost-is, c.loop-turn.invariant.2 broken),
       )
       | else-not-is_put w ↦ (
-        (effects ++ effect ∷ [], (bytes ++ effect_frame effect, (taken', (count', ((rw w.if-not-is_put.false at c.is_put.ensures.framed) ∙ (ap framed out ∙ append_assoc _ bytes (effect_frame effect)), rw w.lost-is (added_one effects effect c.loop-turn.lost bytes together)))))),
+        (effects ++ effect ∷ [], (bytes ++ effect_frame effect, (taken', (count', ((rw w.if-not-is_put.false at c.is_put.ensures.framed).1 ∙ (ap framed out ∙ append_assoc _ bytes (effect_frame effect)), rw w.lost-is (added_one c.args.name.now effects effect c.loop-turn.lost bytes (rw w.if-not-is_put.false at c.is_put.ensures.framed).0 together)))))),
         (omega (arith, c.loop-turn.invariant.1), omega (arith, w.lost-is, c.loop-turn.invariant.1)),
         λ broken. absurd (false≢true (sym (c.is_put.ensures.broken broken) ∙ w.if-not-is_put.false)),
       )

@@ -10,6 +10,6 @@ invariant-loop-turn l =
     ((effects : List Effect) × ((bytes : List ℕ)
     × ((taken_from l.inlet ≡ taken_from l.initial.inlet ++ effects)
     × ((l.taken ≡ length effects) × ((l.outgoing ≡ l.initial.outgoing ++ bytes)
-    × AreTogether effects l.lost bytes)))))
+    × AreTogether l.fn.name effects l.lost bytes)))))
     × ((l.taken ≡ l._turn) × (l.lost ≤ l._turn))
     × (IsTrue l.fn.is_broken → l.lost ≡ l.taken)

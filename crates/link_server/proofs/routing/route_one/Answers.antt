@@ -1,6 +1,6 @@
 use Rattle.std.proofs.Common.{◌≡◌, ◌<◌, ◌∙◌, Some, ap, arith, sym, get_or, true, false}
 use Rattle.gateway_wire.specs.Emission.{recipient}
-use Rattle.link_server.specs.Linked.{link_of}
+use Rattle.directory.specs.Linked.{link_of}
 use Rattle.link_server.proofs.Routed.{full_one, kept_one, taken_one}
 use Rattle.outbox.specs.Ring.{room_of}
 use Rattle.link_server.proofs.routing.route_one.Goals as goal

@@ -1,0 +1,21 @@
+use Rattle.std.proofs.Common.{rules, ◌≡◌, ◌∙◌, refl, subst}
+use Rattle.std.specs.Str.Parse.{ParsesUnsigned, ExplainsUnsignedError, HasUnsignedDigitsIfOk}
+use Rattle.clap.specs.Words.{found_of, rows_of}
+use Rattle.command_words.specs.Asked.{IsNumberOf}
+use Rattle.command_words.proofs.Rows.{number_met, number_missed}
+use Rattle.command_words.proofs.read.option_number.Goals as goal
+
+pub returns-clause-some : goal.returns-clause-some
+returns-clause-some c =
+    let found = found_of c.args.matches.now in
+    let spelled = number_met _ (λ bs r. ParsesUnsigned 32 10 bs r × ExplainsUnsignedError 10 bs r × HasUnsignedDigitsIfOk bs r)
+    (λ _ _ g. g.0) found c.args.id.now c.get_one.result c.in_ok-number.number
+    c.get_one.ensures.none c.get_one.ensures.value c.in_ok-number.was in
+    subst (λ n. IsNumberOf c.args.id.now (rows_of found) n) (search rules) spelled
+
+pub returns-in_err-number-clause-none : goal.returns-in_err-number-clause-none
+returns-in_err-number-clause-none c _ n fits spelled =
+    let found = found_of c.args.matches.now in
+    number_missed _ (λ bs r. ParsesUnsigned 32 10 bs r × ExplainsUnsignedError 10 bs r × HasUnsignedDigitsIfOk bs r)
+    (λ _ _ g. g.0) found c.args.id.now c.get_one.result n
+    c.get_one.ensures.value c.in_err-number.was spelled fits

@@ -1,0 +1,6 @@
+//! Which link of a server each gateway and each application has.
+#![tactic(auto)]
+
+mod names;
+
+pub use names::{Directory, Full, MOST_GATEWAYS};

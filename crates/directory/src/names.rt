@@ -1,0 +1,165 @@
+// Who is linked.
+ghost use Rattle.std.specs.Prelude.{◌≤◌, length, vec_capacity};
+
+use devices::Application;
+use gateway_wire::Recipient;
+use lw_types::Eui;
+use std::alloc::{AllocError, Global};
+
+/// The most gateways that are linked.
+pub const MOST_GATEWAYS: usize = 64;
+
+/// A gateway, and the number of its link.
+#[derive(Clone, Copy)]
+struct LinkedGateway {
+    gateway: Eui,
+    link: usize,
+}
+
+/// Which link each gateway and each application has, by the numbers of the links. A name has one
+/// link at most.
+#[derive(Drop)]
+pub struct Directory {
+    gateways: Vec<LinkedGateway>,
+    applications: [Option<usize>; 16],
+    ghost few: { length gateways.items ≤ 64 },
+    ghost room: { 64 ≤ vec_capacity gateways },
+}
+
+/// Sixty-four other gateways are linked.
+#[derive(Clone, Copy, Debug, PartialEq, Eq)]
+pub struct Full;
+
+impl Directory {
+    ghost use Rattle.std.specs.Prelude.{◌≡◌, ◌≢◌, ◌↔◌, ◌<◌, Some, IsSome, None, IfOk, IsOk, IsTrue};
+    ghost use Rattle.std.specs.Prelude.{MatchBool, MatchResult};
+    ghost use Rattle.gateway_wire.specs.declared.recipient.Recipient.TheVariants as names;
+    ghost use Rattle.lw_types.specs.declared.identifiers.Eui.{Eui};
+    ghost use Rattle.directory.specs.Linked.{gateway_link, link_of};
+    ghost use Rattle.directory.specs.Linked.{may_greet, may_take_over, IsUnlinked, IsLinked};
+
+    /// Nobody is linked. All the memory that it ever takes is taken here.
+    pub fn new(alloc: Global) -> Result<Self, AllocError>
+        ensures { IfOk result (λ directory. (name : Recipient) → link_of directory name ≡ None) }
+    {
+        Ok(Directory {
+            gateways: Vec::with_capacity(alloc, MOST_GATEWAYS)?,
+            applications: [None; 16],
+        })
+    }
+
+    /// Gives a link the name of whoever greets on it, where no link has this name, and, of a
+    /// gateway, fewer than 64 are linked. Else nothing is changed.
+    pub fn greet(&mut self, name: &Recipient, link: usize) -> bool
+        ensures granted { result ≡ may_greet self.old name.now }
+        ensures named { MatchBool result (IsLinked self.old name.now link self.new)
+            (self.new ≡ self.old) }
+    {
+        self.link_of(name).is_none() && self.take_over(name, link).is_ok()
+    }
+
+    /// Gives a link the name of whoever greets on it, and answers the link that had it until now.
+    /// `Full` for one gateway more where 64 others are linked, and then nothing is changed.
+    pub fn take_over(&mut self, name: &Recipient, link: usize) -> Result<Option<usize>, Full>
+        ensures granted { IsOk result ↔ IsTrue (may_take_over self.old name.now) }
+        ensures named { MatchResult result
+            (λ was. (was ≡ link_of self.old name.now) × IsLinked self.old name.now link self.new)
+            (λ _. self.new ≡ self.old) }
+    {
+        match name {
+            Recipient::Gateway(gateway) => self.take_over_gateway(*gateway, link),
+            Recipient::Application(application) => {
+                let place = application.get() as usize;
+                let was = self.applications[place];
+                self.applications[place] = Some(link);
+                Ok(was)
+            }
+        }
+    }
+
+    fn take_over_gateway(&mut self, gateway: Eui, link: usize) -> Result<Option<usize>, Full>
+        ensures granted { IsOk result ↔ IsTrue (may_take_over self.old (names.Gateway gateway)) }
+        ensures named { MatchResult result
+            (λ was. (was ≡ link_of self.old (names.Gateway gateway))
+            × IsLinked self.old (names.Gateway gateway) link self.new)
+            (λ _. self.new ≡ self.old) }
+    {
+        let was = self.gateway_link(gateway);
+        if was.is_none() && self.gateways.len() >= MOST_GATEWAYS {
+            return Err(Full);
+        }
+        self.forget_gateway(gateway);
+        match self.gateways.push(LinkedGateway { gateway, link }) {
+            Ok(()) => Ok(was),
+            Err(_) => Err(Full),
+        }
+    }
+
+    /// Takes a name away from a link that has ended: whether the link had it. A name that went over
+    /// to another link stays there.
+    pub fn leave(&mut self, name: &Recipient, link: usize) -> bool
+        ensures had { IsTrue result ↔ (link_of self.old name.now ≡ Some link) }
+        ensures left { MatchBool result (IsUnlinked self.old name.now self.new)
+            (self.new ≡ self.old) }
+    {
+        if self.link_of(name) != Some(link) {
+            return false;
+        }
+        match name {
+            Recipient::Gateway(gateway) => self.forget_gateway(*gateway),
+            Recipient::Application(application) => {
+                self.applications[application.get() as usize] = None;
+            }
+        }
+        true
+    }
+
+    // Takes the name of a gateway away from the link that has it, if one has.
+    fn forget_gateway(&mut self, gateway: Eui)
+        ensures none { gateway_link gateway self.new.gateways.items ≡ None }
+        ensures others { (other : Eui) → other ≢ gateway
+            → gateway_link other self.new.gateways.items
+            ≡ gateway_link other self.old.gateways.items }
+        ensures few { length self.new.gateways.items ≤ length self.old.gateways.items }
+        ensures fewer { IsSome (gateway_link gateway self.old.gateways.items)
+            → length self.new.gateways.items < length self.old.gateways.items }
+        ensures applications { self.new.applications ≡ self.old.applications }
+    {
+        self.gateways.retain(|linked| linked.gateway.0 != gateway.0);
+    }
+
+    /// How many gateways are linked.
+    pub fn gateways(&self) -> usize
+        ensures { result ≡ length self.now.gateways.items }
+    {
+        self.gateways.len()
+    }
+
+    /// How many applications are linked.
+    pub fn applications(&self) -> usize {
+        self.applications
+            .iter()
+            .filter(|link| link.is_some())
+            .count()
+    }
+
+    /// The link on which a gateway or an application is told.
+    pub fn link_of(&self, name: &Recipient) -> Option<usize>
+        ensures { result ≡ link_of self.now name.now }
+    {
+        match name {
+            Recipient::Gateway(gateway) => self.gateway_link(*gateway),
+            Recipient::Application(application) => self.applications[application.get() as usize],
+        }
+    }
+
+    fn gateway_link(&self, gateway: Eui) -> Option<usize>
+        ensures { result ≡ gateway_link gateway self.now.gateways.items }
+    {
+        let found = self
+            .gateways
+            .iter()
+            .find(|linked| linked.gateway.0 == gateway.0);
+        found.map(|linked| linked.link)
+    }
+}

@@ -1,0 +1,13 @@
+-- What a command tells before it is done.
+use Rattle.command_words.specs.declared.mode.Mode.{Mode}
+use Rattle.command_words.specs.declared.mode.Mode.TheVariants as mode
+
+-- it tells where it listens, and may fail afterwards
+abbrev pub TellsEarly : Mode → Type 0
+TellsEarly (mode.Run file listen links) = Unit
+TellsEarly (mode.Format file net_id slots) = ⊥
+TellsEarly (mode.List file) = ⊥
+TellsEarly (mode.Serve file listen links) = ⊥
+TellsEarly (mode.Stop file) = ⊥
+TellsEarly (mode.Status file wait) = ⊥
+TellsEarly (mode.Restore file new_file grants) = ⊥

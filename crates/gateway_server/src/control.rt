@@ -1,0 +1,109 @@
+// The control socket beside a store's file: who serves listens there, and who asks connects.
+use crate::Fault;
+use link_server::Order;
+use lw_types::Refusal;
+use std::alloc::Global;
+use std::fs::File;
+use std::io::{ErrorKind, Read, Write};
+use std::net::Net;
+use std::os::unix::fs::FileTypeExt;
+use std::os::unix::net::{UnixListener, UnixStream};
+use std::rt::{Clock, Files};
+use std::time::Duration;
+use std::{fs, thread};
+
+/// What whoever stops a server is told once it has ended.
+pub(crate) const ENDED: &str = "ended";
+
+// How often it is tried whether a server runs meanwhile, in milliseconds.
+const PAUSE: u64 = 50;
+
+// How many tries those are a second.
+const TRIES: u64 = 20;
+
+/// Where the control socket of the store in a file is.
+pub(crate) fn path_of(alloc: Global, file: &str) -> Result<String, Fault> {
+    format!(in alloc; "{file}.control").map_err(|_| Fault::Refused(Refusal::OutOfMemory))
+}
+
+/// Listens at a control socket. One that is there already is left over, since nobody else has the
+/// store's file, and is removed; what is no socket stays, and nothing is listened at.
+pub(crate) fn bind_control<R: Files<File = File> + Net>(
+    rt: &R,
+    path: &str,
+) -> Result<UnixListener, Fault> {
+    if let Ok(there) = fs::symlink_metadata(rt, path) {
+        if !there.file_type().is_socket() {
+            return Err(Fault::Control);
+        }
+        remove(rt, path);
+    }
+    UnixListener::bind(rt, path).map_err(|_| Fault::Control)
+}
+
+/// Removes a control socket. Where that fails it is left over.
+pub(crate) fn remove<R: Files<File = File>>(rt: &R, path: &str) {
+    let _ = fs::remove_file(rt, path);
+}
+
+// A connection to whoever serves.
+fn connect<R: Net>(rt: &R, path: &str) -> Result<UnixStream, Fault> {
+    match UnixStream::connect(rt, path) {
+        Ok(stream) => Ok(stream),
+        Err(error) if error.kind() == ErrorKind::NotFound => Err(Fault::NotRunning),
+        Err(error) if error.kind() == ErrorKind::ConnectionRefused => Err(Fault::LeftOver),
+        Err(_) => Err(Fault::Control),
+    }
+}
+
+// Gives an order, and gives back all of its answer.
+fn ask(alloc: Global, stream: UnixStream, order: Order) -> Result<String, Fault> {
+    let mut stream = stream;
+    let word = order.word();
+    writeln!(stream, "{word}").map_err(|_| Fault::BrokenOff)?;
+    let mut answer = String::new(alloc);
+    match stream.read_to_string(&mut answer) {
+        Ok(_) => Ok(answer),
+        Err(error) if error.kind() == ErrorKind::OutOfMemory => {
+            Err(Fault::Refused(Refusal::OutOfMemory))
+        }
+        Err(_) => Err(Fault::BrokenOff),
+    }
+}
+
+/// Stops the server that runs on the store in a file, and waits until it has ended. What it answers
+/// where it ended by a fault is that fault.
+pub(crate) fn stop<R: Net>(rt: &R, alloc: Global, file: &str) -> Result<(), Fault> {
+    let path = path_of(alloc, file)?;
+    let answer = ask(alloc, connect(rt, path.as_str())?, Order::Stop)?;
+    if answer.as_str().trim_end() == ENDED {
+        Ok(())
+    } else {
+        Err(Fault::BrokenOff)
+    }
+}
+
+/// How it goes with the server that runs on the store in a file. Where none runs, it is tried again
+/// for so many seconds.
+pub(crate) fn status<R: Net + Clock>(
+    rt: &R,
+    alloc: Global,
+    file: &str,
+    wait: u64,
+) -> Result<String, Fault> {
+    let path = path_of(alloc, file)?;
+    let mut stream = connect(rt, path.as_str());
+    for _ in 0..wait.saturating_mul(TRIES) {
+        if stream.is_ok() {
+            break;
+        }
+        thread::sleep(rt, Duration::from_millis(PAUSE));
+        stream = connect(rt, path.as_str());
+    }
+    let answer = ask(alloc, stream?, Order::Status)?;
+    if answer.is_empty() {
+        Err(Fault::BrokenOff)
+    } else {
+        Ok(answer)
+    }
+}

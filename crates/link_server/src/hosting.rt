@@ -1,0 +1,229 @@
+// A worker of a life whose links come and go takes one link after another.
+use crate::gate::Gate;
+use crate::gathering::drop_all;
+use crate::link::set_options;
+use crate::moments::{LifeClock, moved_on};
+use crate::parts::PLACES;
+use crate::reading::{Incoming, PIECE, Worker, read_some, recipient_of};
+use crate::threads::start_host_sender;
+use crate::writing::{Call, HostSender};
+use directory::Full;
+use gateway_wire::Recipient;
+use link_messages::{Fed, Feeder};
+use lw_types::Refusal;
+use rtrb::{Consumer, RingBuffer};
+use session_core::{Books, Moment, Seat};
+use std::net::TcpStream;
+use std::sync::Wait;
+use std::thread;
+use std::thread::{Scope, Threads};
+use std::time::Duration;
+
+// How long a link may take until it has greeted, in milliseconds.
+const GREETING_WAIT: u64 = 10_000;
+
+// How long until accepting is tried again where it failed, in seconds: the process has no
+// descriptors left, or no memory.
+const ACCEPT_PAUSE: u64 = 1;
+
+/// Whoever greeted on a link, and what came with the greeting.
+#[derive(Drop)]
+struct Greeted {
+    name: Recipient,
+    fed: Fed,
+}
+
+/// A worker of a life whose links come and go.
+#[derive(Drop)]
+pub(crate) struct Host<'x, B: Books, R: Wait, G: Gate, C: LifeClock> {
+    pub(crate) worker: Worker<'x, B, R, G, C>,
+}
+
+impl<'x, B: Books, R: Threads + Wait + Sync, G: Gate, C: LifeClock> Host<'x, B, R, G, C> {
+    /// Accepts links, and serves each to its end, until the life ends. Gives the seat back.
+    pub(crate) fn run(self) -> Seat<B> {
+        let mut host = self;
+        let server = host.worker.server;
+        for _ in host.worker.context.rt.forever() {
+            let accepted = server.accept();
+            if server.signals.is_ending() {
+                break;
+            }
+            match accepted {
+                Some(stream) => host.serve(stream),
+                None => host.pause(),
+            }
+        }
+        host.worker.end_input();
+        host.worker.seat
+    }
+
+    fn pause(&self) {
+        let pause = Duration::from_secs(ACCEPT_PAUSE);
+        let worker = &self.worker;
+        worker.link.bell.park_timeout(worker.context.rt, pause);
+    }
+
+    // A link that can't be shown isn't served, since nobody could close it. Whoever ends the life
+    // says so before what is shown is closed.
+    fn serve(&mut self, stream: TcpStream) {
+        let Ok(shown) = stream.try_clone() else {
+            return;
+        };
+        set_options(&stream);
+        let link = self.worker.link;
+        let rt = self.worker.context.rt;
+        let signals = &self.worker.server.signals;
+        link.show(rt, shown);
+        signals.count_linked();
+        if !signals.is_ending() {
+            self.welcome(stream);
+        }
+        signals.count_unlinked();
+        link.hide(rt);
+    }
+
+    fn welcome(&mut self, stream: TcpStream) {
+        let context = self.worker.context;
+        self.worker.feeder = Feeder::new(context.alloc);
+        let Some(greeted) = self.worker.hear_greeting(&stream) else {
+            return;
+        };
+        if self.worker.take_over(&greeted.name) {
+            self.converse(stream, greeted);
+            self.drop_rest();
+        }
+    }
+
+    // Each link has a ring of refusals of its own, so that none of them is told to the next one.
+    fn converse(&mut self, stream: TcpStream, greeted: Greeted) {
+        let Greeted { name, fed } = greeted;
+        let context = self.worker.context;
+        let Ok((refused, refusals)) = RingBuffer::new(context.alloc, PLACES) else {
+            self.worker.end_link(&name);
+            return;
+        };
+        self.worker.refusals = refused;
+        let call = Call { stream, name };
+        let worker = &mut self.worker;
+        thread::scope(thread::scope_env(), context.rt, |scope| {
+            hold(scope, worker, &call, fed, refusals);
+        });
+    }
+
+    // What was for the link that has ended is of no use to the next one.
+    fn drop_rest(&self) {
+        let mut spare = self.worker.link.spare.lock(self.worker.context.rt);
+        if let Some(spare) = spare.as_mut() {
+            let lost = drop_all(&mut spare.inlet);
+            self.worker.server.signals.count_dropped(lost);
+        }
+    }
+}
+
+// A link has a sender for as long as it is read, and until what waits for it is written.
+fn hold<'s, 'x: 's, E, B: Books, R: Threads + Wait + Sync, G: Gate, C: LifeClock>(
+    scope: &Scope<'s, E>,
+    worker: &mut Worker<'x, B, R, G, C>,
+    call: &'s Call,
+    fed: Fed,
+    refusals: Consumer<Refusal>,
+) {
+    let context = worker.context;
+    let sender = HostSender {
+        rt: context.rt,
+        alloc: context.alloc,
+        signals: &worker.server.signals,
+        link: worker.link,
+        call,
+    };
+    let sender = start_host_sender(context.alloc, scope, worker.number, sender, refusals);
+    if sender.is_some() && worker.hear_all(fed) {
+        worker.read(&call.stream);
+    }
+    worker.end_link(&call.name);
+}
+
+impl<'x, B: Books, R: Wait, G: Gate, C: LifeClock> Worker<'x, B, R, G, C> {
+    // Reads until the peer has greeted. `None` where it doesn't in time, says something else, or
+    // has gone.
+    fn hear_greeting(&mut self, stream: &TcpStream) -> Option<Greeted> {
+        let until = moved_on(self.context.clock.now(), GREETING_WAIT);
+        let mut buffer = [0u8; PIECE];
+        for _ in self.context.rt.forever() {
+            let incoming = if self.limit_wait(stream, until) {
+                read_some(stream, &mut buffer)
+            } else {
+                Incoming::Late
+            };
+            match incoming {
+                Incoming::Nothing => {}
+                Incoming::Late => {
+                    self.server.signals.count_silent();
+                    return None;
+                }
+                Incoming::End => {
+                    self.end();
+                    return None;
+                }
+                Incoming::Bytes(n) => {
+                    let piece = buffer.get(..n).unwrap_or(&[]);
+                    let fed = self.feeder.feed(piece).ok()?;
+                    if let Some(peer) = self.feeder.peer() {
+                        let _ = stream.set_read_timeout(None);
+                        let name = recipient_of(&peer);
+                        return Some(Greeted { name, fed });
+                    }
+                    if fed.fault.is_some() {
+                        self.server.signals.count_fault();
+                        return None;
+                    }
+                }
+            }
+        }
+        None
+    }
+
+    // Lets reads wait until then. Whether there is time left, and they can be so limited.
+    fn limit_wait(&self, stream: &TcpStream, until: Moment) -> bool {
+        let left = until.get().saturating_sub(self.context.clock.now().get());
+        left > 0
+            && stream
+                .set_read_timeout(Some(Duration::from_millis(left)))
+                .is_ok()
+    }
+
+    // Gives the link its name, and closes the link that had it. The directory stays locked
+    // meanwhile: the older link's worker leaves it before its place goes to the next link, which so
+    // isn't closed in place of the older one. One gateway too many is a fault of whoever greets.
+    fn take_over(&self, name: &Recipient) -> bool {
+        let mut directory = self.server.directory.lock(self.context.rt);
+        match directory.take_over(name, self.number) {
+            Ok(None) => true,
+            Ok(Some(older)) => {
+                if let Some(link) = self.server.links.get(older) {
+                    link.take(self.context.rt);
+                }
+                self.server.signals.count_taken_over();
+                true
+            }
+            Err(Full) => {
+                self.server.signals.count_fault();
+                false
+            }
+        }
+    }
+
+    // The link is read no further. Its name is free, unless the life ends: then it stays, for what
+    // is still to be sent.
+    fn end_link(&mut self, name: &Recipient) {
+        if self.server.signals.is_ending() {
+            self.end_input();
+        } else {
+            let mut directory = self.server.directory.lock(self.context.rt);
+            directory.leave(name, self.number);
+            drop(directory);
+            self.link.set_over();
+        }
+    }
+}

@@ -1,0 +1,149 @@
+// Links that come and go while a server goes on.
+use crate::lives::{new_store, of_socket, refusal_of};
+use crate::wire::wire;
+use link_server::{Monotonic, OpenGate, Order, PlaceCount, ServedLife, serve_on};
+use lw_types::Refusal;
+use std::alloc::Global;
+use std::io::{Read, Write};
+use std::net::{Net, Shutdown, SocketAddr, TcpListener, TcpStream};
+use std::os::unix::net;
+use std::os::unix::net::{SocketAddrExt, UnixListener, UnixStream};
+use std::rt::{Clock, Files};
+use std::sync::Wait;
+use std::thread::{Threads, join};
+
+// A gateway, an application, and what they say and hear. The frames were made by a device and a
+// network that are none of ours (examples/outside).
+const GATEWAY: &str = "0009 00 00000000000000B1";
+
+const APPLICATION: &str = "0002 0203";
+
+const PROVISION: &str = "0051 03 |provision 1112131415161718 0102030405060708 \
+     2B7E151628AED2A6ABF7158809CF4F3C 0 1|";
+
+const PROVISIONED: &str = "001F 13 |provisioned 1112131415161718 0|";
+
+const JOIN: &str = "002D 01 00000000000000B1 33BE27A0 05 FFEC FFA1 0000C350 \
+     000807060504030201181716151413121101009E7419CE";
+
+const ACCEPT: &str = "0035 11 00000000000000B1 0000C350 33BE27A0 05 05 06 \
+     20 964FABE971240AB8E37F72AEFDC360B6FD3C4BE3FB883149AF03F6CC89235E53";
+
+const UPLINK: &str = "0025 01 00000000000000B1 33BE27A0 05 FFEC FFA1 0000C350 \
+     4001000054000000073AE48AC412E3";
+
+const UP: &str = "0046 13 |up 1112131415161718 1 0 7 04D2 1 00000000000000B1 868100000 5 -20 -95|";
+
+const QUEUE: &str = "0022 03 |queue 1112131415161718 9 7 u 04D2|";
+
+const QUEUED: &str = "001A 13 |queued 1112131415161718 9|";
+
+fn say(alloc: Global, link: &mut TcpStream, text: &str) -> Result<(), Refusal> {
+    of_socket(link.write_all(wire(alloc, text)?.as_slice()))
+}
+
+// A link on which this is said first.
+fn connect<R: Net<Stream = TcpStream>>(
+    rt: &R,
+    alloc: Global,
+    address: SocketAddr,
+    text: &str,
+) -> Result<TcpStream, Refusal> {
+    let mut link = of_socket(TcpStream::connect(rt, address))?;
+    say(alloc, &mut link, text)?;
+    Ok(link)
+}
+
+// Whether this is heard next on a link.
+fn hears(alloc: Global, link: &mut TcpStream, text: &str) -> Result<bool, Refusal> {
+    let wanted = wire(alloc, text)?;
+    let mut heard = vec![in alloc; 0; wanted.len()]?;
+    of_socket(link.read_exact(heard.as_mut_slice()))?;
+    Ok(heard.as_slice() == wanted.as_slice())
+}
+
+// Whether a link ends, and nothing more is heard on it.
+fn ends(link: &mut TcpStream) -> bool {
+    link.read(&mut [0; 1]).is_ok_and(|count| count == 0)
+}
+
+// An order is given; its answer is all that comes then.
+fn order<R: Net>(rt: &R, at: &net::SocketAddr, order: Order) -> Result<UnixStream, Refusal> {
+    let mut stream = of_socket(UnixStream::connect_addr(rt, at))?;
+    of_socket(stream.write_all(order.word().as_bytes()))?;
+    of_socket(stream.write_all(b"\n"))?;
+    Ok(stream)
+}
+
+// A gateway's link is taken over by its next one, and an application's ends and comes again:
+// whether each hears what it should. Then the life is told to end.
+fn clients<R: Net<Listener = TcpListener, Stream = TcpStream>>(
+    rt: &R,
+    alloc: Global,
+    address: SocketAddr,
+    control: &net::SocketAddr,
+) -> Result<(bool, String, UnixStream), Refusal> {
+    let mut older = connect(rt, alloc, address, GATEWAY)?;
+    let mut application = connect(rt, alloc, address, APPLICATION)?;
+    say(alloc, &mut application, PROVISION)?;
+    let mut same = hears(alloc, &mut application, PROVISIONED)?;
+    say(alloc, &mut older, JOIN)?;
+    same = same && hears(alloc, &mut older, ACCEPT)?;
+    let mut newer = connect(rt, alloc, address, GATEWAY)?;
+    same = same && ends(&mut older);
+    say(alloc, &mut newer, UPLINK)?;
+    same = same && hears(alloc, &mut application, UP)?;
+    of_socket(application.shutdown(Shutdown::Write))?;
+    same = same && ends(&mut application);
+    let mut application = connect(rt, alloc, address, APPLICATION)?;
+    say(alloc, &mut application, QUEUE)?;
+    same = same && hears(alloc, &mut application, QUEUED)?;
+    let mut text = String::new(alloc);
+    let mut status = order(rt, control, Order::Status)?;
+    of_socket(status.read_to_string(&mut text))?;
+    Ok((same, text, order(rt, control, Order::Stop)?))
+}
+
+// What a life of four places comes to.
+fn live<R>(rt: &R, alloc: Global) -> Result<(bool, bool, (u64, u64, u64, u64)), Refusal>
+where
+    R: Net<Listener = TcpListener, Stream = TcpStream> + Files + Clock + Threads + Wait + Sync,
+{
+    let listener = of_socket(TcpListener::bind(rt, "127.0.0.1:0"))?;
+    let address = of_socket(listener.local_addr())?;
+    let name = format!(in alloc; "bozintar-places-{}", address.port())?;
+    let at = of_socket(net::SocketAddr::from_abstract_name(name.as_bytes()))?;
+    let control = of_socket(UnixListener::bind_addr(rt, &at))?;
+    let clock = of_socket(Monotonic::start(rt))?;
+    let places = PlaceCount::new(4).ok_or(Refusal::Damaged)?;
+    let store = new_store(alloc)?;
+    let (served, heard) = join(
+        rt,
+        || serve_on(
+            rt, alloc, store, listener, control, places, &OpenGate, &clock,
+        ),
+        || clients(rt, alloc, address, &at),
+    );
+    let (same, status, waiting) = heard?;
+    drop(waiting);
+    let ServedLife { result, .. } = served;
+    let report = result.map_err(|fault| refusal_of(fault))?;
+    let told = [
+        "gateways 1\n",
+        "applications 1\n",
+        "made 4\n",
+        "taken_over 1\n",
+    ];
+    let counts = (
+        report.dropped,
+        report.faulted,
+        report.taken_over,
+        report.made,
+    );
+    Ok((same, told.iter().all(|line| status.contains(*line)), counts))
+}
+
+#[test]
+fn links_come_again(rt: HostRuntime) {
+    assert!(rt; live(&rt, rt.alloc()) == Ok((true, true, (0, 0, 1, 4))));
+}
