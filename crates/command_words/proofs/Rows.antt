@@ -89,6 +89,8 @@ no_format asked rows e never = no_mode asked (codes "format") rows e go
     go (mode.Serve file listen links) fits is at h = apart (codes "format") (codes "serve") (λ b. omega (arith, b)) is
     go (mode.Run file listen links) fits is at h = apart (codes "format") (codes "run") (λ b. omega (arith, b)) is
     go (mode.Stop file) fits is at h = apart (codes "format") (codes "stop") (λ b. omega (arith, b)) is
+    go (mode.Devices file) fits is at h = apart (codes "format") (codes "devices") (λ b. omega (arith, b)) is
+    go (mode.Watch file) fits is at h = apart (codes "format") (codes "watch") (λ b. omega (arith, b)) is
     go (mode.Status file wait) fits is at h = apart (codes "format") (codes "status") (λ b. omega (arith, b)) is
     go (mode.Restore file new_file grants) fits is at h = apart (codes "format") (codes "restore") (λ b. omega (arith, b)) is
 
@@ -104,6 +106,8 @@ no_serve asked rows e never = no_mode asked (codes "serve") rows e go
     go (mode.List file) fits is at h = apart (codes "serve") (codes "list") (λ b. omega (arith, b)) is
     go (mode.Run file listen links) fits is at h = apart (codes "serve") (codes "run") (λ b. omega (arith, b)) is
     go (mode.Stop file) fits is at h = apart (codes "serve") (codes "stop") (λ b. omega (arith, b)) is
+    go (mode.Devices file) fits is at h = apart (codes "serve") (codes "devices") (λ b. omega (arith, b)) is
+    go (mode.Watch file) fits is at h = apart (codes "serve") (codes "watch") (λ b. omega (arith, b)) is
     go (mode.Status file wait) fits is at h = apart (codes "serve") (codes "status") (λ b. omega (arith, b)) is
     go (mode.Restore file new_file grants) fits is at h = apart (codes "serve") (codes "restore") (λ b. omega (arith, b)) is
 
@@ -119,6 +123,8 @@ no_run asked rows e never = no_mode asked (codes "run") rows e go
     go (mode.List file) fits is at h = apart (codes "run") (codes "list") (λ b. omega (arith, b)) is
     go (mode.Serve file listen links) fits is at h = apart (codes "run") (codes "serve") (λ b. omega (arith, b)) is
     go (mode.Stop file) fits is at h = apart (codes "run") (codes "stop") (λ b. omega (arith, b)) is
+    go (mode.Devices file) fits is at h = apart (codes "run") (codes "devices") (λ b. omega (arith, b)) is
+    go (mode.Watch file) fits is at h = apart (codes "run") (codes "watch") (λ b. omega (arith, b)) is
     go (mode.Status file wait) fits is at h = apart (codes "run") (codes "status") (λ b. omega (arith, b)) is
     go (mode.Restore file new_file grants) fits is at h = apart (codes "run") (codes "restore") (λ b. omega (arith, b)) is
 
@@ -135,6 +141,8 @@ no_status asked rows e never = no_mode asked (codes "status") rows e go
     go (mode.Serve file listen links) fits is at h = apart (codes "status") (codes "serve") (λ b. omega (arith, b)) is
     go (mode.Run file listen links) fits is at h = apart (codes "status") (codes "run") (λ b. omega (arith, b)) is
     go (mode.Stop file) fits is at h = apart (codes "status") (codes "stop") (λ b. omega (arith, b)) is
+    go (mode.Devices file) fits is at h = apart (codes "status") (codes "devices") (λ b. omega (arith, b)) is
+    go (mode.Watch file) fits is at h = apart (codes "status") (codes "watch") (λ b. omega (arith, b)) is
     go (mode.Restore file new_file grants) fits is at h = apart (codes "status") (codes "restore") (λ b. omega (arith, b)) is
 
 -- a `restore` without a new file or a number of grants
@@ -150,6 +158,8 @@ no_restore asked rows e never = no_mode asked (codes "restore") rows e go
     go (mode.Serve file listen links) fits is at h = apart (codes "restore") (codes "serve") (λ b. omega (arith, b)) is
     go (mode.Run file listen links) fits is at h = apart (codes "restore") (codes "run") (λ b. omega (arith, b)) is
     go (mode.Stop file) fits is at h = apart (codes "restore") (codes "stop") (λ b. omega (arith, b)) is
+    go (mode.Devices file) fits is at h = apart (codes "restore") (codes "devices") (λ b. omega (arith, b)) is
+    go (mode.Watch file) fits is at h = apart (codes "restore") (codes "watch") (λ b. omega (arith, b)) is
     go (mode.Status file wait) fits is at h = apart (codes "restore") (codes "status") (λ b. omega (arith, b)) is
 
 -- the number of an option that wasn't read is above 65,535

@@ -30,6 +30,8 @@ command_word (mode.List file) = codes "list"
 command_word (mode.Serve file listen links) = codes "serve"
 command_word (mode.Run file listen links) = codes "run"
 command_word (mode.Stop file) = codes "stop"
+command_word (mode.Devices file) = codes "devices"
+command_word (mode.Watch file) = codes "watch"
 command_word (mode.Status file wait) = codes "status"
 command_word (mode.Restore file new_file grants) = codes "restore"
 
@@ -40,6 +42,8 @@ mode_file (mode.List file) = file.now
 mode_file (mode.Serve file listen links) = file.now
 mode_file (mode.Run file listen links) = file.now
 mode_file (mode.Stop file) = file.now
+mode_file (mode.Devices file) = file.now
+mode_file (mode.Watch file) = file.now
 mode_file (mode.Status file wait) = file.now
 mode_file (mode.Restore file new_file grants) = file.now
 
@@ -52,6 +56,8 @@ HasOptions rows (mode.List file) = Unit
 HasOptions rows (mode.Serve file listen links) = HasLinkOptions rows listen.now links
 HasOptions rows (mode.Run file listen links) = HasLinkOptions rows listen.now links
 HasOptions rows (mode.Stop file) = Unit
+HasOptions rows (mode.Devices file) = Unit
+HasOptions rows (mode.Watch file) = Unit
 HasOptions rows (mode.Status file wait) = IsNumberOf (codes "wait") rows wait
 HasOptions rows (mode.Restore file new_file grants) =
     (first_of (codes "new") rows ≡ Some new_file.now) × IsNumberOf (codes "grants") rows grants
@@ -68,6 +74,8 @@ IsInRange (mode.List file) = Unit
 IsInRange (mode.Serve file listen links) = (1 ≤ links) × (links ≤ 80)
 IsInRange (mode.Run file listen links) = (1 ≤ links) × (links ≤ 96)
 IsInRange (mode.Stop file) = Unit
+IsInRange (mode.Devices file) = Unit
+IsInRange (mode.Watch file) = Unit
 IsInRange (mode.Status file wait) = wait ≤ 3600
 IsInRange (mode.Restore file new_file grants) = (1 ≤ grants) × (grants ≤ 65536)
 

@@ -42,6 +42,12 @@ run_line = with_rule (with_rule (with_rule (new_app (codes "run")) (word (codes 
 abbrev pub stop_line : App
 stop_line = with_rule (new_app (codes "stop")) (word (codes "file"))
 
+abbrev pub devices_line : App
+devices_line = with_rule (new_app (codes "devices")) (word (codes "file"))
+
+abbrev pub watch_line : App
+watch_line = with_rule (new_app (codes "watch")) (word (codes "file"))
+
 abbrev pub status_line : App
 status_line = with_rule (with_rule (new_app (codes "status")) (word (codes "file")))
     (or_else (range_option (codes "wait") (pos 0) (pos 3600)) (codes "0"))
@@ -64,5 +70,6 @@ top_line =
 
 abbrev pub lnsd_line : App
 lnsd_line = with_subcommand (with_subcommand (with_subcommand (with_subcommand (with_subcommand
-    (with_subcommand (with_subcommand top_line format_line.top) list_line.top) serve_line.top)
-    run_line.top) stop_line.top) status_line.top) restore_line.top
+    (with_subcommand (with_subcommand (with_subcommand (with_subcommand top_line format_line.top)
+    list_line.top) serve_line.top) run_line.top) stop_line.top) status_line.top) restore_line.top)
+    devices_line.top) watch_line.top

@@ -3,10 +3,10 @@ ghost use Rattle.std.specs.Prelude.{◌≡◌, ◌≤ℤ◌, IfOk, Some, codes, 
 ghost use Rattle.clap.specs.Words.{app_of, rule_of};
 ghost use Rattle.clap.specs.declared.builder.command.Command.TheViews.{out-Command as fields_of};
 ghost use Rattle.clap.specs.declared.builder.value_parser.ValueParser.TheVariants as parsers;
-ghost use Rattle.command_words.specs.CommandLine.{count_option, format_line, list_line, lnsd_line};
-ghost use Rattle.command_words.specs.CommandLine.{option, or_else, restore_line, run_line};
-ghost use Rattle.command_words.specs.CommandLine.{serve_line, status_line, stop_line, top_line};
-ghost use Rattle.command_words.specs.CommandLine.{word};
+ghost use Rattle.command_words.specs.CommandLine.{count_option, devices_line, format_line};
+ghost use Rattle.command_words.specs.CommandLine.{list_line, lnsd_line, option, or_else};
+ghost use Rattle.command_words.specs.CommandLine.{restore_line, run_line, serve_line, status_line};
+ghost use Rattle.command_words.specs.CommandLine.{stop_line, top_line, watch_line, word};
 
 use clap::builder::ValueParser;
 use clap::{Arg, ArgAction, Command, value_parser};
@@ -17,6 +17,8 @@ Examples:
   lnsd format store --netid 00002A --slots 64
   lnsd run store --listen 127.0.0.1:5600
   lnsd status store
+  lnsd devices store
+  lnsd watch store
   lnsd stop store
   lnsd list store
   lnsd serve store --listen 127.0.0.1:5600 --links 2
@@ -50,6 +52,14 @@ const STATUS_EXAMPLE: &str = "\
 Example: once the server runs, for which it waits 10 s at most
   lnsd status store --wait 10";
 
+const DEVICES_EXAMPLE: &str = "\
+Example:
+  lnsd devices store";
+
+const WATCH_EXAMPLE: &str = "\
+Example: which frames are refused, and why
+  lnsd watch store | grep refused";
+
 /// The command line of `lnsd`, without the program's own name.
 pub(crate) fn lnsd<'a>(alloc: Global) -> Result<Command<'a>, AllocError>
     ensures { IfOk result (λ command. app_of command ≡ lnsd_line) }
@@ -61,7 +71,9 @@ pub(crate) fn lnsd<'a>(alloc: Global) -> Result<Command<'a>, AllocError>
         .subcommand(run_command(alloc)?)?
         .subcommand(stop(alloc)?)?
         .subcommand(status(alloc)?)?
-        .subcommand(restore(alloc)?)
+        .subcommand(restore(alloc)?)?
+        .subcommand(devices(alloc)?)?
+        .subcommand(watch(alloc)?)
 }
 
 fn without_commands<'a>(alloc: Global) -> Result<Command<'a>, AllocError>
@@ -182,6 +194,26 @@ fn stop<'a>(alloc: Global) -> Result<Command<'a>, AllocError>
     Command::new(alloc, "stop")
         .about("Ends the server that runs on a store, once what it has decided is sent")
         .after_help(STOP_EXAMPLE)
+        .arg(word(alloc, "file", "FILE", "The file of the store"))
+}
+
+fn devices<'a>(alloc: Global) -> Result<Command<'a>, AllocError>
+    ensures app { IfOk result (λ command. app_of command ≡ devices_line) }
+    ensures local { IfOk result (λ command. (fields_of command).has_globals ≡ false) }
+{
+    Command::new(alloc, "devices")
+        .about("Prints the devices of the server that runs on a store, and how each was heard last")
+        .after_help(DEVICES_EXAMPLE)
+        .arg(word(alloc, "file", "FILE", "The file of the store"))
+}
+
+fn watch<'a>(alloc: Global) -> Result<Command<'a>, AllocError>
+    ensures app { IfOk result (λ command. app_of command ≡ watch_line) }
+    ensures local { IfOk result (λ command. (fields_of command).has_globals ≡ false) }
+{
+    Command::new(alloc, "watch")
+        .about("Prints what happens at the server that runs on a store, a line each, until it ends")
+        .after_help(WATCH_EXAMPLE)
         .arg(word(alloc, "file", "FILE", "The file of the store"))
 }
 

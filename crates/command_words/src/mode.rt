@@ -32,6 +32,14 @@ pub enum Mode<'a> {
     Stop {
         file: &'a str,
     },
+    /// To print the devices of the store in a file, by the server that runs on it.
+    Devices {
+        file: &'a str,
+    },
+    /// To print what happens at the server that runs on the store in a file, until it ends.
+    Watch {
+        file: &'a str,
+    },
     /// To make the store of a copy that is older than what was lost, in a new file, as if so many
     /// joins of each device had been granted behind it.
     Restore {

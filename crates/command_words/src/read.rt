@@ -101,6 +101,8 @@ fn mode_of<'a>(matches: &ArgMatches<'a>) -> Option<Mode<'a>>
             })
         }
         "stop" => Some(Mode::Stop { file }),
+        "devices" => Some(Mode::Devices { file }),
+        "watch" => Some(Mode::Watch { file }),
         "status" => {
             let wait = Ranged::new(option_number(matches, "wait")?)?;
             Some(Mode::Status { file, wait })

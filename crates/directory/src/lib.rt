@@ -3,4 +3,4 @@
 
 mod names;
 
-pub use names::{Directory, Full, MOST_GATEWAYS};
+pub use names::{Directory, Full, LinkedGateway, MOST_GATEWAYS};

@@ -11,9 +11,9 @@ pub const MOST_GATEWAYS: usize = 64;
 
 /// A gateway, and the number of its link.
 #[derive(Clone, Copy)]
-struct LinkedGateway {
-    gateway: Eui,
-    link: usize,
+pub struct LinkedGateway {
+    pub gateway: Eui,
+    pub link: usize,
 }
 
 /// Which link each gateway and each application has, by the numbers of the links. A name has one
@@ -128,11 +128,11 @@ impl Directory {
         self.gateways.retain(|linked| linked.gateway.0 != gateway.0);
     }
 
-    /// How many gateways are linked.
-    pub fn gateways(&self) -> usize
-        ensures { result ≡ length self.now.gateways.items }
+    /// The gateways that are linked.
+    pub fn gateways(&self) -> &[LinkedGateway]
+        ensures { result.now ≡ self.now.gateways.items }
     {
-        self.gateways.len()
+        self.gateways.as_slice()
     }
 
     /// How many applications are linked.

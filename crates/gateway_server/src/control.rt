@@ -1,6 +1,6 @@
 // The control socket beside a store's file: who serves listens there, and who asks connects.
 use crate::Fault;
-use link_server::Order;
+use link_server::{BUSY, Order, WATCHING};
 use lw_types::Refusal;
 use std::alloc::Global;
 use std::fs::File;
@@ -10,13 +10,16 @@ use std::os::unix::fs::FileTypeExt;
 use std::os::unix::net::{UnixListener, UnixStream};
 use std::rt::{Clock, Files};
 use std::time::Duration;
-use std::{fs, thread};
+use std::{fs, io, thread};
 
 /// What whoever stops a server is told once it has ended.
 pub(crate) const ENDED: &str = "ended";
 
 // How often it is tried whether a server runs meanwhile, in milliseconds.
 const PAUSE: u64 = 50;
+
+// How much of what happens is read at a time, in bytes.
+const PIECE: usize = 4096;
 
 // How many tries those are a second.
 const TRIES: u64 = 20;
@@ -100,10 +103,75 @@ pub(crate) fn status<R: Net + Clock>(
         thread::sleep(rt, Duration::from_millis(PAUSE));
         stream = connect(rt, path.as_str());
     }
-    let answer = ask(alloc, stream?, Order::Status)?;
+    some(ask(alloc, stream?, Order::Status)?)
+}
+
+/// The devices of the store in a file, by the server that runs on it.
+pub(crate) fn devices<R: Net>(rt: &R, alloc: Global, file: &str) -> Result<String, Fault> {
+    let path = path_of(alloc, file)?;
+    some(ask(alloc, connect(rt, path.as_str())?, Order::Devices)?)
+}
+
+// No answer is one that was broken off.
+fn some(answer: String) -> Result<String, Fault> {
     if answer.is_empty() {
         Err(Fault::BrokenOff)
     } else {
         Ok(answer)
     }
+}
+
+/// Tells on `out` what happens at the server that runs on the store in a file, until it ends, and
+/// gives what came of writing it. `Busy` where as many are told already as there may be.
+pub(crate) fn watch<R: Net, O: Write>(
+    rt: &R,
+    alloc: Global,
+    file: &str,
+    out: &mut O,
+) -> Result<io::Result<()>, Fault> {
+    let path = path_of(alloc, file)?;
+    let mut stream = connect(rt, path.as_str())?;
+    let word = Order::Watch.word();
+    writeln!(stream, "{word}").map_err(|_| Fault::BrokenOff)?;
+    let mut first = [0u8; WATCHING.len()];
+    let count = read_some(&mut stream, &mut first);
+    if first.get(..count) != Some(WATCHING.as_bytes()) {
+        return Err(if first.get(..count) == Some(BUSY.as_bytes()) {
+            Fault::Busy
+        } else {
+            Fault::BrokenOff
+        });
+    }
+    Ok(pass_on(&mut stream, out))
+}
+
+// Fills as much of the buffer as comes. How much that is.
+fn read_some(stream: &mut UnixStream, buffer: &mut [u8]) -> usize {
+    let mut len: usize = 0;
+    for _ in 0..buffer.len() {
+        let Some(rest) = buffer.get_mut(len..) else {
+            break;
+        };
+        match stream.read(rest) {
+            Ok(count) if count > 0 => len = len.saturating_add(count),
+            _ => break,
+        }
+    }
+    len
+}
+
+// Writes what comes, as it comes, until the other end has ended.
+fn pass_on<O: Write>(stream: &mut UnixStream, out: &mut O) -> io::Result<()> {
+    let mut buffer = [0u8; PIECE];
+    for _ in 0..u64::MAX {
+        let count = match stream.read(&mut buffer) {
+            Ok(0) => break,
+            Ok(count) => count,
+            Err(error) if error.kind() == ErrorKind::Interrupted => 0,
+            Err(_) => break,
+        };
+        out.write_all(buffer.get(..count).unwrap_or(&[]))?;
+        out.flush()?;
+    }
+    Ok(())
 }

@@ -27,6 +27,9 @@ pub enum Fault {
     /// The server broke off before it was done, or didn't answer.
     #[error("broken off")]
     BrokenOff,
+    /// As many operators watch as may.
+    #[error("busy")]
+    Busy,
     /// A device of an older copy hasn't so many JoinNonces left.
     #[error("refused 10 {0}")]
     Spent(Eui),

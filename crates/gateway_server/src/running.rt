@@ -5,7 +5,7 @@ ghost use Rattle.command_words.specs.declared.mode.Mode.{Mode};
 ghost use Rattle.gateway_server.specs.Told.{TellsEarly};
 
 use crate::Fault;
-use crate::control::{status, stop};
+use crate::control::{devices, status, stop, watch};
 use crate::restoring::{Restored, restore};
 use crate::serving::{run_server, serve};
 use crate::stores::{format, list};
@@ -110,6 +110,11 @@ where
             stop(rt, alloc, file)?;
             Ok(0)
         }
+        Mode::Devices { file } => {
+            let text = devices(rt, alloc, file)?;
+            Ok(status_of(&tell(out, text.as_str())))
+        }
+        Mode::Watch { file } => Ok(status_of(&watch(rt, alloc, file, out)?)),
         Mode::Restore { file, new, grants } => {
             let restored = restore(rt, alloc, file, new, grants)?;
             Ok(status_of(&tell_restored(out, &restored)))

@@ -71,10 +71,7 @@ impl<'x, B: Books, R: Wait, G: Gate, C: LifeClock> Closer<'x, B, R, G, C> {
 
     // Whether all windows that were due are closed: for want of memory some are not.
     fn tick(&mut self, moment: Moment) -> bool {
-        let turn = self
-            .server
-            .sessions
-            .tick(self.context.rt, &mut self.seat, moment);
+        let turn = self.server.tick(self.context.rt, &mut self.seat, moment);
         if turn.from < turn.to {
             self.server.signals.tell_frames();
         }

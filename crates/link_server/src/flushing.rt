@@ -11,6 +11,7 @@ use flusher::{Drawn, Released, serve};
 use lw_types::Refusal;
 use outbox::Outlet;
 use session_core::{Books, Taker};
+use sights::Sight;
 use std::alloc::Global;
 use std::sync::Wait;
 use store::Store;
@@ -35,6 +36,7 @@ pub(crate) fn flush<B: Books, R: Wait, D: Disk>(
     let served = {
         let mut out = |released: Vec<Released>| let_out(
             rt,
+            alloc,
             server,
             outlets.as_mut_slice(),
             released,
@@ -55,16 +57,40 @@ pub(crate) fn flush<B: Books, R: Wait, D: Disk>(
 // The bell of each link that gets something rings once.
 fn let_out<B: Books, R: Wait>(
     rt: &R,
+    alloc: Global,
     server: &LiveServer<B>,
     outlets: &mut [Outlet],
     released: Vec<Released>,
 ) {
+    server.signals.count_commit();
+    if server.is_watched() {
+        tell_joins(rt, server, released.as_slice());
+    }
     let mut marks = [false; MOST_PLACES as usize];
-    let lost = route(&server.directory.lock(rt), outlets, released, &mut marks);
+    let mut missed = Vec::new(alloc);
+    let lost = route(
+        &server.directory.lock(rt),
+        outlets,
+        released,
+        &mut marks,
+        &mut missed,
+    );
     server.signals.count_dropped(lost as u64);
+    for name in missed {
+        server.tell(rt, Sight::Dropped(name, 1));
+    }
     for (link, is_marked) in server.links.iter().zip(marks) {
         if is_marked {
             link.bell.unpark();
+        }
+    }
+}
+
+// Operators who watch are told of the joins that were granted.
+fn tell_joins<B: Books, R: Wait>(rt: &R, server: &LiveServer<B>, released: &[Released]) {
+    for one in released {
+        if let Some(sight) = Sight::of_effect(one.effect()) {
+            server.tell(rt, sight);
         }
     }
 }

@@ -13,6 +13,7 @@ use link_messages::{Fed, Feeder};
 use lw_types::Refusal;
 use rtrb::{Consumer, RingBuffer};
 use session_core::{Books, Moment, Seat};
+use sights::Sight;
 use std::net::TcpStream;
 use std::sync::Wait;
 use std::thread;
@@ -89,9 +90,10 @@ impl<'x, B: Books, R: Threads + Wait + Sync, G: Gate, C: LifeClock> Host<'x, B, 
         let Some(greeted) = self.worker.hear_greeting(&stream) else {
             return;
         };
-        if self.worker.take_over(&greeted.name) {
+        let name = greeted.name;
+        if self.worker.take_over(&name) {
             self.converse(stream, greeted);
-            self.drop_rest();
+            self.drop_rest(name);
         }
     }
 
@@ -112,11 +114,15 @@ impl<'x, B: Books, R: Threads + Wait + Sync, G: Gate, C: LifeClock> Host<'x, B, 
     }
 
     // What was for the link that has ended is of no use to the next one.
-    fn drop_rest(&self) {
-        let mut spare = self.worker.link.spare.lock(self.worker.context.rt);
-        if let Some(spare) = spare.as_mut() {
-            let lost = drop_all(&mut spare.inlet);
+    fn drop_rest(&self, name: Recipient) {
+        let rt = self.worker.context.rt;
+        let mut lost = 0;
+        if let Some(spare) = self.worker.link.spare.lock(rt).as_mut() {
+            lost = drop_all(&mut spare.inlet);
+        }
+        if lost > 0 {
             self.worker.server.signals.count_dropped(lost);
+            self.worker.server.tell(rt, Sight::Dropped(name, lost));
         }
     }
 }
@@ -134,6 +140,7 @@ fn hold<'s, 'x: 's, E, B: Books, R: Threads + Wait + Sync, G: Gate, C: LifeClock
         rt: context.rt,
         alloc: context.alloc,
         signals: &worker.server.signals,
+        watch: worker.server.watch(),
         link: worker.link,
         call,
     };
@@ -160,6 +167,7 @@ impl<'x, B: Books, R: Wait, G: Gate, C: LifeClock> Worker<'x, B, R, G, C> {
                 Incoming::Nothing => {}
                 Incoming::Late => {
                     self.server.signals.count_silent();
+                    self.server.tell(self.context.rt, Sight::Silent);
                     return None;
                 }
                 Incoming::End => {
@@ -175,7 +183,7 @@ impl<'x, B: Books, R: Wait, G: Gate, C: LifeClock> Worker<'x, B, R, G, C> {
                         return Some(Greeted { name, fed });
                     }
                     if fed.fault.is_some() {
-                        self.server.signals.count_fault();
+                        self.count_fault();
                         return None;
                     }
                 }
@@ -197,21 +205,24 @@ impl<'x, B: Books, R: Wait, G: Gate, C: LifeClock> Worker<'x, B, R, G, C> {
     // meanwhile: the older link's worker leaves it before its place goes to the next link, which so
     // isn't closed in place of the older one. One gateway too many is a fault of whoever greets.
     fn take_over(&self, name: &Recipient) -> bool {
-        let mut directory = self.server.directory.lock(self.context.rt);
+        let rt = self.context.rt;
+        let mut directory = self.server.directory.lock(rt);
         match directory.take_over(name, self.number) {
-            Ok(None) => true,
+            Ok(None) => {}
             Ok(Some(older)) => {
                 if let Some(link) = self.server.links.get(older) {
-                    link.take(self.context.rt);
+                    link.take(rt);
                 }
                 self.server.signals.count_taken_over();
-                true
+                self.server.tell(rt, Sight::TakenOver(*name));
             }
             Err(Full) => {
-                self.server.signals.count_fault();
-                false
+                self.count_fault();
+                return false;
             }
         }
+        self.server.tell(rt, Sight::Linked(*name));
+        true
     }
 
     // The link is read no further. Its name is free, unless the life ends: then it stays, for what
@@ -220,10 +231,14 @@ impl<'x, B: Books, R: Wait, G: Gate, C: LifeClock> Worker<'x, B, R, G, C> {
         if self.server.signals.is_ending() {
             self.end_input();
         } else {
-            let mut directory = self.server.directory.lock(self.context.rt);
-            directory.leave(name, self.number);
+            let rt = self.context.rt;
+            let mut directory = self.server.directory.lock(rt);
+            let had_it = directory.leave(name, self.number);
             drop(directory);
             self.link.set_over();
+            if had_it {
+                self.server.tell(rt, Sight::Ended(*name));
+            }
         }
     }
 }

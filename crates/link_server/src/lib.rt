@@ -4,6 +4,7 @@
 //! life of them.
 #![tactic(auto)]
 
+mod attending;
 mod closing;
 mod context;
 mod control;
@@ -15,6 +16,7 @@ mod hosting;
 pub mod laws;
 mod link;
 mod moments;
+mod observing;
 mod orders;
 mod outgoing;
 mod parts;
@@ -27,8 +29,10 @@ mod serving;
 mod signals;
 mod status;
 mod threads;
+mod watching;
 mod writing;
 
+pub use attending::{BUSY, WATCHING};
 pub use gate::{Gate, OpenGate};
 pub use link::{LinkCount, PlaceCount};
 pub use moments::{LifeClock, Monotonic};

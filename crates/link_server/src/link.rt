@@ -6,10 +6,11 @@ use crate::ServeFault;
 use crate::writing::Spare;
 use gateway_wire::Recipient;
 use lw_types::{Ranged, Refusal};
+use session_core::Moment;
 use std::alloc::Global;
 use std::net::{Shutdown, TcpListener, TcpStream};
-use std::sync::atomic::AtomicBool;
 use std::sync::atomic::Ordering::SeqCst;
+use std::sync::atomic::{AtomicBool, AtomicU64};
 use std::sync::{Mutex, OnceLock, Wait};
 use std::thread::Parker;
 use std::time::Duration;
@@ -45,6 +46,8 @@ pub(crate) struct Link {
     over: AtomicBool,
     // It lost its name to a link that greeted later, and was closed.
     taken: AtomicBool,
+    // One more than the moment of the last copy that came on it; 0 before the first.
+    last_copy: AtomicU64,
 }
 
 /// What a place is connected by.
@@ -71,7 +74,18 @@ impl Link {
             name: OnceLock::new(),
             over: AtomicBool::new(false),
             taken: AtomicBool::new(false),
+            last_copy: AtomicU64::new(0),
         }
+    }
+
+    /// A copy of a frame came on the link that is here.
+    pub(crate) fn set_last_copy(&self, moment: Moment) {
+        self.last_copy.store(moment.get().saturating_add(1), SeqCst);
+    }
+
+    /// The moment of the last copy that came on the link that is here.
+    pub(crate) fn last_copy(&self) -> Option<u64> {
+        self.last_copy.load(SeqCst).checked_sub(1)
     }
 
     /// Ends each read and write of the link that is here, also those that wait.
@@ -118,6 +132,7 @@ impl Link {
     pub(crate) fn show<R: Wait>(&self, rt: &R, stream: TcpStream) {
         self.over.store(false, SeqCst);
         self.taken.store(false, SeqCst);
+        self.last_copy.store(0, SeqCst);
         self.set_shown(rt, Some(stream));
     }
 

@@ -7,16 +7,22 @@ pub enum Order {
     Stop,
     /// To tell how it goes.
     Status,
+    /// To list the devices.
+    Devices,
+    /// To tell what happens, until it ends.
+    Watch,
 }
 
 impl Order {
-    const ALL: [Order; 2] = [Order::Stop, Order::Status];
+    const ALL: [Order; 4] = [Order::Stop, Order::Status, Order::Devices, Order::Watch];
 
     /// The word of this order.
     pub fn word(self) -> &'static str {
         match self {
             Order::Stop => "stop",
             Order::Status => "status",
+            Order::Devices => "devices",
+            Order::Watch => "watch",
         }
     }
 

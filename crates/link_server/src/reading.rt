@@ -12,7 +12,8 @@ use gateway_wire::{Recipient, Request, read_line};
 use link_messages::{Fed, Feeder, Line, Message, Peer};
 use lw_types::{FrameCopy, Refusal};
 use rtrb::Producer;
-use session_core::{Books, Seat, Sessions, Turn};
+use session_core::{Books, Seat, Turn};
+use sights::{FrameName, Sight};
 use std::io::{ErrorKind, Read};
 use std::net::TcpStream;
 use std::sync::Wait;
@@ -127,8 +128,15 @@ impl<'x, B: Books, R: Wait, G: Gate, C: LifeClock> Worker<'x, B, R, G, C> {
     pub(crate) fn end(&self) {
         let is_cut = self.link.is_taken() || self.server.signals.is_ending();
         if self.feeder.end().is_err() && !is_cut {
-            self.server.signals.count_fault();
+            self.count_fault();
         }
+    }
+
+    /// The link is read no further because of what it said.
+    pub(crate) fn count_fault(&self) {
+        self.server.signals.count_fault();
+        let name = self.feeder.peer().map(|peer| recipient_of(&peer));
+        self.server.tell(self.context.rt, Sight::Faulted(name));
     }
 
     // Whether the link is read on. Without memory it isn't, which is no fault of its own.
@@ -148,7 +156,7 @@ impl<'x, B: Books, R: Wait, G: Gate, C: LifeClock> Worker<'x, B, R, G, C> {
             }
         }
         if fault.is_some() {
-            self.server.signals.count_fault();
+            self.count_fault();
         }
         fault.is_none()
     }
@@ -181,19 +189,28 @@ impl<'x, B: Books, R: Wait, G: Gate, C: LifeClock> Worker<'x, B, R, G, C> {
             .lock(self.context.rt)
             .greet(&recipient_of(peer), self.number);
         if !is_new {
-            self.server.signals.count_fault();
+            self.count_fault();
         }
         is_new
     }
 
-    // Where it is refused, nobody is told.
+    // Where it is refused, operators who watch are told, and nobody else.
     fn hear_copy(&mut self, copy: FrameCopy) {
         self.pass_gate();
+        let rt = self.context.rt;
         let moment = self.context.clock.now();
-        let turn = self
-            .server
-            .sessions
-            .hear(self.context.rt, &mut self.seat, moment, copy);
+        self.link.set_last_copy(moment);
+        let reception = copy.reception;
+        let name = if self.server.is_watched() {
+            FrameName::of(copy.phy_payload.as_slice())
+        } else {
+            FrameName::Other
+        };
+        let turn = self.server.hear(rt, &mut self.seat, moment, copy);
+        if let Some(refusal) = turn.refused {
+            let sight = Sight::of_copy(refusal, name, reception);
+            self.server.tell(rt, sight);
+        }
         if has_decided(&turn) {
             self.server.signals.tell_frames();
         }
@@ -221,7 +238,6 @@ impl<'x, B: Books, R: Wait, G: Gate, C: LifeClock> Worker<'x, B, R, G, C> {
         let asked = request.asked_by(application);
         let turn = self
             .server
-            .sessions
             .ask(self.context.rt, &mut self.seat, moment, asked);
         if has_decided(&turn) {
             self.server.signals.ring_flusher();

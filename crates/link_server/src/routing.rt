@@ -23,22 +23,28 @@ fn route_one(directory: &Directory, outlets: &mut [Outlet], released: Released) 
     }
 }
 
-/// Puts effects into the rings of their links, in order, and marks those links. How many were lost.
+/// Puts effects into the rings of their links, in order, and marks those links. How many were lost;
+/// whom these were for stands in `missed`, as far as there is memory.
 pub(crate) fn route(
     directory: &Directory,
     outlets: &mut [Outlet],
     released: Vec<Released>,
     marks: &mut [bool],
+    missed: &mut Vec<Recipient>,
 ) -> usize
     ensures { IsRouted directory.now (effects_of_all released.items) result outlets.old
         outlets.new }
 {
     let mut lost: usize = 0;
     for one in released {
+        let name = Recipient::of(one.effect());
         match route_one(directory, outlets, one) {
             Some(number) if number < marks.len() => marks[number] = true,
             Some(_) => {}
-            None => lost += 1,
+            None => {
+                lost += 1;
+                let _ = missed.push(name);
+            }
         }
     }
     lost

@@ -2,9 +2,10 @@
 ghost use Rattle.link_server.specs.Served.{IsLedOn};
 ghost use Rattle.store.specs.State.{store_state};
 
+use crate::attending::Attendant;
 use crate::closing::Closer;
 use crate::context::Context;
-use crate::control::{ATTENDANTS, Attendant};
+use crate::control::ATTENDANTS;
 use crate::flushing::flush;
 use crate::gate::Gate;
 use crate::hosting::Host;
@@ -175,6 +176,7 @@ impl<B: Books + Send + Sync> Started<B> {
             rt: context.rt,
             alloc: context.alloc,
             signals: &server.signals,
+            watch: server.watch(),
             link,
             stream,
             name: None,

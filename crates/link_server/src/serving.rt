@@ -109,8 +109,12 @@ pub fn serve_on<R: Threads + Wait + Sync, D: Disk + Drop, G: Gate + Sync, C: Lif
     ensures lives { D.honest
         → IsLedOn (store_state D.state store) (store_state D.state result.store) }
 {
-    let (Ok(door), Ok(control)) = (Door::new(listener), ControlSocket::new(alloc, control)) else {
+    let Ok(door) = Door::new(listener) else {
         return failed(alloc, store, ServeFault::Listen);
+    };
+    let control = match ControlSocket::new(alloc, control, store.table().slots()) {
+        Ok(control) => control,
+        Err(fault) => return failed(alloc, store, fault),
     };
     let links = match empty_places(alloc, count) {
         Ok(links) => links,
@@ -203,6 +207,9 @@ fn serve_life<
     } = new_life;
     let all = links.len() as u64 + 1;
     let (mut shared, taker) = Shared::<B>::new(core, all, made, taken);
+    if control.is_some() {
+        shared.observe();
+    }
     let parts = match Parts::new(context.alloc, &mut shared, links.len()) {
         Ok(parts) => parts,
         Err(refusal) => return failed(context.alloc, store, ServeFault::Refused(refusal)),

@@ -13,6 +13,8 @@ pub(crate) struct Signals {
     dropped: AtomicU64,
     taken_over: AtomicU64,
     silent: AtomicU64,
+    // How often what was decided became durable.
+    commits: AtomicU64,
     // How many links are in their places.
     linked: AtomicU64,
     // Everything of the life is done but for the operators.
@@ -41,6 +43,7 @@ impl Signals {
             dropped: AtomicU64::new(0),
             taken_over: AtomicU64::new(0),
             silent: AtomicU64::new(0),
+            commits: AtomicU64::new(0),
             linked: AtomicU64::new(0),
             closed: AtomicBool::new(false),
             ending: AtomicBool::new(false),
@@ -87,6 +90,15 @@ impl Signals {
 
     pub(crate) fn silent(&self) -> u64 {
         self.silent.load(SeqCst)
+    }
+
+    /// What was decided became durable.
+    pub(crate) fn count_commit(&self) {
+        self.commits.fetch_add(1, SeqCst);
+    }
+
+    pub(crate) fn commits(&self) -> u64 {
+        self.commits.load(SeqCst)
     }
 
     /// A link has come into a place.

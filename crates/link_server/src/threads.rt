@@ -1,6 +1,6 @@
 // The threads of a life, each with its name.
+use crate::attending::Attendant;
 use crate::closing::Closer;
-use crate::control::Attendant;
 use crate::gate::Gate;
 use crate::hosting::Host;
 use crate::moments::LifeClock;

@@ -3,10 +3,12 @@ use crate::gathering::{Gathered, add_refusal, gather};
 use crate::link::Link;
 use crate::outgoing::Outgoing;
 use crate::signals::Signals;
+use crate::watching::Watch;
 use gateway_wire::Recipient;
 use lw_types::Refusal;
 use outbox::Inlet;
 use rtrb::Consumer;
+use sights::Sight;
 use std::alloc::Global;
 use std::io::{ErrorKind, Write};
 use std::net::{Shutdown, TcpStream};
@@ -24,6 +26,8 @@ pub(crate) struct Sender<'x, R: Wait> {
     pub(crate) rt: &'x R,
     pub(crate) alloc: Global,
     pub(crate) signals: &'x Signals,
+    // Where operators watch from, if there are any.
+    pub(crate) watch: Option<&'x Watch>,
     pub(crate) link: &'x Link,
     pub(crate) stream: &'x TcpStream,
     // Whose link it is, as far as the sender knows.
@@ -76,9 +80,18 @@ impl<'x, R: Wait> Sender<'x, R> {
         if !is_sent {
             self.is_broken = true;
         }
-        let lost = if is_sent { lost } else { taken };
-        self.signals.count_dropped(lost);
+        self.count_dropped(if is_sent { lost } else { taken });
         is_told || taken > 0
+    }
+
+    fn count_dropped(&self, lost: u64) {
+        if lost == 0 {
+            return;
+        }
+        self.signals.count_dropped(lost);
+        if let (Some(watch), Some(name)) = (self.watch, self.name) {
+            watch.tell(self.rt, Sight::Dropped(*name, lost));
+        }
     }
 
     // Whether there was one.
@@ -161,6 +174,7 @@ pub(crate) struct HostSender<'x, R: Wait> {
     pub(crate) rt: &'x R,
     pub(crate) alloc: Global,
     pub(crate) signals: &'x Signals,
+    pub(crate) watch: Option<&'x Watch>,
     pub(crate) link: &'x Link,
     pub(crate) call: &'x Call,
 }
@@ -175,6 +189,7 @@ impl<'x, R: Wait> HostSender<'x, R> {
             rt: self.rt,
             alloc: self.alloc,
             signals: self.signals,
+            watch: self.watch,
             link: self.link,
             stream: &self.call.stream,
             name: Some(&self.call.name),

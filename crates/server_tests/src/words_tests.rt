@@ -71,6 +71,12 @@ const ROWS: &[(&str, &str)] = &[
     ("stop store", "stop store"),
     ("stop store --wait 1", "wrong"),
     ("stop --help", "help"),
+    ("devices store", "devices store"),
+    ("devices", "wrong"),
+    ("devices --help", "help"),
+    ("watch store", "watch store"),
+    ("watch store other", "wrong"),
+    ("watch --help", "help"),
     ("status store", "status store 0"),
     ("status --wait 3600 store", "status store 3600"),
     ("status store --wait 3601", "wrong"),
@@ -136,6 +142,8 @@ fn asked_of(alloc: Global, mode: &Mode<'_>) -> Result<String, AllocError> {
             format!(in alloc; "run {file} {listen} {links}")
         }
         Mode::Stop { file } => format!(in alloc; "stop {file}"),
+        Mode::Devices { file } => format!(in alloc; "devices {file}"),
+        Mode::Watch { file } => format!(in alloc; "watch {file}"),
         Mode::Status { file, wait } => {
             let wait = wait.get();
             format!(in alloc; "status {file} {wait}")
@@ -166,6 +174,9 @@ const HELPS: &[(&str, &[&str])] = &[
             "run",
             "stop",
             "status",
+            "devices",
+            "watch",
+            "restore",
             "lnsd format store --netid 00002A --slots 64",
         ],
     ),
@@ -193,6 +204,8 @@ const HELPS: &[(&str, &[&str])] = &[
         &["FILE", "TCP port", "from 1 to 96", "lnsd run store"],
     ),
     ("stop --help", &["FILE", "lnsd stop store"]),
+    ("devices --help", &["FILE", "lnsd devices store"]),
+    ("watch --help", &["FILE", "lnsd watch store"]),
     (
         "status --help",
         &["FILE", "from 0 to 3600", "lnsd status store"],

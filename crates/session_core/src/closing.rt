@@ -58,7 +58,8 @@ impl Core {
         if is_starved(&answer) {
             return Err(Refusal::OutOfMemory);
         }
-        let _ = self.windows.close(self.clock.get());
+        let heard = self.windows.close(self.clock.get());
+        self.observed.add(heard, answer.err());
         Ok(true)
     }
 

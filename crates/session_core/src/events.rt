@@ -8,7 +8,8 @@ ghost use Rattle.session_core.specs.Core.{IsLawfulCore, new_core};
 ghost use Rattle.session_core.specs.Events.{IsTurn, Asks, Hears, Starves, Ticks, next_due};
 
 use crate::decisions::Decisions;
-use crate::{MOST_OUTCOMES, Moment, Most, Outcome, Turn};
+use crate::observed::Observed;
+use crate::{ClosedFrame, MOST_OUTCOMES, Moment, Most, Outcome, Turn};
 use circular_buffer::HeapCircularBuffer;
 use dedup::Windows;
 use devices::{Command, MacQueueing, Provisioning, Queueing};
@@ -27,6 +28,7 @@ pub struct Core {
     pub(crate) windows: Windows,
     pub(crate) closings: usize,
     pub(crate) outcomes: HeapCircularBuffer<Outcome>,
+    pub(crate) observed: Observed,
 }
 
 // By hand, so that its proof is done once: a derived drop is proved anew wherever a value goes.
@@ -39,6 +41,7 @@ impl Drop for Core {
             windows: _,
             closings: _,
             outcomes: _,
+            observed: _,
         } = self;
     }
 }
@@ -69,6 +72,7 @@ impl Core {
             windows: Windows::new(alloc),
             closings: 0,
             outcomes: HeapCircularBuffer::with_capacity(alloc, MOST_OUTCOMES)?,
+            observed: Observed::new(alloc),
         })
     }
 
@@ -110,6 +114,29 @@ impl Core {
         ensures { result ≡ self.now.closings }
     {
         self.closings
+    }
+
+    /// How many windows are open.
+    pub fn windows(&self) -> usize
+        ensures { result ≡ length self.now.windows }
+    {
+        self.windows.len()
+    }
+
+    /// From here on the frames whose windows are closed are kept, until they are taken: at most
+    /// 1,024 of them, as many as one event may close.
+    pub fn observe(&mut self)
+        ensures { self.new ≡ self.old }
+    {
+        self.observed.begin();
+    }
+
+    /// Gives the frames that were kept, the oldest first. None of them where nobody observes, and
+    /// without those that there was no memory for. What they are is in no contract.
+    pub fn take_closed(&mut self) -> Vec<ClosedFrame>
+        ensures { self.new ≡ self.old }
+    {
+        self.observed.take()
     }
 
     /// The effective time: the latest moment that an event of this life has brought, 0 before the

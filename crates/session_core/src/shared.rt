@@ -8,7 +8,7 @@ ghost use Rattle.session_core.specs.Deciding.{after_taking};
 ghost use Rattle.session_core.specs.Events.{Asks, Hears, IsTurn, Ticks, next_due};
 ghost use Rattle.session_core.specs.Seats.{HasMade};
 
-use crate::{Books, Core, Made, Moment, Most, Outcome, Seat, Taken, Taker, Turn};
+use crate::{Books, ClosedFrame, Core, Made, Moment, Most, Outcome, Seat, Taken, Taker, Turn};
 use devices::{ApplicationCommand, MacQueueing, Provisioning, Queueing};
 use lw_types::{FrameCopy, Refusal};
 use sessions::Batch;
@@ -73,6 +73,29 @@ impl<B: Books> Shared<B> {
         ensures { result ≡ self.now.core.decisions.made }
     {
         self.core.made()
+    }
+
+    /// The core, to be looked at.
+    pub fn core(&self) -> &Core
+        ensures { result.now ≡ self.now.core }
+    {
+        &self.core
+    }
+
+    /// From here on the frames whose windows are closed are kept ([`Core::observe`]).
+    pub fn observe(&mut self)
+        ensures core { self.new.core ≡ self.old.core }
+        ensures left { self.new.left ≡ self.old.left }
+    {
+        self.core.observe();
+    }
+
+    /// Gives the frames that were kept ([`Core::take_closed`]).
+    pub fn take_closed(&mut self) -> Vec<ClosedFrame>
+        ensures core { self.new.core ≡ self.old.core }
+        ensures left { self.new.left ≡ self.old.left }
+    {
+        self.core.take_closed()
     }
 
     /// A gateway heard a frame ([`Core::hear`]).

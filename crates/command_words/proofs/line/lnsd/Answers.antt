@@ -18,5 +18,9 @@ returns c =
     ∙ ap₂ with_subcommand four (ap shape c.in_ok-stop.ensures.app) in
     let six = c.in_ok-subcommand-6.ensures.shape c.in_ok-status.ensures.local
     ∙ ap₂ with_subcommand five (ap shape c.in_ok-status.ensures.app) in
-    IfOk-weaker c.subcommand-7.result _ _ (λ _ h. h.shape c.in_ok-restore.ensures.local
-    ∙ ap₂ with_subcommand six (ap shape c.in_ok-restore.ensures.app)) c.subcommand-7.ensures
+    let seven = c.in_ok-subcommand-7.ensures.shape c.in_ok-restore.ensures.local
+    ∙ ap₂ with_subcommand six (ap shape c.in_ok-restore.ensures.app) in
+    let eight = c.in_ok-subcommand-8.ensures.shape c.in_ok-devices.ensures.local
+    ∙ ap₂ with_subcommand seven (ap shape c.in_ok-devices.ensures.app) in
+    IfOk-weaker c.subcommand-9.result _ _ (λ _ h. h.shape c.in_ok-watch.ensures.local
+    ∙ ap₂ with_subcommand eight (ap shape c.in_ok-watch.ensures.app)) c.subcommand-9.ensures

@@ -36,6 +36,24 @@ returns-in-stop-clause-some c =
       tt,
     )
 
+pub returns-in-devices-clause-some : goal.returns-in-devices-clause-some
+returns-in-devices-clause-some c =
+    let found = found_of c.in_ok-name.matches.now in (
+      rows_of found,
+      command_met c.args.matches.now c.in_ok-name.name.now (codes "devices") (rows_of found) c.in-devices.is c.in_ok-name.ensures.name c.in_ok-name.ensures.rows,
+      text_met found (codes "file") c.in_ok-file.file.now c.in_ok-file.ensures,
+      tt,
+    )
+
+pub returns-in-watch-clause-some : goal.returns-in-watch-clause-some
+returns-in-watch-clause-some c =
+    let found = found_of c.in_ok-name.matches.now in (
+      rows_of found,
+      command_met c.args.matches.now c.in_ok-name.name.now (codes "watch") (rows_of found) c.in-watch.is c.in_ok-name.ensures.name c.in_ok-name.ensures.rows,
+      text_met found (codes "file") c.in_ok-file.file.now c.in_ok-file.ensures,
+      tt,
+    )
+
 pub returns-in_ok-links-in-serve-clause-some : goal.returns-in_ok-links-in-serve-clause-some
 returns-in_ok-links-in-serve-clause-some c =
     let found = found_of c.in_ok-name.matches.now in (

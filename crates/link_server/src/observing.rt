@@ -1,0 +1,93 @@
+// What a life does with its sessions, and what operators are told of it.
+use crate::server::LiveServer;
+use crate::watching::Watch;
+use devices::ApplicationCommand;
+use lw_types::FrameCopy;
+use session_core::{Books, ClosedFrame, Moment, Seat, Turn};
+use sights::Sight;
+use std::sync::Wait;
+
+impl<B: Books> LiveServer<B> {
+    /// Where operators watch from, in a life that has operators.
+    pub(crate) fn watch(&self) -> Option<&Watch> {
+        Some(&self.control.as_ref()?.watch)
+    }
+
+    /// Whether an operator watches.
+    pub(crate) fn is_watched(&self) -> bool {
+        self.watch().is_some_and(|watch| watch.is_watched())
+    }
+
+    /// Tells the operators who watch.
+    pub(crate) fn tell<R: Wait>(&self, rt: &R, sight: Sight) {
+        if let Some(watch) = self.watch() {
+            watch.tell(rt, sight);
+        }
+    }
+
+    /// A gateway heard a frame.
+    pub(crate) fn hear<R: Wait>(
+        &self,
+        rt: &R,
+        seat: &mut Seat<B>,
+        moment: Moment,
+        copy: FrameCopy,
+    ) -> Turn {
+        let mut sessions = self.sessions.lock(rt);
+        let turn = sessions.hear(seat, moment, copy);
+        let closed = sessions.take_closed();
+        drop(sessions);
+        self.tell_closed(rt, moment, closed);
+        turn
+    }
+
+    /// An application asks for a command.
+    pub(crate) fn ask<R: Wait>(
+        &self,
+        rt: &R,
+        seat: &mut Seat<B>,
+        moment: Moment,
+        asked: ApplicationCommand,
+    ) -> Turn {
+        let mut sessions = self.sessions.lock(rt);
+        let turn = sessions.ask(seat, moment, asked);
+        let closed = sessions.take_closed();
+        drop(sessions);
+        self.tell_closed(rt, moment, closed);
+        turn
+    }
+
+    /// Time passes.
+    pub(crate) fn tick<R: Wait>(&self, rt: &R, seat: &mut Seat<B>, moment: Moment) -> Turn {
+        let mut sessions = self.sessions.lock(rt);
+        let turn = sessions.tick(seat, moment);
+        let closed = sessions.take_closed();
+        drop(sessions);
+        self.tell_closed(rt, moment, closed);
+        turn
+    }
+
+    // Frames whose windows were closed at this moment: the last uplinks of their devices, and what
+    // was refused.
+    fn tell_closed<R: Wait>(&self, rt: &R, moment: Moment, closed: Vec<ClosedFrame>) {
+        let Some(control) = &self.control else {
+            return;
+        };
+        if closed.is_empty() {
+            return;
+        }
+        let mut last_uplinks = control.last_uplinks.lock(rt);
+        for frame in &closed {
+            last_uplinks.note(frame, moment);
+        }
+        drop(last_uplinks);
+        if !control.watch.is_watched() {
+            return;
+        }
+        for frame in &closed {
+            if let Some(sight) = Sight::of_closed(frame) {
+                control.watch.tell(rt, sight);
+            }
+        }
+    }
+}

@@ -1,0 +1,14 @@
+-- What a frame says of itself, before anybody looks at its MIC.
+use Rattle.std.specs.Prelude.{Result, Ok, Err}
+use Rattle.lw_types.specs.declared.refusal.Refusal.{Refusal}
+use Rattle.phy_payload.specs.declared.phy.Phy.{Phy}
+use Rattle.phy_payload.specs.declared.phy.Phy.TheVariants as phy
+use Rattle.sights.specs.declared.frame_name.FrameName.{FrameName}
+use Rattle.sights.specs.declared.frame_name.FrameName.TheVariants.{JoinRequest, Data, Other}
+
+-- A Join-Request's DevEUI and DevNonce, a data frame's DevAddr and counter; all else has no name.
+abbrev pub name_of : Result Phy Refusal → FrameName
+name_of (Ok (phy.JoinRequest request)) = JoinRequest request.dev_eui request.dev_nonce
+name_of (Ok (phy.DataFrame frame)) = Data frame.dev_addr frame.f_cnt
+name_of (Ok (phy.JoinAccept accept)) = Other
+name_of (Err refusal) = Other

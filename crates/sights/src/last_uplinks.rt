@@ -1,0 +1,87 @@
+// How each device was heard last.
+ghost use Rattle.std.specs.Prelude.{◌≡◌, ◌≤◌, ◌<◌, ◌→◌, length, MatchResult};
+ghost use Rattle.lw_types.specs.declared.refusal.Refusal.TheVariants.{OutOfMemory};
+
+use crate::FrameName;
+use devices::{Device, slot_at};
+use gateway_wire::list_text;
+use lw_types::{Reception, Refusal};
+use session_core::{ClosedFrame, Moment};
+use sessions::Slots;
+use std::alloc::{AllocError, Global};
+
+// An uplink that was accepted, as the gateway that heard it best did.
+#[derive(Clone, Copy, PartialEq, Eq)]
+struct LastUplink {
+    moment: Moment,
+    reception: Reception,
+}
+
+/// The last accepted uplink of each device in this life, by slots. It is in memory only.
+#[derive(Clone, Drop)]
+pub struct LastUplinks {
+    by_slot: Vec<Option<LastUplink>>,
+}
+
+impl LastUplinks {
+    /// No device was heard yet. All the memory that it ever takes is taken here, 40 bytes a slot.
+    pub fn new(alloc: Global, slots: Slots) -> Result<Self, Refusal> {
+        let mut by_slot = Vec::new(alloc);
+        by_slot.resize(slots.get() as usize, None)?;
+        Ok(LastUplinks { by_slot })
+    }
+
+    /// A frame's window was closed at this moment. Where it was an uplink that was accepted, its
+    /// device is the one at the slot of its address.
+    pub fn note(&mut self, closed: &ClosedFrame, moment: Moment) {
+        if closed.refused.is_some() {
+            return;
+        }
+        let heard = &closed.heard;
+        let FrameName::Data { dev_addr, .. } = FrameName::of(heard.phy_payload.as_slice()) else {
+            return;
+        };
+        if let Some(last) = self.by_slot.get_mut(slot_at(dev_addr) as usize) {
+            *last = Some(LastUplink {
+                moment,
+                reception: heard.hearings.best().reception,
+            });
+        }
+    }
+
+    /// The list of the devices ([`list_text`]), each line with four words more: the moment of the
+    /// device's last uplink, the gateway that heard it best, SNR in quarter dB and RSSI in dBm; a
+    /// `-` for each where none came in this life. The last line has no more words. Refused with
+    /// `OutOfMemory` for want of memory.
+    pub fn list(&self, alloc: Global, devices: &[Device], seq: u64) -> Result<String, Refusal> {
+        let listed = list_text(alloc, devices, seq)?;
+        let mut lasts = self.by_slot.iter();
+        let mut text = String::new(alloc);
+        let mut left = devices.len();
+        for line in listed.lines() {
+            text.push_str(line)?;
+            if left > 0 {
+                left -= 1;
+                let words = last_words(alloc, lasts.next().copied().flatten())?;
+                text.push_str(words.as_str())?;
+            }
+            text.push_str("\n")?;
+        }
+        Ok(text)
+    }
+}
+
+// The words behind a line of the list, with a space before each.
+fn last_words(alloc: Global, last: Option<LastUplink>) -> Result<String, AllocError> {
+    let Some(LastUplink { moment, reception }) = last else {
+        return String::from_str(alloc, " - - - -");
+    };
+    let moment = moment.get();
+    let Reception {
+        gateway,
+        snr,
+        rssi,
+        ..
+    } = reception;
+    format!(in alloc; " {moment} {gateway} {snr} {rssi}")
+}
