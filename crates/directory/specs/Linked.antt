@@ -1,5 +1,5 @@
 -- Who is linked, and at which link.
-use Rattle.std.specs.Prelude.{◌≡◌, ◌≢◌, ◌&&◌, ◌||◌, ℕ, Bool, Option, Some, None, is_none, is_some}
+use Rattle.std.specs.Prelude.{◌≡◌, ◌≢◌, ◌+◌, ◌&&◌, ◌||◌, ℕ, Bool, Option, Some, None, is_none, is_some}
 use Rattle.std.specs.Prelude.{List, length, nat_eq, nat_lt, not, slice_index_or}
 use Rattle.std.specs.List.{find}
 use Rattle.std.specs.Option.{option_map}
@@ -24,6 +24,17 @@ abbrev pub link_of : Directory → Recipient → Option ℕ
 link_of directory (Gateway gateway) = gateway_link gateway directory.gateways.items
 link_of directory (Application application) =
     slice_index_or directory.applications application None
+
+-- applications have rings of their own, from this one on, or none
+abbrev pub own_ring : Option ℕ → ℕ → Option ℕ → Option ℕ
+own_ring None application link = link
+own_ring (Some first) application link = Some (first + application)
+
+-- the ring through which a gateway or an application is told
+abbrev pub ring_of : Directory → Recipient → Option ℕ
+ring_of directory (Gateway gateway) = link_of directory (Gateway gateway)
+ring_of directory (Application application) =
+    own_ring directory.first_ring application (link_of directory (Application application))
 
 -- gateways have this many links at most
 abbrev pub has_free_link : Directory → Recipient → Bool

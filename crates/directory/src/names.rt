@@ -9,6 +9,9 @@ use std::alloc::{AllocError, Global};
 /// The most gateways that are linked.
 pub const MOST_GATEWAYS: usize = 64;
 
+/// How many applications there are.
+pub const APPLICATIONS: usize = 16;
+
 /// A gateway, and the number of its link.
 #[derive(Clone, Copy)]
 pub struct LinkedGateway {
@@ -17,11 +20,14 @@ pub struct LinkedGateway {
 }
 
 /// Which link each gateway and each application has, by the numbers of the links. A name has one
-/// link at most.
+/// link at most. What is told on a link goes through the ring of its number; but applications may
+/// have rings of their own, so that what they are told waits while they have no link.
 #[derive(Drop)]
 pub struct Directory {
     gateways: Vec<LinkedGateway>,
-    applications: [Option<usize>; 16],
+    applications: [Option<usize>; APPLICATIONS],
+    // The ring of application 0, behind which those of the others come.
+    first_ring: Option<u16>,
     ghost few: { length gateways.items ≤ 64 },
     ghost room: { 64 ≤ vec_capacity gateways },
 }
@@ -35,16 +41,20 @@ impl Directory {
     ghost use Rattle.std.specs.Prelude.{MatchBool, MatchResult};
     ghost use Rattle.gateway_wire.specs.declared.recipient.Recipient.TheVariants as names;
     ghost use Rattle.lw_types.specs.declared.identifiers.Eui.{Eui};
-    ghost use Rattle.directory.specs.Linked.{gateway_link, link_of};
+    ghost use Rattle.directory.specs.Linked.{gateway_link, link_of, ring_of};
     ghost use Rattle.directory.specs.Linked.{may_greet, may_take_over, IsUnlinked, IsLinked};
 
-    /// Nobody is linked. All the memory that it ever takes is taken here.
-    pub fn new(alloc: Global) -> Result<Self, AllocError>
-        ensures { IfOk result (λ directory. (name : Recipient) → link_of directory name ≡ None) }
+    /// Nobody is linked, and applications have rings of their own from this one on, if there is
+    /// one. All the memory that it ever takes is taken here.
+    pub fn new(alloc: Global, first_ring: Option<u16>) -> Result<Self, AllocError>
+        ensures links { IfOk result
+            (λ directory. (name : Recipient) → link_of directory name ≡ None) }
+        ensures rings { IfOk result (λ directory. directory.first_ring ≡ first_ring) }
     {
         Ok(Directory {
             gateways: Vec::with_capacity(alloc, MOST_GATEWAYS)?,
-            applications: [None; 16],
+            applications: [None; APPLICATIONS],
+            first_ring,
         })
     }
 
@@ -135,12 +145,24 @@ impl Directory {
         self.gateways.as_slice()
     }
 
-    /// How many applications are linked.
-    pub fn applications(&self) -> usize {
-        self.applications
-            .iter()
-            .filter(|link| link.is_some())
-            .count()
+    /// The link of each application, by their numbers.
+    pub fn applications(&self) -> &[Option<usize>]
+        ensures { result.now ≡ self.now.applications }
+    {
+        &self.applications
+    }
+
+    /// The ring through which a gateway or an application is told: that of its link, or, of an
+    /// application, its own where applications have rings of their own.
+    pub fn ring_of(&self, name: &Recipient) -> Option<usize>
+        ensures { result ≡ ring_of self.now name.now }
+    {
+        match (name, self.first_ring) {
+            (Recipient::Application(application), Some(first)) => {
+                Some(usize::from(first) + application.get() as usize)
+            }
+            _ => self.link_of(name),
+        }
     }
 
     /// The link on which a gateway or an application is told.

@@ -1,7 +1,7 @@
 // A store in a file, served.
 use crate::Fault;
 use crate::control::{ENDED, bind_control, path_of, remove};
-use crate::stores::open_store;
+use crate::stores::{open_store, open_timed};
 use link_server::{
     LifeReport, LinkCount, Monotonic, OpenGate, PlaceCount, ServedLife, serve_links, serve_on,
 };
@@ -13,6 +13,7 @@ use std::os::unix::net::UnixStream;
 use std::rt::{Clock, Files};
 use std::sync::Wait;
 use std::thread::Threads;
+use timed_disk::DiskTimes;
 
 /// Serves so many links, which connect to an address, from the store in a file.
 pub(crate) fn serve<R>(
@@ -55,7 +56,8 @@ where
     R: Files<File = File> + Net<Listener = TcpListener, Stream = TcpStream>,
     R: Clock + Threads + Wait + Sync,
 {
-    let store = open_store(rt, alloc, file)?;
+    let times = DiskTimes::new();
+    let store = open_timed(rt, alloc, file, &times)?;
     let Ok(listener) = TcpListener::bind(rt, listen) else {
         return Err(Fault::Listen);
     };
@@ -74,7 +76,7 @@ where
         result,
         waiting,
     } = serve_on(
-        rt, alloc, store, listener, control, links, &OpenGate, &clock,
+        rt, alloc, store, listener, control, links, &OpenGate, &clock, &times,
     );
     drop(store);
     remove(rt, path.as_str());

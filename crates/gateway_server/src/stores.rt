@@ -8,8 +8,9 @@ use std::alloc::Global;
 use std::fs;
 use std::fs::File;
 use std::io::ErrorKind;
-use std::rt::Files;
+use std::rt::{Clock, Files};
 use store::{Store, disk_len, format_back, open};
+use timed_disk::{DiskTimes, TimedDisk};
 
 /// Makes a store without devices in a new file. Where that fails the file is removed again, unless
 /// it was there before; a removal that fails is passed over.
@@ -62,6 +63,19 @@ pub(crate) fn list<R: Files<File = File>>(
 ) -> Result<String, Fault> {
     let store = open_store(rt, alloc, file)?;
     Ok(list_text(alloc, store.table().devices(), store.seq())?)
+}
+
+/// Opens the store in a file, and times its disk.
+pub(crate) fn open_timed<'x, R: Files<File = File> + Clock>(
+    rt: &'x R,
+    alloc: Global,
+    file: &str,
+    times: &'x DiskTimes,
+) -> Result<Store<TimedDisk<'x, FileDisk, &'x R>>, Fault> {
+    match FileDisk::open(rt, file) {
+        Ok(disk) => Ok(open(alloc, TimedDisk::new(disk, rt, times))?),
+        Err(_) => Err(Fault::File),
+    }
 }
 
 /// Opens the store in a file.

@@ -4,32 +4,32 @@ use Rattle.std.specs.Prelude.{slice_index_or, slice_set, MatchOption}
 use Rattle.std.specs.Option.{option_map_or}
 use Rattle.devices.specs.declared.effect.Effect.{Effect}
 use Rattle.gateway_wire.specs.Emission.{recipient}
-use Rattle.directory.specs.Linked.{link_of}
+use Rattle.directory.specs.Linked.{ring_of}
 use Rattle.directory.specs.declared.names.Directory.{Directory}
 use Rattle.outbox.specs.Ring.{put_in, room_of}
 use Rattle.outbox.specs.declared.ends.Outlet.{Outlet}
 
--- what was put into each ring, in the order of the links
+-- what was put into each ring, in the order of the rings
 abbrev pub rings_of : List Outlet → List (List Effect)
 rings_of outlets = map put_in outlets
 
 -- the effect comes behind those of one ring
 abbrev pub put_behind : ℕ → Effect → List (List Effect) → List (List Effect)
-put_behind link effect rings =
-    slice_set rings link (slice_index_or rings link [] ++ effect ∷ [])
+put_behind ring effect rings =
+    slice_set rings ring (slice_index_or rings ring [] ++ effect ∷ [])
 
--- whoever is told of the effect has this link
+-- whoever is told of the effect is told through this ring
 abbrev pub IsFor : Directory → Effect → ℕ → Type 0
-IsFor directory effect link = link_of directory (recipient effect) ≡ Some link
+IsFor directory effect ring = ring_of directory (recipient effect) ≡ Some ring
 
--- it comes into the ring of its link; it is lost only where it has none, or the ring isn't known to
--- have room
+-- it comes into the ring of whoever is told; it is lost only where there is none, or the ring isn't
+-- known to have room
 abbrev pub IsRoutedOne : Directory → Effect → Option ℕ → List Outlet → List Outlet → Type 0
 IsRoutedOne directory effect got old new = MatchOption got
-    ((rings_of new ≡ rings_of old) × ((link : ℕ) (outlet : Outlet) → IsFor directory effect link
-    → slice_get old link ≡ Some outlet → room_of outlet ≡ 0))
-    (λ link. IsFor directory effect link
-    × (rings_of new ≡ put_behind link effect (rings_of old)))
+    ((rings_of new ≡ rings_of old) × ((ring : ℕ) (outlet : Outlet) → IsFor directory effect ring
+    → slice_get old ring ≡ Some outlet → room_of outlet ≡ 0))
+    (λ ring. IsFor directory effect ring
+    × (rings_of new ≡ put_behind ring effect (rings_of old)))
 
 -- effects come into rings one after another, and so many of them are lost
 abbrev pub IsRouted : Directory → List Effect → ℕ → List Outlet → List Outlet → Type 0
@@ -37,5 +37,5 @@ IsRouted directory [] lost old new = (lost ≡ 0) × (new ≡ old)
 IsRouted directory (effect ∷ effects) lost old new =
     (got : Option ℕ) × ((others : ℕ) × ((between : List Outlet)
     × (IsRoutedOne directory effect got old between
-    × ((lost ≡ option_map_or (λ link. 0) got 1 + others)
+    × ((lost ≡ option_map_or (λ ring. 0) got 1 + others)
     × IsRouted directory effects others between new))))

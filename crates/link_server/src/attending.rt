@@ -81,7 +81,10 @@ impl<'x, B: Books, R: Wait, G: Gate, C: LifeClock> Attendant<'x, B, R, G, C> {
                 self.control.keep_waiting(rt, stream);
                 self.server.end(rt);
             }
-            Some(Order::Status) => answer(&stream, status_text(rt, alloc, self.server)),
+            Some(Order::Status) => {
+                let text = status_text(rt, alloc, self.server, self.context.times);
+                answer(&stream, text);
+            }
             Some(Order::Devices) => {
                 answer(&stream, devices_text(rt, alloc, self.server, self.control));
             }

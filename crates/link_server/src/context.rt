@@ -3,6 +3,7 @@ use crate::gate::Gate;
 use crate::moments::LifeClock;
 use std::alloc::Global;
 use std::sync::Wait;
+use timed_disk::DiskTimes;
 
 /// The system and its memory, and the gate and the clock, in whose places a test has its own.
 #[derive(Drop)]
@@ -11,4 +12,6 @@ pub(crate) struct Context<'x, R: Wait, G: Gate, C: LifeClock> {
     pub(crate) alloc: Global,
     pub(crate) gate: &'x G,
     pub(crate) clock: &'x C,
+    // What operators are told of the disk, where there are any.
+    pub(crate) times: Option<&'x DiskTimes>,
 }

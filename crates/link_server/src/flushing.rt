@@ -6,6 +6,7 @@ ghost use Rattle.store.specs.State.{store_state};
 use crate::link::MOST_PLACES;
 use crate::routing::route;
 use crate::server::LiveServer;
+use directory::{APPLICATIONS, Directory};
 use disk::Disk;
 use flusher::{Drawn, Released, serve};
 use lw_types::Refusal;
@@ -15,6 +16,10 @@ use sights::Sight;
 use std::alloc::Global;
 use std::sync::Wait;
 use store::Store;
+use timed_disk::DiskTimes;
+
+// The most rings that there are.
+const MOST_RINGS: usize = MOST_PLACES as usize + APPLICATIONS;
 
 /// Commits, and lets effects out, until nothing is decided any more and all is committed; then
 /// tells the senders that nothing more comes. A refusal closes the links, and what waits for them
@@ -23,6 +28,7 @@ pub(crate) fn flush<B: Books, R: Wait, D: Disk>(
     rt: &R,
     alloc: Global,
     server: &LiveServer<B>,
+    times: Option<&DiskTimes>,
     store: &mut Store<D>,
     taker: Taker<B>,
     outlets: Vec<Outlet>,
@@ -34,13 +40,10 @@ pub(crate) fn flush<B: Books, R: Wait, D: Disk>(
     let mut feed = Drawn::new(rt, &server.sessions, taker);
     let mut is_ticked = false;
     let served = {
-        let mut out = |released: Vec<Released>| let_out(
-            rt,
-            alloc,
-            server,
-            outlets.as_mut_slice(),
-            released,
-        );
+        let mut out = |released: Vec<Released>| {
+            let_out(rt, alloc, server, outlets.as_mut_slice(), released);
+            tell_times(rt, server, times);
+        };
         let mut done = || is_done(rt, server, &mut is_ticked);
         serve(rt, store, &mut feed, alloc, &mut out, &mut done)
     };
@@ -54,7 +57,8 @@ pub(crate) fn flush<B: Books, R: Wait, D: Disk>(
     served
 }
 
-// The bell of each link that gets something rings once.
+// The bell of each link that gets something rings once. An application that has no link finds it
+// when it comes.
 fn let_out<B: Books, R: Wait>(
     rt: &R,
     alloc: Global,
@@ -66,15 +70,12 @@ fn let_out<B: Books, R: Wait>(
     if server.is_watched() {
         tell_joins(rt, server, released.as_slice());
     }
-    let mut marks = [false; MOST_PLACES as usize];
+    let mut marks = [false; MOST_RINGS];
     let mut missed = Vec::new(alloc);
-    let lost = route(
-        &server.directory.lock(rt),
-        outlets,
-        released,
-        &mut marks,
-        &mut missed,
-    );
+    let directory = server.directory.lock(rt);
+    let lost = route(&directory, outlets, released, &mut marks, &mut missed);
+    mark_links(&directory, server.links.len(), &mut marks);
+    drop(directory);
     server.signals.count_dropped(lost as u64);
     for name in missed {
         server.tell(rt, Sight::Dropped(name, 1));
@@ -82,6 +83,34 @@ fn let_out<B: Books, R: Wait>(
     for (link, is_marked) in server.links.iter().zip(marks) {
         if is_marked {
             link.bell.unpark();
+        }
+    }
+}
+
+// Operators who watch are told what the disk did meanwhile.
+fn tell_times<B: Books, R: Wait>(rt: &R, server: &LiveServer<B>, times: Option<&DiskTimes>) {
+    let Some(times) = times else {
+        return;
+    };
+    if times.take_checkpoints() > 0 {
+        server.tell(rt, Sight::Checkpoint);
+    }
+    if let Some(millis) = times.take_slow_sync() {
+        server.tell(rt, Sight::SlowSync(millis));
+    }
+}
+
+// Marks the links of applications whose own rings are marked, which come behind those of so many
+// links.
+fn mark_links(directory: &Directory, links: usize, marks: &mut [bool]) {
+    for (application, link) in directory.applications().iter().enumerate() {
+        let ring = links.saturating_add(application);
+        if let Some(link) = *link
+            && marks.get(ring).is_some_and(|is_marked| *is_marked)
+        {
+            if let Some(mark) = marks.get_mut(link) {
+                *mark = true;
+            }
         }
     }
 }

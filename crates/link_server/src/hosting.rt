@@ -141,6 +141,8 @@ fn hold<'s, 'x: 's, E, B: Books, R: Threads + Wait + Sync, G: Gate, C: LifeClock
         alloc: context.alloc,
         signals: &worker.server.signals,
         watch: worker.server.watch(),
+        lines: worker.server.lines_of(&call.name),
+        links: worker.server.links.as_slice(),
         link: worker.link,
         call,
     };

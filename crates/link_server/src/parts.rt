@@ -1,11 +1,13 @@
 // What the threads of a life own, before they are started.
 ghost use Rattle.std.specs.Prelude.{◌≡◌, ◌+◌};
 
+use directory::APPLICATIONS;
 use lw_types::Refusal;
 use outbox::{Inlet, Outlet, ring};
 use rtrb::{Consumer, Producer, RingBuffer};
 use session_core::{Books, Seat, Shared};
 use std::alloc::Global;
+use std::sync::Mutex;
 
 /// The places of each of a link's two rings.
 pub(crate) const PLACES: usize = 1024;
@@ -20,8 +22,12 @@ pub(crate) struct LinkParts<B: Books> {
     pub(crate) refusals: Consumer<Refusal>,
 }
 
-/// The parts of each link's threads, the closer's seat, and the flusher's outlets, one for each
-/// link.
+/// Where an application's lines come out of its ring. The sender of its link has this end while
+/// there is one.
+pub(crate) type Lines = Mutex<Option<Inlet>>;
+
+/// The parts of each link's threads, the closer's seat, and the flusher's outlets: one for each
+/// link, and behind them one for each application that has a ring of its own.
 #[derive(Drop)]
 pub(crate) struct Parts<B: Books> {
     pub(crate) links: Vec<LinkParts<B>>,
@@ -54,5 +60,17 @@ impl<B: Books> Parts<B> {
             closer: shared.seat(),
             outlets,
         })
+    }
+
+    /// A ring for each application, behind those of the links: what leaves for it waits there, also
+    /// while it has no link. Refused with `OutOfMemory` for want of memory.
+    pub(crate) fn add_lines(&mut self, alloc: Global) -> Result<Vec<Lines>, Refusal> {
+        let mut all = Vec::new(alloc);
+        for _application in 0..APPLICATIONS {
+            let (outlet, inlet) = ring(alloc, PLACES)?;
+            self.outlets.push(outlet)?;
+            all.push(Mutex::new(Some(inlet)))?;
+        }
+        Ok(all)
     }
 }

@@ -1,4 +1,4 @@
-// Released effects go into the rings of their links.
+// Released effects go into the rings of whoever is told of them.
 ghost use Rattle.std.specs.Prelude.{◌≡◌, length};
 ghost use Rattle.flusher.specs.Released.{effect_of, effects_of_all};
 ghost use Rattle.link_server.specs.Routing.{IsRouted, IsRoutedOne};
@@ -8,12 +8,12 @@ use flusher::Released;
 use gateway_wire::Recipient;
 use outbox::Outlet;
 
-/// Puts an effect into the ring of its link, and gives the link's number. `None` where there is no
-/// such link, or its ring is full: the effect is lost.
+/// Puts an effect into the ring of whoever is told of it, and gives the ring's number. `None` where
+/// there is no such ring, or it is full: the effect is lost.
 fn route_one(directory: &Directory, outlets: &mut [Outlet], released: Released) -> Option<usize>
     ensures { IsRoutedOne directory.now (effect_of released) result outlets.old outlets.new }
 {
-    let number = directory.link_of(&Recipient::of(released.effect()))?;
+    let number = directory.ring_of(&Recipient::of(released.effect()))?;
     if number >= outlets.len() {
         return None;
     }
@@ -23,8 +23,8 @@ fn route_one(directory: &Directory, outlets: &mut [Outlet], released: Released) 
     }
 }
 
-/// Puts effects into the rings of their links, in order, and marks those links. How many were lost;
-/// whom these were for stands in `missed`, as far as there is memory.
+/// Puts effects into the rings of whoever is told of them, in order, and marks those rings. How many
+/// were lost; whom these were for stands in `missed`, as far as there is memory.
 pub(crate) fn route(
     directory: &Directory,
     outlets: &mut [Outlet],

@@ -110,6 +110,7 @@ fn run_in<
             context.rt,
             context.alloc,
             server,
+            context.times,
             &mut store,
             taker,
             outlets,
@@ -183,6 +184,7 @@ impl<B: Books + Send + Sync> Started<B> {
             inlet,
             refusals,
             outgoing,
+            keeps: false,
             is_broken: false,
         };
         self.keep_sender(start_sender(context.alloc, scope, number, sender));
@@ -237,6 +239,7 @@ impl<B: Books + Send + Sync> Started<B> {
         for thread in senders {
             thread.join(rt);
         }
+        server.drop_lines(rt);
         server.close(rt);
         for thread in attendants {
             thread.join(rt);

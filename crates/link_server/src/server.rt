@@ -1,9 +1,12 @@
 // What the threads of a life share.
 use crate::control::ControlSocket;
 use crate::door::Door;
+use crate::gathering::drop_all;
 use crate::link::Link;
+use crate::parts::Lines;
 use crate::signals::Signals;
 use directory::Directory;
+use gateway_wire::Recipient;
 use session_core::{Books, Shared};
 use std::net::TcpStream;
 use std::sync::{Mutex, Wait};
@@ -18,6 +21,8 @@ pub(crate) struct LiveServer<B: Books> {
     pub(crate) control: Option<ControlSocket>,
     pub(crate) sessions: Mutex<Shared<B>>,
     pub(crate) directory: Mutex<Directory>,
+    // For each application, what waits for it; none in a life of links that stay.
+    pub(crate) lines: Vec<Lines>,
     pub(crate) signals: Signals,
 }
 
@@ -38,6 +43,23 @@ impl<B: Books> LiveServer<B> {
         self.shut_door();
         for link in &self.links {
             link.close_input(rt);
+        }
+    }
+
+    /// What waits for an application, where applications have rings of their own.
+    pub(crate) fn lines_of(&self, name: &Recipient) -> Option<&Lines> {
+        match name {
+            Recipient::Application(application) => self.lines.get(application.get() as usize),
+            Recipient::Gateway(_) => None,
+        }
+    }
+
+    /// No link takes anything more: what waits for applications is lost.
+    pub(crate) fn drop_lines<R: Wait>(&self, rt: &R) {
+        for lines in &self.lines {
+            if let Some(inlet) = lines.lock(rt).as_mut() {
+                self.signals.count_dropped(drop_all(inlet));
+            }
         }
     }
 

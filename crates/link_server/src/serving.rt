@@ -10,7 +10,7 @@ use crate::door::Door;
 use crate::gate::Gate;
 use crate::link::{Link, LinkCount, PlaceCount, accept, empty_places};
 use crate::moments::LifeClock;
-use crate::parts::Parts;
+use crate::parts::{Lines, Parts};
 use crate::running::{LifeEnd, run};
 use crate::server::LiveServer;
 use crate::signals::Signals;
@@ -27,6 +27,7 @@ use std::sync::ledger::Blank;
 use std::sync::{Mutex, Wait};
 use std::thread::Threads;
 use store::Store;
+use timed_disk::DiskTimes;
 
 /// Accepts so many links, closes the listener, and serves the links until the inputs of all have
 /// ended: what they say is decided and committed to the store, and what may leave goes out on them.
@@ -77,6 +78,7 @@ pub fn serve_links<R: Threads + Wait + Sync, D: Disk + Drop, G: Gate + Sync, C: 
         alloc,
         gate,
         clock,
+        times: None,
     };
     begin(&context, store, links, None, None)
 }
@@ -90,11 +92,16 @@ pub fn serve_links<R: Threads + Wait + Sync, D: Disk + Drop, G: Gate + Sync, C: 
 /// fault; then its name and its place are free, its sender writes what waits, and gives up a peer
 /// that takes nothing for eight seconds. **A greeting with a name that has a link takes it over**:
 /// the older link is closed at once, and what waits for it is dropped, and counted. So is what
-/// finds no link of its name. What leaves on a link is for the name of that link, whoever had its
+/// finds no gateway of its name. What leaves on a link is for the name of that link, whoever had its
 /// place before. Who comes while all places are taken waits for one.
 ///
+/// What leaves for an application waits while it has no link, 1,024 lines at most, and goes on in
+/// its order on the next link that it has, but for what was being written when a link failed. What
+/// waits for an application that has no link at the end is dropped, and counted.
+///
 /// Operators come in by a listener of their own, eight at a time, and say an [`Order`] each.
-/// One who says nothing for two seconds is given up.
+/// One who says nothing for two seconds is given up. What they are told of the disk stands in
+/// `times`.
 pub fn serve_on<R: Threads + Wait + Sync, D: Disk + Drop, G: Gate + Sync, C: LifeClock + Sync>(
     rt: &R,
     alloc: Global,
@@ -104,6 +111,7 @@ pub fn serve_on<R: Threads + Wait + Sync, D: Disk + Drop, G: Gate + Sync, C: Lif
     count: PlaceCount,
     gate: &G,
     clock: &C,
+    times: &DiskTimes,
 ) -> ServedLife<D>
     ensures shares { IfOk result.result (λ report. sum report.shares.items ≡ report.made) }
     ensures lives { D.honest
@@ -125,6 +133,7 @@ pub fn serve_on<R: Threads + Wait + Sync, D: Disk + Drop, G: Gate + Sync, C: Lif
         alloc,
         gate,
         clock,
+        times: Some(times),
     };
     begin(&context, store, links, Some(door), Some(control))
 }
@@ -210,17 +219,13 @@ fn serve_life<
     if control.is_some() {
         shared.observe();
     }
-    let parts = match Parts::new(context.alloc, &mut shared, links.len()) {
+    let mut parts = match Parts::new(context.alloc, &mut shared, links.len()) {
         Ok(parts) => parts,
         Err(refusal) => return failed(context.alloc, store, ServeFault::Refused(refusal)),
     };
-    let directory = match Directory::new(context.alloc) {
-        Ok(directory) => directory,
-        Err(_) => return failed(
-            context.alloc,
-            store,
-            ServeFault::Refused(Refusal::OutOfMemory),
-        ),
+    let (directory, lines) = match named(context.alloc, &mut parts, &door, links.len()) {
+        Ok(named) => named,
+        Err(refusal) => return failed(context.alloc, store, ServeFault::Refused(refusal)),
     };
     let server = LiveServer {
         signals: Signals::new(links.len() as u64),
@@ -229,6 +234,7 @@ fn serve_life<
         control,
         sessions: Mutex::new(shared),
         directory: Mutex::new(directory),
+        lines,
     };
     let LifeEnd {
         store,
@@ -254,6 +260,23 @@ fn serve_life<
         result,
         waiting,
     }
+}
+
+// Nobody is linked yet. Where links come and go, applications have rings of their own, behind those
+// of so many links.
+fn named<B: Books>(
+    alloc: Global,
+    parts: &mut Parts<B>,
+    door: &Option<Door>,
+    links: usize,
+) -> Result<(Directory, Vec<Lines>), Refusal>
+    requires { links ≤ 96 }
+{
+    if door.is_none() {
+        return Ok((Directory::new(alloc, None)?, Vec::new(alloc)));
+    }
+    let lines = parts.add_lines(alloc)?;
+    Ok((Directory::new(alloc, Some(links as u16))?, lines))
 }
 
 // A seat that didn't come back is of a thread that was never started, for want of memory.

@@ -5,15 +5,17 @@ use lw_types::Refusal;
 use session_core::Books;
 use std::alloc::Global;
 use std::sync::Wait;
+use timed_disk::DiskTimes;
 
 /// Lines of a name and a value: where links come in, how many there may be and are, how many of
-/// them are gateways and applications, what the sessions have, what was counted in this life, and
-/// for each gateway that is linked the moment of the last copy that came on its link. Refused with
+/// them are gateways and applications, what the sessions have, what was counted in this life and of
+/// the disk, and for each gateway that is linked the moment of the last copy that came on its link. Refused with
 /// `OutOfMemory` for want of memory.
 pub(crate) fn status_text<B: Books, R: Wait>(
     rt: &R,
     alloc: Global,
     server: &LiveServer<B>,
+    times: Option<&DiskTimes>,
 ) -> Result<String, Refusal> {
     let mut text = String::new(alloc);
     if let Some(door) = &server.door {
@@ -30,6 +32,14 @@ pub(crate) fn status_text<B: Books, R: Wait>(
         ("silent", signals.silent()),
     ];
     add_counts(alloc, &counts, &mut text)?;
+    if let Some(times) = times {
+        let counts = [
+            ("checkpoints", times.checkpoints()),
+            ("syncs", times.syncs()),
+            ("longest_sync_us", times.longest_sync()),
+        ];
+        add_counts(alloc, &counts, &mut text)?;
+    }
     add_last_copies(rt, alloc, server, &mut text)?;
     Ok(text)
 }
@@ -49,7 +59,9 @@ fn add_links<B: Books, R: Wait>(
     text: &mut String,
 ) -> Result<(), Refusal> {
     let directory = server.directory.lock(rt);
-    let (gateways, applications) = (directory.gateways().len(), directory.applications());
+    let gateways = directory.gateways().len();
+    let links = directory.applications().iter();
+    let applications = links.filter(|link| link.is_some()).count();
     drop(directory);
     let counts = [
         ("places", server.links.len() as u64),

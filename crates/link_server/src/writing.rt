@@ -2,6 +2,7 @@
 use crate::gathering::{Gathered, add_refusal, gather};
 use crate::link::Link;
 use crate::outgoing::Outgoing;
+use crate::parts::Lines;
 use crate::signals::Signals;
 use crate::watching::Watch;
 use gateway_wire::Recipient;
@@ -35,6 +36,8 @@ pub(crate) struct Sender<'x, R: Wait> {
     pub(crate) inlet: Inlet,
     pub(crate) refusals: Consumer<Refusal>,
     pub(crate) outgoing: Outgoing,
+    // What wasn't sent when the link broke waits for the next one of its name.
+    pub(crate) keeps: bool,
     // The link takes nothing any more.
     pub(crate) is_broken: bool,
 }
@@ -46,7 +49,7 @@ impl<'x, R: Wait> Sender<'x, R> {
         let mut sender = self;
         let _ = sender.outgoing.reserve();
         for _ in sender.rt.forever() {
-            if sender.signals.is_stopped() {
+            if sender.signals.is_stopped() || sender.is_given_up() {
                 break;
             }
             // What was put before the end was told is seen by the looks behind this one.
@@ -64,6 +67,11 @@ impl<'x, R: Wait> Sender<'x, R> {
             inlet: sender.inlet,
             outgoing: sender.outgoing,
         }
+    }
+
+    // Whether what waits is left for the next link of this name.
+    fn is_given_up(&self) -> bool {
+        self.keeps && (self.is_broken || self.link.is_taken())
     }
 
     // Whether nothing more is put into the ring for this link.
@@ -175,16 +183,66 @@ pub(crate) struct HostSender<'x, R: Wait> {
     pub(crate) alloc: Global,
     pub(crate) signals: &'x Signals,
     pub(crate) watch: Option<&'x Watch>,
+    // What waits for it, where it is an application that has a ring of its own.
+    pub(crate) lines: Option<&'x Lines>,
+    // All links: a sender of one of them may wait for these lines.
+    pub(crate) links: &'x [Link],
     pub(crate) link: &'x Link,
     pub(crate) call: &'x Call,
 }
 
 impl<'x, R: Wait> HostSender<'x, R> {
-    /// Writes what leaves on the link, with what the place has for it.
+    /// Writes what leaves on the link, with what the place has for it; a gateway's by the ring of
+    /// the place, an application's by its own.
     pub(crate) fn run(self, refusals: Consumer<Refusal>) {
-        let Some(Spare { inlet, outgoing }) = self.link.spare.lock(self.rt).take() else {
+        let Some(spare) = self.link.spare.lock(self.rt).take() else {
             return;
         };
+        let spare = match self.lines {
+            None => self.send(spare, refusals),
+            Some(lines) => self.send_lines(lines, spare, refusals),
+        };
+        *self.link.spare.lock(self.rt) = Some(spare);
+    }
+
+    // The ring of an application is there once the sender of its older link has ended, which rings
+    // then.
+    fn send_lines(&self, lines: &Lines, spare: Spare, refusals: Consumer<Refusal>) -> Spare {
+        let Some(inlet) = self.wait_for(lines) else {
+            return spare;
+        };
+        let Spare {
+            inlet: unused,
+            outgoing,
+        } = spare;
+        let Spare { inlet, outgoing } = self.send(Spare { inlet, outgoing }, refusals);
+        *lines.lock(self.rt) = Some(inlet);
+        for link in self.links {
+            link.bell.unpark();
+        }
+        Spare {
+            inlet: unused,
+            outgoing,
+        }
+    }
+
+    // `None` where the link has ended, or the life is stopped, before the ring is there.
+    fn wait_for(&self, lines: &Lines) -> Option<Inlet> {
+        for _ in self.rt.forever() {
+            let inlet = lines.lock(self.rt).take();
+            if inlet.is_some() {
+                return inlet;
+            }
+            if self.link.is_over() || self.link.is_taken() || self.signals.is_stopped() {
+                return None;
+            }
+            self.link.bell.park(self.rt);
+        }
+        None
+    }
+
+    fn send(&self, spare: Spare, refusals: Consumer<Refusal>) -> Spare {
+        let Spare { inlet, outgoing } = spare;
         let sender = Sender {
             rt: self.rt,
             alloc: self.alloc,
@@ -196,10 +254,10 @@ impl<'x, R: Wait> HostSender<'x, R> {
             inlet,
             refusals,
             outgoing,
+            keeps: self.lines.is_some(),
             is_broken: false,
         };
-        let spare = sender.run();
-        *self.link.spare.lock(self.rt) = Some(spare);
+        sender.run()
     }
 }
 

@@ -1,7 +1,7 @@
 // Links that come and go while a server goes on.
 use crate::lives::{new_store, of_socket, refusal_of};
 use crate::wire::wire;
-use link_server::{Monotonic, OpenGate, Order, PlaceCount, ServedLife, serve_on};
+use link_server::{Monotonic, OpenGate, Order, PlaceCount, ServedLife, WATCHING, serve_on};
 use lw_types::Refusal;
 use std::alloc::Global;
 use std::io::{Read, Write};
@@ -11,6 +11,7 @@ use std::os::unix::net::{SocketAddrExt, UnixListener, UnixStream};
 use std::rt::{Clock, Files};
 use std::sync::Wait;
 use std::thread::{Threads, join};
+use timed_disk::DiskTimes;
 
 // A gateway, an application, and what they say and hear. The frames were made by a device and a
 // network that are none of ours (examples/outside).
@@ -75,37 +76,111 @@ fn order<R: Net>(rt: &R, at: &net::SocketAddr, order: Order) -> Result<UnixStrea
     Ok(stream)
 }
 
-// A gateway's link is taken over by its next one, and an application's ends and comes again:
-// whether each hears what it should. Then the life is told to end.
+fn answer<R: Net>(
+    rt: &R,
+    alloc: Global,
+    at: &net::SocketAddr,
+    asked: Order,
+) -> Result<String, Refusal> {
+    let mut text = String::new(alloc);
+    let mut stream = order(rt, at, asked)?;
+    of_socket(stream.read_to_string(&mut text))?;
+    Ok(text)
+}
+
+// Whether this is heard first.
+fn starts(alloc: Global, stream: &UnixStream, text: &str) -> Result<bool, Refusal> {
+    let mut stream = stream;
+    let mut heard = vec![in alloc; 0; text.len()]?;
+    of_socket(stream.read_exact(heard.as_mut_slice()))?;
+    Ok(heard.as_slice() == text.as_bytes())
+}
+
+// Whether the clients of a life heard what they should, what operators were told, and the link of
+// the one who told the life to end.
+#[derive(Drop)]
+struct Said {
+    same: bool,
+    status: String,
+    devices: String,
+    watcher: UnixStream,
+    stop: UnixStream,
+}
+
+// A gateway's link is taken over by its next one, and an application's ends and comes again, with
+// an uplink in between, and the join once more, which is refused. Then the life is told to end.
 fn clients<R: Net<Listener = TcpListener, Stream = TcpStream>>(
     rt: &R,
     alloc: Global,
     address: SocketAddr,
     control: &net::SocketAddr,
-) -> Result<(bool, String, UnixStream), Refusal> {
+) -> Result<Said, Refusal> {
+    let watcher = order(rt, control, Order::Watch)?;
+    let mut same = starts(alloc, &watcher, WATCHING)?;
     let mut older = connect(rt, alloc, address, GATEWAY)?;
     let mut application = connect(rt, alloc, address, APPLICATION)?;
     say(alloc, &mut application, PROVISION)?;
-    let mut same = hears(alloc, &mut application, PROVISIONED)?;
+    same = same && hears(alloc, &mut application, PROVISIONED)?;
     say(alloc, &mut older, JOIN)?;
     same = same && hears(alloc, &mut older, ACCEPT)?;
     let mut newer = connect(rt, alloc, address, GATEWAY)?;
     same = same && ends(&mut older);
-    say(alloc, &mut newer, UPLINK)?;
-    same = same && hears(alloc, &mut application, UP)?;
     of_socket(application.shutdown(Shutdown::Write))?;
     same = same && ends(&mut application);
+    say(alloc, &mut newer, UPLINK)?;
+    say(alloc, &mut newer, JOIN)?;
     let mut application = connect(rt, alloc, address, APPLICATION)?;
+    same = same && hears(alloc, &mut application, UP)?;
     say(alloc, &mut application, QUEUE)?;
     same = same && hears(alloc, &mut application, QUEUED)?;
-    let mut text = String::new(alloc);
-    let mut status = order(rt, control, Order::Status)?;
-    of_socket(status.read_to_string(&mut text))?;
-    Ok((same, text, order(rt, control, Order::Stop)?))
+    let status = answer(rt, alloc, control, Order::Status)?;
+    let devices = answer(rt, alloc, control, Order::Devices)?;
+    Ok(Said {
+        same,
+        status,
+        devices,
+        watcher,
+        stop: order(rt, control, Order::Stop)?,
+    })
 }
 
-// What a life of four places comes to.
-fn live<R>(rt: &R, alloc: Global) -> Result<(bool, bool, (u64, u64, u64, u64)), Refusal>
+// What operators are told: how it goes, which devices there are, and what happens. The moments vary.
+const STATUS: &[&str] = &[
+    "places 4\n",
+    "gateways 1\n",
+    "applications 1\n",
+    "devices 1\n",
+    "slots 8\n",
+    "made 4\n",
+    "decided 4\n",
+    "taken_over 1\n",
+    "checkpoints 0\n",
+    "syncs 0\n",
+    "last_copy_00000000000000B1 ",
+];
+
+const DEVICES: &[&str] = &[
+    "0 1112131415161718 1 1 0 0 1 1 ",
+    " 00000000000000B1 -20 -95\n",
+    "devices 1 seq 4\n",
+];
+
+const WATCHED: &[&str] = &[
+    "linked gateway 00000000000000B1\n",
+    "linked application 3\n",
+    "joined 1112131415161718 1 00000000000000B1\n",
+    "taken_over gateway 00000000000000B1\n",
+    "ended application 3\n",
+    "refused 9 DevNonceUsed join 1112131415161718 1 00000000000000B1 868100000 5 -20 -95\n",
+];
+
+// The first of these that a text lacks.
+fn lacks<'a>(text: &str, wanted: &[&'a str]) -> Option<&'a str> {
+    wanted.iter().copied().find(|it| !text.contains(*it))
+}
+
+// What a life of four places comes to: what was heard wrong, and the counts of its report.
+fn live<R>(rt: &R, alloc: Global) -> Result<(Option<&'static str>, (u64, u64, u64, u64)), Refusal>
 where
     R: Net<Listener = TcpListener, Stream = TcpStream> + Files + Clock + Threads + Wait + Sync,
 {
@@ -116,34 +191,55 @@ where
     let control = of_socket(UnixListener::bind_addr(rt, &at))?;
     let clock = of_socket(Monotonic::start(rt))?;
     let places = PlaceCount::new(4).ok_or(Refusal::Damaged)?;
+    let times = DiskTimes::new();
     let store = new_store(alloc)?;
-    let (served, heard) = join(
+    let (served, said) = join(
         rt,
         || serve_on(
-            rt, alloc, store, listener, control, places, &OpenGate, &clock,
+            rt, alloc, store, listener, control, places, &OpenGate, &clock, &times,
         ),
         || clients(rt, alloc, address, &at),
     );
-    let (same, status, waiting) = heard?;
+    let ServedLife {
+        result,
+        waiting,
+        ..
+    } = served;
     drop(waiting);
-    let ServedLife { result, .. } = served;
     let report = result.map_err(|fault| refusal_of(fault))?;
-    let told = [
-        "gateways 1\n",
-        "applications 1\n",
-        "made 4\n",
-        "taken_over 1\n",
-    ];
     let counts = (
         report.dropped,
         report.faulted,
         report.taken_over,
         report.made,
     );
-    Ok((same, told.iter().all(|line| status.contains(*line)), counts))
+    Ok((wrong(alloc, said?)?, counts))
+}
+
+// The first thing that was heard wrong in a life, which is over.
+fn wrong(alloc: Global, said: Said) -> Result<Option<&'static str>, Refusal> {
+    let Said {
+        same,
+        status,
+        devices,
+        watcher,
+        ..
+    } = said;
+    if !same {
+        return Ok(Some("a link"));
+    }
+    let mut watcher = watcher;
+    let mut watched = String::new(alloc);
+    of_socket(watcher.read_to_string(&mut watched))?;
+    Ok(
+        lacks(status.as_str(), STATUS)
+            .or(lacks(devices.as_str(), DEVICES))
+            .or(lacks(watched.as_str(), WATCHED)),
+    )
 }
 
 #[test]
 fn links_come_again(rt: HostRuntime) {
-    assert!(rt; live(&rt, rt.alloc()) == Ok((true, true, (0, 0, 1, 4))));
+    let lived = live(&rt, rt.alloc());
+    assert!(rt; lived == Ok((None, (0, 0, 1, 4))), "{lived:?}");
 }

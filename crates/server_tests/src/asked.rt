@@ -47,6 +47,17 @@ where
         && err.as_slice() == told.err.as_bytes()
 }
 
+/// Whether these words are done, and what they write begins so.
+pub fn begins<R>(rt: &R, alloc: Global, words: &[&str], told: &str) -> bool
+where
+    R: Files<File = File> + Net<Listener = TcpListener, Stream = TcpStream>,
+    R: Clock + Threads + Wait + Sync,
+{
+    let (mut out, mut err) = (Vec::new(alloc), Vec::new(alloc));
+    let status = command(rt, alloc, words, &mut out, &mut err);
+    status == 0 && err.is_empty() && out.as_slice().starts_with(told.as_bytes())
+}
+
 /// Whether a store of network 00002A with 8 slots is made there.
 pub fn formats<R>(rt: &R, alloc: Global, file: &str) -> bool
 where

@@ -12,6 +12,8 @@ mod links_tests;
 #[cfg(test)]
 mod runs_tests;
 #[cfg(test)]
+mod sights_tests;
+#[cfg(test)]
 mod stores_tests;
 #[cfg(test)]
 mod words_tests;

@@ -1,5 +1,5 @@
 // A server that runs until it is stopped, and what its operator is told.
-use crate::asked::{Told, done, ends, failed, formats, lists, path_of, remove};
+use crate::asked::{Told, begins, done, ends, failed, formats, lists, path_of, remove};
 use crate::links_tests::{address_of, talk};
 use std::alloc::Global;
 use std::fs::File;
@@ -29,19 +29,18 @@ where
     R: Clock + Threads + Wait + Sync,
 {
     let status = format!(in alloc;
-        "listening {address}\nplaces 3\nlinks 0\ngateways 0\n\
-        applications 0\nmade 0\ndropped 0\nfaulted 0\ntaken_over 0\nsilent 0\n"
+        "listening {address}\nplaces 3\nlinks 0\ngateways 0\napplications 0\n\
+        devices 0\nslots 8\nwindows 0\nwaiting 0\nmade 0\ndecided 0\n\
+        commits 0\ndropped 0\nfaulted 0\ntaken_over 0\nsilent 0\n\
+        checkpoints 0\nsyncs 1\nlongest_sync_us "
     )?;
-    let begun = ends(
-        rt,
-        alloc,
-        &["status", file, "--wait", "50"],
-        &done(status.as_str()),
-    );
+    let words = ["status", file, "--wait", "50"];
+    let begun = begins(rt, alloc, &words, status.as_str());
+    let listed = ends(rt, alloc, &["devices", file], &done("devices 0 seq 0\n"));
     let is_held = runs(rt, alloc, file, "127.0.0.1:0", &failed("lnsd: file\n"));
     let same = talk(rt, address)?;
     let stopped = ends(rt, alloc, &["stop", file], &done(""));
-    Ok(begun && is_held && same && stopped)
+    Ok(begun && listed && is_held && same && stopped)
 }
 
 #[test]
@@ -52,9 +51,11 @@ fn a_server_runs_until_it_is_stopped(rt: HostRuntime) {
     let control = format!(in alloc; "{file}.control").expect(&rt, "memory");
     assert!(rt; formats(&rt, alloc, file));
     assert!(rt; ends(&rt, alloc, &["stop", file], &failed("lnsd: not running\n")));
+    assert!(rt; ends(&rt, alloc, &["watch", file], &failed("lnsd: not running\n")));
     // one that is left over is told apart, and removed
     drop(UnixListener::bind(&rt, control.as_str()).expect(&rt, "a socket"));
     assert!(rt; ends(&rt, alloc, &["status", file], &failed("lnsd: left over\n")));
+    assert!(rt; ends(&rt, alloc, &["devices", file], &failed("lnsd: left over\n")));
     let address = address_of(&rt, alloc, 1).expect(&rt, "memory");
     let out = format!(in alloc; "listening {address}\n").expect(&rt, "memory");
     let told = Told {
