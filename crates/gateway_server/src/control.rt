@@ -134,7 +134,7 @@ pub(crate) fn watch<R: Net, O: Write>(
     let word = Order::Watch.word();
     writeln!(stream, "{word}").map_err(|_| Fault::BrokenOff)?;
     let mut first = [0u8; WATCHING.len()];
-    let count = read_some(&mut stream, &mut first);
+    let count = fill_front(&mut stream, &mut first);
     if first.get(..count) != Some(WATCHING.as_bytes()) {
         return Err(if first.get(..count) == Some(BUSY.as_bytes()) {
             Fault::Busy
@@ -146,12 +146,13 @@ pub(crate) fn watch<R: Net, O: Write>(
 }
 
 // Fills as much of the buffer as comes. How much that is.
-fn read_some(stream: &mut UnixStream, buffer: &mut [u8]) -> usize {
+fn fill_front(stream: &mut UnixStream, buffer: &mut [u8]) -> usize {
     let mut len: usize = 0;
     for _ in 0..buffer.len() {
-        let Some(rest) = buffer.get_mut(len..) else {
+        let rest = buffer.get_mut(len..).unwrap_or(&mut []);
+        if rest.is_empty() {
             break;
-        };
+        }
         match stream.read(rest) {
             Ok(count) if count > 0 => len = len.saturating_add(count),
             _ => break,
@@ -160,8 +161,11 @@ fn read_some(stream: &mut UnixStream, buffer: &mut [u8]) -> usize {
     len
 }
 
-// Writes what comes, as it comes, until the other end has ended.
+// Writes what comes behind the first line, and that one too, as it comes, until the other end has
+// ended.
 fn pass_on<O: Write>(stream: &mut UnixStream, out: &mut O) -> io::Result<()> {
+    out.write_all(WATCHING.as_bytes())?;
+    out.flush()?;
     let mut buffer = [0u8; PIECE];
     for _ in 0..u64::MAX {
         let count = match stream.read(&mut buffer) {

@@ -83,10 +83,10 @@ impl<'x, B: Books, R: Wait, G: Gate, C: LifeClock> Attendant<'x, B, R, G, C> {
             }
             Some(Order::Status) => {
                 let text = status_text(rt, alloc, self.server, self.context.times);
-                answer(&stream, text);
+                tell_text(&stream, text);
             }
             Some(Order::Devices) => {
-                answer(&stream, devices_text(rt, alloc, self.server, self.control));
+                tell_text(&stream, devices_text(rt, alloc, self.server, self.control));
             }
             Some(Order::Watch) => self.receive(&stream),
             None => {}
@@ -122,7 +122,7 @@ impl<'x, B: Books, R: Wait, G: Gate, C: LifeClock> Attendant<'x, B, R, G, C> {
                 return;
             };
             if !waiting.is_empty() {
-                if !self.show(stream, &waiting) {
+                if !self.show(stream, waiting) {
                     return;
                 }
             } else if is_last {
@@ -135,8 +135,8 @@ impl<'x, B: Books, R: Wait, G: Gate, C: LifeClock> Attendant<'x, B, R, G, C> {
 
     // Whether the operator took all of it. While one takes nothing the attendant waits, unless the
     // life is over. Without memory nothing is told.
-    fn show(&self, stream: &UnixStream, waiting: &Waiting) -> bool {
-        let Ok(text) = waiting.text(self.context.alloc) else {
+    fn show(&self, stream: &UnixStream, waiting: Waiting) -> bool {
+        let Ok(text) = waiting.into_text(self.context.alloc) else {
             return false;
         };
         let mut stream = stream;
@@ -183,7 +183,7 @@ fn read_order(stream: &UnixStream) -> Option<Order> {
 }
 
 // Without memory for an answer nothing is answered.
-fn answer(stream: &UnixStream, text: Result<String, Refusal>) {
+fn tell_text(stream: &UnixStream, text: Result<String, Refusal>) {
     if let Ok(text) = text {
         let _ = send_text(stream, text.as_str());
     }

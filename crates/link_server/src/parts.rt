@@ -24,7 +24,7 @@ pub(crate) struct LinkParts<B: Books> {
 
 /// Where an application's lines come out of its ring. The sender of its link has this end while
 /// there is one.
-pub(crate) type Lines = Mutex<Option<Inlet>>;
+pub(crate) type WaitingLines = Mutex<Option<Inlet>>;
 
 /// The parts of each link's threads, the closer's seat, and the flusher's outlets: one for each
 /// link, and behind them one for each application that has a ring of its own.
@@ -64,7 +64,7 @@ impl<B: Books> Parts<B> {
 
     /// A ring for each application, behind those of the links: what leaves for it waits there, also
     /// while it has no link. Refused with `OutOfMemory` for want of memory.
-    pub(crate) fn add_lines(&mut self, alloc: Global) -> Result<Vec<Lines>, Refusal> {
+    pub(crate) fn add_lines(&mut self, alloc: Global) -> Result<Vec<WaitingLines>, Refusal> {
         let mut all = Vec::new(alloc);
         for _application in 0..APPLICATIONS {
             let (outlet, inlet) = ring(alloc, PLACES)?;

@@ -3,7 +3,7 @@ use crate::control::ControlSocket;
 use crate::door::Door;
 use crate::gathering::drop_all;
 use crate::link::Link;
-use crate::parts::Lines;
+use crate::parts::WaitingLines;
 use crate::signals::Signals;
 use directory::Directory;
 use gateway_wire::Recipient;
@@ -22,7 +22,7 @@ pub(crate) struct LiveServer<B: Books> {
     pub(crate) sessions: Mutex<Shared<B>>,
     pub(crate) directory: Mutex<Directory>,
     // For each application, what waits for it; none in a life of links that stay.
-    pub(crate) lines: Vec<Lines>,
+    pub(crate) lines: Vec<WaitingLines>,
     pub(crate) signals: Signals,
 }
 
@@ -47,7 +47,7 @@ impl<B: Books> LiveServer<B> {
     }
 
     /// What waits for an application, where applications have rings of their own.
-    pub(crate) fn lines_of(&self, name: &Recipient) -> Option<&Lines> {
+    pub(crate) fn lines_of(&self, name: &Recipient) -> Option<&WaitingLines> {
         match name {
             Recipient::Application(application) => self.lines.get(application.get() as usize),
             Recipient::Gateway(_) => None,

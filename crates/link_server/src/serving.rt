@@ -10,7 +10,7 @@ use crate::door::Door;
 use crate::gate::Gate;
 use crate::link::{Link, LinkCount, PlaceCount, accept, empty_places};
 use crate::moments::LifeClock;
-use crate::parts::{Lines, Parts};
+use crate::parts::{Parts, WaitingLines};
 use crate::running::{LifeEnd, run};
 use crate::server::LiveServer;
 use crate::signals::Signals;
@@ -56,14 +56,20 @@ use timed_disk::DiskTimes;
 /// Of all this the contract says that the shares sum to the decisions, and that the store was led
 /// on from where it was; what it calls is proved for itself, and the rest is shown by tests on
 /// sockets.
-pub fn serve_links<R: Threads + Wait + Sync, D: Disk + Drop, G: Gate + Sync, C: LifeClock + Sync>(
-    rt: &R,
+pub fn serve_links<
+    'x,
+    R: Threads + Wait + Sync,
+    D: Disk + Drop,
+    G: Gate + Sync,
+    C: LifeClock + Sync,
+>(
+    rt: &'x R,
     alloc: Global,
     store: Store<D>,
     listener: TcpListener,
     links: LinkCount,
-    gate: &G,
-    clock: &C,
+    gate: &'x G,
+    clock: &'x C,
 ) -> ServedLife<D>
     ensures shares { IfOk result.result (λ report. sum report.shares.items ≡ report.made) }
     ensures lives { D.honest
@@ -102,16 +108,16 @@ pub fn serve_links<R: Threads + Wait + Sync, D: Disk + Drop, G: Gate + Sync, C: 
 /// Operators come in by a listener of their own, eight at a time, and say an [`Order`] each.
 /// One who says nothing for two seconds is given up. What they are told of the disk stands in
 /// `times`.
-pub fn serve_on<R: Threads + Wait + Sync, D: Disk + Drop, G: Gate + Sync, C: LifeClock + Sync>(
-    rt: &R,
+pub fn serve_on<'x, R: Threads + Wait + Sync, D: Disk + Drop, G: Gate + Sync, C: LifeClock + Sync>(
+    rt: &'x R,
     alloc: Global,
     store: Store<D>,
     listener: TcpListener,
     control: UnixListener,
     count: PlaceCount,
-    gate: &G,
-    clock: &C,
-    times: &DiskTimes,
+    gate: &'x G,
+    clock: &'x C,
+    times: &'x DiskTimes,
 ) -> ServedLife<D>
     ensures shares { IfOk result.result (λ report. sum report.shares.items ≡ report.made) }
     ensures lives { D.honest
@@ -269,7 +275,7 @@ fn named<B: Books>(
     parts: &mut Parts<B>,
     door: &Option<Door>,
     links: usize,
-) -> Result<(Directory, Vec<Lines>), Refusal>
+) -> Result<(Directory, Vec<WaitingLines>), Refusal>
     requires { links ≤ 96 }
 {
     if door.is_none() {

@@ -1,7 +1,7 @@
 // Operators who watch are told what happens.
 use lw_types::Refusal;
 use sights::Sight;
-use std::alloc::Global;
+use std::alloc::{AllocError, Global};
 use std::mem;
 use std::sync::atomic::AtomicU64;
 use std::sync::atomic::Ordering::SeqCst;
@@ -11,14 +11,15 @@ use std::thread::Parker;
 /// How many operators may watch at a time.
 pub(crate) const MOST_WATCHERS: usize = 4;
 
-// How many sights wait for an operator at most; others are left out.
-const MOST_WAITING: usize = 1024;
+// How many lines wait for an operator at most; others are left out.
+const MOST_WAITING: u64 = 1024;
 
-/// What waits for an operator, the oldest first, and how many sights are left out behind it.
+/// The lines that wait for an operator, how many these are, and how many are left out behind them.
 #[derive(Drop)]
 pub(crate) struct Waiting {
-    pub(crate) sights: Vec<Sight>,
-    pub(crate) left_out: u64,
+    text: String,
+    lines: u64,
+    left_out: u64,
 }
 
 // A window at which an operator may stand.
@@ -66,9 +67,10 @@ impl Watch {
         if !self.is_watched() {
             return;
         }
+        let line = line_of(self.alloc, sight);
         for lookout in &self.lookouts {
             if let Some(waiting) = lookout.waiting.lock(rt).as_mut() {
-                waiting.add(sight);
+                waiting.add(&line);
             }
             lookout.bell.unpark();
         }
@@ -117,38 +119,50 @@ impl Watch {
     }
 }
 
+// The line that tells it, with its newline; `Err` for want of memory.
+fn line_of(alloc: Global, sight: Sight) -> Result<String, AllocError> {
+    let mut line = sight.line(alloc)?;
+    line.push_str("\n")?;
+    Ok(line)
+}
+
 impl Waiting {
     fn new(alloc: Global) -> Self {
         Waiting {
-            sights: Vec::new(alloc),
+            text: String::new(alloc),
+            lines: 0,
             left_out: 0,
         }
     }
 
     /// Whether nothing waits.
     pub(crate) fn is_empty(&self) -> bool {
-        self.sights.is_empty() && self.left_out == 0
+        self.lines == 0 && self.left_out == 0
     }
 
-    // One sight more, which is left out where there is no room or no memory, or one was before.
-    fn add(&mut self, sight: Sight) {
-        let has_room = self.left_out == 0 && self.sights.len() < MOST_WAITING;
-        if !has_room || self.sights.push(sight).is_err() {
-            self.left_out = self.left_out.saturating_add(1);
+    // One line more. It is left out where there is no room or no memory, or one before it was.
+    fn add(&mut self, line: &Result<String, AllocError>) {
+        if self.left_out == 0 && self.lines < MOST_WAITING {
+            if let Ok(line) = line {
+                if self.text.push_str(line.as_str()).is_ok() {
+                    self.lines += 1;
+                    return;
+                }
+            }
         }
+        self.left_out = self.left_out.saturating_add(1);
     }
 
-    /// The lines that tell it, each with a newline; the last one tells how many were left out.
-    pub(crate) fn text(&self, alloc: Global) -> Result<String, Refusal> {
-        let mut text = String::new(alloc);
-        for sight in &self.sights {
-            let line = sight.line(alloc)?;
-            text.push_str(line.as_str())?;
-            text.push_str("\n")?;
-        }
-        if self.left_out > 0 {
-            let count = self.left_out;
-            let line = format!(in alloc; "left_out {count}\n")?;
+    /// The lines, each with a newline; the last one tells how many were left out.
+    pub(crate) fn into_text(self, alloc: Global) -> Result<String, Refusal> {
+        let Waiting {
+            text,
+            lines: _,
+            left_out,
+        } = self;
+        let mut text = text;
+        if left_out > 0 {
+            let line = format!(in alloc; "left_out {left_out}\n")?;
             text.push_str(line.as_str())?;
         }
         Ok(text)

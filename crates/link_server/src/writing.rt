@@ -2,7 +2,7 @@
 use crate::gathering::{Gathered, add_refusal, gather};
 use crate::link::Link;
 use crate::outgoing::Outgoing;
-use crate::parts::Lines;
+use crate::parts::WaitingLines;
 use crate::signals::Signals;
 use crate::watching::Watch;
 use gateway_wire::Recipient;
@@ -184,7 +184,7 @@ pub(crate) struct HostSender<'x, R: Wait> {
     pub(crate) signals: &'x Signals,
     pub(crate) watch: Option<&'x Watch>,
     // What waits for it, where it is an application that has a ring of its own.
-    pub(crate) lines: Option<&'x Lines>,
+    pub(crate) lines: Option<&'x WaitingLines>,
     // All links: a sender of one of them may wait for these lines.
     pub(crate) links: &'x [Link],
     pub(crate) link: &'x Link,
@@ -207,7 +207,7 @@ impl<'x, R: Wait> HostSender<'x, R> {
 
     // The ring of an application is there once the sender of its older link has ended, which rings
     // then.
-    fn send_lines(&self, lines: &Lines, spare: Spare, refusals: Consumer<Refusal>) -> Spare {
+    fn send_lines(&self, lines: &WaitingLines, spare: Spare, refusals: Consumer<Refusal>) -> Spare {
         let Some(inlet) = self.wait_for(lines) else {
             return spare;
         };
@@ -227,7 +227,7 @@ impl<'x, R: Wait> HostSender<'x, R> {
     }
 
     // `None` where the link has ended, or the life is stopped, before the ring is there.
-    fn wait_for(&self, lines: &Lines) -> Option<Inlet> {
+    fn wait_for(&self, lines: &WaitingLines) -> Option<Inlet> {
         for _ in self.rt.forever() {
             let inlet = lines.lock(self.rt).take();
             if inlet.is_some() {

@@ -7,8 +7,8 @@ use Rattle.sights.specs.declared.frame_name.FrameName.{FrameName}
 use Rattle.sights.specs.declared.frame_name.FrameName.TheVariants.{JoinRequest, Data, Other}
 
 -- A Join-Request's DevEUI and DevNonce, a data frame's DevAddr and counter; all else has no name.
-abbrev pub name_of : Result Phy Refusal → FrameName
-name_of (Ok (phy.JoinRequest request)) = JoinRequest request.dev_eui request.dev_nonce
-name_of (Ok (phy.DataFrame frame)) = Data frame.dev_addr frame.f_cnt
-name_of (Ok (phy.JoinAccept accept)) = Other
-name_of (Err refusal) = Other
+abbrev pub said_name : Result Phy Refusal → FrameName
+said_name (Ok (phy.JoinRequest request)) = JoinRequest request.dev_eui request.dev_nonce
+said_name (Ok (phy.DataFrame frame)) = Data frame.dev_addr frame.f_cnt
+said_name (Ok (phy.JoinAccept accept)) = Other
+said_name (Err refusal) = Other

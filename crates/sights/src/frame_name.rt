@@ -1,7 +1,7 @@
 // What names a frame that was refused.
 ghost use Rattle.std.specs.Prelude.{◌≡◌, IfOk};
 ghost use Rattle.phy_payload.specs.Reading.{phy_at};
-ghost use Rattle.sights.specs.Named.{name_of};
+ghost use Rattle.sights.specs.Named.{said_name};
 
 use lw_types::{DevAddr, Eui};
 use phy_payload::{PhyRef, read_phy};
@@ -21,7 +21,7 @@ pub enum FrameName {
 impl FrameName {
     /// What the frame with this PHYPayload says. Takes no memory.
     pub fn of(phy_payload: &[u8]) -> Self
-        ensures { result ≡ name_of (phy_at phy_payload.now) }
+        ensures { result ≡ said_name (phy_at phy_payload.now) }
     {
         match read_phy(phy_payload) {
             Ok(PhyRef::JoinRequest(request)) => FrameName::JoinRequest {

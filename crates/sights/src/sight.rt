@@ -77,7 +77,7 @@ impl Sight {
                 refusal,
                 frame,
                 reception,
-            } => refused_line(alloc, refusal, frame, reception),
+            } => heard_line(alloc, refusal, frame, reception),
             Sight::Joined { session, gateway } => {
                 let SessionName {
                     dev_eui,
@@ -104,7 +104,7 @@ impl Sight {
 
 // The refusal by its number and its name, the frame, and how it was heard: the gateway, Hz, data
 // rate, SNR in quarter dB, RSSI in dBm.
-fn refused_line(
+fn heard_line(
     alloc: Global,
     refusal: Refusal,
     frame: FrameName,
