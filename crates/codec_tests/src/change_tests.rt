@@ -10,7 +10,7 @@ use devices::{
     Activation, Channels, CurrentSession, Device, Item, ItemQueue, MacQueue, NextDown, Payload,
     Port, Tag, UplinkCount,
 };
-use lw_types::{JoinNonce, Refusal, read_hex};
+use lw_types::{JoinNonce, Refusal, read_hex, write_hex};
 use record_codec::{
     LONGEST_CHANGE, RecordVersion, read_change, read_change_v1, write_change, write_change_v1,
 };
@@ -519,11 +519,34 @@ fn is_change(alloc: Global, step: &Step) -> Option<bool> {
     Some(first == wanted && change_of(alloc, V2, &before, &after)? == wanted)
 }
 
+// The bytes of the change in version 2, as a text.
+fn shown(alloc: Global, step: &Step) -> Option<String> {
+    let (numbers, waiting, others, items, _) = step;
+    let before = found(alloc, numbers, *waiting)?;
+    let after = with_change(alloc, &before, others, items)?;
+    write_hex(alloc, &change_of(alloc, V2, &before, &after)?).ok()
+}
+
+// What is wrong in the table, a line a row.
+fn wrong_steps(alloc: Global) -> Result<String, Refusal> {
+    let mut wrong = String::new(alloc);
+    for (number, step) in STEPS.iter().enumerate() {
+        if is_change(alloc, step) != Some(true) {
+            let got = shown(alloc, step).ok_or(Refusal::Damaged)?;
+            let line = format!(in alloc;
+                "\nchange_tests.rt STEPS {number}: wanted {}, got {got}",
+                step.4
+            )?;
+            wrong.push_str(&line)?;
+        }
+    }
+    Ok(wrong)
+}
+
 #[test]
 fn a_change_is_what_differs(rt: HostRuntime) {
-    for step in STEPS {
-        assert!(rt; is_change(rt.alloc(), step) == Some(true), "{}", step.4);
-    }
+    let wrong = wrong_steps(rt.alloc()).expect(&rt, "memory");
+    assert!(rt; wrong.is_empty(), "{wrong}");
 }
 
 // Uplinks that are counted: a record with this count, the numbers after it, and the bytes of the

@@ -11,7 +11,7 @@ use gateway_wire::{
     Emission, Request, app_line, gateway_bytes, list_text, next_ranged, next_value, read_line,
     read_request,
 };
-use lw_types::{Eui, JoinNonce, NetId, PhyPayload, Reception, Refusal, Words};
+use lw_types::{Eui, JoinNonce, NetId, PhyPayload, Reception, Refusal, Words, write_hex};
 use sessions::{Slots, Table};
 use std::alloc::{AllocError, Global};
 
@@ -249,12 +249,41 @@ fn leaves(alloc: Global, leaving: &Leaving, (front, count, back): (&str, usize, 
     }
 }
 
+// What leaves, as a text.
+fn shown(alloc: Global, emission: &Emission) -> Result<String, Refusal> {
+    match emission {
+        Emission::Gateway { frame, .. } => Ok(write_hex(alloc, frame.as_slice())?),
+        Emission::Application { line, .. } => Ok(format!(in alloc; "{}", line.as_str())?),
+    }
+}
+
+fn shown_of(alloc: Global, leaving: &Leaving) -> Result<String, Refusal> {
+    match emission(alloc, leaving) {
+        Some(emission) => shown(alloc, &emission),
+        None => Ok(format!(in alloc; "nothing")?),
+    }
+}
+
+// What is wrong in the table, a line a row.
+fn wrong_effects(alloc: Global) -> Result<String, Refusal> {
+    let mut wrong = String::new(alloc);
+    for (number, (leaving, front, count, back)) in EFFECTS.iter().enumerate() {
+        if !leaves(alloc, leaving, (front, *count, back)) {
+            let wanted = long_text(alloc, front, *count, back)?;
+            let got = shown_of(alloc, leaving)?;
+            let line = format!(in alloc;
+                "\ngateway_wire_tests.rt EFFECTS {number}: wanted {wanted}, got {got}"
+            )?;
+            wrong.push_str(&line)?;
+        }
+    }
+    Ok(wrong)
+}
+
 #[test]
 fn each_effect_leaves_as_its_frame_or_its_line(rt: HostRuntime) {
-    for (leaving, front, count, back) in EFFECTS {
-        let leaves = leaves(rt.alloc(), leaving, (front, *count, back));
-        assert!(rt; leaves, "{front}");
-    }
+    let wrong = wrong_effects(rt.alloc()).expect(&rt, "memory");
+    assert!(rt; wrong.is_empty(), "{wrong}");
 }
 
 fn forward_is_marked(alloc: Global) -> Option<bool> {
@@ -473,14 +502,22 @@ const NO_REQUESTS: &[&str] = &[
     "macqueue 1112131415161718 06",
 ];
 
+// The lines that are read though they are none, each behind a newline.
+fn wrong_requests(alloc: Global) -> Result<String, Refusal> {
+    let mut wrong = String::new(alloc);
+    for line in NO_REQUESTS {
+        if read_line(alloc, line).err() != Some(Refusal::BadMessage) {
+            wrong.push_str("\ngateway_wire_tests.rt NO_REQUESTS: ")?;
+            wrong.push_str(line)?;
+        }
+    }
+    Ok(wrong)
+}
+
 #[test]
 fn other_lines_are_refused(rt: HostRuntime) {
-    for line in NO_REQUESTS {
-        assert!(rt;
-            read_line(rt.alloc(), line).err() == Some(Refusal::BadMessage),
-            "{line}"
-        );
-    }
+    let wrong = wrong_requests(rt.alloc()).expect(&rt, "memory");
+    assert!(rt; wrong.is_empty(), "{wrong}");
 }
 
 #[test]

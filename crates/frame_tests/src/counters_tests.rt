@@ -1,4 +1,6 @@
 use counters::{Rebuilt, rebuild};
+use lw_types::Refusal;
+use std::alloc::Global;
 
 const CASES: [(Option<u32>, u16, Rebuilt); 16] = [
     (None, 0, Rebuilt::New(0)),
@@ -19,9 +21,33 @@ const CASES: [(Option<u32>, u16, Rebuilt); 16] = [
     (Some(4_294_967_294), 65_535, Rebuilt::New(4_294_967_295)),
 ];
 
+fn text_of(alloc: Global, rebuilt: Rebuilt) -> Result<String, Refusal> {
+    let text = match rebuilt {
+        Rebuilt::New(counter) => format!(in alloc; "{counter}")?,
+        Rebuilt::Repeat => format!(in alloc; "a repeat")?,
+        Rebuilt::Gap => format!(in alloc; "a gap")?,
+    };
+    Ok(text)
+}
+
+// What is wrong in the table, a line a row.
+fn wrong_cases(alloc: Global) -> Result<String, Refusal> {
+    let mut wrong = String::new(alloc);
+    for (number, (last, low, wanted)) in CASES.iter().enumerate() {
+        let got = rebuild(*last, *low);
+        if got != *wanted {
+            let (wanted, got) = (text_of(alloc, *wanted)?, text_of(alloc, got)?);
+            let line = format!(in alloc;
+                "\ncounters_tests.rt CASES {number}: wanted {wanted}, got {got}"
+            )?;
+            wrong.push_str(&line)?;
+        }
+    }
+    Ok(wrong)
+}
+
 #[test]
 fn counters_are_rebuilt(rt: HostRuntime) {
-    for (last, low, rebuilt) in &CASES {
-        assert!(rt; rebuild(*last, *low) == *rebuilt, "{low} after {last:?}");
-    }
+    let wrong = wrong_cases(rt.alloc()).expect(&rt, "memory");
+    assert!(rt; wrong.is_empty(), "{wrong}");
 }

@@ -1,4 +1,4 @@
-use lw_types::{Direction, LONGEST_PAYLOAD, Refusal};
+use lw_types::{ByteField, Direction, LONGEST_PAYLOAD, Refusal};
 use mac_commands::{
     Cid, Decoded, MacCommand, are_queueable, asks_link_check, decode_down, decode_up, encode_down,
     fit15, read_reported,
@@ -192,11 +192,25 @@ const ROOMS: &[(&[u8], u8, usize)] = &[
     (&[0x06, 0x0B, 0x06], 15, 1),
 ];
 
+// What is wrong in the table, a line a row.
+fn wrong_rooms(alloc: Global) -> Result<String, Refusal> {
+    let mut wrong = String::new(alloc);
+    for (number, (queue, room, wanted)) in ROOMS.iter().enumerate() {
+        let got = fit15(queue, *room);
+        if got != *wanted {
+            let line = format!(in alloc;
+                "\nmac_commands_tests.rt ROOMS {number}: wanted {wanted}, got {got}"
+            )?;
+            wrong.push_str(&line)?;
+        }
+    }
+    Ok(wrong)
+}
+
 #[test]
 fn whole_commands_fit_the_room(rt: HostRuntime) {
-    for (queue, room, fits) in ROOMS {
-        assert!(rt; fit15(queue, *room) == *fits, "{queue:?}, room for {room}");
-    }
+    let wrong = wrong_rooms(rt.alloc()).expect(&rt, "memory");
+    assert!(rt; wrong.is_empty(), "{wrong}");
 }
 
 // LinkADRReq so many times, and these bytes.
@@ -279,21 +293,40 @@ const UPLINKS: &[(&[u8], &[u8], bool)] = &[
     (&[0x04; LONGEST_PAYLOAD], &[0x04; LONGEST_PAYLOAD], false),
 ];
 
-// Whether this is what the application is told of these commands.
-fn is_told(alloc: Global, commands: &[u8], wanted: &[u8]) -> bool {
+// What the application is told of these commands, where it isn't this.
+fn told_else(alloc: Global, commands: &[u8], wanted: &[u8]) -> Result<Option<String>, Refusal> {
     if commands.len() > LONGEST_PAYLOAD {
-        return false;
+        return Err(Refusal::TooLong);
     }
-    let Ok(told) = read_reported(alloc, commands) else {
-        return false;
-    };
-    told.as_slice() == wanted
+    let told = read_reported(alloc, commands)?;
+    if told.as_slice() == wanted {
+        return Ok(None);
+    }
+    Ok(Some(ByteField(told.as_slice()).to_string(alloc)?))
+}
+
+// What is wrong in the table, a line a row.
+fn wrong_uplinks(alloc: Global) -> Result<String, Refusal> {
+    let mut wrong = String::new(alloc);
+    for (number, (commands, wanted, asks)) in UPLINKS.iter().enumerate() {
+        if asks_link_check(commands) != *asks {
+            wrong.push_str(&format!(in alloc;
+                "\nmac_commands_tests.rt UPLINKS {number}: wanted {asks}"
+            )?)?;
+        }
+        if let Some(got) = told_else(alloc, commands, wanted)? {
+            let wanted = ByteField(wanted);
+            let line = format!(in alloc;
+                "\nmac_commands_tests.rt UPLINKS {number}: wanted {wanted}, got {got}"
+            )?;
+            wrong.push_str(&line)?;
+        }
+    }
+    Ok(wrong)
 }
 
 #[test]
 fn applications_are_told_what_devices_answer(rt: HostRuntime) {
-    for (commands, told, asks) in UPLINKS {
-        let is_right = is_told(rt.alloc(), commands, told) && asks_link_check(commands) == *asks;
-        assert!(rt; is_right, "{commands:?}");
-    }
+    let wrong = wrong_uplinks(rt.alloc()).expect(&rt, "memory");
+    assert!(rt; wrong.is_empty(), "{wrong}");
 }

@@ -331,11 +331,25 @@ const NO_FRAMES: &[(&[u8], Refusal, &str)] = &[
     ),
 ];
 
+// What is wrong in the table, a line a row.
+fn wrong_refusals(alloc: Global) -> Result<String, Refusal> {
+    let mut wrong = String::new(alloc);
+    for (bytes, refusal, case) in NO_FRAMES {
+        let got = decode(alloc, bytes).err();
+        if got != Some(*refusal) {
+            let line = format!(in alloc;
+                "\nphy_payload_tests.rt NO_FRAMES, {case}: wanted {refusal:?}, got {got:?}"
+            )?;
+            wrong.push_str(&line)?;
+        }
+    }
+    Ok(wrong)
+}
+
 #[test]
 fn what_is_no_frame_is_refused(rt: HostRuntime) {
-    for (bytes, refusal, case) in NO_FRAMES {
-        assert!(rt; decode(rt.alloc(), bytes).err() == Some(*refusal), "{case}");
-    }
+    let wrong = wrong_refusals(rt.alloc()).expect(&rt, "memory");
+    assert!(rt; wrong.is_empty(), "{wrong}");
 }
 
 // An MHDR with zeros behind it.

@@ -1,6 +1,8 @@
+use lw_types::Refusal;
 use region_eu868::{
     CF_LIST, ReceiveWindow, is_channel, is_first_channel, margin, max_mac, rx1, rx2,
 };
+use std::alloc::Global;
 
 // SNRs in quarter dB, data rates, and margins.
 const MARGINS: &[(i16, u8, u8)] = &[
@@ -15,38 +17,62 @@ const MARGINS: &[(i16, u8, u8)] = &[
     (935, 0, 253),
 ];
 
-// The margin at a data rate, of which there are six.
-fn margin_at(snr: i16, data_rate: u8) -> Option<u8> {
+// The margin at a data rate, of which there are six. None is 255.
+fn margin_at(snr: i16, data_rate: u8) -> u8 {
     if data_rate > 5 {
-        return None;
+        return u8::MAX;
     }
-    Some(margin(snr, data_rate))
+    margin(snr, data_rate)
+}
+
+// What is wrong in the table, a line a row.
+fn wrong_margins(alloc: Global) -> Result<String, Refusal> {
+    let mut wrong = String::new(alloc);
+    for (number, (snr, data_rate, wanted)) in MARGINS.iter().enumerate() {
+        let got = margin_at(*snr, *data_rate);
+        if got != *wanted {
+            let line = format!(in alloc;
+                "\nregion_eu868_tests.rt MARGINS {number}: wanted {wanted}, got {got}"
+            )?;
+            wrong.push_str(&line)?;
+        }
+    }
+    Ok(wrong)
 }
 
 #[test]
 fn margins_are_whole_decibels(rt: HostRuntime) {
-    for (snr, data_rate, wanted) in MARGINS {
-        assert!(rt;
-            margin_at(*snr, *data_rate) == Some(*wanted),
-            "SNR {snr} at DR{data_rate}"
-        );
-    }
+    let wrong = wrong_margins(rt.alloc()).expect(&rt, "memory");
+    assert!(rt; wrong.is_empty(), "{wrong}");
 }
 
 const LONGEST: &[(u8, u8)] = &[(0, 59), (1, 59), (2, 59), (3, 123), (4, 250), (5, 250)];
 
-fn longest_at(data_rate: u8) -> Option<u8> {
+fn longest_at(data_rate: u8) -> u8 {
     if data_rate > 5 {
-        return None;
+        return u8::MAX;
     }
-    Some(max_mac(data_rate))
+    max_mac(data_rate)
+}
+
+fn wrong_lengths(alloc: Global) -> Result<String, Refusal> {
+    let mut wrong = String::new(alloc);
+    for (data_rate, wanted) in LONGEST {
+        let got = longest_at(*data_rate);
+        if got != *wanted {
+            let line = format!(in alloc;
+                "\nregion_eu868_tests.rt LONGEST {data_rate}: wanted {wanted}, got {got}"
+            )?;
+            wrong.push_str(&line)?;
+        }
+    }
+    Ok(wrong)
 }
 
 #[test]
 fn each_data_rate_has_its_longest_payload(rt: HostRuntime) {
-    for (data_rate, most) in LONGEST {
-        assert!(rt; longest_at(*data_rate) == Some(*most), "DR{data_rate}");
-    }
+    let wrong = wrong_lengths(rt.alloc()).expect(&rt, "memory");
+    assert!(rt; wrong.is_empty(), "{wrong}");
 }
 
 // Frequencies, whether each is a channel, and whether it is one of the first three.
@@ -66,12 +92,25 @@ const FREQUENCIES: &[(u32, bool, bool)] = &[
     (869_525_000, false, false),
 ];
 
+fn wrong_channels(alloc: Global) -> Result<String, Refusal> {
+    let mut wrong = String::new(alloc);
+    for (frequency, is, is_first) in FREQUENCIES {
+        let got = (is_channel(*frequency), is_first_channel(*frequency));
+        if got != (*is, *is_first) {
+            let line = format!(in alloc;
+                "\nregion_eu868_tests.rt FREQUENCIES {frequency}: got {}, {}",
+                got.0, got.1
+            )?;
+            wrong.push_str(&line)?;
+        }
+    }
+    Ok(wrong)
+}
+
 #[test]
 fn the_channels_are_eight(rt: HostRuntime) {
-    for (frequency, is, is_first) in FREQUENCIES {
-        assert!(rt; is_channel(*frequency) == *is, "{frequency} Hz");
-        assert!(rt; is_first_channel(*frequency) == *is_first, "{frequency} Hz");
-    }
+    let wrong = wrong_channels(rt.alloc()).expect(&rt, "memory");
+    assert!(rt; wrong.is_empty(), "{wrong}");
 }
 
 // As another implementation's Join-Accept has it (frame_crypt_tests.rt).

@@ -1,8 +1,8 @@
 // How many decisions become durable on a file with real syncs, in chains of commits and without.
 use crate::counted::Counted;
+use crate::senders::Senders;
 use crate::server::{BATCH, Server, len_of};
 use crate::timing::{Unmeasured, clock_nanos, nanos_since};
-use crate::whole::Senders;
 use disk::{Disk, FileDisk};
 use flusher::ChainLength;
 use lw_types::Refusal;
@@ -88,7 +88,7 @@ fn decide_all<D: Disk + Drop>(
     senders: &mut Senders,
 ) -> Result<(), Refusal> {
     for _ in 0..BATCHES {
-        let copies = senders.copies(server.alloc, BATCH, 1)?;
+        let copies = senders.copies(server.alloc, BATCH)?;
         server.decide(copies)?;
     }
     Ok(())

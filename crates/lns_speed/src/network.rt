@@ -3,9 +3,8 @@ ghost use Rattle.std.specs.Prelude.{◌≤◌, length};
 
 use crate::decided::Workload;
 use devices::{
-    Activation, Application, AskedBytes, Channels, CurrentSession, Device, Heard, Hearing,
-    Hearings, Item, ItemQueue, NextDown, Payload, Port, Provisioning, Queueing, Rx1Offset, RxDelay,
-    Session, Tag, dev_addr,
+    Activation, Application, Channels, CurrentSession, Device, Heard, Hearing, Hearings, Item,
+    ItemQueue, NextDown, Payload, Port, Provisioning, Rx1Offset, RxDelay, Session, Tag, dev_addr,
 };
 use frame_crypt::{data_mic, derive_keys, join_mic};
 use lw_types::{Direction, Eui, FrameCopy, JoinNonce, Key, NetId, PhyPayload, Reception, Refusal};
@@ -103,20 +102,6 @@ fn waiting(alloc: Global, count: u32) -> Result<ItemQueue, Refusal> {
         })?;
     }
     ItemQueue::new(items).ok().ok_or(Refusal::QueueFull)
-}
-
-/// An item of 242 bytes, the longest payload, is queued for the device at a slot.
-pub fn longest_item(alloc: Global, slot: u16, tag: u32) -> Result<Queueing, Refusal> {
-    let application = Application::new(0).ok_or(Refusal::Damaged)?;
-    let payload = AskedBytes::new(vec![in alloc; 0; 242]?);
-    Ok(Queueing {
-        application,
-        dev_eui: dev_eui(slot),
-        tag: Tag(tag),
-        port: 1,
-        confirmed: false,
-        payload: payload.ok().ok_or(Refusal::Damaged)?,
-    })
 }
 
 /// The frame of this number of the device at a slot, as the gateway heard it. An uplink has the

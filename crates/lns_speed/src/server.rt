@@ -1,24 +1,18 @@
 // A server with a network of its own: what comes is decided, committed and released.
-ghost use Rattle.store.specs.Checkpointing.{FitsOther, checkpoint_size};
-ghost use Rattle.store.specs.State.{store_state};
-
-use crate::network::{copy_of, join_request, longest_item, provisioning};
-use disk::{Disk, MemDisk};
+use crate::network::{copy_of, join_request, provisioning};
+use disk::Disk;
 use flusher::{ChainLength, Feed, Most, chain};
 use lw_types::{FrameCopy, NetId, Refusal};
 use session_core::{Core, Moment, Turn};
 use sessions::{Batch, Slots};
 use std::alloc::Global;
-use store::{Checkpoint, Publishing, Store, disk_len};
+use store::{Store, disk_len};
 
 /// For how long the copies of a frame are gathered, in milliseconds.
 const WAIT: u64 = 200;
 
 /// The decisions of a batch.
 pub const BATCH: u16 = 64;
-
-/// The items that may wait for a device.
-const ITEMS: u32 = 16;
 
 /// The gateway that hears a device join.
 const GATEWAY: u64 = 1;
@@ -42,21 +36,6 @@ pub struct Server<D: Disk> {
     store: Store<D>,
     core: Waiting,
     now: Moment,
-}
-
-impl Server<MemDisk> {
-    /// A server without devices, with so many slots, on a disk in memory.
-    pub fn new(alloc: Global, slots: u16) -> Result<Self, Refusal> {
-        let len = len_of(slots)?;
-        let disk = MemDisk::new(alloc, vec![in alloc; 0; len as usize]?)?;
-        Server::on(alloc, disk, slots)
-    }
-
-    /// A checkpoint of what is durable.
-    pub fn checkpoint(&mut self) -> Result<(), Refusal> {
-        let checkpoint = self.store.checkpoint_early(self.alloc)?;
-        publish(&mut self.store, checkpoint)
-    }
 }
 
 impl<D: Disk + Drop> Server<D> {
@@ -84,38 +63,8 @@ impl<D: Disk + Drop> Server<D> {
         self.settle()
     }
 
-    /// So many devices are provisioned, and as many items are queued for each as may wait, the
-    /// longest there are.
-    pub fn load_all(&mut self, slots: u16) -> Result<(), Refusal> {
-        for slot in 0..slots {
-            self.bring(slot)?;
-            self.load(slot)?;
-            let _ = self.commit()?;
-        }
-        Ok(())
-    }
-
     fn bring(&mut self, slot: u16) -> Result<(), Refusal> {
         is_done(self.core.0.provision(self.now, provisioning(slot)))
-    }
-
-    fn load(&mut self, slot: u16) -> Result<(), Refusal> {
-        for tag in 0..ITEMS {
-            is_done(
-                self.core
-                    .0
-                    .queue(self.now, longest_item(self.alloc, slot, tag)?),
-            )?;
-        }
-        Ok(())
-    }
-
-    /// Copies of frames come, and what is decided of them is committed and released.
-    pub fn handle(&mut self, copies: Vec<FrameCopy>) -> Result<(), Refusal> {
-        for copy in copies {
-            self.hear(copy)?;
-        }
-        self.settle()
     }
 
     /// Copies of frames come, and their windows are closed, so that they are decided.
@@ -144,16 +93,6 @@ impl<D: Disk + Drop> Server<D> {
         Ok(())
     }
 
-    /// Whether there is room for one batch more.
-    pub fn is_roomy(&self) -> bool {
-        self.store.roomy()
-    }
-
-    /// Ends the server, and gives its disk back.
-    pub fn close(self) -> D {
-        self.store.close()
-    }
-
     // The oldest decisions are committed, after a checkpoint where the journal is full, and their
     // effects are released.
     fn commit(&mut self) -> Result<usize, Refusal> {
@@ -170,19 +109,6 @@ impl<D: Disk + Drop> Server<D> {
             most,
             &mut |_| {},
         )
-    }
-}
-
-// Makes the calls of a checkpoint.
-fn publish<D: Disk>(store: &mut Store<D>, checkpoint: Checkpoint) -> Result<(), Refusal>
-    requires { FitsOther (store_state D.state store.old) (checkpoint_size checkpoint) }
-{
-    let mut publishing = Publishing::Begun(checkpoint);
-    'calls: loop {
-        match publishing.call(store)? {
-            Some(next) => publishing = next,
-            None => return Ok(()),
-        }
     }
 }
 

@@ -7,10 +7,6 @@ use std::{fmt, io};
 pub enum Told {
     /// An event takes so many nanoseconds.
     Event(u32),
-    /// So many nanoseconds are spent on so many bytes.
-    Bytes(u32, u64),
-    /// So many nanoseconds are spent on so many batches.
-    Batches(u32, u32),
     /// Nothing was measured.
     Nothing(Unmeasured),
 }
@@ -32,15 +28,6 @@ impl fmt::Display for Told {
                 let (micros, tenth) = (nanos / 1000, nanos / 100 % 10);
                 let a_second = 1_000_000_000_u32.checked_div(nanos).unwrap_or(0);
                 write!(f, "{micros}.{tenth} microseconds, {a_second} a second")
-            }
-            Told::Bytes(nanos, bytes) => {
-                let millis = nanos / 1_000_000;
-                let rate = bytes.saturating_mul(1000) / (u64::from(nanos) + 1);
-                write!(f, "{millis} milliseconds, {rate} megabytes a second")
-            }
-            Told::Batches(nanos, batches) => {
-                let millis = nanos / 1_000_000;
-                write!(f, "{millis} milliseconds, {batches} batches")
             }
             Told::Nothing(Unmeasured::Refused(refusal)) => {
                 write!(f, "not measured, as it was refused: {refusal}")

@@ -62,14 +62,22 @@ fn step_of(wanted: Wanted) -> Option<Step> {
     }
 }
 
+// The lines that are read as something else, each behind a newline.
+fn wrong_lines(alloc: Global) -> Result<String, Refusal> {
+    let mut wrong = String::new(alloc);
+    for (line, wanted) in LINES {
+        if read_step(alloc, line.as_bytes()) != step_of(*wanted).ok_or(Refusal::Damaged) {
+            wrong.push_str("\nlines_tests.rt LINES: ")?;
+            wrong.push_str(line)?;
+        }
+    }
+    Ok(wrong)
+}
+
 #[test]
 fn lines_are_steps(rt: HostRuntime) {
-    for (line, wanted) in LINES {
-        assert!(rt;
-            read_step(rt.alloc(), line.as_bytes()) == step_of(*wanted).ok_or(Refusal::Damaged),
-            "{line}"
-        );
-    }
+    let wrong = wrong_lines(rt.alloc()).expect(&rt, "memory");
+    assert!(rt; wrong.is_empty(), "{wrong}");
 }
 
 // Answers that no script here comes to, and some that few do.
@@ -109,23 +117,27 @@ fn text_of(alloc: Global, answers: &[Answer]) -> io::Result<Vec<u8>> {
     Ok(out)
 }
 
-fn are_told(alloc: Global, answers: &[Answer]) -> bool {
-    match text_of(alloc, answers) {
-        Ok(text) => text.as_slice() == RARE.as_bytes(),
-        Err(_) => false,
-    }
-}
-
-fn rare_answers_are_told(alloc: Global) -> bool {
+// What they are told as.
+fn rare_text(alloc: Global) -> io::Result<Vec<u8>> {
     match rare_answers(alloc) {
-        Some(answers) => are_told(alloc, &answers),
-        None => false,
+        Some(answers) => text_of(alloc, &answers),
+        None => Ok(Vec::new(alloc)),
     }
 }
 
 #[test]
 fn rare_answers_have_lines(rt: HostRuntime) {
-    assert!(rt; rare_answers_are_told(rt.alloc()));
+    let text = rare_text(rt.alloc()).expect(&rt, "memory");
+    assert!(rt;
+        text.as_slice() == RARE.as_bytes(),
+        "wanted {RARE}got {}",
+        lossy(&text)
+    );
+}
+
+// The text that bytes are.
+fn lossy(bytes: &[u8]) -> &str {
+    str::from_utf8(bytes).unwrap_or("no text")
 }
 
 // Gives a first line, and fails then.

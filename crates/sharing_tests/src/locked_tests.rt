@@ -220,8 +220,9 @@ struct Lives<'a, B: Books> {
 }
 
 impl<B: Books> Lives<'_, B> {
-    // Whether both answer a row so, and know the same of moments and numbers then.
-    fn answer<R: Wait>(&mut self, rt: &R, row: &Row) -> Result<bool, Refusal> {
+    // What is answered in the place of what the row has, where both don't answer so, or don't know
+    // the same of moments and numbers then.
+    fn fault<R: Wait>(&mut self, rt: &R, row: &Row) -> Result<Option<String>, Refusal> {
         let (at, event, wanted, _) = row;
         let at = moment(*at)?;
         let plain = answer(self.alloc, self.core, at, event)?;
@@ -233,7 +234,11 @@ impl<B: Books> Lives<'_, B> {
         let moments = self.sessions.effective_time(rt) == self.core.effective_time()
             && self.sessions.next_due(rt) == self.core.next_due();
         let made = self.sessions.made(rt) == locked.to;
-        Ok(moments && made && plain == locked && told == *wanted)
+        if moments && made && plain == locked && told == *wanted {
+            return Ok(None);
+        }
+        let (from, to, refused) = told;
+        Ok(Some(format!(in self.alloc; "{from} {to} {refused:?}")?))
     }
 
     // What both give, at most 64 decisions, where they give the same.
@@ -252,14 +257,22 @@ impl<B: Books> Lives<'_, B> {
         }
     }
 
-    // Whether all is seen so, where what is decided is taken behind each row, or behind the last.
-    fn agree<R: Wait>(&mut self, rt: &R, rows: &[Row], each: bool) -> Result<bool, Refusal> {
-        for row in rows {
-            if !self.answer(rt, row)? || each && !self.gives(rt, row.3)? {
-                return Ok(false);
+    // What is seen otherwise, a line a row, where what is decided is taken behind each, or behind
+    // the last.
+    fn wrong<R: Wait>(&mut self, rt: &R, rows: &[Row], each: bool) -> Result<String, Refusal> {
+        let mut wrong = String::new(self.alloc);
+        for (number, row) in rows.iter().enumerate() {
+            if let Some(got) = self.fault(rt, row)? {
+                wrong.push_str(&format!(in self.alloc; "\nrow {number}: got {got}")?)?;
+            }
+            if each && !self.gives(rt, row.3)? {
+                wrong.push_str(&format!(in self.alloc; "\nrow {number}: other decisions")?)?;
             }
         }
-        Ok(self.take(rt)?.is_some())
+        if self.take(rt)?.is_none() {
+            wrong.push_str("\nother decisions at the end")?;
+        }
+        Ok(wrong)
     }
 
     // What came of the commands, where both say the same; and how many decisions each share has.
@@ -278,7 +291,7 @@ fn plays<B: Books, R: Wait>(
     taken: Blank,
     script: u8,
     each: bool,
-) -> Result<bool, Refusal>
+) -> Result<String, Refusal>
     requires made { (made.name ≡ B.made_name) × (made.parts ≡ B.made_parts) × (made.parts ≡ 1) }
     requires taken { (taken.name ≡ B.taken_name) × (taken.parts ≡ 1) }
 {
@@ -295,20 +308,25 @@ fn plays<B: Books, R: Wait>(
         asks: !each,
     };
     let (rows, outcomes, shares) = script_of(script);
-    Ok(lives.agree(rt, rows, each)? && lives.end(rt, outcomes, shares)?)
+    let mut wrong = lives.wrong(rt, rows, each)?;
+    if !lives.end(rt, outcomes, shares)? {
+        wrong.push_str("\nother outcomes, or shares")?;
+    }
+    Ok(wrong)
 }
 
-// A life with one seat.
-fn plays_alone<R: Wait>(rt: &R, alloc: Global, script: u8, each: bool) -> Result<bool, Refusal> {
+// A life with one seat: what is wrong in it.
+fn plays_alone<R: Wait>(rt: &R, alloc: Global, script: u8, each: bool) -> Result<String, Refusal> {
     plays::<Brand, R>(rt, alloc, Blank::new(1), Blank::new(1), script, each)
 }
 
 #[test]
 fn a_lock_answers_as_a_core(rt: HostRuntime) {
     for (script, each) in [(0, true), (0, false), (1, true), (1, false)] {
+        let wrong = plays_alone(&rt, rt.alloc(), script, each).expect(&rt, "memory");
         assert!(rt;
-            plays_alone(&rt, rt.alloc(), script, each) == Ok(true),
-            "{script} {each}"
+            wrong.is_empty(),
+            "locked_tests.rt, script {script}, {each}:{wrong}"
         );
     }
 }
