@@ -9,7 +9,7 @@ use Rattle.sessions.specs.Table.{TableState, fold_of}
 use Rattle.sessions.specs.declared.decision.Decision.{Decision}
 use Rattle.store.specs.Faults.{IsFault}
 use Rattle.store.specs.Image.{HoldsTable}
-use Rattle.store.specs.State.{StoreState, IsOpened, IsSettled, StillHolds}
+use Rattle.store.specs.State.{HoldsOn, StoreState, IsOpened, IsSettled}
 use Rattle.flusher.specs.Cycle.{Commits, HoldsWithOrWithout}
 use Rattle.flusher.specs.Lived.{AreOnDisk, HaveLed, HoldsFold, HoldsWithTorn}
 use Rattle.flusher.specs.Lives.{Lives, no_lives, lives_after}
@@ -179,12 +179,14 @@ opens_from on_disk lives t number disk s left are permitted opened =
     )
 
 -- or it wasn't
-pub refuses : (lives : Lives) (t : TableState) (number : ℕ) (disk back : State) (left : List ℕ) → AreOnDisk lives t number disk
-    → IsPermitted disk left → StillHolds left back → (found : Bool) × AreOnDisk (lives_after t lives (Opened found)) t number back
-refuses lives t number disk back left are permitted still =
-    let at = crashes lives t number disk left are permitted in
-    let found = lives_after t lives (Opened at.0) in
-    (at.0, λ image p. inl (still (fold_of t found.durable) (number + length found.durable) at.1.1 image p))
+pub refuses : (lives : Lives) (t : TableState) (number : ℕ) (disk back : State) → AreOnDisk lives t number disk → HoldsOn disk back
+    → AreOnDisk lives t number back
+refuses lives t number disk back are on image p =
+    let was = on image p in
+    elim (are was.0 was.1.0) [
+      | inl h ↦ inl (was.1.1 (fold_of t lives.durable) (number + length lives.durable) h)
+      | inr h ↦ inr (was.1.1 (fold_of t (lives.durable ++ lives.torn)) (number + length (lives.durable ++ lives.torn)) h)
+    ]
 
 -- never since there were no store
 pub no_fault : (lives : Lives) (t : TableState) (number : ℕ) (disk : State) (left : List ℕ) (e : Refusal) → AreOnDisk lives t number disk

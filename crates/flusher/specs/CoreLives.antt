@@ -10,7 +10,7 @@ use Rattle.session_core.specs.Core.{new_core}
 use Rattle.store.specs.State.{disk_of}
 use Rattle.store.specs.declared.store.Store.{Store}
 use Rattle.flusher.specs.Coming.{GivesBehindComing}
-use Rattle.flusher.specs.OverLives.{IsPoweredOn, MakeUpTo}
+use Rattle.flusher.specs.OverLives.{IsReopened, MakeUpTo}
 use Rattle.flusher.specs.declared.core_feed.CoreEvent.{CoreEvent}
 use Rattle.flusher.specs.declared.core_feed.CoreFeed.{CoreFeed}
 use Rattle.flusher.specs.declared.core_lives.CoreLife.{CoreLife}
@@ -27,13 +27,12 @@ DecidesUpTo {D} {C} {V} disk effects call coming most chains old new old_out new
     result))))
     ⊎ ((result ≡ Err OutOfMemory) × ((new ≡ old) × (new_out ≡ old_out)))
 
--- One life: the power came on, and the store was opened, and what came to a core was committed; or
--- it wasn't opened.
+-- One life: the store was opened, and what came to a core was committed; or it wasn't opened.
 pub record IsCoreLife {D C V : Type 0} (disk : Ghosts D) (effects : V → List Effect)
     (call : C → V → C → Type 0) (life : CoreLife) (old new : D) (old_out new_out : C)
     : Type 0 where
   pub opening : Result (Store D disk) (D × Refusal)
-  pub powered : IsPoweredOn disk life.image life.failing old opening
+  pub reopened : IsReopened disk life.crash life.failing old opening
   pub goes_on : MatchResult opening
       (λ store. (last : Store D disk) × ((end : Result (Unit {0}) Refusal)
       × (DecidesUpTo disk effects call life.coming.items life.most life.chains store last old_out

@@ -1,6 +1,7 @@
 -- What a flusher does over several lives of its store.
 use Rattle.std.specs.Prelude.{◌≡◌, ◌<◌, ◌+◌, ◌-◌, ◌^◌, ◌++◌, ℕ, List, [], ◌∷◌, map, length}
-use Rattle.std.specs.Prelude.{Option, None, IfSome, Result, Ok, Err, IfErr, MatchResult, flat_map}
+use Rattle.std.specs.Prelude.{Option, None, IfSome, MatchOption, Result, Ok, Err, IfErr}
+use Rattle.std.specs.Prelude.{MatchResult, flat_map}
 use Rattle.std.specs.List.{FoldsTo}
 use Rattle.devices.specs.declared.effect.Effect.{Effect}
 use Rattle.devices.specs.declared.mark.Mark.{Mark}
@@ -14,7 +15,7 @@ use Rattle.sessions.specs.Marks.{AreDistinct, HasUsedUp, IsSubsequence, marks_of
 use Rattle.sessions.specs.Table.{TableState, effects_of}
 use Rattle.store.specs.Image.{HoldsTable}
 use Rattle.store.specs.Made.{IsOpenAnswer}
-use Rattle.store.specs.State.{StillHolds, disk_of}
+use Rattle.store.specs.State.{HoldsOn, disk_of}
 use Rattle.store.specs.declared.store.Store.{Store}
 use Rattle.flusher.specs.Chain.{FeedGives}
 use Rattle.flusher.specs.Lived.{AreOnDisk}
@@ -22,20 +23,26 @@ use Rattle.flusher.specs.Lives.{LifeEvent, lives_of}
 use Rattle.flusher.specs.Serving.{MakeChains}
 use Rattle.flusher.specs.declared.over_lives.FlusherLife.{FlusherLife}
 
--- The power came on with this image of the disk; the call with this number was to fail, if any; and
--- the store was opened, or not. What a refused opening leaves holds what the image does.
-pub record IsPoweredOn {D : Type 0} (disk : Ghosts D) (image : Image) (failing : Option ℕ) (old : D)
-    (result : Result (Store D disk) (D × Refusal)) : Type 0 where
+-- what a crash with this image left of a disk
+pub record IsLeftBy (image : Image) (old at : State) : Type 0 where
+  pub crashed : IsCrashed image old at.content
+  pub permitted : IsPermitted old at.content
+  pub settled : IsSettledAt at.content at
+
+-- The disk crashed to this image, or there was no crash; the call with this number was to fail, if
+-- any; and the store was opened, or not. What a refused opening leaves holds what the disk did.
+pub record IsReopened {D : Type 0} (disk : Ghosts D) (crash : Option Image) (failing : Option ℕ)
+    (old : D) (result : Result (Store D disk) (D × Refusal)) : Type 0 where
   pub at : D
-  pub crashed : IsCrashed image (disk.state old) (disk.state at).content
+  pub left : MatchOption crash (disk.state at ≡ disk.state old)
+      (λ image. IsLeftBy image (disk.state old) (disk.state at))
   pub permitted : IsPermitted (disk.state old) (disk.state at).content
-  pub settled : IsSettledAt (disk.state at).content (disk.state at)
   pub failures : disk.failures at ≡ disk.failures old
   pub armed : IfSome failing
       (λ n. disk.failures old + 1 < 2 ^ 64 → disk.outlook at ≡ FailsAfter (n - 1))
   pub unarmed : failing ≡ None → disk.outlook at ≡ disk.outlook old
   pub answer : IsOpenAnswer disk at (λ error. error.1) result
-  pub kept : IfErr result (λ error. StillHolds (disk.state at).content (disk.state error.0))
+  pub kept : IfErr result (λ error. HoldsOn (disk.state old) (disk.state error.0))
 
 -- how chains that had so many decisions are answered, the last one of which may be refused
 abbrev pub answers_up_to : List ℕ → Result (Unit {0}) Refusal → List (Result ℕ Refusal)
@@ -52,12 +59,12 @@ pub record MakeUpTo {D F C V : Type 0} (disk : Ghosts D) (gives : FeedGives F)
   pub made : MakeChains disk gives effects call most old new old_feed new_feed old_out new_out
       (answers_up_to counts result)
 
--- One life: the power came on, and the store was opened and chains were made; or it wasn't opened.
+-- One life: the store was opened and chains were made, or it wasn't opened.
 pub record IsFlusherLife {D F C V : Type 0} (disk : Ghosts D) (gives : FeedGives F)
     (effects : V → List Effect) (call : C → V → C → Type 0) (life : FlusherLife)
     (old new : D) (old_feed new_feed : F) (old_out new_out : C) : Type 0 where
   pub opening : Result (Store D disk) (D × Refusal)
-  pub powered : IsPoweredOn disk life.image life.failing old opening
+  pub reopened : IsReopened disk life.crash life.failing old opening
   pub goes_on : MatchResult opening
       (λ store. (last : Store D disk) × ((end : Result (Unit {0}) Refusal)
       × (MakeUpTo disk gives effects call life.most life.chains store last old_feed new_feed old_out

@@ -1,6 +1,6 @@
 // A flusher over several lives of its store, each with a core of its own, on a simulated disk.
 ghost use Rattle.std.specs.Global.{Global};
-ghost use Rattle.std.specs.Prelude.{◌≡◌, Vec, length};
+ghost use Rattle.std.specs.Prelude.{List, Vec, ℕ, length};
 ghost use Rattle.disk.specs.State.{EveryImage, IsPermitted};
 ghost use Rattle.flusher.specs.CoreLives.{AreCoreLives, DecidesUpTo, IsCoreLife};
 ghost use Rattle.flusher.specs.Deciding.{CommitsDecided, EachHolds, HaveDecided, KeepsDecided};
@@ -10,7 +10,7 @@ ghost use Rattle.session_core.specs.State.{new_decisions};
 ghost use Rattle.store.specs.Image.{HoldsTable};
 ghost use Rattle.store.specs.State.{store_state};
 
-use crate::over_lives::power_on;
+use crate::over_lives::reopen;
 use crate::{CallNumber, ChainLength, Coming, CoreFeed, Released, chain_of_core};
 use disk::{Disk, Image, Sim};
 use lw_types::Refusal;
@@ -19,12 +19,12 @@ use std::alloc::Global;
 use std::collections::VecDeque;
 use store::Store;
 
-/// A life of a server's store: the power comes on, the store is opened, and a core begins with what
-/// it has and decides what comes; a flusher commits it, until the power fails.
+/// A life of a server's store: it is opened, behind a crash or without one, and a core begins with
+/// what it has and decides what comes; a flusher commits it, until the power fails or it ends.
 #[derive(Drop)]
 pub struct CoreLife {
-    /// What the crash before it left of the disk.
-    pub image: Image,
+    /// What a crash before it left of the disk; or there was none, and the disk is as it was.
+    pub crash: Option<Image>,
     /// The call of the disk that fails, counted from the opening's first one; or none does.
     pub failing: Option<CallNumber>,
     /// What comes to the core before each take.
@@ -35,8 +35,8 @@ pub struct CoreLife {
     pub most: ChainLength,
 }
 
-/// Lives of a store, one after another, on this disk: each begins with a crash and an opening, as
-/// those of [`flush_over_lives`](crate::flush_over_lives) do, and in each a new core decides what
+/// Lives of a store, one after another, on this disk: each begins with an opening, as those of
+/// [`flush_over_lives`](crate::flush_over_lives) do, and in each a new core decides what
 /// comes to it, and chains commit that. Where there is no memory for a core, the life makes no
 /// chain, and where the opening is refused, it has no core. The next life begins with the disk that
 /// it leaves, which comes back at the end.
@@ -94,15 +94,16 @@ fn live<D: Sim, C: FnMut(Vec<Released>)>(alloc: Global, disk: D, life: CoreLife,
         (λ (released : Vec Released Global). effects_of_all released.items)
         (λ before released after. C.step before released tt after)
         life disk result out.old out.new }
-    ensures kept { (left : _) × (IsPermitted (D.state disk) left
+    ensures kept { EveryImage (D.state result)
+        (λ image. (left : List ℕ) × (IsPermitted (D.state disk) left
         × ((found : NumberedTable) → HoldsTable found.table found.seq left
-        → EachHolds (D.state result) (λ last. KeepsDecided
+        → (last : NumberedTable) × (HoldsTable last.table last.seq image × KeepsDecided
         (λ (released : Vec Released Global). effects_of_all released.items)
         (λ before released after. C.step before released tt after)
-        found last out.old out.new))) }
+        found last out.old out.new)))) }
 {
     let CoreLife {
-        image,
+        crash,
         failing,
         coming,
         chains,
@@ -111,7 +112,7 @@ fn live<D: Sim, C: FnMut(Vec<Released>)>(alloc: Global, disk: D, life: CoreLife,
     sessions::laws::folding();
     sessions::laws::joining();
     sessions::laws::composing();
-    match power_on(alloc, disk, &image, failing) {
+    match reopen(alloc, disk, &crash, failing) {
         Ok(store) => {
             let mut store = store;
             let _ = decide(alloc, &mut store, coming, most, chains, out);

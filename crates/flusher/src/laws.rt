@@ -9,7 +9,7 @@ ghost use Rattle.sessions.specs.Marks.{AreOnce, IsSound, IsSubsequence};
 ghost use Rattle.sessions.specs.Table.{TableState, effects_of, empty_table};
 ghost use Rattle.store.specs.Faults.{IsFault};
 ghost use Rattle.store.specs.Image.{HoldsTable};
-ghost use Rattle.store.specs.State.{StoreState, IsOpened, IsSettled, StillHolds};
+ghost use Rattle.store.specs.State.{StoreState, HoldsOn, IsOpened, IsSettled};
 
 use crate::MOST_EFFECTS;
 
@@ -19,9 +19,10 @@ pub fn limits_are_these()
 {}
 
 /// Lives begin with a store on which nothing is under way, as one that was formatted or opened, and
-/// go on where an image is opened that a crash may have left of its disk ([`store::open`]). The
-/// same of a disk alone, which a store leaves where it is closed: also where the opening is
-/// refused, by what [`store::open_back`] says of the disk that comes back then. It is refused for
+/// go on where an image is opened that a crash may have left of its disk ([`store::open`]); the
+/// content is such an image, so that the same is said of an opening without a crash. The same of a
+/// disk alone, which a store leaves where it is closed. Where the opening is refused, they are
+/// still on the disk that comes back then, as [`store::open_back`] says of it. It is refused for
 /// want of memory or by the device alone, never since there were no store (`no_fault`).
 pub fn lives_go_on()
     ensures begun { (s : StoreState) → IsSettled s → HaveLed no_lives s.table s.seq s }
@@ -38,9 +39,7 @@ pub fn lives_go_on()
         → IsPermitted disk left → IsOpened left opened
         → (found : Bool) × HaveLed (lives_after t lives (LifeEvent.Opened found)) t number opened }
     ensures refused { (lives : Lives) (t : TableState) (number : ℕ) (disk back : State)
-        (left : List ℕ) → AreOnDisk lives t number disk → IsPermitted disk left
-        → StillHolds left back
-        → (found : Bool) × AreOnDisk (lives_after t lives (LifeEvent.Opened found)) t number back }
+        → AreOnDisk lives t number disk → HoldsOn disk back → AreOnDisk lives t number back }
     ensures no_fault { (lives : Lives) (t : TableState) (number : ℕ) (disk : State)
         (left : List ℕ) (e : Refusal) → AreOnDisk lives t number disk → IsPermitted disk left
         → ¬ (IsFault left e) }

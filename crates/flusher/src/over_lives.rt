@@ -1,11 +1,11 @@
 // A flusher over several lives of its store, on a simulated disk.
 ghost use Rattle.std.specs.Global.{Global};
-ghost use Rattle.std.specs.Prelude.{◌≡◌, ℕ, List, [], All, IfErr, IfOk, Ok, OnErr, Vec};
-ghost use Rattle.std.specs.Prelude.{length};
+ghost use Rattle.std.specs.Prelude.{◌≡◌, ℕ, List, [], All, IfErr, IfOk, MatchOption, Ok, OnErr};
+ghost use Rattle.std.specs.Prelude.{Vec, length};
 ghost use Rattle.devices.specs.declared.mark.Mark.{Mark};
 ghost use Rattle.disk.specs.State.{EveryImage};
 ghost use Rattle.flusher.specs.Lived.{AreOnDisk, GoOnFrom, LeadOn};
-ghost use Rattle.flusher.specs.OverLives.{AreFlusherLives, IsFlusherLife, IsPoweredOn};
+ghost use Rattle.flusher.specs.OverLives.{AreFlusherLives, IsFlusherLife, IsLeftBy, IsReopened};
 ghost use Rattle.flusher.specs.OverLives.{LeaveOnce, MakeUpTo};
 ghost use Rattle.flusher.specs.Released.{effects_of_all};
 ghost use Rattle.lw_types.specs.declared.refusal.Refusal.{Refusal};
@@ -25,12 +25,12 @@ use store::Store;
 /// Which call of a disk, from the first one on.
 pub type CallNumber = Ranged<1, { u64::MAX }>;
 
-/// One life of a flusher: the power comes on, its store is opened, and it makes chains until the
-/// power fails.
+/// One life of a flusher: its store is opened, behind a crash or without one, and it makes chains,
+/// until the power fails or the flusher ends.
 #[derive(Drop)]
 pub struct FlusherLife {
-    /// What the crash before it left of the disk.
-    pub image: Image,
+    /// What a crash before it left of the disk; or there was none, and the disk is as it was.
+    pub crash: Option<Image>,
     /// The call of the disk that fails, counted from the opening's first one; or none does.
     pub failing: Option<CallNumber>,
     /// How many chains it makes, where none is refused.
@@ -39,10 +39,11 @@ pub struct FlusherLife {
     pub most: ChainLength,
 }
 
-/// Lives of a flusher, one after another, on this disk and with this feed. Each begins with a crash
-/// and an opening, and chains follow; where a chain is refused, the life makes no other, and where
-/// the opening is refused, it makes none. The next life begins with the disk that it leaves, which
-/// comes back at the end.
+/// Lives of a flusher, one after another, on this disk and with this feed. Each begins with an
+/// opening, behind a crash or without one, and chains follow; where a chain is refused, the life
+/// makes no other, and where the opening is refused, it makes none. The next life begins with the
+/// disk that it leaves, which comes back at the end: so an opening that was refused is made again,
+/// with the power on or behind a crash.
 ///
 /// Where the disk holds a table and a number, whatever a crash leaves of it: what is given to `out`
 /// over all lives is, in order and complete, the effects of each batch that was released, and part
@@ -148,7 +149,7 @@ fn live<D: Sim, F: Feed, C: FnMut(Vec<Released>)>(
         (λ lives t number. AreOnDisk lives t number (D.state result)) out.old out.new }
 {
     laws::lives_go_on();
-    match power_on(alloc, disk, &life.image, life.failing) {
+    match reopen(alloc, disk, &life.crash, life.failing) {
         Ok(store) => {
             let mut store = store;
             let _ = flush_life(alloc, &mut store, feed, life.most, life.chains, out);
@@ -158,21 +159,33 @@ fn live<D: Sim, F: Feed, C: FnMut(Vec<Released>)>(
     }
 }
 
-// Lets the disk crash to this image, has this call of it fail, and opens the store.
-pub(crate) fn power_on<D: Sim>(
+// Lets the disk crash, if it is to, has this call of it fail, and opens the store.
+pub(crate) fn reopen<D: Sim>(
     alloc: Global,
     disk: D,
-    image: &Image,
+    crash: &Option<Image>,
     failing: Option<CallNumber>,
 ) -> Result<Store<D>, (D, Refusal)>
-    ensures { IsPoweredOn D.Disk image.now failing disk result }
+    ensures { IsReopened D.Disk crash.now failing disk result }
 {
     let mut disk = disk;
-    disk.crash(image);
+    crash_to(&mut disk, crash);
     if let Some(n) = failing {
         disk.arm(n.get());
     }
     store::open_back(alloc, disk)
+}
+
+// Lets the disk crash to this image, if there is one.
+fn crash_to<D: Sim>(disk: &mut D, crash: &Option<Image>)
+    ensures left { MatchOption crash.now (D.state disk.new ≡ D.state disk.old)
+        (λ image. IsLeftBy image (D.state disk.old) (D.state disk.new)) }
+    ensures failures { D.failures disk.new ≡ D.failures disk.old }
+    ensures outlook { D.outlook disk.new ≡ D.outlook disk.old }
+{
+    if let Some(image) = crash {
+        disk.crash(image);
+    }
 }
 
 // So many chains, or fewer behind which one is refused.

@@ -1,5 +1,5 @@
 // What lives of cores leave, and what the store has behind them.
-use crate::over_lives_tests::calls_of_opening;
+use crate::over_lives_tests::{calls_of_opening, crash};
 use devices::Command;
 use disk::Image;
 use flusher::{CallNumber, ChainLength, Coming, CoreEvent, CoreLife, Released, decide_over_lives};
@@ -19,15 +19,20 @@ fn provision(alloc: Global, dev_eui: u64) -> Result<Coming, Refusal> {
     Ok(vec![in alloc; (moment, CoreEvent::Provision(value))]?)
 }
 
-// A life behind this image in which two devices come, each before a take, and whose nth call of the
-// disk fails, if one does.
-fn life(alloc: Global, image: Image, first: u64, failing: u64) -> Result<CoreLife, Refusal> {
+// A life behind this crash, or none, in which two devices come, each before a take, and whose nth
+// call of the disk fails, if one does.
+fn life(
+    alloc: Global,
+    crash: Option<Image>,
+    first: u64,
+    failing: u64,
+) -> Result<CoreLife, Refusal> {
     let coming = vec![in alloc;
         provision(alloc, first)?,
         provision(alloc, first.saturating_add(1))?,
     ]?;
     Ok(CoreLife {
-        image,
+        crash,
         failing: CallNumber::new(failing),
         coming: VecDeque::from(coming),
         chains: 1,
@@ -41,7 +46,7 @@ fn life(alloc: Global, image: Image, first: u64, failing: u64) -> Result<CoreLif
 fn lived(
     alloc: Global,
     failing: u64,
-    is_kept: bool,
+    keeps: Option<bool>,
     found_then: u64,
 ) -> Result<(usize, (usize, u64)), Refusal> {
     let opening = calls_of_opening(alloc)?;
@@ -50,11 +55,10 @@ fn lived(
     } else {
         0
     };
-    let image = if is_kept { Image::New } else { Image::Old };
     let lives = vec![in alloc;
-        life(alloc, Image::New, 1, failing)?,
-        life(alloc, image, 1, 1)?,
-        life(alloc, Image::New, found_then.saturating_add(1), 0)?,
+        life(alloc, Some(Image::New), 1, failing)?,
+        life(alloc, crash(keeps), 1, 1)?,
+        life(alloc, crash(keeps), found_then.saturating_add(1), 0)?,
     ]?;
     let mut left: usize = 0;
     let mut out = |released: Vec<Released>| left = left.saturating_add(released.len());
@@ -64,27 +68,29 @@ fn lived(
 }
 
 // Which call of the first life fails (two batches take seven: body; sync; gate; the second's body;
-// sync of both; its gate; sync), whether the crash keeps what wasn't synced, how many devices are
-// found then, and how many effects had left.
-const ROWS: &[(u64, bool, u64, usize)] = &[
-    (0, false, 2, 2),
-    (1, true, 0, 0),
-    (4, true, 1, 0),
-    (5, false, 0, 0),
-    (5, true, 1, 0),
-    (6, true, 1, 1),
-    (7, false, 1, 1),
-    (7, true, 2, 1),
+// sync of both; its gate; sync), whether crashes keep what wasn't synced, or there is none, how
+// many devices are found then, and how many effects had left.
+const ROWS: &[(u64, Option<bool>, u64, usize)] = &[
+    (0, Some(false), 2, 2),
+    (1, Some(true), 0, 0),
+    (4, Some(true), 1, 0),
+    (5, Some(false), 0, 0),
+    (5, Some(true), 1, 0),
+    (5, None, 1, 0),
+    (6, Some(true), 1, 1),
+    (7, Some(false), 1, 1),
+    (7, Some(true), 2, 1),
+    (7, None, 2, 1),
 ];
 
 #[test]
 fn lives_keep_what_was_decided(rt: HostRuntime) {
-    for (failing, is_kept, found_then, left) in ROWS {
-        let lived = lived(rt.alloc(), *failing, *is_kept, *found_then);
+    for (failing, keeps, found_then, left) in ROWS {
+        let lived = lived(rt.alloc(), *failing, *keeps, *found_then);
         let all = found_then.saturating_add(2);
         assert!(rt;
             lived == Ok((*left + 2, (all as usize, all))),
-            "{failing} {is_kept}"
+            "{failing} {keeps:?}"
         );
     }
 }

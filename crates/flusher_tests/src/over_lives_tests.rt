@@ -23,14 +23,23 @@ pub fn calls_of_opening(alloc: Global) -> Result<u64, Refusal> {
     Err(Refusal::Damaged)
 }
 
+/// The crash that keeps all that wasn't synced, or none of it; or there is no crash.
+pub fn crash(keeps: Option<bool>) -> Option<Image> {
+    match keeps {
+        Some(true) => Some(Image::New),
+        Some(false) => Some(Image::Old),
+        None => None,
+    }
+}
+
 // A life of one chain of three batches at most; the number of the call that fails may be 0, where
 // none does.
-fn life(image: Image, failing: u64) -> Result<FlusherLife, Refusal> {
+fn life(crash: Option<Image>, failing: u64) -> Result<FlusherLife, Refusal> {
     let Some(most) = ChainLength::new(3) else {
         return Err(Refusal::Malformed);
     };
     Ok(FlusherLife {
-        image,
+        crash,
         failing: CallNumber::new(failing),
         chains: 1,
         most,
@@ -54,14 +63,14 @@ fn tell(told: u64, released: &[Released]) -> u64 {
 }
 
 // What is told over three lives, of four batches of one device each, and how many devices are found
-// then: in the first one this call of its chain fails, a crash leaves this image, and the opening
-// of the second one is refused.
-fn over_lives(alloc: Global, failing: u64, image: Image) -> Result<(u64, u64), Refusal> {
+// then: in the first one this call of its chain fails, the opening of the second one is refused,
+// and in the third it is made again; before both there is such a crash, or none.
+fn over_lives(alloc: Global, failing: u64, keeps: Option<bool>) -> Result<(u64, u64), Refusal> {
     let opening = calls_of_opening(alloc)?;
     let lives = [
-        life(Image::New, opening.saturating_add(failing))?,
-        life(image, 1)?,
-        life(Image::New, 0)?,
+        life(Some(Image::New), opening.saturating_add(failing))?,
+        life(crash(keeps), 1)?,
+        life(crash(keeps), 0)?,
     ];
     let mut told = 0;
     let mut out = |released: Vec<Released>| told = tell(told, &released);
@@ -76,26 +85,32 @@ fn over_lives(alloc: Global, failing: u64, image: Image) -> Result<(u64, u64), R
     }
 }
 
-// The call that fails, whether what was written is left, the devices told of, and how many are
-// found. The fourth batch is in step where the first three are found; a device that is found and
-// wasn't told of never is.
-const LIVES: &[(u64, bool, u64, u64)] = &[
-    (1, true, 0, 0),
-    (4, false, 0, 0),
-    (4, true, 0, 1),
-    (7, false, 1, 1),
-    (7, true, 1, 2),
-    (9, true, 12, 2),
-    (10, false, 12, 2),
-    (10, true, 124, 4),
-    (11, false, 1234, 4),
+// The call that fails, whether crashes keep what was written, or there is none, the devices told
+// of, and how many are found. The fourth batch is in step where the first three are found; a device
+// that is found and wasn't told of never is.
+const LIVES: &[(u64, Option<bool>, u64, u64)] = &[
+    (1, Some(true), 0, 0),
+    (4, Some(false), 0, 0),
+    (4, Some(true), 0, 1),
+    (4, None, 0, 1),
+    (7, Some(false), 1, 1),
+    (7, Some(true), 1, 2),
+    (7, None, 1, 2),
+    (9, Some(true), 12, 2),
+    (10, Some(false), 12, 2),
+    (10, Some(true), 124, 4),
+    (10, None, 124, 4),
+    (11, Some(false), 1234, 4),
+    (11, None, 1234, 4),
 ];
 
 #[test]
 fn no_device_is_told_of_twice_over_lives(rt: HostRuntime) {
-    for (failing, is_left, told, count) in LIVES {
-        let image = if *is_left { Image::New } else { Image::Old };
-        let lives = over_lives(rt.alloc(), *failing, image);
-        assert!(rt; lives == Ok((*told, *count)), "{failing}: {lives:?}");
+    for (failing, keeps, told, count) in LIVES {
+        let lives = over_lives(rt.alloc(), *failing, *keeps);
+        assert!(rt;
+            lives == Ok((*told, *count)),
+            "{failing} {keeps:?}: {lives:?}"
+        );
     }
 }

@@ -8,3 +8,4 @@ pub mod Answering
 pub mod Republishing
 pub mod NextCalls
 pub mod Shut
+pub mod HoldingOn

@@ -3,7 +3,7 @@ use Rattle.std.proofs.Common.{◌≡◌, ◌≢◌, ◌≤◌, ◌<◌, ◌-◌,
 use Rattle.std.specs.Prelude.{IfErr, MatchBool, Result, Ok, Err}
 use Rattle.std.proofs.lemmas.Bool.{cases_eq}
 use Rattle.std.proofs.lemmas.List.{get_or-take}
-use Rattle.disk.specs.State.{IsTorn, NothingOpen, State, bytes_after_write}
+use Rattle.disk.specs.State.{EveryImage, IsTorn, NothingOpen, State, bytes_after_write}
 use Rattle.gate_log.specs.declared.layout.Area.{Area}
 use Rattle.gate_log.specs.declared.layout.Header.{Header}
 use Rattle.gate_log.specs.declared.layout.TheConstants.{OPEN}
@@ -173,6 +173,25 @@ first_says law t seq net_id slots own few each =
         batches = (refl, refl);
       };
     }
+
+-- also where its network and its slots were read
+pub first_of : TableLaw → (t : TableState) (seq net slots : ℕ) → net ≡ t.net_id → slots ≡ t.slots → net < 64 → IsSlots slots → HaveOwnSlots t.devices
+    → length t.devices ≤ t.slots → AreEntries newest (entries_of_table t)
+    → (first_contents net slots (header_behind t seq 1 (length (entries newest (entries_of_table t)))) (entries newest (entries_of_table t))
+    ≡ first_contents t.net_id t.slots (header_behind t seq 1 (length (entries newest (entries_of_table t)))) (entries newest (entries_of_table t)))
+    × Says newest
+    (first_contents t.net_id t.slots (header_behind t seq 1 (length (entries newest (entries_of_table t)))) (entries newest (entries_of_table t))) t seq
+first_of law t seq net slots net_is slots_is in_range some own few each =
+    let records = entries newest (entries_of_table t) in
+    let header = header_behind t seq 1 (length records) in (
+      λ i. first_contents (net_is i) (slots_is i) header records,
+      first_says law t seq (subst (λ n. n < 64) net_is in_range) (subst IsSlots slots_is some) own few each,
+    )
+
+-- a disk that wasn't touched is as it was
+pub as_it_was : ((s : State) → NothingOpen s → EveryImage s (λ image. image ≡ s.content)) → (t : TableState) (seq : ℕ) (s : State) → NothingOpen s
+    → EveryImage s (IsNewStoreImage t seq s.content)
+as_it_was law t seq s nothing image permitted = inr (inr (ap (drop 1) (law s nothing image permitted)))
 
 pub new_store : (t : TableState) (seq : ℕ) (c : LogContents) (old image : List ℕ) → Says newest c t seq → IsFirstImage c old image → IsNewStoreImage t seq old image
 new_store t seq c old image says (inl closed) = inl closed

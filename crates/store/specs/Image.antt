@@ -1,5 +1,5 @@
 -- What the disk of a store says: a table and the number of its last decision.
-use Rattle.std.specs.Prelude.{◌≡◌, ◌<◌, ◌≤◌, ℕ, ◌+◌, List, [], ◌∷◌, length}
+use Rattle.std.specs.Prelude.{◌≡◌, ◌<◌, ◌≤◌, ℕ, ◌+◌, List, [], ◌∷◌, ◌++◌, length}
 use Rattle.gate_log.specs.declared.layout.Area.{Area}
 use Rattle.gate_log.specs.declared.layout.Areas.{Areas}
 use Rattle.gate_log.specs.declared.layout.Header.{Header}
@@ -12,7 +12,7 @@ use Rattle.store_layout.specs.declared.superblock.TheConstants.Superblock.{LEN}
 use Rattle.record_codec.specs.declared.version.RecordVersion.{RecordVersion}
 use Rattle.record_codec.specs.declared.version.RecordVersion.TheVariants.{V1, V2}
 use Rattle.record_codec.specs.Version.{version_byte}
-use Rattle.store_layout.specs.Entries.{EntryValue, Replay}
+use Rattle.store_layout.specs.Entries.{EntryValue, Replay, ReplayGoesOn}
 use Rattle.store.specs.declared.areas.TheConstants.{LAST_GENERATION, LAST_OLD_GENERATION}
 
 -- the first area, behind the superblock
@@ -62,6 +62,27 @@ BatchesLead version t seq [] u n = (u ≡ t) × (n ≡ seq)
 BatchesLead version t seq (b ∷ batches) u n =
     (entries : List EntryValue) × (next : TableState) × IsBatchOn version t seq b entries next
     × BatchesLead version next b.last_sequence batches u n
+
+-- The batch goes on from this table and number as far as some entry of it, for which memory may be
+-- wanted.
+pub record BatchGoesOn (version : RecordVersion) (t : TableState) (seq : ℕ)
+    (b : BatchValue) : Type 0 where
+  pub some : 1 ≤ b.entry_count
+  pub few : b.entry_count ≤ MOST
+  pub number : b.last_sequence ≡ seq + b.entry_count
+  pub goes_on : ReplayGoesOn version t b.entries b.entry_count
+
+-- and so does one of these batches, from where those in front of it lead
+pub record BatchesGoOn (version : RecordVersion) (t : TableState) (seq : ℕ)
+    (batches : List BatchValue) : Type 0 where
+  pub front : List BatchValue
+  pub next : BatchValue
+  pub behind : List BatchValue
+  pub parts : batches ≡ front ++ next ∷ behind
+  pub here : TableState
+  pub last : ℕ
+  pub leads : BatchesLead version t seq front here last
+  pub goes_on : BatchGoesOn version here last next
 
 -- the table and number that a checkpoint and the batches behind it lead to
 pub record Restores (version : RecordVersion) (net_id slots : ℕ) (header : Header)

@@ -4,7 +4,7 @@ use Rattle.std.specs.Prelude.{OnOk, is_ok}
 use Rattle.lw_types.specs.declared.refusal.Refusal.{Refusal}
 use Rattle.lw_types.specs.declared.refusal.Refusal.TheVariants.{DeviceFailed}
 use Rattle.disk.specs.Outlook.{Outlook, HasCause, IsForeseen}
-use Rattle.disk.specs.State.{EveryImage, State}
+use Rattle.disk.specs.State.{EveryImage, IsPermitted, State}
 use Rattle.gate_log.specs.Areas.{LogContents}
 use Rattle.gate_log.specs.Log.{LogState, IsAtRest, log_state, log_disk as disk_of_log}
 use Rattle.sessions.specs.Table.{TableState}
@@ -70,6 +70,13 @@ pub record IsOpened (content : List ℕ) (s : StoreState) : Type 0 where
 abbrev pub StillHolds : List ℕ → State → Type 0
 StillHolds bytes disk =
     (t : TableState) (seq : ℕ) → HoldsTable t seq bytes → EveryImage disk (HoldsTable t seq)
+
+-- Whatever a crash leaves of the new disk holds each table that one of the images of the old one
+-- held: so what is known of the tables in all of these is known of what is left now.
+abbrev pub HoldsOn : State → State → Type 0
+HoldsOn old new =
+    EveryImage new (λ image. (was : List ℕ) × (IsPermitted old was
+    × ((t : TableState) (seq : ℕ) → HoldsTable t seq was → HoldsTable t seq image)))
 
 -- one call of the store's disk: an error is the device's, comes exactly where that failed, and
 -- fails the store

@@ -1,17 +1,16 @@
 // Opens a store.
-ghost use Rattle.std.specs.Prelude.{◌≡◌, ◌≢◌, ◌≤◌, ◌+◌, ◌⊎◌, Err, IsErrAnd, false, length, take};
-ghost use Rattle.std.specs.Prelude.{drop, IfOk, IfErr, OnOk, MatchResult};
+ghost use Rattle.std.specs.Prelude.{◌≡◌, ◌≢◌, ◌+◌, ◌⊎◌, Err, false, length, take};
+ghost use Rattle.std.specs.Prelude.{IfErr, MatchResult};
 ghost use Rattle.lw_types.specs.declared.refusal.Refusal.TheVariants.{DeviceFailed, OutOfMemory};
 ghost use Rattle.disk.specs.Outlook.{IsArmed};
 ghost use Rattle.disk.specs.Outlook.Outlook.{AllSucceed, FailsAfter};
 ghost use Rattle.disk.specs.State.{NothingOpen};
 ghost use Rattle.gate_log.specs.Areas.{AreLaidOut};
 ghost use Rattle.gate_log.specs.Opening.{disk_in_opening};
-ghost use Rattle.store.specs.Faults.{HasGoodFront, IsFault};
 ghost use Rattle.record_codec.specs.Version.{newest};
 ghost use Rattle.store.specs.Found.{IsFound, IsOpeningOf};
 ghost use Rattle.store.specs.Made.{IsOpenAnswer};
-ghost use Rattle.store.specs.State.{store_state, disk_of, IsOld, IsOpened, StillHolds};
+ghost use Rattle.store.specs.State.{store_state, disk_of, HoldsOn, IsOld, IsOpened};
 
 use crate::Store;
 use crate::found::Found;
@@ -80,9 +79,9 @@ pub fn open_back<D: Disk>(alloc: Global, disk: D) -> Result<Store<D>, (D, Refusa
     ensures memory { D.honest → IfErr result (λ e. e.1 ≢ DeviceFailed
         → NothingOpen (D.state e.0) × ((D.state e.0).content ≡ (D.state disk).content)) }
 
-    // Whatever table the disk held, it holds.
-    ensures kept { D.honest → NothingOpen (D.state disk)
-        → IfErr result (λ e. StillHolds (D.state disk).content (D.state e.0)) }
+    // Whatever a crash leaves of it holds what one might have left of the disk before: so a store
+    // whose opening was refused can be opened again, with a crash between or without one.
+    ensures kept { D.honest → IfErr result (λ e. HoldsOn (D.state disk) (D.state e.0)) }
     ensures same_length { IfErr result
         (λ e. length (D.state e.0).content ≡ length (D.state disk).content) }
 {

@@ -1,9 +1,10 @@
 // The table that a checkpoint and the batches behind it lead to.
-ghost use Rattle.std.specs.Prelude.{◌≡◌, ◌≢◌, ◌↔◌, ℕ, List, MatchResult};
+ghost use Rattle.std.specs.Prelude.{◌≡◌, ◌≢◌, ◌↔◌, ℕ, List, IfErr, MatchResult};
 ghost use Rattle.lw_types.specs.declared.refusal.Refusal.TheVariants.{Damaged, OutOfMemory};
-ghost use Rattle.sessions.specs.Table.{TableState};
-ghost use Rattle.store_layout.specs.Entries.{EntryValue};
-ghost use Rattle.store.specs.Image.{IsBatchOn, IsCheckpointOf, BatchesLead, Restores};
+ghost use Rattle.sessions.specs.Table.{TableState, empty_table};
+ghost use Rattle.store_layout.specs.Entries.{EntryValue, ReplayGoesOn};
+ghost use Rattle.store.specs.Image.{IsBatchOn, IsCheckpointOf, BatchGoesOn, BatchesGoOn};
+ghost use Rattle.store.specs.Image.{BatchesLead, Restores};
 
 use gate_log::{Batch, Recovered};
 use lw_types::Refusal;
@@ -29,10 +30,12 @@ pub(crate) fn restore(
         recovered.now.records.items recovered.now.batches.items t seq)) }
 {
     let header = recovered.header;
+    let empty = Table::new(alloc, superblock.net_id, superblock.slots)?;
     let mut table = checkpoint(
         alloc,
         superblock,
         version,
+        empty,
         &recovered.records,
         header.record_count,
     )?;
@@ -46,23 +49,28 @@ pub(crate) fn restore(
     Ok((table, seq))
 }
 
-// The table of a checkpoint's records.
+// The table of a checkpoint's records, which are put on an empty one. Refused with `OutOfMemory`
+// for a record alone that is in order.
 fn checkpoint(
     alloc: Global,
     superblock: &Superblock,
     version: RecordVersion,
+    empty: Table,
     records: &[u8],
     count: u32,
 ) -> Result<Table, Refusal>
-    ensures { MatchResult result
+    requires { empty ≡ empty_table superblock.now.net_id superblock.now.slots }
+    ensures put { MatchResult result
         (λ table. (t : TableState) → IsCheckpointOf version superblock.now.net_id
         superblock.now.slots records.now count t ↔ (t ≡ table))
         (λ e. e ≢ OutOfMemory → (e ≡ Damaged) × ((t : TableState)
         → ¬ IsCheckpointOf version superblock.now.net_id superblock.now.slots records.now count
         t)) }
+    ensures memory { IfErr result
+        (λ e. e ≡ OutOfMemory → ReplayGoesOn version empty records.now count) }
 {
     laws::bytes_replay_in_one_way();
-    let mut table = Table::new(alloc, superblock.net_id, superblock.slots)?;
+    let mut table = empty;
     replay(alloc, version, &mut table, records, count)?;
     if table.devices().len() as u64 != u64::from(count) {
         return Err(Refusal::Damaged);
@@ -70,7 +78,8 @@ fn checkpoint(
     Ok(table)
 }
 
-// Puts the entries of batches on a table, and gives the number of the last decision.
+// Puts the entries of batches on a table, and gives the number of the last decision. Refused with
+// `OutOfMemory` for an entry alone that is in order, of a batch that is.
 fn replay_batches(
     alloc: Global,
     version: RecordVersion,
@@ -78,11 +87,13 @@ fn replay_batches(
     seq: u64,
     batches: &[Batch],
 ) -> Result<u64, Refusal>
-    ensures { MatchResult result
+    ensures led { MatchResult result
         (λ last. (u : TableState) (n : ℕ) → BatchesLead version table.old seq batches.now u n
         ↔ ((u ≡ table.new) × (n ≡ last)))
         (λ e. e ≢ OutOfMemory → (e ≡ Damaged)
         × ((u : TableState) (n : ℕ) → ¬ BatchesLead version table.old seq batches.now u n)) }
+    ensures memory { IfErr result
+        (λ e. e ≡ OutOfMemory → BatchesGoOn version table.old seq batches.now) }
 {
     let mut last = seq;
     for batch in batches {
@@ -92,7 +103,8 @@ fn replay_batches(
     Ok(last)
 }
 
-// Puts the entries of one batch on a table.
+// Puts the entries of one batch on a table. Refused with `OutOfMemory` for an entry alone that is
+// in order, where the number and the count of the batch are.
 fn replay_batch(
     alloc: Global,
     version: RecordVersion,
@@ -100,13 +112,15 @@ fn replay_batch(
     seq: u64,
     batch: &Batch,
 ) -> Result<(), Refusal>
-    ensures { MatchResult result
+    ensures put { MatchResult result
         (λ _. (es : List EntryValue) × IsBatchOn version table.old seq batch.now es table.new
         × ((fs : List EntryValue) (u : TableState) → IsBatchOn version table.old seq batch.now fs u
         → u ≡ table.new))
         (λ e. e ≢ OutOfMemory → (e ≡ Damaged)
         × ((es : List EntryValue) (u : TableState)
         → ¬ IsBatchOn version table.old seq batch.now es u)) }
+    ensures memory { IfErr result
+        (λ e. e ≡ OutOfMemory → BatchGoesOn version table.old seq batch.now) }
 {
     laws::bytes_replay_in_one_way();
     let count = u64::from(batch.entry_count());

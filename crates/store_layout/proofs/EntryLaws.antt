@@ -10,7 +10,7 @@ use Rattle.sessions.specs.Table.{CanPut, TableState, with_record}
 use Rattle.record_codec.specs.declared.version.RecordVersion.{RecordVersion}
 use Rattle.record_codec.specs.declared.device_record.TheConstants.{LONGEST_RECORD}
 use Rattle.record_codec.specs.Change.{IsChangeOf}
-use Rattle.store_layout.specs.Entries.{EntryValue, kind_of, body_in, entry, entries, IsEntry, AreEntries, Replay, LeavesRecord, Puts, EntriesLead, NoEntry, slot_in}
+use Rattle.store_layout.specs.Entries.{EntryValue, kind_of, body_in, entry, entries, IsEntry, AreEntries, Replay, LeavesRecord, Puts, EntriesLead, NoEntry, ReplayGoesOn, slot_in}
 use Rattle.store_layout.specs.Entries.EntryValue.{Changed, Whole}
 
 -- the parts of two lists that begin alike
@@ -210,6 +210,24 @@ read_more v t bytes n now_table rest e behind next_table so is is_entry put =
       each = AreEntries-push v so.front e so.each is_entry;
       leads = leads_push v t so.front now_table e next_table so.leads put;
     }
+
+-- one more that leaves a record stands behind them
+pub goes_on_at : (v : RecordVersion) (t : TableState) (bytes : List ℕ) (n count : ℕ) (here : TableState) (rest : List ℕ) (e : EntryValue) (behind : List ℕ)
+    → ReadSo v t bytes n here rest → n < count → rest ≡ entry v e ++ behind → IsEntry v e → (after : Device) → LeavesRecord v here e after
+    → ReplayGoesOn v t bytes count
+goes_on_at v t bytes n count here rest e behind so less is is_entry after leaves = record {
+  front = so.front;
+  next = e;
+  behind = behind;
+  spelled = so.spelled ∙ ap (λ b. entries v so.front ++ b) is;
+  fewer = subst (λ k. k < count) (sym so.number) less;
+  each = so.each;
+  one_more = is_entry;
+  here = here;
+  leads = so.leads;
+  after = after;
+  leaves = leaves;
+}
 
 -- what spells the bytes goes on behind what was read
 goes_on : {v : RecordVersion} → RecordLaws v → (front es : List EntryValue) (rest : List ℕ) → AreEntries v front → AreEntries v es → length front ≤ length es

@@ -88,6 +88,22 @@ pub record Replay (version : RecordVersion) (t : TableState) (bytes : List ℕ) 
   pub each : AreEntries version es
   pub leads : EntriesLead version t es u
 
+-- Entries in front of these bytes, fewer than `count`, lead to a table, and behind them stands one
+-- more that leaves a record there: for which memory may be wanted.
+pub record ReplayGoesOn (version : RecordVersion) (t : TableState) (bytes : List ℕ)
+    (count : ℕ) : Type 0 where
+  pub front : List EntryValue
+  pub next : EntryValue
+  pub behind : List ℕ
+  pub spelled : bytes ≡ entries version front ++ (entry version next ++ behind)
+  pub fewer : length front < count
+  pub each : AreEntries version front
+  pub one_more : IsEntry version next
+  pub here : TableState
+  pub leads : EntriesLead version t front here
+  pub after : Device
+  pub leaves : LeavesRecord version here next after
+
 -- the entry of a decision: the record that it leaves, where it found none; else the change from the
 -- one that it found
 abbrev pub IsEntryOf : RecordVersion → Decision → EntryValue → Type 0

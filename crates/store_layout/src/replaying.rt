@@ -1,10 +1,12 @@
 // Entries, replayed.
-ghost use Rattle.std.specs.Prelude.{◌≡◌, ◌≢◌, ◌++◌, ℕ, List, MatchResult};
+ghost use Rattle.std.specs.Prelude.{◌≡◌, ◌≢◌, ◌++◌, ℕ, List, IfErr, MatchResult};
+ghost use Rattle.devices.specs.declared.device.Device.{Device};
 ghost use Rattle.lw_types.specs.declared.refusal.Refusal.TheVariants.{OutOfMemory, Damaged};
+ghost use Rattle.record_codec.specs.DeviceRecord.{IsSomeRecord};
 ghost use Rattle.sessions.specs.Table.{TableState};
 ghost use Rattle.store_layout.specs.Entries.{EntryValue, IsEntry, LeavesRecord, NoEntry, Replay};
-ghost use Rattle.store_layout.specs.Entries.{body_in, entry, kind_of, slot_in};
-ghost use Rattle.store_layout.specs.Entries.EntryValue.{Changed};
+ghost use Rattle.store_layout.specs.Entries.{ReplayGoesOn, body_in, entry, kind_of, slot_in};
+ghost use Rattle.store_layout.specs.Entries.EntryValue.{Changed, Whole};
 ghost use Rattle.store_layout.specs.ReadEntry.{value_of};
 
 use crate::entries::{CHANGED, WHOLE};
@@ -26,18 +28,20 @@ enum Entry<'a> {
 
 impl Entry<'_> {
     // The slot, and the record that the entry leaves there on this table. Refused with `Damaged`
-    // exactly where it leaves none, and with `OutOfMemory` for want of memory.
+    // exactly where it leaves none, and with `OutOfMemory` for want of memory, where it leaves one.
     fn record_on(
         self,
         alloc: Global,
         version: RecordVersion,
         table: &Table,
     ) -> Result<(u16, Device), Refusal>
-        ensures { MatchResult result
+        ensures left { MatchResult result
             (λ left. (left.0 ≡ slot_in (value_of self.entry))
             × LeavesRecord version table.now (value_of self.entry) left.1)
             (λ e. e ≢ OutOfMemory → (e ≡ Damaged)
             × ((after : Device) → ¬ LeavesRecord version table.now (value_of self.entry) after)) }
+        ensures memory { IfErr result (λ e. e ≡ OutOfMemory
+            → (after : Device) × LeavesRecord version table.now (value_of self.entry) after) }
     {
         match self {
             Entry::Whole { slot, device } => Ok((slot, device)),
@@ -57,10 +61,12 @@ fn changed_record(
     slot: u16,
     change: &[u8],
 ) -> Result<Device, Refusal>
-    ensures { MatchResult result
+    ensures left { MatchResult result
         (λ after. LeavesRecord version table.now (Changed slot change.now) after)
         (λ e. e ≢ OutOfMemory → (e ≡ Damaged)
         × ((after : Device) → ¬ LeavesRecord version table.now (Changed slot change.now) after)) }
+    ensures memory { IfErr result (λ e. e ≡ OutOfMemory
+        → (after : Device) × LeavesRecord version table.now (Changed slot change.now) after) }
 {
     match table.devices().get(usize::from(slot)) {
         Some(before) => version.read_change(alloc, before, change),
@@ -76,12 +82,14 @@ fn entry_of(
     slot: u16,
     body: &[u8],
 ) -> Result<Entry<'_>, Refusal>
-    ensures { MatchResult result
+    ensures read { MatchResult result
         (λ read. (kind_of (value_of read) ≡ kind) × (slot_in (value_of read) ≡ slot)
         × (body_in version (value_of read) ≡ body.now) × IsEntry version (value_of read))
         (λ e. e ≢ OutOfMemory → (e ≡ Damaged)
         × ((other : EntryValue) → IsEntry version other → kind ≡ kind_of other
         → body.now ≡ body_in version other → ⊥)) }
+    ensures memory { IfErr result (λ e. e ≡ OutOfMemory
+        → (kind ≡ WHOLE) × IsSomeRecord version body.now) }
 {
     match kind {
         WHOLE => {
@@ -93,16 +101,21 @@ fn entry_of(
     }
 }
 
-// The entry at the front of some bytes, and the bytes behind it.
+// The entry at the front of some bytes, and the bytes behind it. Refused with `Damaged` exactly
+// where none stands there, and with `OutOfMemory` for want of memory, where a whole record does.
 fn read_entry(
     alloc: Global,
     version: RecordVersion,
     bytes: &[u8],
 ) -> Result<(Entry<'_>, &[u8]), Refusal>
-    ensures { MatchResult result
+    ensures read { MatchResult result
         (λ read. (bytes.now ≡ entry version (value_of read.0) ++ read.1.now)
         × IsEntry version (value_of read.0))
         (λ e. (e ≢ OutOfMemory → (e ≡ Damaged) × NoEntry version bytes.now)) }
+    ensures memory { IfErr result (λ e. e ≡ OutOfMemory
+        → (slot : ℕ) × ((device : Device) × ((rest : List ℕ)
+        × (IsEntry version (Whole slot device)
+        × (bytes.now ≡ entry version (Whole slot device) ++ rest))))) }
 {
     laws::records_are_short();
     let [kind, s1, s0, l1, l0, rest @ ..] = bytes else {
@@ -120,7 +133,8 @@ fn read_entry(
 
 /// Puts so many entries on a table, which are all of the bytes. Refused with `Damaged` exactly
 /// where the bytes aren't so many entries, or one of them may not be put; with `OutOfMemory` for
-/// want of memory. After an `Err` the table has a beginning of the entries, and is of no use.
+/// want of memory, and only at an entry that leaves a record where those before it led. After an
+/// `Err` the table has a beginning of the entries, and is of no use.
 pub fn replay(
     alloc: Global,
     version: RecordVersion,
@@ -128,11 +142,13 @@ pub fn replay(
     bytes: &[u8],
     count: u32,
 ) -> Result<(), Refusal>
-    ensures { MatchResult result
+    ensures replayed { MatchResult result
         (λ _. (es : List EntryValue) × Replay version table.old bytes.now count es table.new)
         (λ e. e ≢ OutOfMemory → (e ≡ Damaged)
         × ((es : List EntryValue) (u : TableState)
         → Replay version table.old bytes.now count es u → ⊥)) }
+    ensures memory { IfErr result
+        (λ e. e ≡ OutOfMemory → ReplayGoesOn version table.old bytes.now count) }
 {
     laws::each_record_is_of_one_device();
     laws::each_change_is_of_one_record();

@@ -34,6 +34,7 @@ impl<D: Sim> Place<D> {
             → IsOpenedFrom (D.state disk).content (D.state now) }
     {
         store::laws::a_settled_store_is_on_its_disk();
+        disk::laws::settled_disk_keeps_its_content();
         match store::open_back(alloc, disk) {
             Ok(store) => Place::begin(alloc, store),
             Err((disk, refusal)) => (Place::Closed(disk), Answer::Refused(refusal)),

@@ -30,15 +30,14 @@ impl<D: Sim + Drop> World<D> {
     ghost use Rattle.devices.specs.declared.mark.Mark.{Mark};
     ghost use Rattle.disk.specs.Outlook.{IsArmed};
     ghost use Rattle.disk.specs.Outlook.Outlook.{AllSucceed, FailsAfter};
-    ghost use Rattle.disk.specs.State.{NothingOpen};
     ghost use Rattle.flusher.specs.Released.{effects_of_all};
     ghost use Rattle.sessions.specs.Table.{TableState};
     ghost use Rattle.store.specs.Faults.{IsFault, IsFormatRefusal};
     ghost use Rattle.store.specs.Image.{HoldsTable};
-    ghost use Rattle.store.specs.State.{store_state, disk_of, IsSettled};
+    ghost use Rattle.store.specs.State.{store_state, disk_of, HoldsOn, IsOld, IsSettled};
     ghost use Rattle.world.specs.declared.step.Step.TheVariants as steps;
     ghost use Rattle.world.specs.Calls.{AreCallsAt, ForetellsAt, outlook_after_opening};
-    ghost use Rattle.world.specs.Tells.{PlaceTellsRoom, CrashesTo, IsOpenedFrom, LeavesImage};
+    ghost use Rattle.world.specs.Tells.{PlaceTellsRoom, CrashesTo, LeavesImage};
     ghost use Rattle.world.specs.Course.{Origin, Course, adopted_store, beginning, new_store};
     ghost use Rattle.world.specs.Course.{effects_from};
     ghost use Rattle.sessions.specs.Marks.{IsSubsequence};
@@ -67,7 +66,7 @@ impl<D: Sim + Drop> World<D> {
     /// A world with the store that this disk holds, in records of whatever version. Its course
     /// begins with the table and the number that are held, whatever marks were used up before.
     /// Refused as [`store::open_back`] is, and with `OutOfMemory`; then the disk comes back, and
-    /// where nothing of it was open, it holds whatever table it held.
+    /// whatever a crash leaves of it holds what one might have left of it before.
     pub fn adopt(alloc: Global, disk: D) -> Result<Self, (D, Refusal)>
         ensures sound { IfOk result (IsSoundWorld D.state) }
         ensures holds { IfOk result (λ _. (t : TableState) × ((seq : ℕ)
@@ -92,8 +91,9 @@ impl<D: Sim + Drop> World<D> {
             (λ world. (now : D) → HasDisk world.place now → IsArmed (D.outlook now))
             (λ e. (e.1 ≡ DeviceFailed → D.outlook e.0 ≡ AllSucceed)
             × (e.1 ≢ DeviceFailed → IsArmed (D.outlook e.0))) }
-        ensures kept { NothingOpen (D.state disk)
-            → IfErr result (λ e. IsOpenedFrom (D.state disk).content (D.state e.0)) }
+        ensures kept { IfErr result (λ e. HoldsOn (D.state disk) (D.state e.0)) }
+        ensures same { ¬ (IsOld (D.state disk).content)
+            → IfErr result (λ e. (D.state e.0).content ≡ (D.state disk).content) }
     {
         store::laws::a_settled_store_is_on_its_disk();
         match store::open_back(alloc, disk) {

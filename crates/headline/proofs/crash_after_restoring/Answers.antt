@@ -1,13 +1,18 @@
-use Rattle.std.proofs.Common.{◌++◌, sym, subst}
+use Rattle.std.proofs.Common.{◌≡◌, ◌++◌, List, sym, subst}
 use Rattle.std.specs.Prelude.{All}
 use Rattle.std.proofs.lemmas.Result.{IfOk-weaker}
 use Rattle.devices.specs.declared.mark.Mark.{Mark}
 use Rattle.sessions.specs.Marks.{Covers, HasUsedUp, marks_of}
+use Rattle.sessions.specs.Restored.{restored_table}
 use Rattle.sessions.specs.Table.{TableState}
 use Rattle.store.specs.State.{store_state}
 use Rattle.world.specs.Course.{adopted_store, beginning, course_of}
 use Rattle.headline.specs.Recovers.{NoMarkTwice, Recovers}
 use Rattle.headline.proofs.crash_after_restoring.Goals as goal
+
+-- what covers these marks covers them under its other name
+all_covered : (t restored : TableState) (marks : List Mark) → t ≡ restored → All (λ m. Covers restored m) marks → All (λ m. Covers t m) marks
+all_covered t restored marks is covered = subst (λ (table : TableState). All (λ (m : Mark). Covers table m) marks) (sym is) covered
 
 pub returns-in-Ok-clause-recovers : goal.returns-in-Ok-clause-recovers
 returns-in-Ok-clause-recovers g c =
@@ -29,7 +34,7 @@ returns-in-Ok-clause-once g c =
     (λ found once marks within distinct.
     subst (λ (t : TableState). NoMarkTwice (adopted_store t seq marks) (course_of (adopted_store t seq marks) (beginning (adopted_store t seq marks)) steps found.0.items))
     c.in-Ok.ensures.1
-    (once marks (subst (λ (t : TableState). All (λ (m : Mark). Covers t m) marks) (sym c.in-Ok.ensures.1) (c.a_restored_table_covers.ensures.covered c.args.since c.args.older marks within)) distinct))
+    (once marks (all_covered c.restore.new.self (restored_table c.args.since c.args.older) marks c.in-Ok.ensures.1 (c.a_restored_table_covers.ensures.covered c.args.since c.args.older marks within)) distinct))
     c.crash_from_table.ensures.once
 
 pub returns-in-Ok-clause-covered : goal.returns-in-Ok-clause-covered
@@ -42,5 +47,5 @@ returns-in-Ok-clause-covered g c =
     (λ (t : TableState). HasUsedUp (store_state g.D.Disk.state found.1).table
     (marks ++ marks_of (course_of (adopted_store t seq marks) (beginning (adopted_store t seq marks)) steps found.0.items).left))
     c.in-Ok.ensures.1
-    (covered marks (subst (λ (t : TableState). All (λ (m : Mark). Covers t m) marks) (sym c.in-Ok.ensures.1) (c.a_restored_table_covers.ensures.covered c.args.since c.args.older marks within)) distinct))
+    (covered marks (all_covered c.restore.new.self (restored_table c.args.since c.args.older) marks c.in-Ok.ensures.1 (c.a_restored_table_covers.ensures.covered c.args.since c.args.older marks within)) distinct))
     c.crash_from_table.ensures.covered

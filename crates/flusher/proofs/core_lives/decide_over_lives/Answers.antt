@@ -36,9 +36,9 @@ loop-life-preserved g c =
           (
             omega (arith, so.1.0, shorter),
             λ first held image permitted.
-                let kept = c.live-disk.ensures.kept in
+                let kept = c.live-disk.ensures.kept image permitted in
                 let found = so.1.1 first held kept.0 kept.1.0 in
-                let after = kept.1.1 found.0 found.1.0 image permitted in
+                let after = kept.1.1 found.0 found.1.0 in
                 (after.0, (after.1.0, (found.0, (c.loop-life.out, (found.1.1, after.1.1))))),
           ),
         ),

@@ -19,7 +19,7 @@ returns-clause-opened_from c lives t number disk opened left are permitted is =
     opens_from c.a_settled_store_is_on_its_disk.ensures lives t number disk opened left are permitted is
 
 pub returns-clause-refused : goal.returns-clause-refused
-returns-clause-refused c lives t number disk back left are permitted still = refuses lives t number disk back left are permitted still
+returns-clause-refused c lives t number disk back are on = refuses lives t number disk back are on
 
 pub returns-clause-no_fault : goal.returns-clause-no_fault
 returns-clause-no_fault c lives t number disk left e are permitted = no_fault lives t number disk left e are permitted

@@ -5,13 +5,13 @@ use Rattle.store.specs.State.{store_state}
 use Rattle.flusher.specs.Lived.{AreOnDisk, HaveLed, IsKnownOfLives}
 use Rattle.flusher.specs.Released.{effects_of_all}
 use Rattle.flusher.specs.declared.released.Released.{Released}
-use Rattle.flusher.proofs.Leading.{go_then, go_weaker, open_on}
+use Rattle.flusher.proofs.Leading.{at_once, go_then, go_weaker, open_on}
 use Rattle.flusher.proofs.over_lives.live.Goals as goal
 
 pub returns-in-Ok-clause-course : goal.returns-in-Ok-clause-course
 returns-in-Ok-clause-course g c = record {
   opening = Ok c.in-Ok.store;
-  powered = c.in-Ok.ensures;
+  reopened = c.in-Ok.ensures;
   goes_on = (c.flush_life.new.store, (c.flush_life.result, (c.flush_life.ensures.course, c.close.ensures)));
 }
 
@@ -41,6 +41,8 @@ returns-in-Err-clause-lives g c =
     let effects : Vec Released Global → List Effect = λ released. effects_of_all released.items in
     let step : g.row.C.Denot → Vec Released Global → g.row.C.Denot → Type 0 = λ before released after. Called g.C.FnMut before (released, tt) tt after in
     let state = g.D.Disk.state in
-    open_on effects step (λ lives t number. AreOnDisk lives t number (state c.args.disk)) (λ lives t number. AreOnDisk lives t number (state c.in-Err.disk)) c.args.out.now
-    (λ lives t number on. c.lives_go_on.ensures.refused lives t number (state c.args.disk) (state c.in-Err.disk) (state c.in-Err.ensures.at).content on
-    c.in-Err.ensures.permitted c.in-Err.ensures.kept)
+    let old : IsKnownOfLives = λ lives t number. AreOnDisk lives t number (state c.args.disk) in
+    let back : IsKnownOfLives = λ lives t number. AreOnDisk lives t number (state c.in-Err.disk) in
+    let out = c.args.out.now in
+    go_weaker effects step old old back out out
+    (λ lives t number on. c.lives_go_on.ensures.refused lives t number (state c.args.disk) (state c.in-Err.disk) on c.in-Err.ensures.kept) (at_once effects step old out)

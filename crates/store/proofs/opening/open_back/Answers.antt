@@ -1,15 +1,13 @@
-use Rattle.std.proofs.Common.{◌∙◌, ap, subst, sym}
-use Rattle.disk.specs.State.{NothingOpen, State}
+use Rattle.std.proofs.Common.{◌∙◌, ap}
+use Rattle.std.proofs.lemmas.Result.{IfErr-weaker}
+use Rattle.disk.specs.State.{State}
 use Rattle.gate_log.specs.Opening.{disk_in_opening}
 use Rattle.store.proofs.Answering.{keeps_settled, kept, made, never_refused, unmade}
+use Rattle.store.proofs.HoldingOn.{holds_content, holds_on_same}
 use Rattle.store.proofs.opening.open_back.Goals as goal
 
 pub returns-in-Err-clause-kept : goal.returns-in-Err-clause-kept
-returns-in-Err-clause-kept g c honest nothing =
-    let before = g.D.Disk.state c.args.disk in
-    let same = c.in-Err.ensures.failed honest in
-    keeps_settled c.settled_disk_keeps_its_content.ensures before.content (g.D.Disk.state c.in-Err.disk) (subst NothingOpen (sym same) nothing)
-    (ap (λ (s : State). s.content) same)
+returns-in-Err-clause-kept g c honest = holds_on_same (g.D.Disk.state c.args.disk) (g.D.Disk.state c.in-Err.disk) (c.in-Err.ensures.failed honest)
 
 pub returns-in-Ok-read_store-clause-made : goal.returns-in-Ok-read_store-clause-made
 returns-in-Ok-read_store-clause-made g c =
@@ -40,19 +38,22 @@ returns-in-Ok-read_store-clause-settled g c honest new =
     read.reads read.found c.open.ensures honest new _
 
 pub returns-in-Ok-read_store-clause-kept : goal.returns-in-Ok-read_store-clause-kept
-returns-in-Ok-read_store-clause-kept g c honest nothing =
+returns-in-Ok-read_store-clause-kept g c honest =
+    let state = g.D.Disk.state in
     let is = c.in-Ok.ensures in
     let read = c.in-Ok-read_store.ensures in
-    kept g.D.Disk c.args.disk (disk_in_opening c.in-Ok.opening) (disk_in_opening c.read_store.new.opening) c.in-Ok-read_store.found c.open.result is.content is.cause is.foreseen
-    read.reads read.found c.open.ensures honest
+    IfErr-weaker c.open.result _ _ (λ e still. holds_content (state c.args.disk) (state e.0) still)
+    (kept g.D.Disk c.args.disk (disk_in_opening c.in-Ok.opening) (disk_in_opening c.read_store.new.opening) c.in-Ok-read_store.found c.open.result is.content is.cause is.foreseen
+    read.reads read.found c.open.ensures honest)
 
 pub returns-in-Err-read_store-clause-kept : goal.returns-in-Err-read_store-clause-kept
-returns-in-Err-read_store-clause-kept g c honest nothing =
+returns-in-Err-read_store-clause-kept g c honest =
     let state = g.D.Disk.state in
     let closed = c.close.ensures.disk in
     let read = c.in-Err-read_store.ensures.reads.same honest in
-    keeps_settled c.settled_disk_keeps_its_content.ensures (state c.args.disk).content (state c.close.result) (c.close.ensures.settled honest)
-    (ap (λ d. (state d).content) closed ∙ (ap (λ (s : State). s.content) read ∙ c.in-Ok.ensures.content honest))
+    holds_content (state c.args.disk) (state c.close.result)
+    (keeps_settled c.settled_disk_keeps_its_content.ensures (state c.args.disk).content (state c.close.result) (c.close.ensures.settled honest)
+    (ap (λ d. (state d).content) closed ∙ (ap (λ (s : State). s.content) read ∙ c.in-Ok.ensures.content honest)))
 
 pub returns-in-Err-read_store-clause-made : goal.returns-in-Err-read_store-clause-made
 returns-in-Err-read_store-clause-made g c =

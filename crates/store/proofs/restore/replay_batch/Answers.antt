@@ -1,13 +1,14 @@
 use Rattle.std.proofs.Common.{◌≡◌, ◌≢◌, ◌∙◌, ℕ, List, Result, Ok, Err, subst}
 use Rattle.std.proofs.Common.{arith}
 use Rattle.std.proofs.lemmas.Grind.{common_steps}
+use Rattle.std.proofs.lemmas.Result.{IfErr-weaker}
 use Rattle.std.specs.Result.{MatchResult}
 use Rattle.lw_types.specs.declared.refusal.Refusal.{Refusal}
 use Rattle.lw_types.specs.declared.refusal.Refusal.TheVariants.{Damaged, OutOfMemory}
 use Rattle.gate_log.specs.Layout.{BatchValue}
 use Rattle.sessions.specs.Table.{TableState}
 use Rattle.record_codec.specs.declared.version.RecordVersion.{RecordVersion}
-use Rattle.store_layout.specs.Entries.{EntryValue, Replay}
+use Rattle.store_layout.specs.Entries.{EntryValue, Replay, ReplayGoesOn}
 use Rattle.store.specs.Image.{IsBatchOn}
 use Rattle.store.proofs.restore.replay_batch.Goals as goal
 
@@ -23,8 +24,8 @@ replayed : {U : Type 0} (v : RecordVersion) (t now : TableState) (seq : ℕ) (b 
 replayed v t now seq b (Ok x) one is (es, put) = (es, is es now put, λ fs u other. one u now fs es other.replay put)
 replayed v t now seq b (Err e) one is refused = λ other. ((refused other).0, λ es u batch. (refused other).1 es u batch.replay)
 
-pub returns : goal.returns
-returns c =
+pub returns-clause-put : goal.returns-clause-put
+returns-clause-put c =
     let v = c.args.version in
     let t = c.args.table.now in
     let now = c.replay.new.table in
@@ -41,4 +42,20 @@ returns c =
       few = omega (arith, c.if-count.false, c.from-count.ensures, c.entry_count.ensures);
       number = grind (arith, common_steps);
     })
-    (subst (λ n. put_in b.entries n) count (subst (λ (l : List ℕ). put_in l c.from.result) bytes c.replay.ensures))
+    (subst (λ n. put_in b.entries n) count (subst (λ (l : List ℕ). put_in l c.from.result) bytes c.replay.ensures.replayed))
+
+pub returns-clause-memory : goal.returns-clause-memory
+returns-clause-memory c =
+    let v = c.args.version in
+    let t = c.args.table.now in
+    let b = c.args.batch.now in
+    let bytes : c.entries.result.now ≡ b.entries = c.entries.ensures in
+    let count : c.from.result ≡ b.entry_count = c.from.ensures ∙ c.entry_count-2.ensures in
+    IfErr-weaker c.replay.result _ _
+    (λ e goes_on memory. record {
+      some = omega (arith, c.if-count-lt1.false, c.from-count.ensures, c.entry_count.ensures);
+      few = omega (arith, c.if-count.false, c.from-count.ensures, c.entry_count.ensures);
+      number = grind (arith, common_steps);
+      goes_on = subst (λ n. ReplayGoesOn v t b.entries n) count (subst (λ (l : List ℕ). ReplayGoesOn v t l c.from.result) bytes (goes_on memory));
+    })
+    c.replay.ensures.memory

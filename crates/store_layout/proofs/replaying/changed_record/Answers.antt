@@ -7,7 +7,7 @@ use Rattle.lw_types.specs.declared.refusal.Refusal.{Refusal}
 use Rattle.lw_types.specs.declared.refusal.Refusal.TheVariants.{OutOfMemory, Damaged}
 use Rattle.devices.specs.declared.device.Device.{Device}
 use Rattle.record_codec.specs.declared.version.RecordVersion.{RecordVersion}
-use Rattle.record_codec.specs.Change.{IsChangeOf}
+use Rattle.record_codec.specs.Change.{IsChangeOf, IsSomeChange}
 use Rattle.sessions.specs.Table.{TableState}
 use Rattle.store_layout.specs.Entries.{LeavesRecord}
 use Rattle.store_layout.specs.Entries.EntryValue.{Changed}
@@ -26,8 +26,8 @@ left v t slot before change (Err e) at found only (inr damaged) = λ other. (
   λ after is. other (only after (subst (λ (d : Device). IsChangeOf v d after change) (same_Some is.0 before (sym is.1 ∙ at)) is.2)),
 )
 
-pub returns-in-None : goal.returns-in-None
-returns-in-None c other = (
+pub returns-in-None-clause-left : goal.returns-in-None-clause-left
+returns-in-None-clause-left c other = (
   refl,
   λ after is.
       let devices = c.devices.ensures.devices in
@@ -35,6 +35,12 @@ returns-in-None c other = (
       let long = ap length devices in
       none-some is.0 (sym (slice_get_past c.args.table.now.devices c.args.slot (omega arith)) ∙ is.1),
 )
+
+-- memory runs out for changes of the record at the slot alone
+wanted : (v : RecordVersion) (t : TableState) (slot : ℕ) (before : Device) (change : List ℕ) (r : Result Device Refusal) → slice_get t.devices slot ≡ Some before
+    → (r ≡ Err OutOfMemory → IsSomeChange v before change) → IfErr r (λ e. e ≡ OutOfMemory → (after : Device) × LeavesRecord v t (Changed slot change) after)
+wanted v t slot before change (Ok after) at memory = tt
+wanted v t slot before change (Err e) at memory = λ is. let change_is = memory (ap Err is) in (change_is.0, (before, at, change_is.1))
 
 pub returns-in-Some : goal.returns-in-Some
 returns-in-Some c =
@@ -44,4 +50,7 @@ returns-in-Some c =
     let at : slice_get c.args.table.now.devices c.args.slot ≡ Some c.in-Some.before.now =
     ap (λ (l : List Device). slice_get l c.args.slot) (sym c.devices.ensures.devices) ∙ (ap (slice_get c.devices.result.now) (sym c.from.ensures) ∙ read) in
     let k = c.read_change.ensures in
-    left c.args.version c.args.table.now c.args.slot c.in-Some.before.now c.args.change.now c.read_change.result at k.found k.only k.refused
+    record {
+      left = left c.args.version c.args.table.now c.args.slot c.in-Some.before.now c.args.change.now c.read_change.result at k.found k.only k.refused;
+      memory = wanted c.args.version c.args.table.now c.args.slot c.in-Some.before.now c.args.change.now c.read_change.result at k.memory;
+    }

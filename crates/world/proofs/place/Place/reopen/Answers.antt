@@ -1,5 +1,6 @@
 use Rattle.std.proofs.Common.{refl, subst, sym}
 use Rattle.store.specs.State.{disk_of, store_state}
+use Rattle.store.proofs.HoldingOn.{still_holds}
 use Rattle.world.specs.declared.answer.Answer.TheVariants as answers
 use Rattle.world.specs.declared.step.Step.TheVariants as steps
 use Rattle.world.specs.Calls.{AreRecordedCalls, calls_after, outlook_after_opening}
@@ -26,8 +27,9 @@ returns-in-Err-clause-course g c origin course nothing_open survives =
     let after = c.in-Err.disk in
     let e = c.in-Err.ensures in
     let found = survives (state before).content (content_permitted (state before)) in
+    let still = still_holds c.settled_disk_keeps_its_content.ensures (state before) (state after) nothing_open (e.kept honest) in
     let kept : Survives origin course (state after) = λ image p.
-    (found.0, found.1, e.kept honest nothing_open (table_from origin found.0) (number_from origin found.0) found.2 image p) in (
+    (found.0, found.1, still (table_from origin found.0) (number_from origin found.0) found.2 image p) in (
       two_reasons c.in-Err.refusal
           (λ device memory. (e.made.refused honest device memory).none (table_from origin found.0) (number_from origin found.0) found.2),
       λ image. (refl, kept),
@@ -74,6 +76,10 @@ pub returns-in-Err-clause-from : goal.returns-in-Err-clause-from
 returns-in-Err-clause-from g c nothing_open now there =
     let state = g.D.Disk.state in
     let honest = g.met.D.Sim.is_honest in
-    let content = (state c.args.disk).content in
+    let before = state c.args.disk in
     let e = c.in-Err.ensures in
-    subst (λ d. IsOpenedFrom content (state d)) (sym there) (record { same = e.same honest; keeps = e.kept honest nothing_open })
+    subst (λ d. IsOpenedFrom before.content (state d)) (sym there)
+    (record {
+      same = e.same honest;
+      keeps = still_holds c.settled_disk_keeps_its_content.ensures before (state c.in-Err.disk) nothing_open (e.kept honest);
+    })

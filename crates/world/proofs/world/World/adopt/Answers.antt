@@ -2,10 +2,10 @@ use Rattle.std.proofs.Common.{◌≡◌, ◌∙◌, ap, subst, sym, arith}
 use Rattle.std.proofs.lemmas.Result.{IfErr-weaker, IfOk-weaker}
 use Rattle.disk.specs.Outlook.Outlook.{AllSucceed}
 use Rattle.lw_types.specs.Refusal.{number_of}
-use Rattle.store.specs.State.{disk_of, store_state}
+use Rattle.store.specs.State.{HoldsOn, disk_of, store_state}
+use Rattle.store.proofs.HoldingOn.{holds_content}
 use Rattle.world.specs.Calls.{AreRecordedCalls, outlook_after_opening}
 use Rattle.world.specs.Course.{adopted_store}
-use Rattle.world.specs.Tells.{IsOpenedFrom}
 use Rattle.world.proofs.Known.{formatted_known}
 use Rattle.world.proofs.Opening.{opened_from}
 use Rattle.world.proofs.world.World.adopt.Goals as goal
@@ -57,20 +57,28 @@ returns-in-Ok-clause-unarmed g c all =
     c.of_store.ensures.refused
 
 pub returns-in-Ok-clause-kept : goal.returns-in-Ok-clause-kept
-returns-in-Ok-clause-kept g c nothing_open =
+returns-in-Ok-clause-kept g c =
     let state = g.D.Disk.state in
-    let content = (state c.args.disk).content in
+    let before = state c.args.disk in
     let opened = c.in-Ok.ensures.made.opened g.met.D.Sim.is_honest in
     let s = store_state state c.in-Ok.store in
     IfErr-weaker c.of_store.result _ _
-    (λ e is. subst (λ d. IsOpenedFrom content (state d)) (sym is.0) (opened_from content s opened (c.a_settled_store_is_on_its_disk.ensures s opened.settled)))
+    (λ e is. subst (λ d. HoldsOn before (state d)) (sym is.0)
+    (holds_content before s.log.disk (opened_from before.content s opened (c.a_settled_store_is_on_its_disk.ensures s opened.settled)).keeps))
     c.of_store.ensures.refused
+
+pub returns-in-Ok-clause-same : goal.returns-in-Ok-clause-same
+returns-in-Ok-clause-same g c new =
+    let state = g.D.Disk.state in
+    let before = state c.args.disk in
+    let opened = c.in-Ok.ensures.made.opened g.met.D.Sim.is_honest in
+    IfErr-weaker c.of_store.result _ _ (λ e is. ap (λ d. (state d).content) is.0 ∙ opened.same new) c.of_store.ensures.refused
 
 pub returns-in-Err-clause-refused : goal.returns-in-Err-clause-refused
 returns-in-Err-clause-refused g c = c.in-Err.ensures.made.refused g.met.D.Sim.is_honest
 
 pub returns-in-Err-clause-kept : goal.returns-in-Err-clause-kept
-returns-in-Err-clause-kept g c nothing_open =
-    let honest = g.met.D.Sim.is_honest in
-    let e = c.in-Err.ensures in
-    record { same = e.same honest; keeps = e.kept honest nothing_open }
+returns-in-Err-clause-kept g c = c.in-Err.ensures.kept g.met.D.Sim.is_honest
+
+pub returns-in-Err-clause-same : goal.returns-in-Err-clause-same
+returns-in-Err-clause-same g c = c.in-Err.ensures.same g.met.D.Sim.is_honest
