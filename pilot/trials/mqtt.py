@@ -67,12 +67,10 @@ class Whole:
     def __init__(self, trials, pilot: Pilot, meters: int):
         self.trials, self.pilot = trials, pilot
         self.broker = pilot.broker().start("running")
-        named = [word for it in GATEWAYS for word in ("--gateway", it)]
-        udp = ("--udp", f"{HOST}:{pilot.udp_port}", *named)
-        udp += ("--counts", pilot.file("gateways.prom"))
-        self.gateways = pilot.own("gateways-udp", "--network", pilot.network, *udp)
-        self.gateways.start("listens on")
-        self.air = Air(self.forwarders(), [Meter(it) for it in range(meters)])
+        self.named = [word for it in GATEWAYS for word in ("--gateway", it)]
+        self.named += ["--network", pilot.network, "--counts", pilot.file("gateways.prom")]
+        self.gateways = self.start_gateways()
+        self.air = Air(self.make_gateways(), [Meter(it) for it in range(meters)])
         rows = ["DevEUI,JoinEUI,AppKey,Offset,Delay", *(it.row() for it in self.air.meters)]
         self.file = pilot.file("devices.csv", "\n".join(rows) + "\n")
         broker = ("--broker", f"{HOST}:{pilot.broker_port}", "--application", APPLICATION)
@@ -84,7 +82,12 @@ class Whole:
         self.readings.start("connected")
         self.applications.start("devices are there")
 
-    def forwarders(self):
+    def start_gateways(self):
+        """The bridge of the gateways."""
+        udp = ("--udp", f"{HOST}:{self.pilot.udp_port}")
+        return self.pilot.own("gateways-udp", *udp, *self.named).start("listens on")
+
+    def make_gateways(self):
         """The gateways of the field."""
         return [Forwarder(it, self.pilot.udp_port, begins=90_000_000) for it in GATEWAYS]
 
@@ -138,10 +141,10 @@ class Whole:
 
 
 @contextmanager
-def whole(trials, meters: int):
+def whole(trials, meters: int, kind=Whole):
     """A whole pilot, whose meters have joined."""
     with Pilot(trials.path) as pilot:
-        it = Whole(trials, pilot, meters)
+        it = kind(trials, pilot, meters)
         it.link()
         trials.holds("all meters join", it.join())
         yield it
