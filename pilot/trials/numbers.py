@@ -1,0 +1,79 @@
+"""What Prometheus reads: the server's numbers, and those that alerts speak of."""
+
+import os
+import re
+import subprocess
+import sys
+
+from .parts import PILOT, Pilot
+
+# a line of Prometheus' text format that has a number
+SAMPLE = re.compile(r'([a-zA-Z_:][a-zA-Z0-9_:]*)(\{[a-z]+="(?:[^"\\\n]|\\["\\n])*"\})? (\S+)')
+STATUS = 'listening 1:2\nmade 7\nlongest_commit_us 1500\nlater-one 9\nodd a"b\\c\n'
+DUE = {
+    "lnsd_up": 1.0,
+    "lnsd_listening": 1.0,
+    "lnsd_decisions_total": 7.0,
+    "lnsd_longest_commit_seconds": 0.0015,
+    "lnsd_later_one": 9.0,
+    "lnsd_odd": 1.0,
+}
+
+
+def samples(trials, text: str) -> dict[str, float]:
+    """The numbers of a text, each of which has its help and its type before it."""
+    found, told = {}, set()
+    for line in text.splitlines():
+        if line.startswith("# "):
+            told.add(tuple(line.split(" ")[1:3]))
+            continue
+        name, _, value = SAMPLE.fullmatch(line).groups()
+        found[name] = float(value)
+        trials.holds(f"{name} is told of", {("HELP", name), ("TYPE", name)} <= told)
+    return found
+
+
+def metrics(*words) -> tuple[int, str, str]:
+    """Runs pilot/metrics."""
+    it = [sys.executable, PILOT / "metrics", *words]
+    it = subprocess.run(it, capture_output=True, text=True, timeout=60, check=False)
+    return it.returncode, it.stdout, it.stderr
+
+
+def numbers(trials):
+    """The numbers of a server that runs, and of none; a later server's lines."""
+    with Pilot(trials.path) as pilot:
+        words = (pilot.program.store, "--lnsd", pilot.program.path)
+        status, text, said = metrics(*words)
+        trials.compare("metrics", (status, said), (0, ""))
+        came = samples(trials, text)
+        trials.compare("lnsd_up and lnsd_places", (came["lnsd_up"], came["lnsd_places"]), (1, 96))
+        file = pilot.file("lnsd.prom")
+        trials.compare("to a file", metrics(*words, "--out", file), (0, "", ""))
+        with open(file, encoding="utf-8") as it:
+            trials.compare("the same numbers", samples(trials, it.read()), came)
+        pilot.program.stop()
+        came = samples(trials, metrics(*words)[1])
+        trials.compare("no server", came, {"lnsd_up": 0})
+        played = pilot.file("played", f"#!/bin/sh\nprintf '%s' '{STATUS}'\n")
+        os.chmod(played, 0o755)
+        came = samples(trials, metrics("store", "--lnsd", played)[1])
+        trials.compare("a later server", came, DUE)
+        status, _, said = metrics("store", "--lnsd", "/nowhere/lnsd")
+        trials.compare("no program", (status, said.count("\n")), (1, 1))
+
+
+def alerts(trials):
+    """Each alert speaks of numbers that there are."""
+    text = (PILOT / "alerts.yml").read_text(encoding="utf-8")
+    named = set(re.findall(r"\b((?:lnsd|pilot)_[a-z_]+)", text))
+    of_programs = ""
+    for it in ("metrics", "gateways-udp", "gateways-mqtt", "applications-mqtt"):
+        of_programs += (PILOT / it).read_text(encoding="utf-8")
+    for name in sorted(named):
+        bare = re.sub(r"^lnsd_|^pilot_gateways_(udp|mqtt)_|_total$|_seconds$", "", name)
+        bare = re.sub(r"_total$|_seconds$", "", bare)
+        trials.holds(f"{name} is a number", f'"{bare}"' in of_programs or bare in of_programs)
+
+
+TOPICS = {"numbers for Prometheus": numbers, "alerts": alerts}
