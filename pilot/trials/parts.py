@@ -128,12 +128,13 @@ class Pilot:
                 it.write(text)
         return path
 
-    def broker(self) -> Part:
+    def broker(self, more: str = "") -> Part:
         """A broker of its own, which keeps what waits for clients that come back."""
         text = (PILOT / "mosquitto.conf").read_text(encoding="utf-8")
         text = text.replace("listener 1883 127.0.0.1", f"listener {self.broker_port} {HOST}")
-        text = text.replace("/var/lib/mosquitto/", f"{self.folder}/")
-        text += "user root\n" if os.getuid() == 0 else ""
+        # what Debian's own file says before it
+        head = f"persistence true\npersistence_location {self.folder}/\n"
+        text = head + ("user root\n" if os.getuid() == 0 else "") + text + more
         conf = self.file("mosquitto.conf", text)
         return self.part("mosquitto", command("mosquitto"), "-v", "-c", conf)
 

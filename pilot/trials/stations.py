@@ -35,8 +35,17 @@ class Station:
         self.client.on_message = self.note
         topic = f"{prefix}/gateway/{self.eui}/command/#"
         self.client.on_connect = lambda client, *_: client.subscribe(topic, 1)
-        self.client.connect_async(HOST, port)
+        self.connect(port)
         self.client.loop_start()
+
+    def connect(self, port: int):
+        """Connects to the broker on loopback."""
+        self.client.connect_async(HOST, port)
+
+    def end(self):
+        """Goes away."""
+        self.client.disconnect()
+        self.client.loop_stop()
 
     def note(self, _client, _data, message):
         self.commands.append(message)
