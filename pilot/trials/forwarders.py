@@ -17,8 +17,8 @@ SPREADING = {dr: f"SF{12 - dr}BW125" for dr in range(6)}
 class Forwarder:
     """A gateway with a packet forwarder, whose clock begins where it wants."""
 
-    def __init__(self, eui: str, port: int, version: int = 2, begins: int = 0):
-        self.eui, self.version, self.server = bytes.fromhex(eui), version, (HOST, port)
+    def __init__(self, eui: str, port: int, version=2, begins=0, host=HOST):
+        self.eui, self.version, self.server = bytes.fromhex(eui), version, (host, port)
         self.begun = time.monotonic() - begins / 1e6
         self.socket, self.token, self.next_pull = None, 0, 0.0
         # what it answers instead of sending, in turn
@@ -31,7 +31,7 @@ class Forwarder:
         if self.socket:
             self.socket.close()
         self.socket = socket.socket(socket.AF_INET, socket.SOCK_DGRAM)
-        self.socket.bind((HOST, 0))
+        self.socket.connect(self.server)
         self.next_pull = 0.0
 
     def restart(self, begins: int = 0):
@@ -48,7 +48,10 @@ class Forwarder:
         self.token = (self.token + 1) % 65536
         number = self.token if token is None else token
         head = bytes([self.version]) + number.to_bytes(2, "big") + bytes([kind]) + self.eui
-        self.socket.sendto(head + body, self.server)
+        try:
+            self.socket.send(head + body)
+        except ConnectionRefusedError:
+            pass  # nobody listens there, as when the bridge is killed
 
     def rxpk(self, frame: bytes, hz: int, data_rate: int, snr: float, rssi: int) -> dict:
         """What it says of a frame."""
@@ -79,7 +82,10 @@ class Forwarder:
 
     def read(self) -> bytes | None:
         """Reads a datagram; a frame that it sends then."""
-        data = self.socket.recv(65536)
+        try:
+            data = self.socket.recv(65536)
+        except ConnectionRefusedError:
+            return None
         if data[3] in (1, 4):
             self.acknowledged += 1
             return None

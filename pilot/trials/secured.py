@@ -19,7 +19,7 @@ from .parts import PILOT, Pilot, await_that, command
 from .stations import Station
 from .udp import APPLICATION, GATEWAYS
 
-TLS = "/etc/bozintar/tls"
+TLS, BROKER_TLS = "/etc/bozintar/tls", "/etc/mosquitto/certs"
 OTHERS = "AA555A00000000B9"
 
 
@@ -77,7 +77,7 @@ class Doors:
     def conf(self, name: str, *changes) -> str:
         """A file of pilot/secure, where it lies here."""
         text = (PILOT / "secure" / name).read_text(encoding="utf-8")
-        for old, new in ((TLS, self.own.folder), *changes):
+        for old, new in changes:
             if old not in text:
                 raise Failed(f"{name} has no {old}")
             text = text.replace(old, new)
@@ -87,13 +87,14 @@ class Doors:
         """stunnel in front of the server."""
         conf = self.conf(
             "stunnel-server.conf",
+            (TLS, self.own.folder),
             ("setuid = stunnel4\nsetgid = stunnel4\n", ""),
             (":::5601", f"{HOST}:{self.port}"),
             ("/opt/bozintar/pilot", str(PILOT)),
             (f"door {HOST}:5600", f"door {self.pilot.network} --log {self.log}"),
         )
-        part = self.pilot.part("stunnel-server", command("stunnel"), conf)
-        return part.start("Configuration successful")
+        self.stunnel = self.pilot.part("stunnel-server", command("stunnel"), conf)
+        self.stunnel.start("Configuration successful")
 
     def connect(self, context: ssl.SSLContext, said: bytes) -> bytes | None:
         """Connects and says something; what comes within a second, or None for the end."""
@@ -142,6 +143,9 @@ def at_the_door(trials, it: Doors):
         trials.compare(f"a client with {name}", it.connect(context, said), due)
     with open(it.log, encoding="utf-8") as log:
         trials.compare("what the door told", len(log.readlines()), 6)
+    told = it.stunnel.said()
+    for why in ("certificate has expired", "peer did not return a certificate"):
+        trials.holds(f"stunnel told: {why}", why in told)
     plain = socket.create_connection((HOST, it.port), 10)
     plain.sendall(gateway(GATEWAYS[0]))
     plain.settimeout(5)
@@ -165,6 +169,7 @@ def whole_way(trials, it: Doors):
     pilot, port = it.pilot, free_port()
     conf = it.conf(
         "stunnel-client.conf",
+        (TLS, it.own.folder),
         (f"{HOST}:5600", f"{HOST}:{port}"),
         ("server.example:5601", f"{HOST}:{it.port}"),
         ("server.example", "localhost"),
@@ -227,7 +232,8 @@ def at_the_broker(trials, it: Doors):
     pilot, port = it.pilot, free_port()
     change = ("listener 8883", f"listener {port} {HOST}")
     acl = ("/etc/mosquitto/bozintar.acl", str(PILOT / "secure/mosquitto.acl"))
-    with open(it.conf("mosquitto-door.conf", change, acl), encoding="utf-8") as more:
+    files = (BROKER_TLS, it.own.folder)
+    with open(it.conf("mosquitto-door.conf", change, acl, files), encoding="utf-8") as more:
         pilot.broker(more.read()).start("running")
     place = GATEWAYS[0].lower()
     for name, context, due in (
