@@ -149,8 +149,11 @@ class Pilot:
     def __enter__(self):
         return self
 
-    def __exit__(self, *_):
+    def __exit__(self, kind, *_):
         for it in self.parts:
             if it.process and it.process.poll() is None:
                 it.kill()
+        torn = [it.said() for it in self.parts if "Traceback" in it.said()]
         self.program.clean()
+        if torn and not kind:
+            raise Failed(f"a traceback: {torn[0][torn[0].index('Traceback'):][-800:]}")
