@@ -80,10 +80,11 @@ class Part:
         """Ends it by SIGKILL."""
         self.end(signal.SIGKILL)
 
-    def memory(self) -> int:
-        """What it has in memory, in KiB."""
+    def memory(self, most: bool = False) -> int:
+        """What it has in memory, or had at most, in KiB."""
+        name = "VmHWM" if most else "VmRSS"
         with open(f"/proc/{self.process.pid}/status", encoding="ascii") as it:
-            return next(int(line.split()[1]) for line in it if line.startswith("VmRSS"))
+            return next(int(line.split()[1]) for line in it if line.startswith(name))
 
     def processor(self) -> float:
         """What it took of a processor, in seconds."""
