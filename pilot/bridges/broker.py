@@ -25,8 +25,6 @@ except ImportError:
 
 KEEPALIVE = 30
 LONGEST_PAUSE = 30
-# messages that wait for the broker, behind which no more are taken
-ROOM = 10_000
 # messages of the broker that wait to be looked at, behind which they are dropped
 MOST_READ = 10_000
 
@@ -61,8 +59,8 @@ def at_once(_client, _data, it: socket.socket):
 
 
 class Broker:
-    """What is published is kept until the broker has it. What comes is given to `take`, in the
-    event loop that this was made in."""
+    """What is published is kept until the broker has it; `has_room` says whether fewer than `room`
+    messages wait. What comes is given to `take`, in the event loop that this was made in."""
 
     def __init__(
         self,
@@ -71,8 +69,9 @@ class Broker:
         topics: list[str],
         take: Callable[[str, bytes], None],
         is_kept: bool,
+        room: int = 10_000,
     ):
-        self.access, self.topics, self.take = access, topics, take
+        self.access, self.topics, self.take, self.room = access, topics, take, room
         self.loop = asyncio.get_running_loop()
         self.has_room = asyncio.Event()
         self.has_room.set()
@@ -85,7 +84,7 @@ class Broker:
         self.client.on_socket_open = at_once
         self.client.on_connect = self.on_connect
         self.client.on_disconnect = self.on_disconnect
-        self.client.on_publish = lambda *_: self.loop.call_soon_threadsafe(self.taken)
+        self.client.on_publish = lambda *_: self.later(self.taken)
         self.client.on_message = self.on_message
 
     def secure(self):
@@ -101,21 +100,22 @@ class Broker:
         self.client.loop_start()
 
     def end(self):
-        """Says goodbye."""
-        self.client.disconnect()
-        self.client.loop_stop()
+        """Says goodbye, where the broker is there to hear it."""
+        if self.client.is_connected():
+            self.client.disconnect()
+            self.client.loop_stop()
 
     def publish(self, topic: str, payload: bytes):
         """Has the broker get a message at least once, for as long as this program lives."""
         self.waiting += 1
-        if self.waiting >= ROOM:
+        if self.waiting >= self.room:
             self.has_room.clear()
         self.client.publish(topic, payload, qos=1)
 
     def taken(self):
         """The broker has one of the messages."""
         self.waiting = max(0, self.waiting - 1)
-        if self.waiting < ROOM:
+        if self.waiting < self.room:
             self.has_room.set()
 
     # what follows is called in the library's thread
@@ -141,7 +141,14 @@ class Broker:
             self.overrun += 1
             return
         self.unread += 1
-        self.loop.call_soon_threadsafe(self.read, message.topic, message.payload)
+        self.later(self.read, message.topic, message.payload)
+
+    def later(self, what: Callable, *of):
+        """Has the event loop do something, where it hasn't ended."""
+        try:
+            self.loop.call_soon_threadsafe(what, *of)
+        except RuntimeError:
+            pass
 
     def read(self, topic: str, payload: bytes):
         """Looks at a message."""

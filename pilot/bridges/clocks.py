@@ -5,6 +5,8 @@ from .wire import MICROSECONDS
 WRAP = 2**32
 # by how much a stamp may be off: datagrams come late, and demodulators end out of order; in seconds
 SLACK = 10.0
+# for how long a stamp that came early stays what others are compared with: clocks differ a little
+LASTING = 60.0
 
 
 def signed(difference: int) -> int:
@@ -28,7 +30,7 @@ class Clock:
             off = signed(stamp - self.now(moment))
             if abs(off) > SLACK * MICROSECONDS:
                 self.begun_anew += 1
-            elif off < 0:
+            elif off < 0 and moment - self.came < LASTING:
                 return
         self.stamp, self.came = stamp, moment
 

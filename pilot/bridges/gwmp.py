@@ -52,11 +52,8 @@ class Datagram:
 
     def acknowledgement(self) -> bytes:
         """What is answered at once."""
-        if self.kind is Kind.PUSH_DATA:
-            return bytes([self.version]) + self.token + bytes([Kind.PUSH_ACK])
-        # version 1 repeats the gateway's EUI
-        more = self.gateway if self.version == 1 else b""
-        return bytes([self.version]) + self.token + bytes([Kind.PULL_ACK]) + more
+        kind = Kind.PUSH_ACK if self.kind is Kind.PUSH_DATA else Kind.PULL_ACK
+        return bytes([self.version]) + self.token + bytes([kind])
 
 
 def response(version: int, token: bytes, txpk: dict) -> bytes:

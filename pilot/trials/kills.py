@@ -2,20 +2,17 @@
 
 import random
 import resource
-import signal
 import subprocess
 import sys
 import time
 from collections import Counter
 
 from outside.frames import CHANNELS
-from server.program import Failed
-
-from .forwarders import Air
 from .hostile import flood
-from .meters import Meter, Reading
+from .meters import Meter
 from .mqtt import Whole, whole
-from .parts import PILOT, await_that
+from .parts import PILOT
+from .stations import ByStations
 
 METERS, TIMES, RATE = 200, 10, 60
 # how long a meter waits for its acknowledgement before it sends on, in seconds
@@ -144,6 +141,25 @@ def kills(trials):
         counted(trials, it)
 
 
+def station_kills(trials):
+    """The bridge of gateways by MQTT is killed ten times, and then stopped without its broker."""
+    with whole(trials, 20, ByStations) as it:
+        load = Load(it)
+        for _ in range(TIMES):
+            load.go_on(load.chance.uniform(0.2, 0.6))
+            killed(it, load, "gateways")
+        it.air.go_on(30, lambda: it.pilot.program.status()["gateways"] == "3")
+        trials.holds("all are acknowledged", load.rest())
+        trials.holds("none is lost", it.await_stored(it.acknowledged()))
+        marks(trials, it)
+        it.broker.end()
+        time.sleep(2)
+        begun = time.monotonic()
+        for part in (it.gateways, it.applications):
+            trials.compare(f"{part.name} ends without the broker", part.end(), 0)
+        trials.holds("it ends at once", time.monotonic() - begun < 5)
+
+
 def broker_away(trials):
     """The broker is away for a minute, in which strangers flood the gateways' port; then a disk
     is full. Nothing is lost."""
@@ -183,5 +199,6 @@ def full_disk(trials, it: Whole, load: Load):
 
 TOPICS = {
     "each part killed ten times, with 200 meters": kills,
+    "the bridge of gateways by MQTT killed ten times": station_kills,
     "a broker away for a minute, a flood, a full disk": broker_away,
 }

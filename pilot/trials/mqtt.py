@@ -5,7 +5,6 @@ import json
 import signal
 import sqlite3
 import sys
-import time
 from contextlib import contextmanager
 
 sys.path.append("/usr/lib/python3/dist-packages")
@@ -75,6 +74,8 @@ class Whole:
         self.file = pilot.file("devices.csv", "\n".join(rows) + "\n")
         broker = ("--broker", f"{HOST}:{pilot.broker_port}", "--application", APPLICATION)
         counts = ("--devices", self.file, "--counts", pilot.file("applications.prom"))
+        # so few that lines wait in the link too where the broker is away
+        counts += ("--room", 50)
         words = ("--network", pilot.network, *broker, *counts)
         self.applications = pilot.own("applications-mqtt", *words)
         self.database = pilot.file("readings.db")
@@ -229,7 +230,11 @@ def twice(trials, it: Whole, dashboard: Dashboard):
     before, device = it.stored(), it.meters[1].dev_eui
     topic = f"application/{APPLICATION}/device/{device.lower()}/event/up"
     again = dashboard.of(device, "up")[0]
-    for text in (b"{}", b"\xff", b"[" * 60000, b'{"deviceInfo":7}', json.dumps(again).encode()):
+    wrong = [{**again, name: it} for name in ("fCnt", "joinNonce") for it in (-1, 2**64, "7", 1.5)]
+    wrong += [{**again, "deviceInfo": {"devEui": it}} for it in (7, "\ud800", "B1", None)]
+    wrong += [{**again, "data": it} for it in (7, "*", "\u00e4", "A")]
+    wrong += [{**again, "time": "\ud800"}, {"deviceInfo": 7}, {}, [], again]
+    for text in (b"", b"\xff", b"[" * 60000, *(json.dumps(it).encode() for it in wrong)):
         dashboard.say(topic, text)
     trials.holds("another reading", it.reading(it.meters[1]))
     trials.holds("it is stored", it.await_stored(it.acknowledged()))

@@ -16,7 +16,6 @@ from outside.frames import CHANNELS
 from server.program import HOST
 
 from .mqtt import Whole, whole
-from .parts import await_that
 from .udp import GATEWAYS, counts_in
 
 STATS_EVERY = 1.0
