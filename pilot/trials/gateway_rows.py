@@ -136,9 +136,9 @@ def copied(changes: dict):
     """What is counted, or the fields of a copy; its payload and its bytes are compared here."""
     it = gwmp.copy_of(EUI, {**HEARD, **changes})
     how = (it.hz, it.data_rate, it.snr, it.rssi, it.stamp)
-    parts = (it.hz.to_bytes(4, "big"), bytes([it.data_rate]), it.snr.to_bytes(2, "big", signed=True))
-    more = (it.rssi.to_bytes(2, "big", signed=True), it.stamp.to_bytes(4, "big"))
-    due = b"\x01" + EUI + b"".join(parts + more) + PAYLOAD
+    due = b"\x01" + EUI + it.hz.to_bytes(4, "big") + bytes([it.data_rate])
+    due += it.snr.to_bytes(2, "big", signed=True) + it.rssi.to_bytes(2, "big", signed=True)
+    due += it.stamp.to_bytes(4, "big") + PAYLOAD
     return how if it.content() == due else it.content()
 
 

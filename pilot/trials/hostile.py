@@ -6,7 +6,8 @@ import socket
 
 from server.program import HOST
 
-from .udp import GATEWAYS
+from .field import GATEWAYS
+
 
 HEADS = (b"\x02\x00\x00", b"\x01\x00\x00", b"\x00\x00\x00", b"\x03\x00\x00", b"\xff\xff\xff")
 NAMED = bytes.fromhex(GATEWAYS[2])

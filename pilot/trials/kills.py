@@ -114,7 +114,7 @@ def counted(trials, it: Whole):
         is_so = int(less) == int(taken) - int(count) and int(less) >= lost[device]
         trials.holds(f"{line}, and {lost[device]} of them weren't counted", is_so)
         trials.holds(f"{line}: gaps", int(missing) >= lost[device])
-    print(f"  {len(acknowledged)} acknowledged, {sum(lost.values())} of them lost; {' '.join(total)}")
+    print(f"  {len(acknowledged)} acknowledged, {sum(lost.values())} lost; {' '.join(total)}")
 
 
 def kills(trials):

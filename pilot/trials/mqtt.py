@@ -12,10 +12,9 @@ from paho.mqtt import client as mqtt
 
 from server.program import HOST, Failed
 
-from .forwarders import Air, Forwarder
+from .field import APPLICATION, GATEWAYS, Field
 from .meters import Meter, Reading
 from .parts import Pilot, await_that
-from .udp import APPLICATION, GATEWAYS, counts_in
 
 EVENTS = f"application/{APPLICATION}/device/+/event/+"
 TAG = 41
@@ -60,17 +59,13 @@ class Dashboard:
         self.client.loop_stop()
 
 
-class Whole:
-    """All of a pilot: meters, gateways by UDP, the server, a broker, both bridges, a database."""
+class Whole(Field):
+    """All of a pilot: a field, the server, a broker, both bridges, a database."""
 
     def __init__(self, trials, pilot: Pilot, meters: int):
-        self.trials, self.pilot = trials, pilot
         self.broker = pilot.broker().start("running")
-        self.named = [word for it in GATEWAYS for word in ("--gateway", it)]
-        self.named += ["--network", pilot.network, "--counts", pilot.file("gateways.prom")]
-        self.gateways = self.start_gateways()
-        self.air = Air(self.make_gateways(), [Meter(it) for it in range(meters)])
-        rows = ["DevEUI,JoinEUI,AppKey,Offset,Delay", *(it.row() for it in self.air.meters)]
+        super().__init__(trials, pilot, meters)
+        rows = ["DevEUI,JoinEUI,AppKey,Offset,Delay", *(it.row() for it in self.meters)]
         self.file = pilot.file("devices.csv", "\n".join(rows) + "\n")
         broker = ("--broker", f"{HOST}:{pilot.broker_port}", "--application", APPLICATION)
         counts = ("--devices", self.file, "--counts", pilot.file("applications.prom"))
@@ -82,45 +77,6 @@ class Whole:
         self.readings = pilot.own("readings", "--db", self.database, *broker)
         self.readings.start("connected")
         self.applications.start("devices are there")
-
-    def start_gateways(self):
-        """The bridge of the gateways."""
-        udp = ("--udp", f"{HOST}:{self.pilot.udp_port}")
-        return self.pilot.own("gateways-udp", *udp, *self.named).start("listens on")
-
-    def make_gateways(self):
-        """The gateways of the field."""
-        return [Forwarder(it, self.pilot.udp_port, begins=90_000_000) for it in GATEWAYS]
-
-    @property
-    def meters(self) -> list[Meter]:
-        return self.air.meters
-
-    def link(self):
-        """Waits until each gateway has its link."""
-        due = [f"gateway {it}: linked" for it in GATEWAYS]
-        self.air.go_on(20, lambda: all(it in self.gateways.said() for it in due))
-
-    def send(self, frame: bytes, hz=868_100_000, data_rate=5):
-        """All gateways hear a frame."""
-        for place, it in enumerate(self.air.gateways):
-            it.hears(frame, hz, data_rate, snr=8 - place, rssi=-70 - place)
-
-    def join(self, pause=0.03, seconds=40.0) -> bool:
-        """All meters join, those again that no accept came to."""
-        for tries in range(4):
-            for it in (it for it in self.meters if not it.keys):
-                self.send(it.join_request())
-                self.air.go_on(pause)
-            if self.air.go_on(seconds / 2**tries, lambda: all(it.keys for it in self.meters)):
-                return True
-        return False
-
-    def reading(self, meter: Meter, seconds=10.0) -> bool:
-        """A confirmed reading; whether it was acknowledged."""
-        self.send(meter.reads())
-        mark = meter.awaited
-        return self.air.go_on(seconds, lambda: mark in meter.acknowledged)
 
     def stored(self) -> dict[Reading, bytes]:
         """What is in the database."""
@@ -230,7 +186,8 @@ def twice(trials, it: Whole, dashboard: Dashboard):
     before, device = it.stored(), it.meters[1].dev_eui
     topic = f"application/{APPLICATION}/device/{device.lower()}/event/up"
     again = dashboard.of(device, "up")[0]
-    wrong = [{**again, name: it} for name in ("fCnt", "joinNonce") for it in (-1, 2**64, "7", 1.5)]
+    wrong = [{**again, "fCnt": it} for it in (-1, 2**64, "7", 1.5)]
+    wrong += [{**again, "joinNonce": it} for it in (-1, 2**64, "7", True)]
     wrong += [{**again, "deviceInfo": {"devEui": it}} for it in (7, "\ud800", "B1", None)]
     wrong += [{**again, "data": it} for it in (7, "*", "\u00e4", "A")]
     wrong += [{**again, "time": "\ud800"}, {"deviceInfo": 7}, {}, [], again]
@@ -254,15 +211,6 @@ def devices_again(trials, it: Whole):
     trials.holds("the new line is told", new in told)
     trials.holds("the wrong line is told", "line 7: 1 fields, and not 3 to 5" in told)
     trials.holds("the count is told", told[-1].endswith("5 devices are there, 1 aren't"))
-
-
-def counts(it: Whole) -> dict:
-    """What both bridges counted, at their ends."""
-    for part in (it.gateways, it.applications):
-        if part.process.poll() is None:
-            part.end()
-    files = (it.pilot.file("gateways.prom"), it.pilot.file("applications.prom"))
-    return {name: value for file in files for name, value in counts_in(file).items()}
 
 
 TOPICS = {"applications by MQTT: readings, items, devices": readings_and_items}

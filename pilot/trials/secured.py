@@ -12,12 +12,12 @@ from server import wire
 from server.links import Application
 from server.program import HOST, Failed, free_port
 
+from .field import APPLICATION, GATEWAYS
 from .forwarders import Air, Forwarder
 from .meters import Meter
 from .mqtt import Dashboard
 from .parts import PILOT, Pilot, await_that, command
 from .stations import Station
-from .udp import APPLICATION, GATEWAYS
 
 TLS, BROKER_TLS = "/etc/bozintar/tls", "/etc/mosquitto/certs"
 OTHERS = "AA555A00000000B9"
@@ -276,9 +276,9 @@ def topics_of_its_own(trials, it: Doors, port: int):
 def bridge_with_certificate(trials, it: Doors, port: int):
     """A bridge and a gateway that come by certificates, and a reading over them."""
     pilot = it.pilot
-    files = zip(("--ca", "--certificate", "--key"), (f"{it.own.folder}/ca.crt", *it.own.of("bridge")))
+    certificate, key = it.own.of("bridge")
     words = ("--network", pilot.network, "--broker", f"localhost:{port}", "--gateway", GATEWAYS[0])
-    words += tuple(word for pair in files for word in pair)
+    words += ("--ca", f"{it.own.folder}/ca.crt", "--certificate", certificate, "--key", key)
     pilot.own("gateways-mqtt", *words).start("connected to")
     station, meter = Secured(GATEWAYS[0], port, it.own, GATEWAYS[0].lower()), Meter(1)
     air, reader = Air([station], [meter]), Application(pilot.address, APPLICATION)

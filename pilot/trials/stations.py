@@ -15,8 +15,8 @@ from paho.mqtt import client as mqtt
 from outside.frames import CHANNELS
 from server.program import HOST
 
+from .field import GATEWAYS, counts_in
 from .mqtt import Whole, whole
-from .udp import GATEWAYS, counts_in
 
 STATS_EVERY = 1.0
 

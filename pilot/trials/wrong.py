@@ -13,8 +13,8 @@ from bridges.wire import Downlink, Frames, NoMessage, line_of
 from server import wire
 from server.program import HOST
 
+from .field import GATEWAYS
 from .parts import PILOT, Pilot, await_that
-from .udp import GATEWAYS
 
 AT = "127.0.0.1:1"
 GATEWAY = ("--gateway", GATEWAYS[0])
