@@ -77,20 +77,6 @@ def euis_in(file: str) -> list[bytes]:
     return found
 
 
-def add_gateways(words: Words):
-    """The words that say which gateways are served."""
-    words.add_argument("--gateway", type=eui, action="append", default=[], metavar="EUI")
-    words.add_argument("--gateways", metavar="FILE")
-
-
-def gateways_of(given) -> list[bytes]:
-    """The gateways that are served: at least one, since a list is what keeps strangers out."""
-    found = given.gateway + (euis_in(given.gateways) if given.gateways else [])
-    if not found:
-        stop(f"no gateway is named, by --gateway or --gateways; {NAME} --help tells more", 2)
-    return found
-
-
 def tell(text: str):
     """Says a line on standard output, which a service's journal keeps."""
     print(f"{time.strftime('%H:%M:%S')}  {text}", flush=True)

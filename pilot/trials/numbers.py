@@ -5,11 +5,17 @@ import re
 import subprocess
 import sys
 
+from server.program import HOST
+
+from .field import GATEWAYS
 from .parts import PILOT, Pilot
 
 # a line of Prometheus' text format that has a number
 SAMPLE = re.compile(r'([a-zA-Z_:][a-zA-Z0-9_:]*)(\{[a-z]+="(?:[^"\\\n]|\\["\\n])*"\})? (\S+)')
 STATUS = 'listening 1:2\nmade 7\nlongest_commit_us 1500\nlater-one 9\nodd a"b\\c\n'
+# lines of a status that alerts speak of
+LINES = ("gateways", "applications", "made", "dropped", "faulted", "taken_over", "silent")
+LINES += ("devices", "slots", "waiting", "longest_commit_us")
 DUE = {
     "lnsd_up": 1.0,
     "lnsd_listening": 1.0,
@@ -65,15 +71,26 @@ def numbers(trials):
 
 def alerts(trials):
     """Each alert speaks of numbers that there are."""
-    text = (PILOT / "alerts.yml").read_text(encoding="utf-8")
-    named = set(re.findall(r"\b((?:lnsd|pilot)_[a-z_]+)", text))
-    of_programs = ""
-    for it in ("metrics", "gateways-udp", "gateways-mqtt", "applications-mqtt"):
-        of_programs += (PILOT / it).read_text(encoding="utf-8")
-    for name in sorted(named):
-        bare = re.sub(r"^lnsd_|^pilot_gateways_(udp|mqtt)_|_total$|_seconds$", "", name)
-        bare = re.sub(r"_total$|_seconds$", "", bare)
-        trials.holds(f"{name} is a number", f'"{bare}"' in of_programs or bare in of_programs)
+    named = re.findall(r"\b(?:lnsd|pilot)_[a-z_0-9]+", (PILOT / "alerts.yml").read_text("utf-8"))
+    with Pilot(trials.path) as pilot:
+        played = pilot.file("played", "#!/bin/sh\n" + "".join(f"echo {it} 1\n" for it in LINES))
+        os.chmod(played, 0o755)
+        found = set(samples(trials, metrics("store", "--lnsd", played)[1]))
+        pilot.broker().start("running")
+        at = ("--network", pilot.network, "--broker", f"{HOST}:{pilot.broker_port}")
+        udp = ("--network", pilot.network, "--udp", f"{HOST}:{pilot.udp_port}")
+        gateway = ("--gateway", GATEWAYS[0])
+        for name, said, ready in (
+            ("gateways-udp", (*udp, *gateway), "listens on"),
+            ("gateways-mqtt", (*at, *gateway), "connected to"),
+            ("applications-mqtt", (*at, "--application", "3"), "connected to"),
+        ):
+            file = pilot.file(f"{name}.prom")
+            pilot.own(name, *said, "--counts", file).start(ready).end()
+            with open(file, encoding="utf-8") as text:
+                found |= set(samples(trials, text.read()))
+    for name in sorted(set(named)):
+        trials.holds(f"{name} is a number", name in found)
 
 
 TOPICS = {"numbers for Prometheus": numbers, "alerts": alerts}
