@@ -1,10 +1,8 @@
 """A program's words, what it tells, and how it ends."""
 
 import argparse
-import asyncio
 import os
 import re
-import signal
 import sys
 import time
 from dataclasses import dataclass
@@ -86,17 +84,6 @@ def stop(why: str, status: int = 1):
     """Ends with a line on standard error."""
     print(f"{NAME}: {why}", file=sys.stderr)
     sys.exit(status)
-
-
-async def until_told(work):
-    """Runs a coroutine until it ends, or SIGTERM or SIGINT comes."""
-    task, loop = asyncio.ensure_future(work), asyncio.get_running_loop()
-    for it in (signal.SIGTERM, signal.SIGINT):
-        loop.add_signal_handler(it, task.cancel)
-    try:
-        await task
-    except asyncio.CancelledError:
-        pass
 
 
 def end_with(main):

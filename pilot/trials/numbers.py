@@ -12,30 +12,41 @@ from .parts import PILOT, Pilot
 
 # a line of Prometheus' text format that has a number
 SAMPLE = re.compile(r'([a-zA-Z_:][a-zA-Z0-9_:]*)(\{[a-z]+="(?:[^"\\\n]|\\["\\n])*"\})? (\S+)')
-STATUS = 'listening 1:2\nmade 7\nlongest_commit_us 1500\nlater-one 9\nodd a"b\\c\n'
+STATUS = """listening 1:2
+made 7
+longest_sync_us 1500
+last_copy_00000000000000B1 2500
+later-one 9
+last_copy_00000000000000B2 3500
+odd a"b\\c
+"""
 # lines of a status that alerts speak of
 LINES = ("gateways", "applications", "made", "dropped", "faulted", "taken_over", "silent")
-LINES += ("devices", "slots", "waiting", "longest_commit_us")
+LINES += ("devices", "slots", "waiting", "longest_sync_us", f"last_copy_{GATEWAYS[0]}")
 DUE = {
     "lnsd_up": 1.0,
     "lnsd_listening": 1.0,
     "lnsd_decisions_total": 7.0,
-    "lnsd_longest_commit_seconds": 0.0015,
+    "lnsd_longest_sync_seconds": 0.0015,
+    'lnsd_last_copy_seconds{gateway="00000000000000B1"}': 2.5,
+    'lnsd_last_copy_seconds{gateway="00000000000000B2"}': 3.5,
     "lnsd_later_one": 9.0,
     "lnsd_odd": 1.0,
 }
 
 
 def samples(trials, text: str) -> dict[str, float]:
-    """The numbers of a text, each of which has its help and its type before it."""
-    found, told = {}, set()
+    """The numbers of a text: those of a name stand behind its help and its type, once."""
+    found, told = {}, []
     for line in text.splitlines():
         if line.startswith("# "):
-            told.add(tuple(line.split(" ")[1:3]))
+            told.append(tuple(line.split(" ")[1:3]))
             continue
-        name, _, value = SAMPLE.fullmatch(line).groups()
-        found[name] = float(value)
-        trials.holds(f"{name} is told of", {("HELP", name), ("TYPE", name)} <= told)
+        name, labels, value = SAMPLE.fullmatch(line).groups()
+        by_gateway = labels if labels and labels.startswith("{gateway=") else ""
+        found[name + by_gateway] = float(value)
+        trials.compare(f"{name} stands with its own", told[-2:], [("HELP", name), ("TYPE", name)])
+    trials.compare("helps and types, each once", len(told), len(set(told)))
     return found
 
 
@@ -75,7 +86,7 @@ def alerts(trials):
     with Pilot(trials.path) as pilot:
         played = pilot.file("played", "#!/bin/sh\n" + "".join(f"echo {it} 1\n" for it in LINES))
         os.chmod(played, 0o755)
-        found = set(samples(trials, metrics("store", "--lnsd", played)[1]))
+        found = {it.split("{")[0] for it in samples(trials, metrics("store", "--lnsd", played)[1])}
         pilot.broker().start("running")
         at = ("--network", pilot.network, "--broker", f"{HOST}:{pilot.broker_port}")
         udp = ("--network", pilot.network, "--udp", f"{HOST}:{pilot.udp_port}")
