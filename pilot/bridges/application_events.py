@@ -1,0 +1,195 @@
+"""What an application's lines say, as the JSON that ChirpStack's users know, and its commands as
+lines. The names of fields are those of ChirpStack's events, version 4; what has no counterpart is
+left out, or has a name of its own."""
+
+import re
+import uuid
+from dataclasses import dataclass
+
+from . import fields
+from .fields import Wrong
+
+# of identifiers that follow from what they name, so that what comes twice has the same one
+SPACE = uuid.UUID("6f7a0c0e-7d0b-5f0e-9d57-0a3c5e1f7b21")
+MOST_ITEM = 242
+DEV_STATUS_ANS = 6
+# the numbers of docs/FORMATS.md that a request may be refused with
+REFUSALS = {
+    7: ("UNKNOWN_DEVICE", "no device of this application has this DevEUI"),
+    12: ("QUEUE_FULL", "16 items wait for the device"),
+    13: ("MAC_QUEUE_FULL", "too many MAC commands wait for the device"),
+    14: ("DOWNLINK_PAYLOAD_SIZE", "the payload has more than 242 bytes"),
+    15: ("BAD_PORT", "the port isn't one from 1 to 223"),
+    16: ("DEV_EUI_TAKEN", "a device has this DevEUI already"),
+    17: ("TABLE_FULL", "each slot of the network has a device"),
+    23: ("BACKLOG", "too many decisions wait"),
+    30: ("OUT_OF_MEMORY", "the network has no memory left"),
+    51: ("BAD_MESSAGE", "the network doesn't know such a request"),
+}
+
+
+@dataclass(frozen=True)
+class Event:
+    """An event of a device."""
+
+    device: str
+    kind: str
+    body: dict
+
+    def topic(self, application: int) -> str:
+        """Where it is published."""
+        return f"application/{application}/device/{self.device.lower()}/event/{self.kind}"
+
+
+@dataclass(frozen=True)
+class Item:
+    """A downlink that is asked for."""
+
+    device: str
+    identifier: str
+    port: int
+    confirmed: bool
+    payload: bytes
+
+    @classmethod
+    def read(cls, device: str, body: bytes) -> "Item":
+        """The item in a command `down`."""
+        said = fields.table(fields.parsed(body))
+        if "devEui" in said and fields.text(said, "devEui").upper() != device:
+            raise Wrong("devEui isn't the topic's")
+        confirmed = said.get("confirmed", False)
+        if not isinstance(confirmed, bool):
+            raise Wrong("confirmed is neither true nor false")
+        port = fields.whole(said, "fPort", 0, 255)
+        identifier = said.get("id") or ""
+        if not isinstance(identifier, str) or len(identifier) > 64:
+            raise Wrong("id is no text of at most 64 characters")
+        # a longer one is refused by the network, which tells why
+        payload = fields.payload({"data": said.get("data", "")}, "data", MOST_ITEM + 1)
+        return cls(device, identifier, port, confirmed, payload)
+
+    def line(self, tag: int) -> str:
+        """The request."""
+        kind, shown = "c" if self.confirmed else "u", byte_text(self.payload)
+        return f"queue {self.device} {tag} {self.port} {kind} {shown}"
+
+
+def byte_text(payload: bytes) -> str:
+    """Bytes as lines have them."""
+    return payload.hex().upper() or "-"
+
+
+def bytes_of(text: str) -> bytes:
+    """The bytes of a line's text."""
+    return b"" if text == "-" else bytes.fromhex(text)
+
+
+def identifier(*of) -> str:
+    """An identifier that follows from what it names."""
+    return str(uuid.uuid5(SPACE, " ".join(map(str, of))))
+
+
+def device_of(topic: str, application: int) -> str:
+    """The device that a command's topic names."""
+    found = re.fullmatch(
+        rf"application/{application}/device/([0-9A-Fa-f]{{16}})/command/down", topic
+    )
+    if not found:
+        raise Wrong("no command down of a device")
+    return found[1].upper()
+
+
+class Translator:
+    """Makes events of one application's lines."""
+
+    def __init__(self, application: int, names: dict[int, str]):
+        self.application, self.names = application, names
+
+    def event(self, line: str, time: str) -> Event:
+        """The event of a line. `time` is when it came."""
+        kind, device, *words = line.split(" ")
+        of_kind = {
+            "up": self.up,
+            "acked": self.acked,
+            "lost": self.lost,
+            "mac": self.mac,
+            "spent": self.spent,
+            "queued": self.queued,
+        }
+        if kind not in of_kind:
+            raise Wrong(f"a line {kind[:20]}")
+        told, body = of_kind[kind](device, *words)
+        base = {"time": time, "deviceInfo": self.device_info(device)}
+        return Event(device, told, {**base, **body})
+
+    def device_info(self, device: str) -> dict:
+        """Whose event it is."""
+        return {"applicationId": str(self.application), "devEui": device.lower()}
+
+    def up(self, device, session, counter, port, payload, copies, gateway, hz, rate, snr, rssi):
+        """A reading. It was heard by `copies` gateways, of which the best one is told."""
+        lora = {"bandwidth": 125000, "spreadingFactor": 12 - int(rate), "codeRate": "CR_4_5"}
+        best = {"gatewayId": gateway.lower(), "rssi": int(rssi), "snr": int(snr) / 4}
+        return "up", {
+            "deduplicationId": identifier("up", device, session, counter),
+            "joinNonce": int(session),
+            "fCnt": int(counter),
+            "fPort": int(port),
+            "dr": int(rate),
+            "data": fields.shown(bytes_of(payload)),
+            "copies": int(copies),
+            "rxInfo": [best],
+            "txInfo": {"frequency": int(hz), "modulation": {"lora": lora}},
+        }
+
+    def acked(self, _device, tag):
+        """The device acknowledged an item."""
+        return "ack", {**self.item(tag), "acknowledged": True}
+
+    def lost(self, _device, tag):
+        """The device didn't acknowledge an item."""
+        return "ack", {**self.item(tag), "acknowledged": False}
+
+    def queued(self, _device, tag):
+        """An item waits."""
+        return "queued", self.item(tag)
+
+    def item(self, tag) -> dict:
+        """Which item it was: by the id that it was asked with, where that is known still."""
+        return {"queueItemId": self.names.get(int(tag), tag), "tag": int(tag)}
+
+    def mac(self, _device, session, commands):
+        """The device sent MAC commands; its status has an event of its own."""
+        said = bytes_of(commands)
+        if len(said) == 3 and said[0] == DEV_STATUS_ANS:
+            return "status", status(said[1], said[2])
+        return "mac", {"joinNonce": int(session), "commands": commands}
+
+    def spent(self, _device, session):
+        """The session has no downlink counter left."""
+        code = {"level": "ERROR", "code": "FRAME_COUNTERS_SPENT", "joinNonce": int(session)}
+        return "log", {**code, "description": "the session has no downlink counter left"}
+
+    def failed(self, item: Item, code: str, description: str, time: str) -> Event:
+        """An item isn't queued."""
+        body = {"time": time, "deviceInfo": self.device_info(item.device), "level": "ERROR"}
+        body |= {"code": code, "description": description}
+        context = {"queue_item_id": item.identifier}
+        return Event(item.device, "log", {**body, "context": context})
+
+
+def status(battery: int, margin: int) -> dict:
+    """A DevStatusAns (TS001-1.0.4 §5.5)."""
+    signed = (margin & 0x3F) - (0x40 if margin & 0x20 else 0)
+    return {
+        "margin": signed,
+        "externalPowerSource": battery == 0,
+        "batteryLevelUnavailable": battery == 255,
+        "batteryLevel": round(100 * battery / 254, 2) if 0 < battery < 255 else 0,
+    }
+
+
+def refusal(line: str) -> tuple[str, str]:
+    """The code and the description of a line `refused`."""
+    number = int(line.split(" ")[1])
+    return REFUSALS.get(number, (f"REFUSED_{number}", "docs/FORMATS.md tells what it means"))

@@ -1,0 +1,65 @@
+"""What a program counts, as the text that Prometheus' node_exporter reads from a file."""
+
+import asyncio
+import os
+
+from .words import tell
+
+EVERY = 10.0
+
+
+class Counts:
+    """Counts by their names, each with a sentence on what it counts."""
+
+    def __init__(self, prefix: str, helps: dict[str, str], file: str | None = None):
+        self.prefix, self.helps, self.file = prefix, helps, file
+        self.values = dict.fromkeys(helps, 0)
+
+    def add(self, name: str, more: int = 1):
+        """Counts something."""
+        self.values[name] += more
+
+    def text(self) -> str:
+        """All of them, in Prometheus' text format."""
+        lines = []
+        for name, value in self.values.items():
+            whole = f"{self.prefix}_{name}_total"
+            lines += [f"# HELP {whole} {self.helps[name]}", f"# TYPE {whole} counter"]
+            lines.append(f"{whole} {value}")
+        return "\n".join(lines) + "\n"
+
+    def told(self) -> str:
+        """Those that aren't 0, in a line."""
+        some = [f"{name} {value}" for name, value in self.values.items() if value]
+        return ", ".join(some) or "nothing was counted"
+
+    def write(self):
+        """Writes them, where they have a file."""
+        if self.file:
+            replace(self.file, self.text())
+
+    async def keep(self):
+        """Writes them every few seconds, for as long as the program runs."""
+        is_well = True
+        while self.file:
+            try:
+                self.write()
+                is_well = True
+            except OSError as why:
+                if is_well:
+                    tell(f"the counts can't be written to {self.file}: {why.strerror}")
+                is_well = False
+            await asyncio.sleep(EVERY)
+
+
+def replace(file: str, text: str):
+    """Puts a text in a file's place at once, so that nobody reads half of it."""
+    part = f"{file}.{os.getpid()}.part"
+    try:
+        with open(part, "w", encoding="utf-8") as it:
+            it.write(text)
+        os.replace(part, file)
+    except OSError:
+        if os.path.exists(part):
+            os.unlink(part)
+        raise

@@ -1,0 +1,129 @@
+"""What bridges of gateways share: who is named, a link for each gateway that isn't silent, and the
+words of their commands."""
+
+import asyncio
+from dataclasses import dataclass
+
+from . import wire, words
+from .counts import Counts
+from .links import Link
+from .words import tell
+
+COUNTED = {
+    "copies": "frames that were handed to the network",
+    "unlinked": "frames that were heard while there was no link to the network",
+    "without_crc": "frames whose CRC was wrong, or that had none",
+    "other_modulations": "frames that aren't LoRa of 125 kHz",
+    "downlinks": "downlinks that gateways were told to send",
+    "sent": "downlinks that gateways said they sent",
+    "not_sent": "downlinks that gateways said they couldn't send",
+    "out_of_time": "downlinks for an uplink that isn't known, or of another time",
+    "unknown_gateways": "what came of gateways that aren't named",
+    "links_silent": "links that were closed since nothing came",
+}
+# unknown gateways that are told; the others are counted alone
+MOST_TOLD = 16
+LOOK = 1.0
+
+
+@dataclass
+class Gateway:
+    """A gateway that is named."""
+
+    eui: bytes
+    link: Link
+    # when something came of it, and what listens to its link from then on
+    last: float = 0.0
+    work: asyncio.Task | None = None
+
+    def hand_in(self, copy: wire.Copy, counts: Counts):
+        """Gives the network a copy, where there is a link."""
+        counts.add("copies" if self.link.say(copy.content()) else "unlinked")
+
+
+class Gateways:
+    """All gateways that are named. A bridge says what `kind` they are, and how one is ordered to
+    send."""
+
+    kind = Gateway
+
+    def __init__(self, given, counts: Counts):
+        self.given, self.counts = given, counts
+        self.gateways = {it: self.gateway(it) for it in given.euis}
+        self.clock = asyncio.get_running_loop().time
+        self.told: set[bytes] = set()
+
+    def gateway(self, eui: bytes) -> Gateway:
+        """A gateway that hasn't said anything yet."""
+        name = f"gateway {eui.hex().upper()}"
+        return self.kind(eui, Link(name, self.given.network, wire.gateway_greeting(eui)))
+
+    def awake(self, eui: bytes) -> Gateway | None:
+        """The gateway of which something came, with its link; or None where it isn't named."""
+        it = self.gateways.get(eui)
+        if not it:
+            self.pass_over(eui)
+            return None
+        it.last = self.clock()
+        if not it.work:
+            it.work = asyncio.ensure_future(self.listen(it))
+        return it
+
+    def pass_over(self, eui: bytes):
+        """A gateway that isn't named."""
+        self.counts.add("unknown_gateways")
+        if eui not in self.told and len(self.told) < MOST_TOLD:
+            self.told.add(eui)
+            tell(f"gateway {eui.hex().upper()} isn't named, and is passed over")
+
+    async def listen(self, gateway: Gateway):
+        """Has a gateway send what the network says."""
+        async for content in gateway.link.contents():
+            try:
+                self.order(gateway, wire.Downlink.read(content))
+            except wire.NoMessage as why:
+                tell(f"{gateway.link.name}: {why}")
+
+    def order(self, gateway: Gateway, downlink: wire.Downlink):
+        """Has a gateway send a downlink."""
+        raise NotImplementedError
+
+    def tidy(self, gateway: Gateway):
+        """Gives up what is over at a gateway, each second."""
+
+    def sleeps(self, gateway: Gateway):
+        """A gateway is silent, and its link is closed."""
+
+    async def look(self):
+        """Closes the links of gateways that are silent."""
+        while True:
+            await asyncio.sleep(LOOK)
+            for it in self.gateways.values():
+                self.tidy(it)
+                if it.work and it.last < self.clock() - self.given.silent:
+                    tell(f"{it.link.name} is silent: its link is closed")
+                    self.counts.add("links_silent")
+                    it.work.cancel()
+                    it.work = None
+                    self.sleeps(it)
+
+
+def add_words(it: words.Words, power: int):
+    """The words of a command, where gateways send with so many dBm unless it is said."""
+    it.add_argument("--network", type=words.Address.read, required=True, metavar="HOST:PORT")
+    it.add_argument("--gateway", type=words.eui, action="append", default=[], metavar="EUI")
+    it.add_argument("--gateways", metavar="FILE")
+    it.add_argument("--silent", type=words.number(1, 86400), default=120, metavar="SECONDS")
+    it.add_argument("--power", type=words.number(-10, 30), default=power, metavar="DBM")
+    it.add_argument("--rx2-power", type=words.number(-10, 30), metavar="DBM")
+    it.add_argument("--counts", metavar="FILE")
+
+
+def read_words(it: words.Words):
+    """What the words say. At least one gateway is named, since a list keeps strangers out."""
+    given = it.parse_args()
+    given.euis = given.gateway + (words.euis_in(given.gateways) if given.gateways else [])
+    if not given.euis:
+        it.error("no gateway is named, by --gateway or --gateways")
+    given.rx2_power = given.power if given.rx2_power is None else given.rx2_power
+    return given

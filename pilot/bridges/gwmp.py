@@ -1,0 +1,116 @@
+"""The protocol of Semtech's UDP packet forwarder (GWMP), versions 1 and 2: its datagrams, what it
+says of a frame that was heard (`rxpk`), and what it is told to send (`txpk`)."""
+
+import re
+from dataclasses import dataclass
+from enum import IntEnum
+
+from . import fields
+from .fields import Wrong
+from .wire import MOST_PAYLOAD, Copy, Downlink, Window
+
+VERSIONS = (1, 2)
+HEAD = 12
+DATA_RATE = re.compile(r"SF(7|8|9|10|11|12)BW125")
+# errors of a TX_ACK by which RX1 was missed, and RX2 may still be sent
+MISSED = ("TOO_LATE", "TOO_EARLY", "COLLISION_PACKET", "COLLISION_BEACON")
+
+
+class Kind(IntEnum):
+    """The kinds of datagrams."""
+
+    PUSH_DATA = 0
+    PUSH_ACK = 1
+    PULL_DATA = 2
+    PULL_RESP = 3
+    PULL_ACK = 4
+    TX_ACK = 5
+
+
+class OtherFrame(Exception):
+    """What was heard is none that the network wants; the argument is what it is counted by."""
+
+
+@dataclass(frozen=True)
+class Datagram:
+    """A datagram of a gateway."""
+
+    version: int
+    token: bytes
+    kind: Kind
+    gateway: bytes
+    body: bytes
+
+    @classmethod
+    def read(cls, data: bytes) -> "Datagram":
+        """A datagram's fields."""
+        if len(data) < HEAD or data[0] not in VERSIONS:
+            raise Wrong("no datagram of versions 1 and 2")
+        if data[3] not in (Kind.PUSH_DATA, Kind.PULL_DATA, Kind.TX_ACK):
+            raise Wrong(f"a datagram of kind {data[3]}")
+        return cls(data[0], data[1:3], Kind(data[3]), data[4:HEAD], data[HEAD:])
+
+    def acknowledgement(self) -> bytes:
+        """What is answered at once."""
+        kind = Kind.PUSH_ACK if self.kind is Kind.PUSH_DATA else Kind.PULL_ACK
+        return bytes([self.version]) + self.token + bytes([kind])
+
+
+def response(version: int, token: bytes, txpk: dict) -> bytes:
+    """The datagram that tells a gateway to send."""
+    head = bytes([version]) + token + bytes([Kind.PULL_RESP])
+    return head + fields.compact({"txpk": txpk})
+
+
+def heard_in(body: bytes) -> list:
+    """The `rxpk` of a PUSH_DATA's text."""
+    heard = fields.table(fields.parsed(body)).get("rxpk", [])
+    if not isinstance(heard, list):
+        raise Wrong("rxpk is no list")
+    return heard
+
+
+def copy_of(gateway: bytes, rxpk) -> Copy:
+    """A frame that was heard. Of other frames than the network's, `OtherFrame` tells the kind."""
+    rxpk = fields.table(rxpk)
+    if rxpk.get("stat") != 1:
+        raise OtherFrame("without_crc")
+    found = DATA_RATE.fullmatch(str(rxpk.get("datr")))
+    if rxpk.get("modu") != "LORA" or not found:
+        raise OtherFrame("other_modulations")
+    return Copy(
+        gateway=gateway,
+        hz=round(fields.number(rxpk, "freq", 0, 4294) * 1e6),
+        data_rate=12 - int(found[1]),
+        snr=round(4 * fields.number(rxpk, "lsnr", -8000, 8000)),
+        rssi=round(fields.number(rxpk, "rssi", -32768, 32767)),
+        stamp=fields.whole(rxpk, "tmst", 0, 2**32 - 1),
+        payload=fields.payload(rxpk, "data", MOST_PAYLOAD),
+    )
+
+
+def txpk_of(downlink: Downlink, window: Window, power: int) -> dict:
+    """What a gateway is told, so that it sends in this window. Power is in dBm."""
+    return {
+        "imme": False,
+        "tmst": downlink.moment(window),
+        "freq": window.hz / 1e6,
+        "rfch": 0,
+        "powe": power,
+        "modu": "LORA",
+        "datr": f"SF{12 - window.data_rate}BW125",
+        "codr": "4/5",
+        "ipol": True,
+        "ncrc": True,
+        "size": len(downlink.payload),
+        "data": fields.shown(downlink.payload),
+    }
+
+
+def error_in(body: bytes) -> str:
+    """The error of a TX_ACK's text, or `NONE`."""
+    if not body.strip(b"\0 \r\n"):
+        return "NONE"
+    said = fields.table(fields.parsed(body.strip(b"\0 \r\n"))).get("txpk_ack") or {}
+    error = fields.table(said).get("error", "NONE")
+    return error if isinstance(error, str) and error else "NONE"

@@ -1,0 +1,83 @@
+"""A link to the network that is opened anew whenever it has ended."""
+
+import asyncio
+import socket
+from collections.abc import AsyncIterator
+
+from . import wire
+from .words import Address, tell
+
+# seconds between two tries, which double; and how long a link has lasted where all is well again
+FIRST_PAUSE, LONGEST_PAUSE, LASTING = 1.0, 30.0, 10.0
+PATIENCE = 5.0
+# what may wait for a network that doesn't read, in bytes: what is heard is of no use later
+MOST_WAITING = 65536
+# a link has no signs of life, so the system asks for them
+KEEPALIVE = ((socket.TCP_KEEPIDLE, 60), (socket.TCP_KEEPINTVL, 15), (socket.TCP_KEEPCNT, 4))
+
+
+class Link:
+    """One name's link: what is said while there is none is refused, and what comes is read on."""
+
+    def __init__(self, name: str, address: Address, greeting: bytes):
+        self.name, self.address, self.greeting = name, address, greeting
+        self.writer: asyncio.StreamWriter | None = None
+        self.opened = 0
+
+    def say(self, content: bytes) -> bool:
+        """Says it; whether there was a link that takes it."""
+        if not self.writer or self.writer.is_closing():
+            return False
+        if self.writer.transport.get_write_buffer_size() > MOST_WAITING:
+            return False
+        self.writer.write(wire.framed(content))
+        return True
+
+    def end(self):
+        """Breaks the link off, where there is one."""
+        if self.writer:
+            self.writer.transport.abort()
+
+    async def contents(self) -> AsyncIterator[bytes]:
+        """What comes over all links of this name, one behind the other, without end."""
+        clock, pause = asyncio.get_running_loop().time, FIRST_PAUSE
+        while True:
+            begun = clock()
+            try:
+                async for content in self.of_one():
+                    yield content
+                why = "the network has closed it"
+            except (OSError, asyncio.TimeoutError, wire.NoMessage) as fault:
+                why = str(fault) or "nothing answers"
+            lasted = clock() - begun > LASTING
+            pause = FIRST_PAUSE if lasted else pause
+            tell(f"{self.name}: no link to {self.address}, again in {pause:.0f} s: {why}")
+            await asyncio.sleep(pause)
+            pause = min(2 * pause, LONGEST_PAUSE)
+
+    async def of_one(self) -> AsyncIterator[bytes]:
+        """What comes over one link."""
+        opening = asyncio.open_connection(self.address.host, self.address.port)
+        reader, writer = await asyncio.wait_for(opening, PATIENCE)
+        try:
+            self.prepare(writer.get_extra_info("socket"))
+            writer.write(wire.framed(self.greeting))
+            self.writer, self.opened = writer, self.opened + 1
+            tell(f"{self.name}: linked to {self.address}")
+            frames = wire.Frames()
+            while piece := await reader.read(65536):
+                for content in frames.feed(piece):
+                    yield content
+        finally:
+            self.writer = None
+            writer.close()
+
+    @staticmethod
+    def prepare(it: socket.socket):
+        """Has the system find out where the other end is gone without a word."""
+        # where nobody listens, TCP may link a port of this machine with itself
+        if it.getsockname() == it.getpeername():
+            raise ConnectionRefusedError("nobody listens there")
+        it.setsockopt(socket.SOL_SOCKET, socket.SO_KEEPALIVE, 1)
+        for option, value in KEEPALIVE:
+            it.setsockopt(socket.IPPROTO_TCP, option, value)

@@ -1,0 +1,136 @@
+"""Rows of what is translated between the network and applications, each value by the public text of
+its format: ChirpStack's events and commands (version 4), docs/FORMATS.md."""
+
+import tempfile
+
+from bridges import devices
+from bridges.application_events import Item, Translator, status
+from bridges.fields import Wrong
+
+from .gateway_rows import outcome
+
+DEVICE = "0101010101010101"
+INFO = {"applicationId": "3", "devEui": DEVICE}
+TIME = "2022-07-18T09:34:15.775023+00:00"
+LORA = {"bandwidth": 125000, "spreadingFactor": 11, "codeRate": "CR_4_5"}
+UP = {
+    "time": TIME,
+    "deviceInfo": INFO,
+    "joinNonce": 5,
+    "fCnt": 10,
+    "fPort": 1,
+    "dr": 1,
+    "data": "qg==",
+    "copies": 2,
+    "rxInfo": [{"gatewayId": "0016c001f153a14c", "rssi": -36, "snr": 10.5}],
+    "txInfo": {"frequency": 867100000, "modulation": {"lora": LORA}},
+}
+ITEM = {"queueItemId": "5", "tag": 5}
+KNOWN = {"queueItemId": "3ac7e3c4", "tag": 9}
+STATUS = {
+    "margin": 20,
+    "externalPowerSource": False,
+    "batteryLevelUnavailable": False,
+    "batteryLevel": 50.39,
+}
+
+# a line of an application, and the event: its kind, and what it says besides whose it is and when
+LINES = (
+    (f"acked {DEVICE} 5", ("ack", {**ITEM, "acknowledged": True})),
+    (f"lost {DEVICE} 9", ("ack", {**KNOWN, "acknowledged": False})),
+    (f"queued {DEVICE} 9", ("queued", KNOWN)),
+    (f"mac {DEVICE} 5 068014", ("status", STATUS)),
+    (f"mac {DEVICE} 5 0307", ("mac", {"joinNonce": 5, "commands": "0307"})),
+    (f"hello {DEVICE}", Wrong),
+)
+
+# of a DevStatusAns: battery and margin (TS001-1.0.4 §5.5)
+STATUSES = (
+    ((0, 0x3F), (-1, True, False, 0)),
+    ((255, 0x20), (-32, False, True, 0)),
+    ((254, 0x1F), (31, False, False, 100.0)),
+    ((127, 0), (0, False, False, 50.0)),
+)
+
+# a command `down`, and the line that is asked
+COMMANDS = (
+    ('{"devEui":"%s","confirmed":true,"fPort":10,"data":"qrs="}', "queue %s 8 10 c AABB"),
+    ('{"fPort":10,"data":"qrs"}', "queue %s 8 10 u AABB"),
+    ('{"fPort":255,"object":{},"flushQueue":false}', "queue %s 8 255 u -"),
+    ('{"fPort":10,"data":"","id":"x"}', "queue %s 8 10 u -"),
+    ('{"devEui":"0202020202020202","fPort":10,"data":"qg=="}', Wrong),
+    ('{"fPort":256,"data":"qg=="}', Wrong),
+    ('{"fPort":true,"data":"qg=="}', Wrong),
+    ('{"data":"qg=="}', Wrong),
+    ('{"fPort":1,"data":"*"}', Wrong),
+    ('{"fPort":1,"data":null}', Wrong),
+    ('{"fPort":1,"confirmed":1}', Wrong),
+    ('{"fPort":1,"id":7}', Wrong),
+    ('{"fPort":1,"devEui":7}', Wrong),
+)
+
+KEY = "2B7E151628AED2A6ABF7158809CF4F3C"
+# a file of devices, and what is read: requests, or what is wrong with a line
+FILES = (
+    (f"{DEVICE},0102030405060708,{KEY}\n", [f"{DEVICE} 0102030405060708 {KEY} 0 1"]),
+    (f"{DEVICE};0102030405060708;{KEY.lower()};5;15", [f"{DEVICE} 0102030405060708 {KEY} 5 15"]),
+    (
+        f'\ufeffDev EUI,Join EUI,App Key\r\n"{DEVICE}" , 01-02-03-04-05-06-07-08,{KEY},2 # roof',
+        [f"{DEVICE} 0102030405060708 {KEY} 2 1"],
+    ),
+    ("# nothing\n\n", []),
+    ("\0,\0,\0", ["line 1: DevEUI isn't 16 hex digits"]),
+    (f"{DEVICE},0102030405060708,{KEY}0", ["line 1: AppKey isn't 32 hex digits"]),
+    (f"{DEVICE},0102030405060708,{KEY},6", ["line 1: the offset is no number from 0 to 5"]),
+    (f"{DEVICE},0102030405060708,{KEY},0,0", ["line 1: the delay is no number from 1 to 15"]),
+    (f"\n{DEVICE}", ["line 2: 1 fields, and not 3 to 5"]),
+)
+
+
+def translated(line: str):
+    """The kind of a line's event, and what it says besides whose it is and when."""
+    it = Translator(3, {9: "3ac7e3c4"}).event(line, TIME)
+    if (it.body.pop("time"), it.body.pop("deviceInfo")) != (TIME, INFO):
+        return "another device"
+    return it.kind, it.body
+
+
+def asked(text: str):
+    """The request of a command."""
+    return Item.read(DEVICE, text.encode()).line(8)
+
+
+def read(text: str):
+    """What is read of a file of devices."""
+    with tempfile.NamedTemporaryFile() as file:
+        file.write(text.encode())
+        file.flush()
+        found = devices.read(file.name)
+    lines = [it for it in found if isinstance(it, devices.Device)]
+    faults = [f"line {it.place}: {it.why}" for it in found if isinstance(it, devices.Fault)]
+    return [it.line().removeprefix("provision ") for it in lines] + faults
+
+
+def of_applications(trials):
+    """The rows of ChirpStack's events and commands, and of files of devices."""
+    heard = "0016C001F153A14C 867100000 1 42 -36"
+    event = Translator(3, {}).event(f"up {DEVICE} 5 10 1 AA 2 {heard}", TIME)
+    again = Translator(3, {}).event(f"up {DEVICE} 5 10 1 AA 2 {heard}", "later")
+    came = event.body.pop("deduplicationId")
+    trials.compare("up", (event.kind, event.body), ("up", UP))
+    trials.compare("its identifier again", again.body["deduplicationId"], came)
+    topic = f"application/3/device/{DEVICE}/event/up"
+    trials.compare("its topic", event.topic(3), topic)
+    for line, due in LINES:
+        trials.compare(line, outcome(translated, line), due)
+    for (battery, margin), due in STATUSES:
+        trials.compare(f"battery {battery}", tuple(status(battery, margin).values()), due)
+    for text, due in COMMANDS:
+        text, due = (it % DEVICE if "%s" in it else it for it in (text, str(due)))
+        came = outcome(asked, text)
+        trials.compare(f"down {text}", str(came), due)
+    for text, due in FILES:
+        trials.compare(f"file {text[:50]!r}", read(text), due)
+
+
+TOPICS = {"rows of ChirpStack's events, and of files of devices": of_applications}

@@ -1,0 +1,70 @@
+"""A field: meters, gateways that hear them, and the bridge that those gateways come by."""
+
+from server.program import HOST
+
+from .forwarders import Air, Forwarder
+from .meters import Meter
+from .parts import Part, Pilot
+
+GATEWAYS = ("00000000000000B1", "00000000000000B2", "AA555A00000000B3")
+APPLICATION = 3
+# forwarders' versions, and their clocks as they begin: one is about to wrap
+FORWARDERS = ((2, 90_000_000), (1, 2**32 - 3_000_000), (2, 77))
+
+
+class Field:
+    """Meters and gateways of a pilot. By itself the gateways come by UDP."""
+
+    def __init__(self, trials, pilot: Pilot, meters: int):
+        self.trials, self.pilot = trials, pilot
+        self.named = [word for it in GATEWAYS for word in ("--gateway", it)]
+        self.named += ["--network", pilot.network, "--counts", pilot.file("gateways.prom")]
+        self.gateways = self.start_gateways()
+        self.air = Air(self.make_gateways(), [Meter(it) for it in range(meters)])
+
+    def start_gateways(self) -> Part:
+        """The bridge of the gateways."""
+        udp = ("--udp", f"{HOST}:{self.pilot.udp_port}")
+        return self.pilot.own("gateways-udp", *udp, *self.named).start("listens on")
+
+    def make_gateways(self) -> list:
+        """The gateways of the field."""
+        return [Forwarder(it, self.pilot.udp_port, *how) for it, how in zip(GATEWAYS, FORWARDERS)]
+
+    @property
+    def meters(self) -> list[Meter]:
+        return self.air.meters
+
+    def link(self):
+        """Waits until each gateway has its link."""
+        due = [f"gateway {it}: linked" for it in GATEWAYS]
+        self.air.go_on(20, lambda: all(it in self.gateways.said() for it in due))
+
+    def send(self, frame: bytes, hz=868_100_000, data_rate=5, by=None):
+        """Gateways hear a frame, the first of them best."""
+        for place, it in enumerate(by or self.air.gateways):
+            it.hears(frame, hz, data_rate, snr=8 - place, rssi=-70 - place)
+
+    def join(self, pause=0.03, seconds=40.0) -> bool:
+        """All meters join, those again that no accept came to."""
+        for tries in range(4):
+            for it in (it for it in self.meters if not it.keys):
+                self.send(it.join_request())
+                self.air.go_on(pause)
+            if self.air.go_on(seconds / 2**tries, lambda: all(it.keys for it in self.meters)):
+                return True
+        return False
+
+    def reading(self, meter: Meter, seconds=10.0, **how) -> bool:
+        """A confirmed reading; whether it was acknowledged."""
+        self.send(meter.reads(), **how)
+        mark = meter.awaited
+        return self.air.go_on(seconds, lambda: mark in meter.acknowledged)
+
+
+def counts_in(file: str) -> dict[str, int]:
+    """The counts of a file for node_exporter, by their names without "pilot" and "total"."""
+    with open(file, encoding="utf-8") as lines:
+        pairs = [it.split() for it in lines if not it.startswith("#")]
+    prefix = len("pilot_")
+    return {name[prefix:].removesuffix("_total"): int(value) for name, value in pairs}

@@ -1,0 +1,81 @@
+"""Meters in the field: what they send, what they hear, and what they know."""
+
+import re
+from dataclasses import dataclass
+
+from lnsd import cipher  # its AES is the quick one, so it comes before those that use it
+from outside.device import Device, Rejected
+from outside.frames import DOWN, data_mic
+
+JOIN_EUI = "0102030405060708"
+PORT = 7
+
+
+def dev_eui(number: int) -> str:
+    """A meter's DevEUI."""
+    return f"{0x70B3D57ED0000000 + number:016X}"
+
+
+@dataclass(frozen=True)
+class Reading:
+    """An uplink's mark, by which a reading is known."""
+
+    device: str
+    session: int
+    counter: int
+
+
+class Meter(Device):
+    """A meter, with all that it sent and all that was acknowledged to it."""
+
+    def __init__(self, number: int):
+        key = cipher.encrypt(b"keys of meters  ", number.to_bytes(16, "big"))
+        super().__init__(dev_eui(number), JOIN_EUI, key.hex().upper())
+        self.number, self.session = number, 0
+        self.sent: dict[Reading, bytes] = {}
+        self.acknowledged: set[Reading] = set()
+        self.awaited: Reading | None = None
+        self.items: list[bytes] = []
+        self.owes_ack = False
+        self.downlinks: list[tuple[int, int]] = []
+
+    def row(self) -> str:
+        """Its line of a file of devices."""
+        return f"{self.dev_eui},{JOIN_EUI},{self.app_key.hex().upper()},0,1"
+
+    def reads(self, confirmed: bool = True, **how) -> bytes:
+        """A frame with the next reading."""
+        mark = Reading(self.dev_eui, self.session, self.next_up)
+        payload = self.number.to_bytes(2, "big") + self.next_up.to_bytes(4, "big")
+        frame = self.uplink(PORT, payload, confirmed=confirmed, ack=self.owes_ack, **how)
+        self.sent[mark], self.awaited, self.owes_ack = payload, mark, False
+        return frame
+
+    def takes(self, frame: bytes) -> bool:
+        """Hears a frame; whether it is for this meter."""
+        if frame[0] == 0x20:
+            return self.is_let_in(frame)
+        if not self.keys or int.from_bytes(frame[1:5], "little") != self.dev_addr:
+            return False
+        counter = int.from_bytes(frame[6:8], "little")
+        key = self.keys[0]
+        if data_mic(key, DOWN, self.dev_addr, counter, frame[:-4]) != frame[-4:]:
+            return False
+        self.downlinks.append((self.session, counter))
+        words = self.take_downlink(frame)
+        self.owes_ack = frame[0] == 0xA0
+        if "ACK" in words and self.awaited:
+            self.acknowledged.add(self.awaited)
+        if found := re.search(rf"port {PORT}, payload ([0-9A-F]+)", words):
+            self.items.append(bytes.fromhex(found[1]))
+        return True
+
+    def is_let_in(self, frame: bytes) -> bool:
+        """Hears an accept; whether it is for this meter."""
+        try:
+            words = self.take_accept(frame)
+        except Rejected:
+            return False
+        self.session = int(re.match(r"JoinNonce (\d+)", words)[1])
+        self.awaited = None
+        return True

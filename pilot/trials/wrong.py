@@ -1,0 +1,177 @@
+"""Wrong words, files and peers: a program says what is wrong in a line, or goes on."""
+
+import random
+import socket
+import subprocess
+import sys
+import threading
+import time
+
+from bridges.application_events import Translator
+from bridges.fields import Wrong
+from bridges.wire import Downlink, Frames, NoMessage, line_of
+from server import wire
+from server.program import HOST
+
+from .field import GATEWAYS
+from .parts import PILOT, Pilot, await_that
+
+AT = "127.0.0.1:1"
+GATEWAY = ("--gateway", GATEWAYS[0])
+UDP = ("--network", AT, "--udp", AT)
+MQTT = ("--network", AT, "--broker", AT)
+NOWHERE = "/nowhere/at/all"
+# a program with its words, and the status that it ends with
+WORDS = (
+    ("gateways-udp", (), 2),
+    ("gateways-udp", (*UDP, "x"), 2),
+    ("gateways-udp", ("--network", "7", "--udp", AT, *GATEWAY), 2),
+    ("gateways-udp", ("--network", AT, "--udp", "h:65536", *GATEWAY), 2),
+    ("gateways-udp", UDP, 2),
+    ("gateways-udp", (*UDP, "--gateway", "B1"), 2),
+    ("gateways-udp", (*UDP, "--gateways", NOWHERE), 1),
+    ("gateways-udp", (*UDP, "--gateways", "/"), 1),
+    ("gateways-udp", (*UDP, "--gateways", "/bin/sh"), 2),
+    ("gateways-udp", ("--network", AT, "--udp", "192.0.2.1:1700", *GATEWAY), 1),
+    ("gateways-udp", ("--network", AT, "--udp", "no.invalid:1700", *GATEWAY), 1),
+    ("gateways-udp", (*UDP, *GATEWAY, "--power", "99"), 2),
+    ("gateways-mqtt", MQTT, 2),
+    ("gateways-mqtt", (*MQTT, *GATEWAY, "--prefix", "a/#"), 2),
+    ("gateways-mqtt", (*MQTT, *GATEWAY, "--ca", NOWHERE), 1),
+    ("gateways-mqtt", (*MQTT, *GATEWAY, "--ca", "/bin/sh"), 1),
+    ("gateways-mqtt", (*MQTT, *GATEWAY, "--certificate", "x"), 2),
+    ("applications-mqtt", MQTT, 2),
+    ("applications-mqtt", (*MQTT, "--application", "16"), 2),
+    ("applications-mqtt", (*MQTT, "--application", "3", "--devices", NOWHERE), 1),
+    ("applications-mqtt", (*MQTT, "--application", "-1"), 2),
+    ("readings", (), 2),
+    ("readings", ("--db", NOWHERE, "--report"), 1),
+    ("readings", ("--db", "/bin/sh", "--report"), 1),
+    ("readings", ("--db", ":memory:", "--report", "--list", NOWHERE), 1),
+    ("readings", ("--db", ":memory:", "--broker", "x", "--application", "3"), 2),
+    ("readings", ("--db", ":memory:", "--broker", "h:70000", "--application", "3"), 2),
+    ("readings", ("--db", ":memory:", "--broker", AT, "--application", "x"), 2),
+    ("metrics", (), 2),
+    ("metrics", ("store", "--lnsd", "/bin/false", "--out", "x"), 2),
+    ("metrics", ("store", "--lnsd", "/bin/false", "--out", f"{NOWHERE}/x.prom"), 1),
+    ("metrics", ("store", "--lnsd", "/"), 1),
+    ("secure/certificates", (NOWHERE, "server", "x"), 1),
+    ("secure/certificates", (NOWHERE, "server"), 2),
+    ("secure/certificates", (NOWHERE, "server", "a/CN=b"), 2),
+    ("secure/certificates", (NOWHERE, "gateway", "B1"), 2),
+    ("secure/certificates", (NOWHERE, "application", "3", "4"), 2),
+    ("secure/certificates", (NOWHERE, "stranger"), 2),
+    ("secure/door", (AT,), 1),
+    ("secure/door", ("x",), 2),
+    ("install", ("x",), 2),
+    ("play", (), 2),
+    ("play", ("--udp", "h:1", "--gateway", "x"), 2),
+)
+
+# what a network that is none says: contents, or bytes
+STRANGE = (
+    b"\xff\xff",
+    b"\x02\xbd" + bytes(701),
+    wire.framed(b""),
+    wire.framed(b"\x55\x01"),
+    wire.framed(b"\x11" + bytes(8)),
+    wire.framed(b"\x11" + bytes(18) + b"\x00"),
+    wire.framed(b"\x11" + bytes.fromhex(GATEWAYS[0]) + b"\xff" * 11 + bytes(255)),
+    wire.framed(b"\x13"),
+    wire.framed(b"\x13up"),
+    wire.framed(b"\x13up 1112131415161718 1 0 7 04D2 1 00000000000000B1 868100000 5 -20"),
+    wire.framed(b"\x13up 1112131415161718 x 0 7 04D2 1 00000000000000B1 868100000 5 -20 -95"),
+    wire.framed(b"\x13up 1112131415161718 1 0 7 4D2 1 00000000000000B1 868100000 5 -20 -95"),
+    wire.framed(b"\x13acked 1112131415161718"),
+    wire.framed(b"\x13acked 1112131415161718 x"),
+    wire.framed(b"\x13mac 1112131415161718 1 06"),
+    wire.framed(b"\x13refused"),
+    wire.framed(b"\x13refused x"),
+    wire.framed("\x13up \u00e4".encode()),
+)
+
+
+def ended(name: str, *said: str) -> tuple[int | None, str, str]:
+    """How a program ends; its status is None where it goes on."""
+    it = [sys.executable, PILOT / name, *said]
+    how = {"stdin": subprocess.DEVNULL, "capture_output": True, "text": True, "check": False}
+    try:
+        it = subprocess.run(it, timeout=10, **how)
+    except subprocess.TimeoutExpired:
+        return None, "", ""
+    return it.returncode, it.stdout, it.stderr
+
+
+def words(trials):
+    """Wrong words and files: one line, and no traceback."""
+    for name, said, due in WORDS:
+        status, _, told = ended(name, *said)
+        came = (status, len(told.strip().splitlines()), "Traceback" in told)
+        trials.compare(f"{name} {' '.join(said)}: {told[-200:]}", came, (due, 1, False))
+    for name in sorted({name for name, _, _ in WORDS} | {"trial"}):
+        status, out, told = ended(name, "--help")
+        trials.compare(f"{name} --help", (status, told), (0, ""))
+        trials.holds(f"{name} --help says something", len(out) > 200)
+
+
+class Stranger:
+    """A network that says what none does."""
+
+    def __init__(self, seed: int):
+        self.chance, self.links = random.Random(seed), 0
+        self.listener = socket.create_server((HOST, 0))
+        self.port = self.listener.getsockname()[1]
+        threading.Thread(target=self.serve, daemon=True).start()
+
+    def serve(self):
+        """Greets each link with one of the strange things, in turn, and noise."""
+        while True:
+            it, _ = self.listener.accept()
+            with it:
+                it.settimeout(1)
+                try:
+                    it.recv(100)
+                    it.sendall(STRANGE[self.links % len(STRANGE)])
+                    it.sendall(self.chance.randbytes(self.chance.randrange(200)))
+                    it.recv(100)
+                except OSError:
+                    pass
+            self.links += 1
+
+
+def peers(trials):
+    """Networks that say strange things: both bridges go on, and link again."""
+    with Pilot(trials.path) as pilot:
+        pilot.broker().start("running")
+        stranger = [Stranger(it) for it in range(2)]
+        udp = ("--udp", f"{HOST}:{pilot.udp_port}", *GATEWAY)
+        broker = ("--broker", f"{HOST}:{pilot.broker_port}", "--application", "3")
+        first = pilot.own("gateways-udp", "--network", f"{HOST}:{stranger[0].port}", *udp)
+        second = pilot.own("applications-mqtt", "--network", f"{HOST}:{stranger[1].port}", *broker)
+        first.start("listens on")
+        second.start("connected to")
+        strange_contents(trials)
+        head = b"\x02\x00\x01\x02" + bytes.fromhex(GATEWAYS[0])
+        with socket.socket(socket.AF_INET, socket.SOCK_DGRAM) as it:
+            it.sendto(head, (HOST, pilot.udp_port))
+        await_that("two links each", lambda: min(it.links for it in stranger) >= 2)
+        time.sleep(0.2)
+        for part in (first, second):
+            trials.compare(f"{part.name} goes on", part.process.poll(), None)
+            trials.compare(f"{part.name} ends well", part.end(), 0)
+
+
+def strange_contents(trials):
+    """Each strange thing, read by what both bridges read with: a fault that they know of."""
+    for said in STRANGE:
+        for read in (Downlink.read, lambda it: Translator(3, {}).event(line_of(it), "")):
+            try:
+                for content in Frames().feed(said):
+                    read(content)
+                came = "read"
+            except (Wrong, NoMessage, ValueError, TypeError) as why:
+                came = str(why)
+            trials.holds(f"{said[:30]!r}", came)
+
+
+TOPICS = {"wrong words and files": words, "wrong peers": peers}
