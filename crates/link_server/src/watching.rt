@@ -67,7 +67,7 @@ impl Watch {
         if !self.is_watched() {
             return;
         }
-        let line = line_of(self.alloc, sight);
+        let line = told_line(self.alloc, sight);
         for lookout in &self.lookouts {
             if let Some(waiting) = lookout.waiting.lock(rt).as_mut() {
                 waiting.add(&line);
@@ -120,7 +120,7 @@ impl Watch {
 }
 
 // The line that tells it, with its newline; `Err` for want of memory.
-fn line_of(alloc: Global, sight: Sight) -> Result<String, AllocError> {
+fn told_line(alloc: Global, sight: Sight) -> Result<String, AllocError> {
     let mut line = sight.line(alloc)?;
     line.push_str("\n")?;
     Ok(line)
