@@ -9,7 +9,8 @@ from server.links import Application, Gateway
 from server.program import Failed
 from server.wire import PROVISION, request
 
-GATEWAYS = [f"{0xB1 + it:016X}" for it in range(3)]
+# where links stay the first three are there, and all of them where links come and go
+GATEWAYS = [f"{0xB1 + it:016X}" for it in range(8)]
 APPLICATIONS = (3, 9)
 RATE = 700
 # how often a link changes behind what a device does, where links come and go; and how many places
@@ -29,9 +30,11 @@ class Load:
         # each frame that was sent, and its frequency
         self.said = []
         self.changes, self.changed = changes, 0
-        start = program.run_on if changes else program.serve
-        self.address = start(len(GATEWAYS) + len(APPLICATIONS) + SPARE * bool(changes))
-        self.gateways = [self.linked(Gateway, it) for it in GATEWAYS]
+        start, gateways = program.serve, GATEWAYS[:3]
+        if changes:
+            start, gateways = program.run_on, GATEWAYS
+        self.address = start(len(gateways) + len(APPLICATIONS) + SPARE * bool(changes))
+        self.gateways = [self.linked(Gateway, it) for it in gateways]
         self.applications = [self.linked(Application, it) for it in APPLICATIONS]
         self.is_there = True
         # how many frames were sent of which something comes, and what had come before that

@@ -7,7 +7,7 @@ import time
 from contextlib import contextmanager
 
 from . import disks, load
-from .trials import APP_KEY, DEV_EUI, EUI, HEARD, JOIN_EUI, OWNER, Pair, records
+from .trials import APP_KEY, DEV_EUI, EUI, HEARD, JOIN_EUI, OWNER, Pair, await_read, records
 from outside.device import Device
 from outside.gateway import Copy
 from server import wire
@@ -30,7 +30,7 @@ COUNTS = ("dropped", "faulted", "taken_over", "silent")
 
 @contextmanager
 def running(trials, slots=8, made=(), places=PLACES, **how):
-    """A server that runs; it is stopped at the end, and what it tells then is returned in `ends`."""
+    """A server that runs, with a store that has these records."""
     with trials.store(slots, made) as program:
         program.run_on(places, **how)
         yield program
@@ -124,7 +124,7 @@ def what_happens(trials):
         stopped(trials, program, dropped=1, faulted=2, taken_over=1, silent=1)
         rest, status = watcher.rest()
         trials.compare("the watcher's end", status, 0)
-        trials.holds(f"the application's end isn't told: {rest}", f"ended application {OWNER}" in rest)
+        trials.holds(f"an end isn't told: {rest}", f"ended application {OWNER}" in rest)
 
 
 def refusals(device):
@@ -154,6 +154,7 @@ def too_many_lines(trials):
         gateway.say(heard(frame) * COPIES)
         application.asks("hello")
         trials.compare("an answer meanwhile", application.hears(), "refused 51")
+        await_read(gateway)
         came = b""
         while b"left_out " not in came:
             came += slow.recv(65536)
@@ -189,10 +190,13 @@ def operator(program, said=b""):
 
 
 def all_of(connection):
-    """All that comes on it until it ends."""
+    """All that comes on it until it ends, or is broken off behind bytes that nobody read."""
     came = b""
-    while piece := connection.recv(65536):
-        came += piece
+    try:
+        while piece := connection.recv(65536):
+            came += piece
+    except ConnectionResetError:
+        pass
     connection.close()
     return came
 
@@ -257,7 +261,7 @@ def anew(trials):
     """Links come anew over and over, by one name and by many, ended, reset and taken over: no
     descriptor, no thread and no memory is left behind."""
     with running(trials) as program:
-        trials.compare("descriptors", connect_anew(program, 100)[1:], connect_anew(program, 100)[1:])
+        connect_anew(program, 100)
         before = used(program)
         connect_anew(program, ANEW)
         after = used(program)
