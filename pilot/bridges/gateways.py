@@ -88,24 +88,24 @@ class Gateways:
         """Has a gateway send a downlink."""
         raise NotImplementedError
 
-    def tidy(self, gateway: Gateway):
-        """Gives up what is over at a gateway, each second."""
-
     def sleeps(self, gateway: Gateway):
         """A gateway is silent, and its link is closed."""
 
     async def look(self):
-        """Closes the links of gateways that are silent."""
+        """Looks each second what is over."""
         while True:
             await asyncio.sleep(LOOK)
-            for it in self.gateways.values():
-                self.tidy(it)
-                if it.work and it.last < self.clock() - self.given.silent:
-                    tell(f"{it.link.name} is silent: its link is closed")
-                    self.counts.add("links_silent")
-                    it.work.cancel()
-                    it.work = None
-                    self.sleeps(it)
+            self.tidy()
+
+    def tidy(self):
+        """Closes the links of gateways that are silent."""
+        for it in self.gateways.values():
+            if it.work and it.last < self.clock() - self.given.silent:
+                tell(f"{it.link.name} is silent: its link is closed")
+                self.counts.add("links_silent")
+                it.work.cancel()
+                it.work = None
+                self.sleeps(it)
 
 
 def add_words(it: words.Words, power: int):
