@@ -112,6 +112,15 @@ class Broker:
             self.has_room.clear()
         self.client.publish(topic, payload, qos=1)
 
+    def say(self, topic: str, payload: bytes) -> bool:
+        """Publishes what is of no use later, now or never; whether the broker is there."""
+        return self.client.publish(topic, payload, qos=0).rc == mqtt.MQTT_ERR_SUCCESS
+
+    def dropped(self) -> int:
+        """How many messages weren't looked at since this was asked last."""
+        count, self.overrun = self.overrun, 0
+        return count
+
     def taken(self):
         """The broker has one of the messages."""
         self.waiting = max(0, self.waiting - 1)

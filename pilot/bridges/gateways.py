@@ -12,6 +12,7 @@ from .words import tell
 COUNTED = {
     "copies": "frames that were handed to the network",
     "unlinked": "frames that were heard while there was no link to the network",
+    "caught_up": "of these, frames that were handed in on a link that came soon",
     "without_crc": "frames whose CRC was wrong, or that had none",
     "other_modulations": "frames that aren't LoRa of 125 kHz",
     "downlinks": "downlinks that gateways were told to send",
@@ -38,7 +39,7 @@ class Gateway:
 
     def hand_in(self, copy: wire.Copy, counts: Counts):
         """Gives the network a copy, where there is a link."""
-        counts.add("copies" if self.link.say(copy.content()) else "unlinked")
+        counts.add("copies" if self.link.say_soon(copy.content()) else "unlinked")
 
 
 class Gateways:
@@ -88,24 +89,26 @@ class Gateways:
         """Has a gateway send a downlink."""
         raise NotImplementedError
 
-    def tidy(self, gateway: Gateway):
-        """Gives up what is over at a gateway, each second."""
-
     def sleeps(self, gateway: Gateway):
         """A gateway is silent, and its link is closed."""
 
     async def look(self):
-        """Closes the links of gateways that are silent."""
+        """Looks each second what is over."""
         while True:
             await asyncio.sleep(LOOK)
-            for it in self.gateways.values():
-                self.tidy(it)
-                if it.work and it.last < self.clock() - self.given.silent:
-                    tell(f"{it.link.name} is silent: its link is closed")
-                    self.counts.add("links_silent")
-                    it.work.cancel()
-                    it.work = None
-                    self.sleeps(it)
+            self.tidy()
+
+    def tidy(self):
+        """Closes the links of gateways that are silent, and counts what links caught up with."""
+        for it in self.gateways.values():
+            self.counts.add("caught_up", it.link.caught_up)
+            it.link.caught_up = 0
+            if it.work and it.last < self.clock() - self.given.silent:
+                tell(f"{it.link.name} is silent: its link is closed")
+                self.counts.add("links_silent")
+                it.work.cancel()
+                it.work = None
+                self.sleeps(it)
 
 
 def add_words(it: words.Words, power: int):

@@ -2,6 +2,8 @@
 
 import asyncio
 import socket
+import time
+from collections import deque
 from collections.abc import AsyncIterator
 
 from . import wire
@@ -12,6 +14,8 @@ FIRST_PAUSE, LONGEST_PAUSE, LASTING = 1.0, 30.0, 10.0
 PATIENCE = 5.0
 # what may wait for a network that doesn't read, in bytes: what is heard is of no use later
 MOST_WAITING = 65536
+# what is heard just before a link is there is said on it, if it isn't older, in seconds
+LATEST, MOST_EARLY = 2.0, 64
 # a link has no signs of life, so the system asks for them
 KEEPALIVE = ((socket.TCP_KEEPIDLE, 60), (socket.TCP_KEEPINTVL, 15), (socket.TCP_KEEPCNT, 4))
 
@@ -23,6 +27,9 @@ class Link:
         self.name, self.address, self.greeting = name, address, greeting
         self.writer: asyncio.StreamWriter | None = None
         self.opened = 0
+        # what is said as soon as there is a link, with when it was meant to; and how much was
+        self.early: deque[tuple[float, bytes]] = deque(maxlen=MOST_EARLY)
+        self.caught_up = 0
 
     def say(self, content: bytes) -> bool:
         """Says it; whether there was a link that takes it."""
@@ -32,6 +39,20 @@ class Link:
             return False
         self.writer.write(wire.framed(content))
         return True
+
+    def say_soon(self, content: bytes) -> bool:
+        """Says it now, or as soon as there is a link, if that isn't long; whether it was now."""
+        is_said = self.say(content)
+        if not is_said:
+            self.early.append((time.monotonic(), content))
+        return is_said
+
+    def catch_up(self):
+        """Says what waited for a link."""
+        last = time.monotonic() - LATEST
+        for moment, content in self.early:
+            self.caught_up += moment > last and self.say(content)
+        self.early.clear()
 
     def end(self):
         """Breaks the link off, where there is one."""
@@ -64,6 +85,7 @@ class Link:
             writer.write(wire.framed(self.greeting))
             self.writer, self.opened = writer, self.opened + 1
             tell(f"{self.name}: linked to {self.address}")
+            self.catch_up()
             frames = wire.Frames()
             while piece := await reader.read(65536):
                 for content in frames.feed(piece):

@@ -18,6 +18,8 @@ METERS, TIMES, RATE = 200, 10, 60
 # how long a meter waits for its acknowledgement before it sends on, in seconds
 PATIENCE = 3.0
 AWAY = 60.0
+# how long the meters send before a part is killed: a broker writes what it keeps each second
+BETWEEN = {"server": (0.2, 0.6), "broker": (1.0, 2.0), "applications": (0.2, 0.6)}
 
 
 class Load:
@@ -130,7 +132,7 @@ def kills(trials):
         trials.holds("none is lost", it.await_stored(it.acknowledged()))
         for _ in range(TIMES):
             for name in ("server", "broker", "applications"):
-                load.go_on(load.chance.uniform(0.2, 0.6))
+                load.go_on(load.chance.uniform(*BETWEEN[name]))
                 killed(it, load, name)
             changed_forwarders(it, load.chance)
         it.air.go_on(30, lambda: it.pilot.program.status()["gateways"] == "3")

@@ -119,7 +119,10 @@ def readings_and_items(trials):
         refused_items(trials, dashboard, meter)
         twice(trials, it, dashboard)
         devices_again(trials, it)
+        retained(trials, it, dashboard)
         dashboard.end()
+        for part in (it.readings, it.gateways, it.applications):
+            trials.compare(f"{part.name} ends by Ctrl-C", part.end(signal.SIGINT), 0)
 
 
 def an_event(trials, it: Whole, dashboard: Dashboard, meter: Meter):
@@ -196,6 +199,20 @@ def twice(trials, it: Whole, dashboard: Dashboard):
     trials.holds("another reading", it.reading(it.meters[1]))
     trials.holds("it is stored", it.await_stored(it.acknowledged()))
     trials.compare("readings that are new", len(it.stored()) - len(before), 1)
+
+
+def retained(trials, it: Whole, dashboard: Dashboard):
+    """A command that a broker retains is done when it comes, and not again at each new start."""
+    meter = it.meters[2]
+    topic = f"application/{APPLICATION}/device/{meter.dev_eui.lower()}/command/down"
+    dashboard.client.publish(topic, b'{"fPort":9,"data":"AA=="}', 1, retain=True)
+    await_that("queued", lambda: dashboard.of(meter.dev_eui, "queued"))
+    it.applications.kill()
+    it.applications.start("devices are there")
+    dashboard.down(meter.dev_eui, fPort=9, data="AQ==", id="last")
+    await_that("the last one", lambda: len(dashboard.of(meter.dev_eui, "queued")) > 1)
+    came = [body["queueItemId"] == "last" for body in dashboard.of(meter.dev_eui, "queued")]
+    trials.compare("items that were queued", came, [False, True])
 
 
 def devices_again(trials, it: Whole):

@@ -51,14 +51,28 @@ def each_data_rate(trials):
             due = (f"SF{12 - place}BW125", CHANNELS[place] / 1e6, True, True, "4/5", 14)
             names = ("datr", "freq", "ipol", "ncrc", "codr", "powe")
             trials.compare("what it is told", tuple(told[name] for name in names), due)
+        a_short_pause(trials, it)
         lost_window(trials, it)
         another_clock(trials, it)
         it.gateways.end()
         counts = counts_in(it.pilot.file("gateways.prom"))
         named = ("in_rx2", "clocks_begun_anew", "ports_moved", "wrong_datagrams")
         came = {name: counts[f"gateways_udp_{name}"] for name in named}
-        due = {"in_rx2": 1, "clocks_begun_anew": 1, "ports_moved": 2, "wrong_datagrams": 0}
+        due = dict(zip(named, (1, 1, 2, 0)))
         trials.compare("what was counted", came, due)
+
+
+def a_short_pause(trials, it: Linked):
+    """The server starts again: what is heard meanwhile comes out once the link is there."""
+    it.application.close()
+    it.pilot.restart_server()
+    meter = it.meters[5]
+    it.send(meter.reads(confirmed=False))
+    mark = meter.awaited
+    it.application = Application(it.pilot.address, APPLICATION)
+    it.air.go_on(3)
+    words = it.application.hears().split(" ")[:4]
+    trials.compare("what came", words, ["up", mark.device, str(mark.session), str(mark.counter)])
 
 
 def lost_window(trials, it: Linked):
