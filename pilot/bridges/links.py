@@ -9,9 +9,10 @@ from collections.abc import AsyncIterator
 from . import wire
 from .words import Address, tell
 
-# seconds between two tries, which double; and how long a link has lasted where all is well again
-FIRST_PAUSE, LONGEST_PAUSE, LASTING = 1.0, 30.0, 10.0
-PATIENCE = 5.0
+# seconds between two tries: the first, and the longest, to which they double
+PAUSES = (1.0, 30.0)
+# how long a link has lasted where all is well again, and how long one is waited for
+LASTING, PATIENCE = 10.0, 5.0
 # what may wait for a network that doesn't read, in bytes: what is heard is of no use later
 MOST_WAITING = 65536
 # what is heard just before a link is there is said on it, if it isn't older, in seconds
@@ -23,8 +24,8 @@ KEEPALIVE = ((socket.TCP_KEEPIDLE, 60), (socket.TCP_KEEPINTVL, 15), (socket.TCP_
 class Link:
     """One name's link: what is said while there is none is refused, and what comes is read on."""
 
-    def __init__(self, name: str, address: Address, greeting: bytes):
-        self.name, self.address, self.greeting = name, address, greeting
+    def __init__(self, name: str, address: Address, greeting: bytes, pauses=PAUSES):
+        self.name, self.address, self.greeting, self.pauses = name, address, greeting, pauses
         self.writer: asyncio.StreamWriter | None = None
         self.opened = 0
         # what is said as soon as there is a link, with when it was meant to; and how much was
@@ -61,7 +62,8 @@ class Link:
 
     async def contents(self) -> AsyncIterator[bytes]:
         """What comes over all links of this name, one behind the other, without end."""
-        clock, pause = asyncio.get_running_loop().time, FIRST_PAUSE
+        (first, longest), clock = self.pauses, time.monotonic
+        pause = first
         while True:
             begun = clock()
             try:
@@ -71,10 +73,10 @@ class Link:
             except (OSError, asyncio.TimeoutError, wire.NoMessage) as fault:
                 why = str(fault) or "nothing answers"
             lasted = clock() - begun > LASTING
-            pause = FIRST_PAUSE if lasted else pause
-            tell(f"{self.name}: no link to {self.address}, again in {pause:.0f} s: {why}")
+            pause = first if lasted else pause
+            tell(f"{self.name}: no link to {self.address}, again in {pause:.1f} s: {why}")
             await asyncio.sleep(pause)
-            pause = min(2 * pause, LONGEST_PAUSE)
+            pause = min(2 * pause, longest)
 
     async def of_one(self) -> AsyncIterator[bytes]:
         """What comes over one link."""
