@@ -13,3 +13,15 @@ TellsEarly (mode.Stop file) = ⊥
 TellsEarly (mode.Devices file) = ⊥
 TellsEarly (mode.Status file wait) = ⊥
 TellsEarly (mode.Restore file new_file grants) = ⊥
+
+-- it is to serve links that come and go
+abbrev pub AsksToRun : Mode → Type 0
+AsksToRun (mode.Run file listen links) = Unit
+AsksToRun (mode.Watch file) = ⊥
+AsksToRun (mode.Format file net_id slots) = ⊥
+AsksToRun (mode.List file) = ⊥
+AsksToRun (mode.Serve file listen links) = ⊥
+AsksToRun (mode.Stop file) = ⊥
+AsksToRun (mode.Devices file) = ⊥
+AsksToRun (mode.Status file wait) = ⊥
+AsksToRun (mode.Restore file new_file grants) = ⊥

@@ -2,7 +2,7 @@
 ghost use Rattle.std.specs.Prelude.{◌≡◌, ◌≤◌, ◌⊎◌, IfErr, IfOk, map};
 ghost use Rattle.command_words.specs.Asked.{AreWrong, AskFor, AskForHelp};
 ghost use Rattle.command_words.specs.declared.mode.Mode.{Mode};
-ghost use Rattle.gateway_server.specs.Told.{TellsEarly};
+ghost use Rattle.gateway_server.specs.Told.{AsksToRun, TellsEarly};
 
 use crate::Fault;
 use crate::control::{devices, status, stop, watch};
@@ -24,7 +24,8 @@ use std::thread::Threads;
 /// Does what these words ask for, which come without the program's name. `out` is standard output,
 /// `err` is standard error. Gives the status of the process: 0 where it was done, also where help
 /// was asked for; 1 where it failed, or what it tells couldn't be written; 2 for words that ask for
-/// nothing, and then nothing goes to `out`. That a failure is told on `err`, no contract says.
+/// nothing, and then nothing goes to `out`; 3 where `run` can't listen on its address, which may
+/// only come up later. That a failure is told on `err`, no contract says.
 pub fn command<R, O: Write, E: Write>(
     rt: &R,
     alloc: Global,
@@ -35,7 +36,9 @@ pub fn command<R, O: Write, E: Write>(
 where
     R: Files<File = File> + Net<Listener = TcpListener, Stream = TcpStream>,
     R: Clock + Threads + Wait + Sync,
-    ensures status { result ≤ 2 }
+    ensures status { result ≤ 3 }
+    ensures address { result ≡ 3
+        → (mode : Mode) × (AskFor (map (λ w. w.now) texts.now) mode × AsksToRun mode) }
     ensures done { result ≡ 0 → ((mode : Mode) × AskFor (map (λ w. w.now) texts.now) mode)
         ⊎ AskForHelp (map (λ w. w.now) texts.now) }
     ensures wrong { result ≡ 2 → AreWrong (map (λ w. w.now) texts.now) }
@@ -44,7 +47,7 @@ where
     match words(alloc, texts) {
         Ok(mode) => match obey(rt, alloc, &mode, out, err) {
             Ok(status) => status,
-            Err(fault) => fail(err, &fault),
+            Err(fault) => fail_in(err, &mode, &fault),
         },
         Err(Usage::Help(text)) => status_of(&tell(out, text.as_str())),
         Err(Usage::Words(text)) => {
@@ -61,6 +64,17 @@ pub fn fail<E: Write>(err: &mut E, fault: &Fault) -> u8
 {
     let _ = writeln!(err, "lnsd: {fault}");
     1
+}
+
+// Tells why what was asked for failed, and gives the status of that.
+fn fail_in<E: Write>(err: &mut E, mode: &Mode<'_>, fault: &Fault) -> u8
+    ensures { (result ≡ 1) ⊎ ((result ≡ 3) × AsksToRun mode.now) }
+{
+    let status = fail(err, fault);
+    match (mode, fault) {
+        (Mode::Run { .. }, Fault::Listen) => 3,
+        _ => status,
+    }
 }
 
 // The status of what was done.

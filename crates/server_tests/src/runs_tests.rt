@@ -86,6 +86,13 @@ fn what_is_no_control_socket_stays(rt: HostRuntime) {
     let mut plain = File::create(&rt, control.as_str()).expect(&rt, "a file");
     plain.write_all(b"notes").expect(&rt, "a write");
     assert!(rt; runs(&rt, alloc, file, "127.0.0.1:0", &failed("lnsd: control\n")));
+    // an address may come up later, so that it has a status of its own
+    let unheard = Told {
+        status: 3,
+        out: "",
+        err: "lnsd: listen\n",
+    };
+    assert!(rt; runs(&rt, alloc, file, "nonsense", &unheard));
     let kept = fs::read_to_string(&rt, control.as_str()).expect(&rt, "a file");
     assert!(rt; kept.as_str() == "notes");
     remove(&rt, control.as_str());
