@@ -13,7 +13,7 @@ use std::{env, fs, io, process};
 pub struct Told<'a> {
     pub status: u8,
     pub out: &'a str,
-    pub err: &'a str,
+    pub err: &'static str,
 }
 
 /// A command that is done.
@@ -26,7 +26,7 @@ pub fn done(out: &str) -> Told<'_> {
 }
 
 /// A command that fails.
-pub fn failed(err: &str) -> Told<'_> {
+pub fn failed(err: &'static str) -> Told<'static> {
     Told {
         status: 1,
         out: "",

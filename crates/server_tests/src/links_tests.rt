@@ -54,8 +54,8 @@ pub fn talk<R: Net<Stream = TcpStream>>(rt: &R, address: &str) -> io::Result<boo
 }
 
 /// An address on this machine that no client is given for its own end, one for each test.
-pub fn address_of(rt: &HostRuntime, alloc: Global, test: u32) -> Option<String> {
-    let port = 20_000 + process::id(rt.process()) % 5_000 * 2 + test;
+pub fn address_of(rt: &HostRuntime, alloc: Global, test: u8) -> Option<String> {
+    let port = 20_000 + process::id(rt.process()) % 5_000 * 2 + u32::from(test);
     format!(in alloc; "127.0.0.1:{port}").ok()
 }
 

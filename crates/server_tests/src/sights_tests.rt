@@ -59,6 +59,14 @@ fn joined() -> Sight {
     }
 }
 
+fn gateway() -> Recipient {
+    Recipient::Gateway(GATEWAY)
+}
+
+fn application() -> Recipient {
+    Recipient::Application(Application::new(3).unwrap())
+}
+
 fn refused(refusal: Refusal, frame: FrameName) -> Sight {
     Sight::of_copy(refusal, frame, RECEPTION)
 }
@@ -74,20 +82,18 @@ fn lines(alloc: Global, sights: &[Sight]) -> Result<String, AllocError> {
 
 #[test]
 fn sights_are_told_by_lines(rt: HostRuntime) {
-    let gateway = Recipient::Gateway(GATEWAY);
-    let application = Recipient::Application(Application::new(3).unwrap());
     let sights = [
         refused(Refusal::BadMic, FRAMES[0].1),
         refused(Refusal::UnknownDevAddr, FRAMES[1].1),
         refused(Refusal::UnknownChannel, FrameName::Other),
         joined(),
-        Sight::Linked(gateway),
-        Sight::TakenOver(application),
-        Sight::Ended(gateway),
-        Sight::Faulted(Some(application)),
+        Sight::Linked(gateway()),
+        Sight::TakenOver(application()),
+        Sight::Ended(gateway()),
+        Sight::Faulted(Some(application())),
         Sight::Faulted(None),
         Sight::Silent,
-        Sight::Dropped(gateway, 12),
+        Sight::Dropped(gateway(), 12),
         Sight::Checkpoint,
         Sight::SlowSync(250),
     ];
