@@ -18,9 +18,11 @@ OTHER, STRANGER = "00000000000000B2", "1112131415161799"
 # places of a server, and how many lines wait for an application
 PLACES, WAITING = 96, 1024
 # how often links come anew, and how much memory may be lost by that, in KiB
-ANEW, LEAK = 2000, 2048
+ANEW, LEAK = 10_000, 2048
 # copies of one frame by one gateway, each of which but the first of a window is refused
 COPIES = 30_000
+# devices whose queues are filled and emptied, and how often
+QUEUES, ROUNDS = 20, 60
 WATCHING = b"watching\n"
 # how long a link may take to greet, and an operator to give an order, in seconds
 GREETING, ORDER = 10, 2
@@ -145,7 +147,7 @@ def refusals(device):
 def too_many_lines(trials):
     """An operator who doesn't read holds up nobody, and is told how much was left out. A checkpoint
     is told, too."""
-    with running(trials, 4096, records(4096, OWNER)) as program:
+    with running(trials, 32, records(QUEUES, OWNER)) as program:
         slow = operator(program, b"watch\n")
         trials.compare("what comes first", slow.recv(len(WATCHING)), WATCHING)
         watcher = Watcher(program)
@@ -160,7 +162,7 @@ def too_many_lines(trials):
             came += slow.recv(65536)
         count = came.count(b"refused 21 ")
         trials.holds(f"{count} lines came of {COPIES}", WAITING <= count < COPIES)
-        fill_journal(application)
+        await_checkpoint(program, application, gateway)
         watcher.await_line("checkpoint")
         trials.compare("checkpoints", program.status()["checkpoints"], "1")
         for it in (application, gateway):
@@ -170,14 +172,24 @@ def too_many_lines(trials):
         slow.close()
 
 
-def fill_journal(application):
-    """Two long items for each device, so that more than a mebibyte of changes is written."""
-    for tag in (1, 2):
-        for number in range(4096):
-            application.asks(f"queue {load.dev_eui(number)} {tag} 7 u {'00' * 242}")
-            if number % 64 == 63:
-                for _ in range(64):
-                    application.hears()
+def await_checkpoint(program, application, gateway):
+    """Items are queued and sent, over and over, until a mebibyte of changes was written, and the
+    whole table then."""
+    devices = [load.device(it) for it in range(QUEUES)]
+    each = [(tag, it) for tag in range(16) for it in devices]
+    for _ in range(ROUNDS):
+        for tag, it in each:
+            application.asks(f"queue {it.dev_eui} {tag} 7 u {'00' * 40}")
+        answers = [application.hears().split(" ")[0] for _ in each]
+        if set(answers) != {"queued"}:
+            raise Failed(f"items are answered {set(answers)}")
+        gateway.say(b"".join(heard(it.uplink(7, b"\x01")) for _, it in each))
+        for _ in each:
+            gateway.order()
+            application.hears()
+        if program.status()["checkpoints"] != "0":
+            return
+    raise Failed(f"no checkpoint was written in {ROUNDS} rounds")
 
 
 def operator(program, said=b""):
