@@ -21,6 +21,21 @@ where
     ends(rt, alloc, &words, told)
 }
 
+// Whether running at an address ends well, once it is stopped.
+fn runs_well<R>(rt: &R, alloc: Global, file: &str, address: &str) -> io::Result<bool>
+where
+    R: Files<File = File> + Net<Listener = TcpListener, Stream = TcpStream>,
+    R: Clock + Threads + Wait + Sync,
+{
+    let out = format!(in alloc; "listening {address}\n")?;
+    let told = Told {
+        status: 0,
+        out: out.as_str(),
+        err: "dropped 0\nfaulted 0\ntaken_over 0\nsilent 0\n",
+    };
+    Ok(runs(rt, alloc, file, address, &told))
+}
+
 // The links of a device's join, and then what an operator says: whether the links are answered, and
 // the server ends.
 fn operate<R>(rt: &R, alloc: Global, file: &str, address: &str) -> io::Result<bool>
@@ -57,19 +72,15 @@ fn a_server_runs_until_it_is_stopped(rt: HostRuntime) {
     assert!(rt; ends(&rt, alloc, &["status", file], &failed("lnsd: left over\n")));
     assert!(rt; ends(&rt, alloc, &["devices", file], &failed("lnsd: left over\n")));
     let address = address_of(&rt, alloc, 1).expect(&rt, "memory");
-    let out = format!(in alloc; "listening {address}\n").expect(&rt, "memory");
-    let told = Told {
-        status: 0,
-        out: out.as_str(),
-        err: "dropped 0\nfaulted 0\ntaken_over 0\nsilent 0\n",
-    };
+    let other_path = path_of(&rt, "run").expect(&rt, "a path");
+    let other_address = address_of(&rt, alloc, 1).expect(&rt, "memory");
     let (ended, operated) = join(
         &rt,
-        || runs(&rt, alloc, file, address.as_str(), &told),
-        || operate(&rt, alloc, file, address.as_str()),
+        || runs_well(&rt, alloc, file, address.as_str()),
+        || operate(&rt, alloc, other_path.as_str(), other_address.as_str()),
     );
     assert!(rt; operated.is_ok_and(|is_so| is_so));
-    assert!(rt; ended);
+    assert!(rt; ended.is_ok_and(|is_so| is_so));
     let list = "0 1112131415161718 1 - - - 0 0\ndevices 1 seq 2\n";
     assert!(rt; lists(&rt, alloc, file, &done(list)));
     assert!(rt; ends(&rt, alloc, &["stop", file], &failed("lnsd: not running\n")));
