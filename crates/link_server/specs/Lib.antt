@@ -1,3 +1,1 @@
-pub mod Routing
-pub mod Sending
 pub mod Served

@@ -1,15 +1,11 @@
 // Operators tell a life to end, and ask how it goes.
 use crate::context::Context;
-use crate::control::ControlSocket;
-use crate::gate::Gate;
-use crate::moments::LifeClock;
-use crate::orders::Order;
 use crate::server::LiveServer;
 use crate::status::{devices_text, status_text};
-use crate::watching::{Waiting, Watch};
 use lw_types::Refusal;
+use server_links::{ControlSocket, Gate, LifeClock, Order, Waiting, Watch, is_passing};
 use session_core::Books;
-use std::io::{ErrorKind, Read, Write};
+use std::io::{Read, Write};
 use std::os::unix::net::UnixStream;
 use std::sync::Wait;
 use std::time::Duration;
@@ -154,10 +150,6 @@ impl<'x, B: Books, R: Wait, G: Gate, C: LifeClock> Attendant<'x, B, R, G, C> {
         }
         false
     }
-}
-
-fn is_passing(kind: ErrorKind) -> bool {
-    kind == ErrorKind::Interrupted || kind == ErrorKind::WouldBlock
 }
 
 // What an operator says, up to a newline.

@@ -1,9 +1,8 @@
 // The closer closes the windows that are due.
 use crate::context::Context;
-use crate::gate::Gate;
-use crate::moments::{LifeClock, moment_of, moved_on};
 use crate::server::LiveServer;
 use dedup::WAIT;
+use server_links::{Gate, LifeClock, moment_of, moved_on};
 use session_core::{Books, Moment, Seat, Sessions};
 use std::sync::Wait;
 

@@ -1,6 +1,5 @@
 // What a life is given from outside.
-use crate::gate::Gate;
-use crate::moments::LifeClock;
+use server_links::{Gate, LifeClock};
 use std::alloc::Global;
 use std::sync::Wait;
 use timed_disk::DiskTimes;

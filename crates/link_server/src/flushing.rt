@@ -3,14 +3,13 @@ ghost use Rattle.std.specs.Prelude.{IsTrue};
 ghost use Rattle.link_server.specs.Served.{IsLedOn};
 ghost use Rattle.store.specs.State.{store_state};
 
-use crate::link::MOST_PLACES;
-use crate::routing::route;
 use crate::server::LiveServer;
 use directory::{APPLICATIONS, Directory};
 use disk::Disk;
 use flusher::{Drawn, Released, serve};
 use lw_types::Refusal;
 use outbox::Outlet;
+use server_links::{MOST_PLACES, route};
 use session_core::{Books, Taker};
 use sights::Sight;
 use std::alloc::Global;

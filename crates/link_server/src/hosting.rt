@@ -1,17 +1,12 @@
 // A worker of a life whose links come and go takes one link after another.
-use crate::gate::Gate;
-use crate::gathering::drop_all;
-use crate::link::set_options;
-use crate::moments::{LifeClock, moved_on};
-use crate::parts::PLACES;
 use crate::reading::{Incoming, PIECE, Worker, read_some, recipient_of};
 use crate::threads::start_host_sender;
-use crate::writing::{Call, HostSender};
 use directory::Full;
 use gateway_wire::Recipient;
 use link_messages::{Fed, Feeder};
 use lw_types::Refusal;
 use rtrb::{Consumer, RingBuffer};
+use server_links::{Call, Gate, HostSender, LifeClock, PLACES, drop_all, moved_on, set_options};
 use session_core::{Books, Moment, Seat};
 use sights::Sight;
 use std::net::TcpStream;

@@ -7,35 +7,21 @@
 mod attending;
 mod closing;
 mod context;
-mod control;
-mod door;
 mod flushing;
-mod gate;
-mod gathering;
 mod hosting;
-pub mod laws;
-mod link;
-mod moments;
 mod observing;
-mod orders;
-mod outgoing;
 mod parts;
 mod reading;
 mod report;
-mod routing;
 mod running;
 mod server;
 mod serving;
-mod signals;
 mod status;
 mod threads;
-mod watching;
-mod writing;
 
 pub use attending::{BUSY, WATCHING};
-pub use gate::{Gate, OpenGate};
-pub use link::{LinkCount, PlaceCount};
-pub use moments::{LifeClock, Monotonic};
-pub use orders::Order;
-pub use report::{LifeReport, ServeFault, ServedLife};
+pub use report::{LifeReport, ServedLife};
+pub use server_links::{
+    Gate, LifeClock, LinkCount, Monotonic, OpenGate, Order, PlaceCount, ServeFault,
+};
 pub use serving::{serve_links, serve_on};

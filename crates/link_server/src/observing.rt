@@ -1,8 +1,8 @@
 // What a life does with its sessions, and what operators are told of it.
 use crate::server::LiveServer;
-use crate::watching::Watch;
 use devices::ApplicationCommand;
 use lw_types::FrameCopy;
+use server_links::Watch;
 use session_core::{Books, ClosedFrame, Moment, Seat, Turn};
 use sights::Sight;
 use std::sync::Wait;

@@ -5,12 +5,10 @@ use directory::APPLICATIONS;
 use lw_types::Refusal;
 use outbox::{Inlet, Outlet, ring};
 use rtrb::{Consumer, Producer, RingBuffer};
+use server_links::{PLACES, WaitingLines};
 use session_core::{Books, Seat, Shared};
 use std::alloc::Global;
 use std::sync::Mutex;
-
-/// The places of each of a link's two rings.
-pub(crate) const PLACES: usize = 1024;
 
 /// What the two threads of a link own: the worker a seat and the end of a ring into which refusals
 /// go, the sender the ends from which effects and refusals come.
@@ -21,10 +19,6 @@ pub(crate) struct LinkParts<B: Books> {
     pub(crate) inlet: Inlet,
     pub(crate) refusals: Consumer<Refusal>,
 }
-
-/// Where an application's lines come out of its ring. The sender of its link has this end while
-/// there is one.
-pub(crate) type WaitingLines = Mutex<Option<Inlet>>;
 
 /// The parts of each link's threads, the closer's seat, and the flusher's outlets: one for each
 /// link, and behind them one for each application that has a ring of its own.

@@ -3,15 +3,13 @@ ghost use Rattle.std.specs.Prelude.{◌≡◌, ◌<◌, ◌↔◌, IfSome, IsTru
 ghost use Rattle.link_messages.specs.declared.message.Peer.TheVariants.{Application as Asking};
 
 use crate::context::Context;
-use crate::gate::Gate;
-use crate::link::{Link, Socket};
-use crate::moments::LifeClock;
 use crate::server::LiveServer;
 use devices::Application;
 use gateway_wire::{Recipient, Request, read_line};
 use link_messages::{Fed, Feeder, Line, Message, Peer};
 use lw_types::{FrameCopy, Refusal};
 use rtrb::Producer;
+use server_links::{Gate, LifeClock, Link, Socket};
 use session_core::{Books, Seat, Turn};
 use sights::{FrameName, Sight};
 use std::io::{ErrorKind, Read};

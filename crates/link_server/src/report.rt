@@ -1,9 +1,8 @@
 // What comes of serving.
 use disk::Disk;
-use lw_types::Refusal;
+use server_links::ServeFault;
 use std::os::unix::net::UnixStream;
 use store::Store;
-use thiserror::Error;
 
 /// What came of a life whose inputs all ended.
 #[derive(Drop)]
@@ -23,18 +22,6 @@ pub struct LifeReport {
     /// How many of them each worker made, in the order in which their links were accepted, or of
     /// their places, and the closer last.
     pub shares: Vec<u64>,
-}
-
-/// Why a life has no report.
-#[derive(Debug, Drop, Error)]
-pub enum ServeFault {
-    /// A link couldn't be accepted, a thousand times in a row; or, where links come and go, the
-    /// system gave no second handle of the listener.
-    #[error("listen")]
-    Listen,
-    /// The store, or want of memory.
-    #[error("refused {number}", number = .0.number())]
-    Refused(Refusal),
 }
 
 /// The store as the life left it, and what came of it.

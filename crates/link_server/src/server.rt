@@ -1,12 +1,7 @@
 // What the threads of a life share.
-use crate::control::ControlSocket;
-use crate::door::Door;
-use crate::gathering::drop_all;
-use crate::link::Link;
-use crate::parts::WaitingLines;
-use crate::signals::Signals;
 use directory::Directory;
 use gateway_wire::Recipient;
+use server_links::{ControlSocket, Door, Link, Signals, WaitingLines, drop_all};
 use session_core::{Books, Shared};
 use std::net::TcpStream;
 use std::sync::{Mutex, Wait};

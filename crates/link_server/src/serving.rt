@@ -5,19 +5,17 @@ ghost use Rattle.link_server.specs.Served.{IsLedOn};
 ghost use Rattle.store.specs.State.{store_state};
 
 use crate::context::Context;
-use crate::control::ControlSocket;
-use crate::door::Door;
-use crate::gate::Gate;
-use crate::link::{Link, LinkCount, PlaceCount, accept, empty_places};
-use crate::moments::LifeClock;
-use crate::parts::{Parts, WaitingLines};
+use crate::parts::Parts;
 use crate::running::{LifeEnd, run};
 use crate::server::LiveServer;
-use crate::signals::Signals;
-use crate::{LifeReport, ServeFault, ServedLife};
+use crate::{LifeReport, ServedLife};
 use directory::Directory;
 use disk::Disk;
 use lw_types::Refusal;
+use server_links::{
+    ControlSocket, Door, Gate, LifeClock, Link, LinkCount, PlaceCount, ServeFault, Signals,
+    WaitingLines, accept, empty_places,
+};
 use session_core::{Books, Core, Seat, Shared};
 use std::alloc::Global;
 use std::marker::Brand;

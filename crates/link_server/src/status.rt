@@ -1,7 +1,7 @@
 // How a life goes, as an operator reads it.
-use crate::control::ControlSocket;
 use crate::server::LiveServer;
 use lw_types::Refusal;
+use server_links::ControlSocket;
 use session_core::Books;
 use std::alloc::Global;
 use std::sync::Wait;

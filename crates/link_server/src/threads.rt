@@ -1,13 +1,11 @@
 // The threads of a life, each with its name.
 use crate::attending::Attendant;
 use crate::closing::Closer;
-use crate::gate::Gate;
 use crate::hosting::Host;
-use crate::moments::LifeClock;
 use crate::reading::Worker;
-use crate::writing::{HostSender, Sender};
 use lw_types::Refusal;
 use rtrb::Consumer;
+use server_links::{Gate, HostSender, LifeClock, Sender};
 use session_core::{Books, Seat};
 use std::alloc::Global;
 use std::sync::Wait;

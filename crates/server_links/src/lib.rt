@@ -1,0 +1,37 @@
+//! The links of a server over sockets: what is read from them in places, what their senders write,
+//! the rings that effects come by, what the threads of a life tell each other, and where operators
+//! come in and watch. The threads themselves stand in `link_server`, for which alone this is public.
+#![tactic(auto)]
+
+mod control;
+mod door;
+mod fault;
+mod gate;
+mod gathering;
+pub mod laws;
+mod link;
+mod moments;
+mod orders;
+mod outgoing;
+mod rings;
+mod routing;
+mod signals;
+mod watching;
+mod writing;
+
+pub use control::{ATTENDANTS, ControlSocket};
+pub use door::Door;
+pub use fault::ServeFault;
+pub use gate::{Gate, OpenGate};
+pub use gathering::drop_all;
+pub use link::{
+    Link, LinkCount, MOST_PLACES, PlaceCount, Socket, accept, empty_places, set_options,
+};
+pub use moments::{LifeClock, Monotonic, moment_of, moved_on};
+pub use orders::Order;
+pub use outgoing::Outgoing;
+pub use rings::{PLACES, WaitingLines};
+pub use routing::route;
+pub use signals::Signals;
+pub use watching::{Waiting, Watch};
+pub use writing::{Call, HostSender, Sender, Spare, is_passing};

@@ -1,0 +1,217 @@
+// A link to a gateway or an application, and the place that links have in a life.
+ghost use Rattle.std.specs.Prelude.{◌≡◌, length, IfOk, MatchResult};
+ghost use Rattle.lw_types.specs.declared.refusal.Refusal.TheVariants.{OutOfMemory};
+
+use crate::fault::ServeFault;
+use crate::writing::Spare;
+use gateway_wire::Recipient;
+use lw_types::{Ranged, Refusal};
+use session_core::Moment;
+use std::alloc::Global;
+use std::net::{Shutdown, TcpListener, TcpStream};
+use std::sync::atomic::Ordering::SeqCst;
+use std::sync::atomic::{AtomicBool, AtomicU64};
+use std::sync::{Mutex, OnceLock, Wait};
+use std::thread::Parker;
+use std::time::Duration;
+
+/// How many links a life of links that stay has: 64 gateways and 16 applications at most.
+pub type LinkCount = Ranged<1, MOST_LINKS>;
+
+pub const MOST_LINKS: u64 = 80;
+
+/// How many links a life of links that come and go has at a time: all that have names, and some
+/// that haven't greeted yet.
+pub type PlaceCount = Ranged<1, MOST_PLACES>;
+
+pub const MOST_PLACES: u64 = 96;
+
+// How often in a row accepting may fail before the listener is given up.
+const ATTEMPTS: u32 = 1000;
+
+// How long one write waits for room, in seconds. Then the sender looks whether it is to go on.
+const WRITE_WAIT: u64 = 1;
+
+/// The place of a link, and the bell of its sender, which rings where there is something to send or
+/// nothing more will come.
+#[derive(Drop)]
+pub struct Link {
+    pub socket: Socket,
+    pub bell: Parker,
+    // What the senders of the links that come here use, while no sender has it.
+    pub spare: Mutex<Option<Spare>>,
+    // Whoever greeted on a link that stays.
+    name: OnceLock<Recipient>,
+    // The link that is here has ended: nothing more comes for it.
+    over: AtomicBool,
+    // It lost its name to a link that greeted later, and was closed.
+    taken: AtomicBool,
+    // One more than the moment of the last copy that came on it; 0 before the first.
+    last_copy: AtomicU64,
+}
+
+/// What a place is connected by.
+#[derive(Drop)]
+pub enum Socket {
+    /// One link, for the whole life.
+    Fixed(TcpStream),
+    /// One link after another. It is shown here, so that others can close it.
+    Shown(Mutex<Option<TcpStream>>),
+}
+
+impl Link {
+    // A link that stays.
+    fn fixed(stream: TcpStream) -> Self {
+        set_options(&stream);
+        Link::new(Socket::Fixed(stream))
+    }
+
+    fn new(socket: Socket) -> Self {
+        Link {
+            socket,
+            bell: Parker::new(),
+            spare: Mutex::new(None),
+            name: OnceLock::new(),
+            over: AtomicBool::new(false),
+            taken: AtomicBool::new(false),
+            last_copy: AtomicU64::new(0),
+        }
+    }
+
+    /// A copy of a frame came on the link that is here.
+    pub fn set_last_copy(&self, moment: Moment) {
+        self.last_copy.store(moment.get().saturating_add(1), SeqCst);
+    }
+
+    /// The moment of the last copy that came on the link that is here.
+    pub fn last_copy(&self) -> Option<u64> {
+        self.last_copy.load(SeqCst).checked_sub(1)
+    }
+
+    /// Ends each read and write of the link that is here, also those that wait.
+    pub fn close<R: Wait>(&self, rt: &R) {
+        self.shut(rt, Shutdown::Both);
+        self.bell.unpark();
+    }
+
+    /// Ends the input of the link that is here, behind what has come.
+    pub fn close_input<R: Wait>(&self, rt: &R) {
+        self.shut(rt, Shutdown::Read);
+    }
+
+    fn shut<R: Wait>(&self, rt: &R, how: Shutdown) {
+        match &self.socket {
+            Socket::Fixed(stream) => {
+                let _ = stream.shutdown(how);
+            }
+            Socket::Shown(shown) => {
+                if let Some(stream) = &*shown.lock(rt) {
+                    let _ = stream.shutdown(how);
+                }
+            }
+        }
+    }
+
+    /// Closes the link that is here, whose name goes over to another one.
+    pub fn take<R: Wait>(&self, rt: &R) {
+        self.taken.store(true, SeqCst);
+        self.close(rt);
+    }
+
+    /// Whether the link that is here lost its name.
+    pub fn is_taken(&self) -> bool {
+        self.taken.load(SeqCst)
+    }
+
+    /// Gives the place what the senders of its links use.
+    pub fn set_spare<R: Wait>(&self, rt: &R, spare: Spare) {
+        *self.spare.lock(rt) = Some(spare);
+    }
+
+    /// Shows the next link, so that others can close it.
+    pub fn show<R: Wait>(&self, rt: &R, stream: TcpStream) {
+        self.over.store(false, SeqCst);
+        self.taken.store(false, SeqCst);
+        self.last_copy.store(0, SeqCst);
+        self.set_shown(rt, Some(stream));
+    }
+
+    /// No link is here any more.
+    pub fn hide<R: Wait>(&self, rt: &R) {
+        self.set_shown(rt, None);
+    }
+
+    fn set_shown<R: Wait>(&self, rt: &R, stream: Option<TcpStream>) {
+        if let Socket::Shown(shown) = &self.socket {
+            *shown.lock(rt) = stream;
+        }
+    }
+
+    /// Who greeted on a link that stays.
+    pub fn name(&self) -> Option<&Recipient> {
+        self.name.get()
+    }
+
+    /// Somebody greets on a link that stays.
+    pub fn set_name<R: Wait>(&self, rt: &R, name: Recipient) {
+        let _ = self.name.set(rt, name);
+    }
+
+    /// Nothing more comes for the link that is here: its sender writes what waits, and ends.
+    pub fn set_over(&self) {
+        self.over.store(true, SeqCst);
+        self.bell.unpark();
+    }
+
+    /// Whether nothing more comes for the link that is here.
+    pub fn is_over(&self) -> bool {
+        self.over.load(SeqCst)
+    }
+}
+
+/// What is sent leaves at once and not with what is sent next. Where the system refuses an option
+/// the link works without it.
+pub fn set_options(stream: &TcpStream) {
+    let _ = stream.set_nodelay(true);
+    let _ = stream.set_write_timeout(Some(Duration::from_secs(WRITE_WAIT)));
+}
+
+/// Accepts so many links, and then closes the listener, so that whoever comes later is told at
+/// once.
+pub fn accept(
+    alloc: Global,
+    listener: TcpListener,
+    count: LinkCount,
+) -> Result<Vec<Link>, ServeFault>
+    ensures { IfOk result (λ links. length links.items ≡ count) }
+{
+    let mut links = Vec::new(alloc);
+    for _number in 0..count.get() {
+        let stream = accept_one(&listener)?;
+        if links.push(Link::fixed(stream)).is_err() {
+            return Err(ServeFault::Refused(Refusal::OutOfMemory));
+        }
+    }
+    Ok(links)
+}
+
+// A connection that is gone before it is accepted counts as a failure that passes.
+fn accept_one(listener: &TcpListener) -> Result<TcpStream, ServeFault> {
+    for _ in 0..ATTEMPTS {
+        if let Ok((stream, _)) = listener.accept() {
+            return Ok(stream);
+        }
+    }
+    Err(ServeFault::Listen)
+}
+
+/// So many places without a link. Refused with `OutOfMemory` for want of memory.
+pub fn empty_places(alloc: Global, count: PlaceCount) -> Result<Vec<Link>, Refusal>
+    ensures { MatchResult result (λ links. length links.items ≡ count) (λ e. e ≡ OutOfMemory) }
+{
+    let mut links = Vec::new(alloc);
+    for _number in 0..count.get() {
+        links.push(Link::new(Socket::Shown(Mutex::new(None))))?;
+    }
+    Ok(links)
+}

@@ -1,0 +1,77 @@
+// What is sent together.
+ghost use Rattle.std.specs.Prelude.{◌≡◌, ◌++◌, ◌≤◌, ◌↔◌, [], length, IsTrue, MatchResult};
+ghost use Rattle.lw_types.specs.declared.refusal.Refusal.TheVariants.{OutOfMemory};
+
+use lw_types::Refusal;
+use std::alloc::{AllocError, Global};
+use std::marker::Model;
+
+// How much is put together before it is sent, in bytes.
+pub const MUCH: usize = 16 * 1024;
+
+/// Frames that are sent together. In contracts it is the list of their bytes.
+#[derive(Drop)]
+pub struct Outgoing {
+    bytes: Vec<u8>,
+}
+
+impl Model for Outgoing {
+    ghost use Rattle.std.specs.Prelude.{List, ℕ};
+
+    ghost Value = { List ℕ };
+
+    ghost view = { λ outgoing. outgoing.bytes.items };
+}
+
+impl Outgoing {
+    /// Nothing to be sent. Takes no memory.
+    pub fn new(alloc: Global) -> Self
+        ensures { result ≡ [] }
+    {
+        Outgoing {
+            bytes: Vec::new(alloc),
+        }
+    }
+
+    /// Gets the room for what is mostly sent together.
+    pub fn reserve(&mut self) -> Result<(), AllocError>
+        ensures { self.new ≡ self.old }
+    {
+        self.bytes.reserve(MUCH + 1024)
+    }
+
+    /// Puts a frame behind the others. Refused with `OutOfMemory` for want of memory, and then
+    /// nothing is changed.
+    pub fn add(&mut self, frame: &[u8]) -> Result<(), Refusal>
+        ensures { MatchResult result (λ _. self.new ≡ self.old ++ frame.now)
+            (λ e. (e ≡ OutOfMemory) × (self.new ≡ self.old)) }
+    {
+        self.bytes.extend_from_slice(frame)?;
+        Ok(())
+    }
+
+    /// Whether it is time to send.
+    pub fn is_much(&self) -> bool
+        ensures { IsTrue result ↔ (MUCH ≤ length self.now) }
+    {
+        self.bytes.len() >= MUCH
+    }
+
+    pub fn is_empty(&self) -> bool
+        ensures { IsTrue result ↔ (self.now ≡ []) }
+    {
+        self.bytes.is_empty()
+    }
+
+    pub fn as_slice(&self) -> &[u8]
+        ensures { result.now ≡ self.now }
+    {
+        self.bytes.as_slice()
+    }
+
+    pub fn clear(&mut self)
+        ensures { self.new ≡ [] }
+    {
+        self.bytes.clear();
+    }
+}

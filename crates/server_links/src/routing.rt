@@ -1,0 +1,51 @@
+// Released effects go into the rings of whoever is told of them.
+ghost use Rattle.std.specs.Prelude.{◌≡◌, length};
+ghost use Rattle.flusher.specs.Released.{effect_of, effects_of_all};
+ghost use Rattle.server_links.specs.Routing.{IsRouted, IsRoutedOne};
+
+use directory::Directory;
+use flusher::Released;
+use gateway_wire::Recipient;
+use outbox::Outlet;
+
+/// Puts an effect into the ring of whoever is told of it, and gives the ring's number. `None` where
+/// there is no such ring, or it is full: the effect is lost.
+fn route_one(directory: &Directory, outlets: &mut [Outlet], released: Released) -> Option<usize>
+    ensures { IsRoutedOne directory.now (effect_of released) result outlets.old outlets.new }
+{
+    let number = directory.ring_of(&Recipient::of(released.effect()))?;
+    if number >= outlets.len() {
+        return None;
+    }
+    match outlets[number].put(released) {
+        Ok(()) => Some(number),
+        Err(_) => None,
+    }
+}
+
+/// Puts effects into the rings of whoever is told of them, in order, and marks those rings. How many
+/// were lost; whom these were for stands in `missed`, as far as there is memory.
+pub fn route(
+    directory: &Directory,
+    outlets: &mut [Outlet],
+    released: Vec<Released>,
+    marks: &mut [bool],
+    missed: &mut Vec<Recipient>,
+) -> usize
+    ensures { IsRouted directory.now (effects_of_all released.items) result outlets.old
+        outlets.new }
+{
+    let mut lost: usize = 0;
+    for one in released {
+        let name = Recipient::of(one.effect());
+        match route_one(directory, outlets, one) {
+            Some(number) if number < marks.len() => marks[number] = true,
+            Some(_) => {}
+            None => {
+                lost += 1;
+                let _ = missed.push(name);
+            }
+        }
+    }
+    lost
+}

@@ -1,0 +1,210 @@
+// What the threads of a life tell each other. Whoever waits looks, finds nothing, and parks;
+// whoever rings changes something first, and rings then. So no change is missed.
+use std::sync::Wait;
+use std::sync::atomic::Ordering::SeqCst;
+use std::sync::atomic::{AtomicBool, AtomicU64};
+use std::thread::Parker;
+
+#[derive(Drop)]
+pub struct Signals {
+    // How many workers may still hand something in.
+    open_inputs: AtomicU64,
+    faulted: AtomicU64,
+    dropped: AtomicU64,
+    taken_over: AtomicU64,
+    silent: AtomicU64,
+    // How often what was decided became durable.
+    commits: AtomicU64,
+    // How many links are in their places.
+    linked: AtomicU64,
+    // Everything of the life is done but for the operators.
+    closed: AtomicBool,
+    // The life was told to end.
+    ending: AtomicBool,
+    // The store is at fault, and the links are closed.
+    stopped: AtomicBool,
+    // The last tick was made.
+    ticked: AtomicBool,
+    // The closer waits for a window to open.
+    closer_idle: AtomicBool,
+    // Frames were decided, and the flusher wasn't rung for them.
+    frames_decided: AtomicBool,
+    // Rings for the flusher: something was decided, or the last tick was made.
+    decided: Parker,
+    // Rings for the closer: a window is open, or all inputs have ended, or the life is stopped.
+    pub opened: Parker,
+}
+
+impl Signals {
+    pub fn new(inputs: u64) -> Self {
+        Signals {
+            open_inputs: AtomicU64::new(inputs),
+            faulted: AtomicU64::new(0),
+            dropped: AtomicU64::new(0),
+            taken_over: AtomicU64::new(0),
+            silent: AtomicU64::new(0),
+            commits: AtomicU64::new(0),
+            linked: AtomicU64::new(0),
+            closed: AtomicBool::new(false),
+            ending: AtomicBool::new(false),
+            stopped: AtomicBool::new(false),
+            ticked: AtomicBool::new(false),
+            closer_idle: AtomicBool::new(false),
+            frames_decided: AtomicBool::new(false),
+            decided: Parker::new(),
+            opened: Parker::new(),
+        }
+    }
+
+    /// A link is read no further because of what it said.
+    pub fn count_fault(&self) {
+        self.faulted.fetch_add(1, SeqCst);
+    }
+
+    pub fn faulted(&self) -> u64 {
+        self.faulted.load(SeqCst)
+    }
+
+    /// So many effects were lost for want of a link or of room.
+    pub fn count_dropped(&self, count: u64) {
+        self.dropped.fetch_add(count, SeqCst);
+    }
+
+    pub fn dropped(&self) -> u64 {
+        self.dropped.load(SeqCst)
+    }
+
+    /// A link lost its name to one that greeted later.
+    pub fn count_taken_over(&self) {
+        self.taken_over.fetch_add(1, SeqCst);
+    }
+
+    pub fn taken_over(&self) -> u64 {
+        self.taken_over.load(SeqCst)
+    }
+
+    /// A link didn't greet in time.
+    pub fn count_silent(&self) {
+        self.silent.fetch_add(1, SeqCst);
+    }
+
+    pub fn silent(&self) -> u64 {
+        self.silent.load(SeqCst)
+    }
+
+    /// What was decided became durable.
+    pub fn count_commit(&self) {
+        self.commits.fetch_add(1, SeqCst);
+    }
+
+    pub fn commits(&self) -> u64 {
+        self.commits.load(SeqCst)
+    }
+
+    /// A link has come into a place.
+    pub fn count_linked(&self) {
+        self.linked.fetch_add(1, SeqCst);
+    }
+
+    /// It has left the place.
+    pub fn count_unlinked(&self) {
+        self.linked.fetch_sub(1, SeqCst);
+    }
+
+    pub fn linked(&self) -> u64 {
+        self.linked.load(SeqCst)
+    }
+
+    /// Operators are attended to no longer.
+    pub fn close(&self) {
+        self.closed.store(true, SeqCst);
+    }
+
+    pub fn is_closed(&self) -> bool {
+        self.closed.load(SeqCst)
+    }
+
+    /// Whoever reads links says nothing more.
+    pub fn end_input(&self) {
+        if self.open_inputs.fetch_sub(1, SeqCst) == 1 {
+            self.opened.unpark();
+        }
+    }
+
+    /// The life ends once what has come is decided and sent.
+    pub fn set_ending(&self) {
+        self.ending.store(true, SeqCst);
+    }
+
+    /// Whether the life was told to end, or is stopped.
+    pub fn is_ending(&self) -> bool {
+        self.ending.load(SeqCst) || self.is_stopped()
+    }
+
+    /// Whether no link says anything more, or the life is stopped.
+    pub fn is_over(&self) -> bool {
+        self.is_stopped() || self.open_inputs.load(SeqCst) == 0
+    }
+
+    pub fn stop(&self) {
+        self.stopped.store(true, SeqCst);
+        self.opened.unpark();
+    }
+
+    pub fn is_stopped(&self) -> bool {
+        self.stopped.load(SeqCst)
+    }
+
+    /// What an application asked was decided.
+    pub fn ring_flusher(&self) {
+        self.decided.unpark();
+    }
+
+    /// Frames were decided. The closer rings the flusher for them when it looks next.
+    pub fn tell_frames(&self) {
+        self.frames_decided.store(true, SeqCst);
+    }
+
+    /// Whether frames were decided for which the flusher wasn't rung.
+    pub fn has_frames(&self) -> bool {
+        self.frames_decided.load(SeqCst)
+    }
+
+    /// Rings the flusher, where frames were decided since the last call.
+    pub fn ring_for_frames(&self) {
+        if self.frames_decided.swap(false, SeqCst) {
+            self.decided.unpark();
+        }
+    }
+
+    /// Waits until something was decided.
+    pub fn wait_for_decisions<R: Wait>(&self, rt: &R) {
+        self.decided.park(rt);
+    }
+
+    /// Nothing is decided any more.
+    pub fn tell_ticked(&self) {
+        self.ticked.store(true, SeqCst);
+        self.decided.unpark();
+    }
+
+    pub fn is_ticked(&self) -> bool {
+        self.ticked.load(SeqCst)
+    }
+
+    /// The closer is about to look for a window, and waits where it finds none.
+    pub fn set_idle(&self) {
+        self.closer_idle.store(true, SeqCst);
+    }
+
+    pub fn clear_idle(&self) {
+        self.closer_idle.store(false, SeqCst);
+    }
+
+    /// A window may have opened. The closer is rung where it waits for one, and not for each frame.
+    pub fn tell_opened(&self) {
+        if self.closer_idle.swap(false, SeqCst) {
+            self.opened.unpark();
+        }
+    }
+}

@@ -1,0 +1,170 @@
+// Operators who watch are told what happens.
+use lw_types::Refusal;
+use sights::Sight;
+use std::alloc::{AllocError, Global};
+use std::mem;
+use std::sync::atomic::AtomicU64;
+use std::sync::atomic::Ordering::SeqCst;
+use std::sync::{Mutex, Wait};
+use std::thread::Parker;
+
+/// How many operators may watch at a time.
+pub const MOST_WATCHERS: usize = 4;
+
+// How many lines wait for an operator at most; others are left out.
+const MOST_WAITING: u64 = 1024;
+
+/// The lines that wait for an operator, how many these are, and how many are left out behind them.
+#[derive(Drop)]
+pub struct Waiting {
+    text: String,
+    lines: u64,
+    left_out: u64,
+}
+
+// A window at which an operator may stand.
+#[derive(Drop)]
+struct Lookout {
+    // None where nobody stands there.
+    waiting: Mutex<Option<Waiting>>,
+    // Rings for whoever stands there.
+    bell: Parker,
+}
+
+/// Where operators watch from.
+#[derive(Drop)]
+pub struct Watch {
+    alloc: Global,
+    watchers: AtomicU64,
+    lookouts: Vec<Lookout>,
+}
+
+impl Watch {
+    /// Nobody watches.
+    pub fn new(alloc: Global) -> Result<Self, Refusal> {
+        let mut lookouts = Vec::new(alloc);
+        for _number in 0..MOST_WATCHERS {
+            lookouts.push(Lookout {
+                waiting: Mutex::new(None),
+                bell: Parker::new(),
+            })?;
+        }
+        Ok(Watch {
+            alloc,
+            watchers: AtomicU64::new(0),
+            lookouts,
+        })
+    }
+
+    /// Whether somebody watches.
+    pub fn is_watched(&self) -> bool {
+        self.watchers.load(SeqCst) > 0
+    }
+
+    /// Tells each operator who watches. It waits for nobody who reads, and costs nothing while
+    /// nobody watches.
+    pub fn tell<R: Wait>(&self, rt: &R, sight: Sight) {
+        if !self.is_watched() {
+            return;
+        }
+        let line = told_line(self.alloc, sight);
+        for lookout in &self.lookouts {
+            if let Some(waiting) = lookout.waiting.lock(rt).as_mut() {
+                waiting.add(&line);
+            }
+            lookout.bell.unpark();
+        }
+    }
+
+    /// Somebody comes to watch, and gets the number of a window; `None` where each has somebody.
+    pub fn enter<R: Wait>(&self, rt: &R) -> Option<usize> {
+        for (number, lookout) in self.lookouts.iter().enumerate() {
+            let mut waiting = lookout.waiting.lock(rt);
+            if waiting.is_none() {
+                *waiting = Some(Waiting::new(self.alloc));
+                self.watchers.fetch_add(1, SeqCst);
+                return Some(number);
+            }
+        }
+        None
+    }
+
+    /// What waits at a window. Nothing waits there then.
+    pub fn take<R: Wait>(&self, rt: &R, number: usize) -> Option<Waiting> {
+        let lookout = self.lookouts.get(number)?;
+        let mut waiting = lookout.waiting.lock(rt);
+        Some(mem::replace(waiting.as_mut()?, Waiting::new(self.alloc)))
+    }
+
+    /// Waits at a window until something may have come.
+    pub fn wait<R: Wait>(&self, rt: &R, number: usize) {
+        if let Some(lookout) = self.lookouts.get(number) {
+            lookout.bell.park(rt);
+        }
+    }
+
+    /// Whoever stood at a window has gone.
+    pub fn leave<R: Wait>(&self, rt: &R, number: usize) {
+        if let Some(lookout) = self.lookouts.get(number) {
+            *lookout.waiting.lock(rt) = None;
+            self.watchers.fetch_sub(1, SeqCst);
+        }
+    }
+
+    /// Whoever waits looks again.
+    pub fn ring(&self) {
+        for lookout in &self.lookouts {
+            lookout.bell.unpark();
+        }
+    }
+}
+
+// The line that tells it, with its newline; `Err` for want of memory.
+fn told_line(alloc: Global, sight: Sight) -> Result<String, AllocError> {
+    let mut line = sight.line(alloc)?;
+    line.push_str("\n")?;
+    Ok(line)
+}
+
+impl Waiting {
+    fn new(alloc: Global) -> Self {
+        Waiting {
+            text: String::new(alloc),
+            lines: 0,
+            left_out: 0,
+        }
+    }
+
+    /// Whether nothing waits.
+    pub fn is_empty(&self) -> bool {
+        self.lines == 0 && self.left_out == 0
+    }
+
+    // One line more. It is left out where there is no room or no memory, or one before it was.
+    fn add(&mut self, line: &Result<String, AllocError>) {
+        if self.left_out == 0 && self.lines < MOST_WAITING {
+            if let Ok(line) = line {
+                if self.text.push_str(line.as_str()).is_ok() {
+                    self.lines += 1;
+                    return;
+                }
+            }
+        }
+        self.left_out = self.left_out.saturating_add(1);
+    }
+
+    /// The lines, each with a newline; the last one tells how many were left out.
+    pub fn into_text(self, alloc: Global) -> Result<String, Refusal> {
+        let Waiting {
+            text,
+            lines: _,
+            left_out,
+        } = self;
+        let mut text = text;
+        if left_out > 0 {
+            let line = format!(in alloc; "left_out {left_out}\n")?;
+            text.push_str(line.as_str())?;
+        }
+        Ok(text)
+    }
+}

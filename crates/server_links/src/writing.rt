@@ -1,0 +1,286 @@
+// A sender writes a link.
+use crate::gathering::{Gathered, add_refusal, gather};
+use crate::link::Link;
+use crate::outgoing::Outgoing;
+use crate::rings::WaitingLines;
+use crate::signals::Signals;
+use crate::watching::Watch;
+use gateway_wire::Recipient;
+use lw_types::Refusal;
+use outbox::Inlet;
+use rtrb::Consumer;
+use sights::Sight;
+use std::alloc::Global;
+use std::io::{ErrorKind, Write};
+use std::net::{Shutdown, TcpStream};
+use std::sync::Wait;
+
+// How many refusals are put together before they are sent.
+const SOME: u32 = 64;
+
+// How many writes in a row may wait in vain once nothing more comes. Each waits a second.
+const PATIENCE: u32 = 8;
+
+/// A link's sender.
+#[derive(Drop)]
+pub struct Sender<'x, R: Wait> {
+    pub rt: &'x R,
+    pub alloc: Global,
+    pub signals: &'x Signals,
+    // Where operators watch from, if there are any.
+    pub watch: Option<&'x Watch>,
+    pub link: &'x Link,
+    pub stream: &'x TcpStream,
+    // Whose link it is, as far as the sender knows.
+    pub name: Option<&'x Recipient>,
+    pub inlet: Inlet,
+    pub refusals: Consumer<Refusal>,
+    pub outgoing: Outgoing,
+    // What wasn't sent when the link broke waits for the next one of its name.
+    pub keeps: bool,
+    // The link takes nothing any more.
+    pub is_broken: bool,
+}
+
+impl<'x, R: Wait> Sender<'x, R> {
+    /// Writes what leaves on the link until nothing more can come, and says then that nothing will.
+    /// Gives back what the next sender of the place uses.
+    pub fn run(self) -> Spare {
+        let mut sender = self;
+        let _ = sender.outgoing.reserve();
+        for _ in sender.rt.forever() {
+            if sender.signals.is_stopped() || sender.is_given_up() {
+                break;
+            }
+            // What was put before the end was told is seen by the looks behind this one.
+            let is_last = sender.is_last();
+            if sender.send_some() {
+                continue;
+            }
+            if is_last {
+                break;
+            }
+            sender.link.bell.park(sender.rt);
+        }
+        let _ = sender.stream.shutdown(Shutdown::Write);
+        Spare {
+            inlet: sender.inlet,
+            outgoing: sender.outgoing,
+        }
+    }
+
+    // Whether what waits is left for the next link of this name.
+    fn is_given_up(&self) -> bool {
+        self.keeps && (self.is_broken || self.link.is_taken())
+    }
+
+    // Whether nothing more is put into the ring for this link.
+    fn is_last(&mut self) -> bool {
+        self.link.is_over() || self.inlet.is_finished()
+    }
+
+    // Sends some of what waits, refusals first. Whether there was something.
+    fn send_some(&mut self) -> bool {
+        self.outgoing.clear();
+        let is_told = self.gather_refusals();
+        let Gathered { taken, lost } = self.gather_effects();
+        let is_sent = self.is_broken || self.send();
+        if !is_sent {
+            self.is_broken = true;
+        }
+        self.count_dropped(if is_sent { lost } else { taken });
+        is_told || taken > 0
+    }
+
+    fn count_dropped(&self, lost: u64) {
+        if lost == 0 {
+            return;
+        }
+        self.signals.count_dropped(lost);
+        if let (Some(watch), Some(name)) = (self.watch, self.name) {
+            watch.tell(self.rt, Sight::Dropped(*name, lost));
+        }
+    }
+
+    // Whether there was one.
+    fn gather_refusals(&mut self) -> bool {
+        let mut some = false;
+        for _ in 0..SOME {
+            let Ok(refusal) = self.refusals.pop() else {
+                break;
+            };
+            some = true;
+            if !self.is_broken {
+                let _ = add_refusal(self.alloc, refusal, &mut self.outgoing);
+            }
+        }
+        some
+    }
+
+    // Nothing is there for a link on which nobody has greeted.
+    fn gather_effects(&mut self) -> Gathered {
+        if self.name.is_none() {
+            self.name = self.link.name();
+        }
+        let Some(name) = self.name else {
+            return Gathered { taken: 0, lost: 0 };
+        };
+        gather(
+            self.alloc,
+            name,
+            &mut self.inlet,
+            &mut self.outgoing,
+            self.is_broken,
+        )
+    }
+
+    // Whether the link took all of it. While it takes nothing the sender waits, for ever, unless
+    // nothing more comes: then it gives the link up.
+    fn send(&mut self) -> bool {
+        let mut rest = self.outgoing.as_slice();
+        let mut waits: u32 = 0;
+        for _ in self.rt.forever() {
+            if rest.is_empty() {
+                return true;
+            }
+            if self.signals.is_stopped() || waits >= PATIENCE {
+                return false;
+            }
+            match write_some(self.stream, rest) {
+                Wrote::Some(left) => {
+                    rest = left;
+                    waits = 0;
+                }
+                Wrote::Nothing if self.link.is_over() || self.inlet.is_finished() => {
+                    waits = waits.saturating_add(1);
+                }
+                Wrote::Nothing => {}
+                Wrote::End => return false,
+            }
+        }
+        unreachable!()
+    }
+}
+
+/// What the senders of a place use, one after another.
+#[derive(Drop)]
+pub struct Spare {
+    pub inlet: Inlet,
+    pub outgoing: Outgoing,
+}
+
+/// A link that has greeted: its socket, and its name.
+#[derive(Drop)]
+pub struct Call {
+    pub stream: TcpStream,
+    pub name: Recipient,
+}
+
+/// What a sender of a place has for its one link.
+#[derive(Drop)]
+pub struct HostSender<'x, R: Wait> {
+    pub rt: &'x R,
+    pub alloc: Global,
+    pub signals: &'x Signals,
+    pub watch: Option<&'x Watch>,
+    // What waits for it, where it is an application that has a ring of its own.
+    pub lines: Option<&'x WaitingLines>,
+    // All links: a sender of one of them may wait for these lines.
+    pub links: &'x [Link],
+    pub link: &'x Link,
+    pub call: &'x Call,
+}
+
+impl<'x, R: Wait> HostSender<'x, R> {
+    /// Writes what leaves on the link, with what the place has for it; a gateway's by the ring of
+    /// the place, an application's by its own.
+    pub fn run(self, refusals: Consumer<Refusal>) {
+        let Some(spare) = self.link.spare.lock(self.rt).take() else {
+            return;
+        };
+        let spare = match self.lines {
+            None => self.send(spare, refusals),
+            Some(lines) => self.send_lines(lines, spare, refusals),
+        };
+        *self.link.spare.lock(self.rt) = Some(spare);
+    }
+
+    // The ring of an application is there once the sender of its older link has ended, which rings
+    // then.
+    fn send_lines(&self, lines: &WaitingLines, spare: Spare, refusals: Consumer<Refusal>) -> Spare {
+        let Some(inlet) = self.wait_for(lines) else {
+            return spare;
+        };
+        let Spare {
+            inlet: unused,
+            outgoing,
+        } = spare;
+        let Spare { inlet, outgoing } = self.send(Spare { inlet, outgoing }, refusals);
+        *lines.lock(self.rt) = Some(inlet);
+        for link in self.links {
+            link.bell.unpark();
+        }
+        Spare {
+            inlet: unused,
+            outgoing,
+        }
+    }
+
+    // `None` where the link has ended, or the life is stopped, before the ring is there.
+    fn wait_for(&self, lines: &WaitingLines) -> Option<Inlet> {
+        for _ in self.rt.forever() {
+            let inlet = lines.lock(self.rt).take();
+            if inlet.is_some() {
+                return inlet;
+            }
+            if self.link.is_over() || self.link.is_taken() || self.signals.is_stopped() {
+                return None;
+            }
+            self.link.bell.park(self.rt);
+        }
+        None
+    }
+
+    fn send(&self, spare: Spare, refusals: Consumer<Refusal>) -> Spare {
+        let Spare { inlet, outgoing } = spare;
+        let sender = Sender {
+            rt: self.rt,
+            alloc: self.alloc,
+            signals: self.signals,
+            watch: self.watch,
+            link: self.link,
+            stream: &self.call.stream,
+            name: Some(&self.call.name),
+            inlet,
+            refusals,
+            outgoing,
+            keeps: self.lines.is_some(),
+            is_broken: false,
+        };
+        sender.run()
+    }
+}
+
+/// What one write did.
+enum Wrote<'a> {
+    /// It took some bytes, and these are left.
+    Some(&'a [u8]),
+    Nothing,
+    End,
+}
+
+fn write_some<'a>(stream: &TcpStream, bytes: &'a [u8]) -> Wrote<'a> {
+    let mut stream = stream;
+    match stream.write(bytes) {
+        Ok(0) => Wrote::End,
+        Ok(n) => Wrote::Some(&bytes[n..]),
+        Err(e) if is_passing(e.kind()) => Wrote::Nothing,
+        Err(_) => Wrote::End,
+    }
+}
+
+/// Whether a write that failed so may be tried again: it was interrupted, or nothing was taken in the
+/// time that it had.
+pub fn is_passing(kind: ErrorKind) -> bool {
+    kind == ErrorKind::Interrupted || kind == ErrorKind::WouldBlock
+}
