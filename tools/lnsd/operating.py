@@ -1,6 +1,7 @@
 """Trials of lnsd where links come and go (`lnsd run`): who operates it, and what it tells, as
 docs/OPERATING.md has it; strangers, links that are taken over, and applications that are away."""
 import os
+import select
 import socket
 import subprocess
 import time
@@ -61,26 +62,35 @@ class Watcher:
 
     def __init__(self, program):
         words = [program.path, "watch", program.store]
-        self.process = subprocess.Popen(
-            words, stdin=subprocess.DEVNULL, stdout=subprocess.PIPE, text=True
-        )
-        if self.process.stdout.readline() != "watching\n":
+        self.process = subprocess.Popen(words, stdin=subprocess.DEVNULL, stdout=subprocess.PIPE)
+        self.came = b""
+        if self.line() != "watching":
             raise Failed("lnsd watch doesn't say that it watches")
+
+    def line(self):
+        """The next line."""
+        out = self.process.stdout.fileno()
+        while b"\n" not in self.came:
+            if not select.select([out], [], [], PATIENCE)[0]:
+                raise Failed("lnsd watch has nothing to tell")
+            piece = os.read(out, 65536)
+            if not piece:
+                raise Failed("lnsd watch has ended")
+            self.came += piece
+        line, _, self.came = self.came.partition(b"\n")
+        return line.decode()
 
     def await_line(self, due):
         """The lines up to one that begins so."""
         came = []
         while not came or not came[-1].startswith(due):
-            line = self.process.stdout.readline()
-            if not line:
-                raise Failed(f"lnsd watch ended before {due!r}, behind {came[-5:]}")
-            came.append(line.rstrip("\n"))
+            came.append(self.line())
         return came
 
     def rest(self):
         """The lines until the server ends, and the status of the command."""
-        out = self.process.communicate(timeout=PATIENCE)[0]
-        return out.splitlines(), self.process.returncode
+        out = self.came + self.process.communicate(timeout=PATIENCE)[0]
+        return out.decode().splitlines(), self.process.returncode
 
 
 def heard(frame, gateway=EUI):
@@ -150,7 +160,6 @@ def too_many_lines(trials):
     with running(trials, 32, records(QUEUES, OWNER)) as program:
         slow = operator(program, b"watch\n")
         trials.compare("what comes first", slow.recv(len(WATCHING)), WATCHING)
-        watcher = Watcher(program)
         application, gateway = Application(program.address, OWNER), Gateway(program.address, EUI)
         frame = b"\x40" + bytes(11)
         gateway.say(heard(frame) * COPIES)
@@ -162,6 +171,7 @@ def too_many_lines(trials):
             came += slow.recv(65536)
         count = came.count(b"refused 21 ")
         trials.holds(f"{count} lines came of {COPIES}", WAITING <= count < COPIES)
+        watcher = Watcher(program)
         await_checkpoint(program, application, gateway)
         watcher.await_line("checkpoint")
         trials.compare("checkpoints", program.status()["checkpoints"], "1")
