@@ -1,6 +1,6 @@
 use Rattle.std.proofs.Common.{◌≡◌, Result, IfOk, sum, sym, subst}
 use Rattle.link_server.specs.declared.report.LifeReport.{LifeReport}
-use Rattle.link_server.specs.declared.report.ServeFault.{ServeFault}
+use Rattle.server_links.specs.declared.fault.ServeFault.{ServeFault}
 use Rattle.link_server.proofs.serving.serve_life.Goals.{in-Ok-result, in-Err-result}
 use Rattle.link_server.proofs.serving.serve_life.Goals as goal
 
