@@ -54,7 +54,10 @@ class Load:
         self.sent, self.before = 0, self.come()
 
     def linked(self, kind, name):
-        return kind(self.address, name, patience=PATIENCE)
+        """A link of this name, with a number of its own over all lives."""
+        it = kind(self.address, name, patience=PATIENCE)
+        it.serial = self.seen.links = self.seen.links + 1
+        return it
 
     def change(self):
         """A link ends in one way or another, and the next one of its name is there."""
@@ -165,7 +168,10 @@ class Load:
                 raise Failed("not all devices were provisioned")
 
     def ask(self, meter, line):
-        next(it for it in self.applications if it.number == meter.application).asks(line)
+        """A device's application asks; which link of all the lives it asks on."""
+        link = next(it for it in self.applications if it.number == meter.application)
+        link.asks(line)
+        return link.serial
 
     def act(self):
         """One thing that a device or its application does."""
@@ -176,7 +182,8 @@ class Load:
             return
         kind = self.chance.random()
         if meter.keeps and kind < 0.25:
-            self.ask(meter, meter.request(self.chance))
+            line, tag = meter.request(self.chance), meter.next_tag - 1
+            meter.asked_on.setdefault(tag, self.ask(meter, line))
             return
         frame = meter.frame(self.chance)
         self.sent += meter.is_new

@@ -30,6 +30,8 @@ class Meter(Device):
         self.keeps = number % 3 > 0
         self.rests_until, self.sent = 0.0, []
         self.owes_ack, self.next_tag = False, 1
+        # on which of its application's links each item was asked for
+        self.asked_on = {}
         # of its last frame: whether it was a Join-Request, and whether it was a new one
         self.is_joining, self.is_new = False, False
 
@@ -73,6 +75,8 @@ class Seen:
         self.items, self.answers = Counter(), 0
         # how many lines came to applications, and frames to gateways
         self.lines, self.orders = 0, 0
+        # how many links there were, over all lives
+        self.links = 0
         self.queued, self.keys, self.meters = {}, {}, {}
         # the uplinks of each device that came out before its store counted them
         self.uncounted = Counter()
@@ -159,7 +163,10 @@ class Seen:
         meter.owes_ack = frame[0] == 0xA0
         if len(frame) - 4 > end:
             clear = crypted(keys[1], DOWN, address, counter, frame[end + 1 : -4])
-            self.mark(self.items, name[0], int.from_bytes(clear[:4], "big"), "item", gateway)
+            tag = int.from_bytes(clear[:4], "big")
+            # what was asked on an older link may be read behind what is asked on the newer one
+            asked = (meter.dev_eui, meter.asked_on.get(tag))
+            self.mark(self.items, asked, tag, "item", gateway)
         return name[0]
 
     def accept(self, gateway, frame):
@@ -241,7 +248,7 @@ class Seen:
     def item_count(self, meter, shown, next_down, items):
         """Each item that was queued waits, has left, or left unseen in a downlink of its own."""
         name = meter.dev_eui
-        left = sum(1 for device, _ in self.items if device == name)
+        left = sum(1 for (device, _), _ in self.items if device == name)
         unseen = next_down - sum(1 for session, _ in self.downlinks if session[0] == name)
         told = len(self.queued.get(name, []))
         why = f"though {told} items were queued, {left} left, and {unseen} downlinks weren't seen"
