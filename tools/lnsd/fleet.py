@@ -33,6 +33,12 @@ MOST = 200
 PATIENCE = 120
 
 
+def told_as(link):
+    """A link's name, as lines of `lnsd watch` have it."""
+    is_gateway = isinstance(link, Gateway)
+    return f"gateway {link.eui}" if is_gateway else f"application {link.number}"
+
+
 class Load:
     """The links of one life, and what they carry."""
 
@@ -46,7 +52,8 @@ class Load:
         if changes:
             start, gateways = program.run_on, GATEWAYS
         self.address = start(len(gateways) + len(APPLICATIONS) + SPARE * bool(changes))
-        self.watch = Watch(program, seen.handed) if changes else None
+        # how many links each name had; who watches tells how many greetings were taken
+        self.made, self.watch = Counter(), Watch(program, seen.handed) if changes else None
         self.gateways = [self.linked(Gateway, it) for it in gateways]
         self.applications = [self.linked(Application, it) for it in APPLICATIONS]
         self.is_there = True
@@ -57,12 +64,18 @@ class Load:
         """A link of this name, with a number of its own over all lives."""
         it = kind(self.address, name, patience=PATIENCE)
         it.serial = self.seen.links = self.seen.links + 1
+        self.made[told_as(it)] += 1
         return it
 
     def change(self):
-        """A link ends in one way or another, and the next one of its name is there."""
+        """A link ends in one way or another, and the next one of its name is there. Where the
+        greeting of a link wasn't taken yet it stays, since of two the later one may be taken
+        first, and lose its name to the other."""
         links = self.gateways if self.chance.random() < OF_GATEWAYS else self.applications
         at, how = self.chance.randrange(len(links)), self.chance.choice((*DROPS, TAKEOVER))
+        name = told_as(links[at])
+        if self.watch.linked[name] < self.made[name]:
+            return
         if self.chance.random() < 0.5:
             self.break_off(links[at])
         links[at] = self.next_of(links[at], how)
@@ -214,9 +227,17 @@ class Load:
                 due = max(due + 1 / RATE, time.monotonic() - 0.1)
             self.read(max(0.0, min(due - time.monotonic(), 0.01)))
             if not self.is_there:
-                raise Failed(f"the server has ended by itself: {self.program.ended()}")
+                raise Failed(self.why_over())
         if end == math.inf:
             raise Failed(f"too little came in {PATIENCE} seconds: {dict(self.changed)}")
+
+    def why_over(self):
+        """Why a link is over that nobody has ended."""
+        try:
+            return f"the server has ended by itself: {self.program.ended(2)}"
+        except Failed:
+            over = (told_as(it) for it in self.links() if it.is_over)
+            return f"the server has closed the link of {', '.join(over)}"
 
     def stop(self):
         """The server is stopped; how it ended. All that had come to it has to be decided."""
@@ -244,6 +265,7 @@ class Watch:
         self.process = subprocess.Popen(words, stdout=subprocess.PIPE, **how)
         self.out, self.handed = self.process.stdout.fileno(), handed
         self.came, self.is_over, self.contents = b"", False, ()
+        self.linked = Counter()
         if not select.select([self.out], [], [], PATIENCE)[0] or not self.more(0):
             raise Silent("lnsd watch has nothing to tell")
 
@@ -251,8 +273,10 @@ class Watch:
         """Takes the lines that have come; whether there may be others."""
         piece = os.read(self.out, 65536)
         *lines, self.came = (self.came + piece).split(b"\n")
-        for it in lines:
-            self.handed.tells(it.decode())
+        for it in map(bytes.decode, lines):
+            kind, _, name = it.partition(" ")
+            self.linked[name] += kind == "linked"
+            self.handed.tells(it)
         self.is_over = not piece
         return not self.is_over
 
