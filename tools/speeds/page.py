@@ -44,7 +44,7 @@ def curves(found):
 def bars(found):
     """Name and height of what is compared; the databases may be missing."""
     shown = [("SQLite\n1", found["sqlite"]["commits_a_second"])]
-    for key, name in (("postgresql", "PostgreSQL"), ("lnsd", "lnsd")):
+    for key, name in (("postgresql", "Postgres"), ("lnsd", "lnsd")):
         for it in found["requests"][key]:
             asked = it["clients"] if it["window"] == 1 else f"{it['clients']} x {it['window']}"
             shown.append((f"{name}\n{asked}", it["commits_a_second"]))
