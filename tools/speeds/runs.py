@@ -4,7 +4,7 @@ import json
 import os
 import sys
 
-from commands import ROOT
+from commands import ROOT, stop
 
 sys.path[:0] = [f"{ROOT}/examples"]
 
@@ -24,7 +24,7 @@ class Run:
     """The figures of a run, and how many aims were met."""
 
     def __init__(self, given):
-        self.given, self.figures = given, {}
+        self.given, self.figures = given, found_in(given.out) if given.out else {}
         self.met = self.missed = 0
 
     def tell(self, what, value):
@@ -55,14 +55,24 @@ class Run:
         return it
 
     def keep(self):
-        """Puts the figures into the file that they are for, beside those of other measurements."""
-        found, out = {}, self.given.out
-        if os.path.exists(out):
-            with open(out, encoding="utf-8") as file:
-                found = json.load(file)
-        with open(out, "w", encoding="utf-8") as file:
-            json.dump({**found, **self.figures}, file, indent=1)
+        """Puts the figures into the file that they are for."""
+        with open(self.given.out, "w", encoding="utf-8") as file:
+            json.dump(self.figures, file, indent=1)
             file.write("\n")
+
+
+def found_in(out):
+    """What other measurements put into a file, which is made where there is none."""
+    with open(out, "a+", encoding="utf-8") as file:
+        file.seek(0)
+        text = file.read()
+    try:
+        found = json.loads(text or "{}")
+    except ValueError:
+        found = None
+    if not isinstance(found, dict):
+        stop(f"{out} is there, and has no figures", 1)
+    return found
 
 
 def words_of(text, **numbers):
