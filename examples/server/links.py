@@ -60,6 +60,8 @@ class Link:
         self.frames = wire.Frames()
         self.contents = deque()
         self.is_over = False
+        # how many bytes were said
+        self.said = 0
         if greeting:
             self.say(greeting)
 
@@ -72,6 +74,7 @@ class Link:
             raise Silent("the network doesn't read") from None
         except OSError:
             raise Ended("the network has closed the link") from None
+        self.said += len(said)
 
     def more(self, patience):
         """Waits for a piece; answers whether one came, and not the end."""

@@ -1,21 +1,20 @@
-"""Trials of lnsd where links come and go (`lnsd run`): who operates it, and what it tells, as
-docs/OPERATING.md has it; strangers, links that are taken over, and applications that are away."""
+"""Trials of lnsd where links come and go (`lnsd run`): operators, as docs/OPERATING.md has them,
+strangers, links that come anew, and applications that are away."""
 import os
+import re
 import select
 import socket
 import subprocess
 import time
 from contextlib import contextmanager
 
-from . import disks, load
-from .trials import APP_KEY, DEV_EUI, EUI, HEARD, JOIN_EUI, OWNER, Pair, await_read, records
-from outside.device import Device
+from . import load
+from .trials import EUI, HEARD, OWNER, await_read, records
 from outside.gateway import Copy
 from server import wire
 from server.links import Application, Gateway, Link
 from server.program import Failed
 
-OTHER, STRANGER = "00000000000000B2", "1112131415161799"
 # places of a server, and how many lines wait for an application
 PLACES, WAITING = 96, 1024
 # how often links come anew, and how much memory may be lost by that, in KiB
@@ -29,6 +28,15 @@ WATCHING = b"watching\n"
 GREETING, ORDER = 10, 2
 PATIENCE = 60
 COUNTS = ("dropped", "faulted", "taken_over", "silent")
+# the lines of `lnsd watch`
+NAME = r"(gateway|application) ([0-9A-F]{16}|[0-9]|1[0-5])"
+FRAME = r"(join [0-9A-F]{16} [0-9]+|data [0-9A-F]{8} [0-9]+|other)"
+RECEPTION = r"[0-9A-F]{16} [0-9]+ [0-9]+ -?[0-9]+ -?[0-9]+"
+LINES = re.compile(
+    rf"refused [0-9]+ [A-Za-z]+ {FRAME} {RECEPTION}|joined [0-9A-F]{{16}} [0-9]+ [0-9A-F]{{16}}|"
+    rf"(linked|ended|taken_over|faulted) {NAME}|faulted|silent|dropped {NAME} [0-9]+|checkpoint|"
+    r"slow_sync [0-9]+|left_out [0-9]+"
+)
 
 
 @contextmanager
@@ -58,17 +66,18 @@ def await_status(program, **due):
 
 
 class Watcher:
-    """An operator who watches."""
+    """An operator who watches, and what he was told."""
 
     def __init__(self, program):
         words = [program.path, "watch", program.store]
-        self.process = subprocess.Popen(words, stdin=subprocess.DEVNULL, stdout=subprocess.PIPE)
-        self.came = b""
-        if self.line() != "watching":
+        how = {"stdin": subprocess.DEVNULL, "stdout": subprocess.PIPE, "stderr": subprocess.PIPE}
+        self.process = subprocess.Popen(words, **how)
+        self.came, self.lines = b"", []
+        if self.next() != "watching":
             raise Failed("lnsd watch doesn't say that it watches")
 
-    def line(self):
-        """The next line."""
+    def next(self):
+        """The next line, whatever it is."""
         out = self.process.stdout.fileno()
         while b"\n" not in self.came:
             if not select.select([out], [], [], PATIENCE)[0]:
@@ -80,78 +89,36 @@ class Watcher:
         line, _, self.came = self.came.partition(b"\n")
         return line.decode()
 
+    def line(self):
+        """The next line of what happens."""
+        self.note(self.next())
+        return self.lines[-1]
+
+    def note(self, line):
+        """A line that has come is one of those that there are."""
+        if not LINES.fullmatch(line):
+            raise Failed(f"lnsd watch says {line}")
+        self.lines.append(line)
+
     def await_line(self, due):
-        """The lines up to one that begins so."""
-        came = []
-        while not came or not came[-1].startswith(due):
+        """The lines up to one that begins with these words."""
+        came = [self.line()]
+        while not f"{came[-1]} ".startswith(f"{due} "):
             came.append(self.line())
         return came
 
     def rest(self):
-        """The lines until the server ends, and the status of the command."""
-        out = self.came + self.process.communicate(timeout=PATIENCE)[0]
-        return out.decode().splitlines(), self.process.returncode
+        """The lines until the server ends, the status of the command, and its errors."""
+        out, said = self.process.communicate(timeout=PATIENCE)
+        lines = (self.came + out).decode().splitlines()
+        for it in lines:
+            self.note(it)
+        return lines, self.process.returncode, said.decode()
 
 
 def heard(frame, gateway=EUI):
     """A copy of a frame by a gateway."""
     return wire.copy_of(frame, HEARD if gateway == EUI else Copy(gateway))
-
-
-def what_happens(trials):
-    """Each line of `watch` is provoked, and told in the words of the page."""
-    how = {"env": disks.with_disk(SLOW_SYNCS=2, SLOW_MS=150)}
-    with running(trials, **how) as program:
-        watcher = Watcher(program)
-        pair = Pair(program.address)
-        pair.greet()
-        pair.play(trials)
-        came = watcher.await_line("joined ")
-        for due in (f"linked application {OWNER}", f"linked gateway {EUI}", "slow_sync 1"):
-            trials.holds(f"{due} isn't told: {came}", any(it.startswith(due) for it in came))
-        trials.compare("a join", came[-1], f"joined {DEV_EUI} 1 {EUI}")
-        how_heard = f"{EUI} 868100000 5 -20 -95"
-        for frame, due in refusals(pair.device):
-            pair.gateway.say(heard(frame))
-            came = watcher.await_line("refused ")
-            trials.compare("a refused frame", came[-1], f"refused {due} {how_heard}")
-        newer = Gateway(program.address, EUI)
-        watcher.await_line(f"taken_over gateway {EUI}")
-        watcher.await_line(f"linked gateway {EUI}")
-        newer.say(wire.framed(b"\x09"))
-        watcher.await_line(f"faulted gateway {EUI}")
-        watcher.await_line(f"ended gateway {EUI}")
-        stranger = Link(program.address, b"\x00\x00")
-        watcher.await_line("faulted")
-        # the accept of this join is for a gateway that has gone
-        with Gateway(program.address, OTHER) as gone:
-            gone.say(heard(pair.device.join_request(), OTHER))
-            gone.end()
-            gone.rest()
-        watcher.await_line(f"dropped gateway {OTHER} 1")
-        with Link(program.address):
-            watcher.await_line("silent")
-        for it in (stranger, newer, *pair.links()):
-            it.close()
-        stopped(trials, program, dropped=1, faulted=2, taken_over=1, silent=1)
-        rest, status = watcher.rest()
-        trials.compare("the watcher's end", status, 0)
-        trials.holds(f"an end isn't told: {rest}", f"ended application {OWNER}" in rest)
-
-
-def refusals(device):
-    """Frames, and how each is told to be refused."""
-    nobody, mistyped = Device(STRANGER, JOIN_EUI, APP_KEY), Device(DEV_EUI, JOIN_EUI, "00" * 16)
-    frame, counter = device.uplink(7, b"\x04\xd2"), device.next_up - 1
-    of_nobody, wrong = nobody.join_request(), mistyped.join_request()
-    # an address of the device's slot, and of none of its sessions
-    unknown = frame[:1] + bytes.fromhex("FF1F0054") + frame[5:]
-    return (
-        (wrong, f"4 BadMic join {DEV_EUI} {mistyped.dev_nonce}"),
-        (of_nobody, f"7 UnknownDevEui join {STRANGER} {nobody.dev_nonce}"),
-        (unknown, f"3 UnknownDevAddr data 54001FFF {counter}"),
-        (b"\xe0\x01", "2 NotServed other"),
-    )
 
 
 def too_many_lines(trials):
@@ -167,7 +134,7 @@ def too_many_lines(trials):
         trials.compare("an answer meanwhile", application.hears(), "refused 51")
         await_read(gateway)
         came = b""
-        while b"left_out " not in came:
+        while not re.search(rb"\nleft_out [1-9][0-9]*\n", came):
             came += slow.recv(65536)
         count = came.count(b"refused 21 ")
         trials.holds(f"{count} lines came of {COPIES}", WAITING <= count < COPIES)
@@ -178,7 +145,7 @@ def too_many_lines(trials):
         for it in (application, gateway):
             it.close()
         trials.compare("the server's end", program.stop()[0], 0)
-        trials.compare("the end of who watches", watcher.rest()[1], 0)
+        trials.compare("the end of who watches", watcher.rest()[1:], (0, ""))
         slow.close()
 
 
@@ -245,7 +212,7 @@ def operators(trials):
         trials.compare("devices", program.run("devices", program.store)[1], "devices 0 seq 0\n")
         stopped(trials, program)
         for it in watchers:
-            trials.compare("a watcher's end", it.rest(), ([], 0))
+            trials.compare("a watcher's end", it.rest(), ([], 0, ""))
         for word in ("stop", "status", "devices", "watch"):
             due = (1, "", "lnsd: not running\n")
             trials.compare(f"{word} of nobody", program.run(word, program.store), due)
@@ -322,7 +289,7 @@ def away(trials):
     count, rounds = 20, 56
     devices = [load.device(it) for it in range(count)]
     with running(trials, 32, records(count, OWNER)) as program:
-        gateway = Gateway(program.address, EUI)
+        watcher, gateway = Watcher(program), Gateway(program.address, EUI)
         for number in range(rounds):
             gateway.say(b"".join(heard(it.uplink(7, b"\x01")) for it in devices))
             if number % 25 == 24 or number == rounds - 1:
@@ -340,10 +307,11 @@ def away(trials):
         await_status(program, windows=0, made=count * rounds + 1)
         gateway.close()
         stopped(trials, program, dropped=lost + 1)
+        told = watcher.rest()[0].count(f"dropped application {OWNER} 1")
+        trials.compare("dropped lines that were told, but for the last", told, lost)
 
 
 TRIALS = {
-    "what an operator is told": what_happens,
     "an operator who doesn't read": too_many_lines,
     "operators who say nothing, or nonsense, and too many": operators,
     "96 strangers who say nothing": strangers,

@@ -5,6 +5,7 @@ import time
 from collections import Counter
 
 from . import cipher  # its AES is the quick one, so it comes before those that use it
+from .handed import Handed
 from outside import network
 from outside.device import Device
 from outside.frames import DOWN, crypted, data_mic, opened_accept, session_keys
@@ -13,6 +14,9 @@ JOIN_EUI = "0102030405060708"
 # how long a device rests behind a frame, and how long it waits for an accept, in seconds: an accept
 # doesn't say of which Join-Request it is
 REST, JOIN_REST = 0.45, 60
+# what an application asks that is refused, with a number that no other application gets: no
+# request, and a device that nobody has
+WRONG = {3: ("hello", "51"), 9: ("mac 0000000000000000 06", "7")}
 
 
 class Meter(Device):
@@ -26,6 +30,8 @@ class Meter(Device):
         self.keeps = number % 3 > 0
         self.rests_until, self.sent = 0.0, []
         self.owes_ack, self.next_tag = False, 1
+        # on which of its application's links each item was asked for
+        self.asked_on = {}
         # of its last frame: whether it was a Join-Request, and whether it was a new one
         self.is_joining, self.is_new = False, False
 
@@ -67,13 +73,19 @@ class Seen:
     def __init__(self):
         self.ups, self.accepts, self.downlinks = {}, {}, {}
         self.items, self.answers = Counter(), 0
+        # how many lines came to applications, and frames to gateways
+        self.lines, self.orders = 0, 0
+        # how many links there were, over all lives
+        self.links = 0
         self.queued, self.keys, self.meters = {}, {}, {}
         # the uplinks of each device that came out before its store counted them
         self.uncounted = Counter()
         # the greatest marks: all, those of earlier lives, and those of each link of this life
         self.last, self.before, self.by_link = {}, {}, {}
-        self.seq = 0
+        # the last list: of each device the joins that were granted, and the uplinks accepted
+        self.seq, self.listed = 0, {}
         self.passed, self.faults = 0, []
+        self.handed = Handed(self)
 
     def wrong(self, words):
         self.faults.append(words)
@@ -93,6 +105,7 @@ class Seen:
     def begin(self):
         """A new life: what is under way at the devices is given up."""
         self.before, self.by_link = dict(self.last), {}
+        self.handed.begin()
         for it in self.meters.values():
             it.rests_until = 0.0
 
@@ -112,11 +125,17 @@ class Seen:
     def line(self, application, line):
         """A line that an application heard."""
         kind, *words = line.split(" ")
+        self.lines += 1
         if kind == "refused":
-            self.holds(words[0] in ("12", "13"), f"{line} came to application {application}")
+            own = WRONG.get(application, ("", ""))[1]
+            is_so = words[0] in ("12", "13", own)
+            self.holds(is_so, f"{line} came to application {application}")
             return
-        meter = self.meters[words[0]]
-        self.holds(meter.application == application, f"{line} came to application {application}")
+        meter = self.meters.get(words[0])
+        is_own = meter and meter.application == application
+        self.holds(is_own, f"{line} came to application {application}")
+        if not meter:
+            return
         if kind == "up":
             name, counter = (words[0], int(words[1])), int(words[2])
             self.mark(self.ups, name, counter, "uplink counter", application)
@@ -129,22 +148,26 @@ class Seen:
             self.queued.setdefault(words[0], []).append(int(words[1]))
 
     def frame(self, gateway, frame):
-        """A frame that a gateway is to send."""
+        """A frame that a gateway is to send; the DevEUI of the device that it is for."""
+        self.orders += 1
         if frame[0] == 0x20:
-            self.accept(gateway, frame)
-            return
+            return self.accept(gateway, frame)
         address = int.from_bytes(frame[1:5], "little")
         name, keys = self.keys.get(address, (None, None))
         counter = int.from_bytes(frame[6:8], "little")
         if not name or data_mic(keys[0], DOWN, address, counter, frame[:-4]) != frame[-4:]:
             self.wrong(f"a downlink that no session opens: {frame.hex().upper()}")
-            return
+            return None
         self.mark(self.downlinks, name, counter, "downlink counter", gateway)
         meter, end = self.meters[name[0]], 8 + (frame[5] & 15)
         meter.owes_ack = frame[0] == 0xA0
         if len(frame) - 4 > end:
             clear = crypted(keys[1], DOWN, address, counter, frame[end + 1 : -4])
-            self.mark(self.items, name[0], int.from_bytes(clear[:4], "big"), "item", gateway)
+            tag = int.from_bytes(clear[:4], "big")
+            # what was asked on an older link may be read behind what is asked on the newer one
+            asked = (meter.dev_eui, meter.asked_on.get(tag))
+            self.mark(self.items, asked, tag, "item", gateway)
+        return name[0]
 
     def accept(self, gateway, frame):
         """A Join-Accept: only the device that it is for can open it."""
@@ -164,8 +187,9 @@ class Seen:
                 due = network.address(it.slot, join_nonce)
                 self.expect(f"the DevAddr of {it.dev_eui}", address, due)
             self.keys[address] = ((it.dev_eui, join_nonce), keys)
-            return
+            return it.dev_eui
         self.wrong(f"an accept that no device opens: {frame.hex().upper()}")
+        return None
 
     def came_out(self):
         """How many uplinks of each device came out."""
@@ -184,6 +208,7 @@ class Seen:
         """A list against all that was seen."""
         *devices, total = lines
         listed = {it.split(" ")[1]: it.split(" ") for it in devices}
+        self.listed = {name: (int(it[2]), int(it[7])) for name, it in listed.items()}
         for it in meters:
             if it.slot is not None:
                 self.device(it, listed.get(it.dev_eui))
@@ -223,7 +248,7 @@ class Seen:
     def item_count(self, meter, shown, next_down, items):
         """Each item that was queued waits, has left, or left unseen in a downlink of its own."""
         name = meter.dev_eui
-        left = sum(1 for device, _ in self.items if device == name)
+        left = sum(1 for (device, _), _ in self.items if device == name)
         unseen = next_down - sum(1 for session, _ in self.downlinks if session[0] == name)
         told = len(self.queued.get(name, []))
         why = f"though {told} items were queued, {left} left, and {unseen} downlinks weren't seen"

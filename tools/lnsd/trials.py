@@ -193,12 +193,19 @@ def name_of(address):
     return f"{host:08X}:{address[1]:04X}"
 
 
+def unread(link):
+    """How many bytes of what has come on a link the server hasn't read; None where it has closed
+    its end."""
+    server, client = (it() for it in (link.socket.getpeername, link.socket.getsockname))
+    ends = f" {name_of(server)} {name_of(client)} "
+    with open("/proc/net/tcp", encoding="ascii") as file:
+        row = next((it for it in file if ends in it), None)
+    return row and int(row.split()[4].rpartition(":")[2], 16)
+
+
 def is_read(link):
     """Whether the server's end of a link has no unread bytes; also where it has closed it."""
-    ends = [name_of(it) for it in (link.socket.getpeername(), link.socket.getsockname())]
-    with open("/proc/net/tcp", encoding="ascii") as file:
-        unread = [it[4] for it in map(str.split, file) if it[1:3] == ends]
-    return all(it.endswith(":00000000") for it in unread)
+    return not unread(link)
 
 
 def await_read(link):

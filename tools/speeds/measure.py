@@ -101,20 +101,41 @@ def memory(pid):
     return {name: round(value / 1024, 1) for name, value in kib.items()}
 
 
+def times_of(pid, ended=False):
+    """The processor time in seconds that a process has taken in the program and in the kernel; also
+    with that of the processes that it has started and that have ended."""
+    with open(f"/proc/{pid}/stat", encoding="utf-8") as file:
+        words = [int(it) for it in file.read().rpartition(")")[2].split()[11:15]]
+    ticks = os.sysconf("SC_CLK_TCK")
+    user, kernel = (words[it] + ended * words[it + 2] for it in (0, 1))
+    return user / ticks, kernel / ticks
+
+
 def seconds_of(pid):
     """The processor time that a process has taken."""
-    with open(f"/proc/{pid}/stat", encoding="utf-8") as file:
-        words = file.read().rpartition(")")[2].split()
-    return (int(words[11]) + int(words[12])) / os.sysconf("SC_CLK_TCK")
+    return sum(times_of(pid))
+
+
+def of_task(pid, task):
+    """Of a thread: its name, its time on a processor in ns, and how often it was taken off one, by
+    its own will or not."""
+    folder = f"/proc/{pid}/task/{task}"
+    with open(f"{folder}/status", encoding="utf-8") as file:
+        status = file.read()
+    with open(f"{folder}/schedstat", encoding="utf-8") as file:
+        ran = int(file.read().split()[0])
+    name = re.search(r"Name:\s+(.*)", status)[1]
+    return name, ran, sum(map(int, re.findall(r"ctxt_switches:\s+(\d+)", status)))
+
+
+def tasks(pid):
+    """What each thread of a process has taken."""
+    return {it: of_task(pid, it) for it in os.listdir(f"/proc/{pid}/task")}
 
 
 def switches(pid):
     """How often the threads of a process were taken off a processor, by their own will or not."""
-    total = 0
-    for task in os.listdir(f"/proc/{pid}/task"):
-        with open(f"/proc/{pid}/task/{task}/status", encoding="utf-8") as file:
-            total += sum(map(int, re.findall(r"ctxt_switches:\s+(\d+)", file.read())))
-    return total
+    return sum(it[2] for it in tasks(pid).values())
 
 
 def calls(pid, seconds):
@@ -133,6 +154,27 @@ def calls(pid, seconds):
     # what each thread waits in while strace looks has a line too, without a result
     done = [line for line in lines if " = " in line or " resumed>" in line]
     return done if may_look else None
+
+
+@contextmanager
+def counted(pid):
+    """Has strace count the system calls of a process; a dictionary that has them behind it, or is
+    empty where there is no strace."""
+    found = {}
+    if not shutil.which("strace"):
+        yield found
+        return
+    with tempfile.NamedTemporaryFile() as told:
+        words = ["strace", "-f", "-c", "-qq", "-o", told.name, "-p", str(pid)]
+        it = subprocess.Popen(words, stderr=subprocess.DEVNULL)
+        time.sleep(1)
+        try:
+            yield found
+        finally:
+            it.send_signal(signal.SIGINT)
+            it.wait(timeout=30)
+        lines = (line.split() for line in told.read().decode().splitlines()[2:-2])
+        found.update({words[-1]: int(words[3]) for words in lines if len(words) > 4})
 
 
 def idle(pid, seconds):

@@ -1,7 +1,7 @@
-"""speed page [--page FILE] RESULTS PNG: draws what tools/speed server measured (its --out): how
-long uplinks take beyond their window, beside two syncs of the same disk; and durable commits a
-second, of lnsd and of the databases. With --page it also puts the figures into that page, as
-docs/SPEED.md has them, between two lines that say so.
+"""speed page [--page FILE] RESULTS PNG: draws what tools/speed server, run and databases measured,
+each into one file by --out: how long uplinks take beyond their window, beside two syncs of the same
+disk; and durable requests a second, of lnsd and of the databases. With --page it also puts the
+figures into that page, as docs/SPEED.md has them, between two lines that say so.
 
 It draws by matplotlib (Debian: python3-matplotlib), or else by gnuplot (Debian: gnuplot-nox), and
 installs neither.
@@ -28,7 +28,7 @@ COLOURS = ("#0072b2", "#d55e00", "#999999")
 # in ms; the server's clock may be early by so much, or more
 LEAST = 0.1
 LATENCY = "Uplinks: from the window's end to the line"
-COMMITS = "Durable requests or rows a second"
+COMMITS = "Durable requests or rows a second, by clients"
 
 
 def curves(found):
@@ -43,15 +43,11 @@ def curves(found):
 
 def bars(found):
     """Name and height of what is compared; the databases may be missing."""
-    peers, shown = found.get("peers", {}), []
-    if "sqlite" in peers:
-        shown.append(("SQLite\n1 client", peers["sqlite"]["commits_a_second"]))
-    for count, it in peers.get("postgresql", {}).get("clients", {}).items():
-        shown.append((f"PostgreSQL\n{count} client{'s' * (count != '1')}", it["commits_a_second"]))
-    for count, it in found["requests"].items():
-        shown.append((f"lnsd\n{count} client{'s' * (count != '1')}", it["commits_a_second"]))
-    rate, load = max(found["loads"].items(), key=lambda it: int(it[0]))
-    shown.append((f"lnsd\nuplinks\n({int(rate):,} sent)", round(load["uplinks_a_second"])))
+    shown = [("SQLite\n1", found["sqlite"]["commits_a_second"])]
+    for key, name in (("postgresql", "Postgres"), ("lnsd", "lnsd")):
+        for it in found["requests"][key]:
+            asked = it["clients"] if it["window"] == 1 else f"{it['clients']} x {it['window']}"
+            shown.append((f"{name}\n{asked}", it["commits_a_second"]))
     return shown
 
 
@@ -72,7 +68,7 @@ def by_matplotlib(found, png):
     right.bar_label(drawn, [f"{it:,}" for it in heights], fontsize=8)
     right.set_xticks(places, names, fontsize=7)
     right.set(title=COMMITS)
-    of = found["machine"]
+    of = found["machine of server"]
     told = f"{of['processor']}, {of['date']}, {of['commit']}"
     figure.text(0.5, 0.01, told, ha="center", fontsize=7)
     figure.tight_layout(rect=(0, 0.03, 1, 1))
@@ -80,7 +76,7 @@ def by_matplotlib(found, png):
 
 
 def by_gnuplot(found, png):
-    told, of = curves(found), found["machine"]
+    told, of = curves(found), found["machine of server"]
     plots = ", ".join(
         f'"-" with lines lw 2 lc rgb "{colour}" title "{name}"'
         for (name, _), colour in zip(told, COLOURS)
@@ -124,7 +120,7 @@ def main():
         if given.page:
             table.put(given.page, given.results)
     except (ValueError, KeyError, TypeError, AttributeError):
-        told = f"{given.results} has no results of a whole run of speed server"
+        told = f"{given.results} has no results of speed server, run and databases, all of them"
         commands.stop(f"{told}, or {given.page} no place for them" if given.page else told, 1)
     if matplotlib:
         by_matplotlib(found, given.png)

@@ -1,25 +1,21 @@
-"""The durable commits of two databases, one row an uplink: PostgreSQL by pgbench, with 1 and 16
-clients, and SQLite in WAL mode with synchronous=FULL. Nothing is installed here."""
+"""Two databases that make one row an uplink durable: PostgreSQL, a server on a folder of its own,
+and SQLite in WAL mode with synchronous=FULL. Nothing is installed here."""
 import glob
 import os
 import pwd
-import re
 import shutil
 import sqlite3
 import subprocess
 import tempfile
 import time
 
-from .measure import spread
+from server.program import HOST, free_port
+from .measure import spread, times_of
 
 TABLE = """CREATE TABLE uplinks (dev_eui BIGINT, join_nonce INT, counter BIGINT, port INT,
     payload {bytes}, gateway BIGINT, hz BIGINT, data_rate INT, snr INT, rssi INT)"""
 PAYLOAD = "000102030405060708090A0B"
-INSERT = """\\set device random(1, 4096)
-\\set counter random(0, 1000000)
-INSERT INTO uplinks VALUES (:device, 1, :counter, 7, '\\x{payload}', 177, 868100000, 5, -20, -95);
-"""
-NEEDED = ("initdb", "postgres", "pgbench", "psql")
+NEEDED = ("initdb", "postgres", "psql")
 INSTALL = "PostgreSQL isn't here: apt-get install postgresql"
 
 
@@ -71,6 +67,19 @@ def owner():
     raise Missing("PostgreSQL doesn't run as root, and there is no user postgres")
 
 
+def children(pid):
+    """The processes that a process has started and that have not ended."""
+    found = []
+    for it in filter(str.isdigit, os.listdir("/proc")):
+        try:
+            with open(f"/proc/{it}/stat", encoding="utf-8") as file:
+                if file.read().rpartition(")")[2].split()[1] == str(pid):
+                    found.append(int(it))
+        except OSError:
+            pass
+    return found
+
+
 class Postgres:
     """A server of PostgreSQL on a folder of its own, with its settings as they come."""
 
@@ -82,7 +91,7 @@ class Postgres:
         for it in (self.room, self.socket):
             if self.how:
                 os.chown(it, self.how["user"], self.how["group"])
-        self.server = None
+        self.server, self.address = None, (HOST, free_port())
 
     def run(self, name, *words, **more):
         """Runs one of its programs; what it printed."""
@@ -96,7 +105,8 @@ class Postgres:
         try:
             data = f"{self.room}/data"
             self.run("initdb", "-D", data, "-U", "lnsd", "-A", "trust", "-N")
-            words = ["-D", data, "-k", self.socket, "-c", "listen_addresses="]
+            words = ["-D", data, "-k", self.socket, "-c", f"listen_addresses={HOST}"]
+            words += ["-p", str(self.address[1])]
             quiet = {"stdout": subprocess.DEVNULL, "stderr": subprocess.DEVNULL}
             self.server = subprocess.Popen(
                 [self.programs["postgres"], *words], cwd=self.room, **quiet, **self.how
@@ -119,25 +129,19 @@ class Postgres:
                 time.sleep(0.2)
 
     def query(self, text):
-        words = ["-X", "-A", "-t", "-h", self.socket, "-U", "lnsd", "postgres", "-c", text]
+        words = ["-X", "-A", "-t", "-h", self.socket, "-p", str(self.address[1]), "-U", "lnsd"]
+        words += ["postgres", "-c", text]
         return self.run("psql", *words).strip()
 
-    def commits(self, clients, seconds):
-        """Commits a second, and how long each took."""
-        for it in glob.glob(f"{self.room}/log*"):
-            os.remove(it)
-        script = f"{self.room}/insert"
-        with open(script, "w", encoding="utf-8") as file:
-            file.write(INSERT.format(payload=PAYLOAD))
-        words = ["-n", "-f", script, "-c", str(clients), "-j", str(min(clients, 4))]
-        words += ["-T", str(seconds), "-h", self.socket, "-U", "lnsd", "-M", "prepared"]
-        told = self.run("pgbench", *words, "-l", "--log-prefix", f"{self.room}/log", "postgres")
-        waits = []
-        for it in glob.glob(f"{self.room}/log*"):
-            with open(it, encoding="utf-8") as file:
-                waits += [1000 * int(line.split(" ")[2]) for line in file]
-        rate = re.search(r"^tps = ([0-9.]+)", told, re.MULTILINE)
-        return {"commits_a_second": round(float(rate[1])), **spread(waits)}
+    def told(self):
+        """Its version, and what it has set of durability."""
+        names = ("server_version", "fsync", "synchronous_commit", "wal_sync_method")
+        return {name: self.query(f"SHOW {name}") for name in names}
+
+    def seconds(self):
+        """The processor time that its processes have taken, also those that have ended."""
+        own = sum(times_of(self.server.pid, True))
+        return own + sum(sum(times_of(it)) for it in children(self.server.pid))
 
     def __exit__(self, *_):
         if self.server:
@@ -149,13 +153,3 @@ class Postgres:
                 self.server.wait()
         for it in (self.room, self.socket):
             shutil.rmtree(it, ignore_errors=True)
-
-
-def postgres(folder, seconds):
-    """Commits a second of PostgreSQL, with 1 and with 16 clients."""
-    with Postgres(folder) as it:
-        names = ("server_version", "fsync", "synchronous_commit", "wal_sync_method")
-        told = {name: it.query(f"SHOW {name}") for name in names}
-        clients = {str(count): it.commits(count, seconds) for count in (1, 16)}
-        rows = int(it.query("SELECT count(*) FROM uplinks"))
-    return {**told, "clients": clients, "rows": rows}

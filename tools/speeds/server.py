@@ -1,100 +1,39 @@
-"""speed server [--program FILE] [--folder DIR] [--out FILE] [--rate N] [--seconds N] [--jobs N]
-[--no-peers]: how fast lnsd is, on the loopback of this machine and a real file with real syncs,
-with 4,096 devices, 8 gateways and 4 applications.
+"""speed server [--program FILE] [--folder DIR] [--out FILE] [--rate N] [--seconds N] [--jobs N]:
+how fast `lnsd serve` is, on the loopback of this machine and a real file with real syncs, with
+4,096 devices, 8 gateways and 4 applications.
 
 - latency: from a frame's last copy to its line, beyond the window of 200 ms, at 100 uplinks a
   second for 10 s, and at 4,000 a second for 20 s, of which none may be lost;
 - processor time an uplink; memory; what it does while nothing comes, in 10 s;
-- requests that wait for their answers, of 1 application and of 16;
 - starting on a store of 4,096 devices whose records are full, and memory with these; and on one of
   version 1, which is taken over;
-- beside it, the syncs of the same file system, and the durable commits of PostgreSQL and SQLite.
+- beside it, the syncs of the same file system.
 
 A line tells each figure, with what was aimed at; the last line is 'N passed, M failed', of the
-aims. --out FILE has all of it as JSON, from which tools/speed page draws.
+aims. --out FILE has all of it as JSON, beside what other measurements put there; tools/speed page
+draws it.
 
 --program FILE  the program; crates/lnsd/out/lnsd otherwise
---folder DIR    where stores and databases lie, for the time of the run (the repository)
+--folder DIR    where stores lie, for the time of the run (the repository)
 --rate N        uplinks a second of the large load (4000)
 --seconds N     how long that load lasts (20)
 --jobs N        processes that make the frames beforehand (all processors)
---no-peers      leaves out the databases
 
 Status: 0; 1 where an aim was missed or the run failed; 2 for a word that it doesn't take, or where
 there is no program. --help prints this."""
 import os
-import sys
-
-from commands import ROOT
-
-sys.path[:0] = [f"{ROOT}/examples"]
-
-import json
-import select
 import shutil
 import time
 
-import commands
+from speeds import runs  # it finds examples/, so it comes before those that use it
 import lnsd.load
-import lnsd.store
-import lnsd.words
-from server import wire
-from server.links import Application, Ended, Silent
-from server.program import Failed, Program
-from speeds import peers
-from speeds.measure import (
-    Probe,
-    by_command,
-    idle,
-    machine,
-    memory,
-    seconds_of,
-    share,
-    spread,
-    syncs,
-    told,
-)
+from server.links import Application
+from server.program import Failed
+from speeds.measure import Probe, by_command, idle, memory, seconds_of, share, spread, syncs, told
+from speeds.runs import APPLICATIONS, DEVICES, GATEWAYS
 
-# the C library's allocator, as bin/lnsd sets it
-ALLOCATOR = {"MALLOC_ARENA_MAX": "1", "MALLOC_MMAP_THRESHOLD_": "1048576"}
-
-DEVICES, GATEWAYS, APPLICATIONS = 4096, 8, 4
-SMALL_RATE, SMALL_SECONDS, IDLE_SECONDS = 100, 10, 10
-CLOSED_SECONDS, PEER_SECONDS, STARTS = 5, 10, 5
+SMALL_RATE, SMALL_SECONDS, IDLE_SECONDS, STARTS = 100, 10, 10, 5
 FULL_RATE = 1000
-# fewer than 16 items a device
-MOST_ASKED = 15 * DEVICES
-
-
-class Run:
-    """The figures of a run, and how many aims were met."""
-
-    def __init__(self, given):
-        self.given = given
-        self.figures = {"machine": machine(given.folder)}
-        self.met = self.missed = 0
-
-    def tell(self, what, value):
-        print(f"{what:<58} {value}", flush=True)
-
-    def aim(self, what, value, most, unit):
-        """Tells a figure that is to be at most so great."""
-        is_met = value is not None and value <= most
-        self.met, self.missed = self.met + is_met, self.missed + (not is_met)
-        self.tell(what, f"{value} {unit} (at most {most}){'' if is_met else '  MISSED'}".strip())
-
-    def store(self, records, version=2):
-        """A program with a store of these records, of a version."""
-        it = Program(self.given.program, self.given.folder)
-        try:
-            came = it.format(slots=DEVICES)
-            if came != (0, "", ""):
-                raise Failed(f"lnsd format: {came}")
-            lnsd.store.put(it.store, records, version=version)
-        except BaseException:
-            it.clean()
-            raise
-        return it
 
 
 def ended(run, program, links, name):
@@ -160,9 +99,9 @@ def uplinks(run):
     many, few = given.rate * given.seconds, SMALL_RATE * SMALL_SECONDS
     rounds = -(-(many + few) // DEVICES)
     begun = time.monotonic()
-    frames = lnsd.load.made(DEVICES, rounds, GATEWAYS, 1, given.jobs)
+    frames = runs.frames_of(run, rounds)
     run.tell("frames made beforehand", f"{DEVICES * rounds} in {time.monotonic() - begun:.0f} s")
-    with run.store([lnsd.load.record(it, APPLICATIONS) for it in range(DEVICES)]) as program:
+    with run.store(runs.bare()) as program:
         address = program.serve(GATEWAYS + APPLICATIONS)
         links = lnsd.load.Links.to(address, GATEWAYS, APPLICATIONS)
         time.sleep(1)
@@ -178,68 +117,7 @@ def uplinks(run):
         after = memory(program.server.pid)
         run.tell("memory behind these loads, VmRSS and VmHWM", f"{after} MiB")
         ended(run, program, links, "uplinks")
-        listed(run, program, few + many)
-
-
-def listed(run, program, count):
-    """The list has each device's last counter, and as many decisions as frames."""
-    lines = program.list()
-    sent = [count // DEVICES + (it < count % DEVICES) for it in range(DEVICES)]
-    due = [f"{it} {lnsd.load.dev_eui(it)} 1 1 {sent[it]} 0 0 {sent[it]}" for it in range(DEVICES)]
-    due.append(f"devices {DEVICES} seq {DEVICES + count}")
-    differ = sum(map(str.__ne__, lines, due)) + abs(len(lines) - len(due))
-    run.aim("the list afterwards: lines that differ", differ, 0, "")
-
-
-def asking(applications, seconds):
-    """Each application asks, is answered, and asks again; how long the answers took, and all."""
-    poll, waits = select.epoll(), []
-    begun, asked, next_of = {}, {}, {}
-    for it in applications:
-        it.socket.setblocking(False)
-        poll.register(it.socket.fileno(), select.EPOLLIN)
-        asked[it.socket.fileno()] = it
-        next_of[it] = it.number
-    start = time.monotonic()
-
-    def ask(it):
-        number = next_of[it]
-        next_of[it] += len(applications)
-        line = f"queue {lnsd.load.dev_eui(number % DEVICES)} {number} 7 u 000102030405060708090A0B"
-        begun[it] = (time.monotonic_ns(), f"queued {lnsd.load.dev_eui(number % DEVICES)} {number}")
-        it.socket.send(wire.request(line))
-
-    for it in applications:
-        ask(it)
-    while time.monotonic() < start + seconds and len(waits) < MOST_ASKED:
-        for number, _ in poll.poll(1):
-            it = asked[number]
-            for content in it.frames.feed(os.read(number, 65536)):
-                moment, due = begun[it]
-                if wire.line_of(content) != due:
-                    raise Failed(f"{wire.line_of(content)} came, and not {due}")
-                waits.append(time.monotonic_ns() - moment)
-                ask(it)
-    poll.close()
-    return waits, time.monotonic() - start
-
-
-def requests(run):
-    """Requests that wait for their answers, one an application: of 1, and of 16 side by side."""
-    for count in (1, 16):
-        with run.store([lnsd.load.record(it, count) for it in range(DEVICES)]) as program:
-            address = program.serve(count)
-            links = lnsd.load.Links([], [Application(address, it) for it in range(count)])
-            time.sleep(0.2)
-            waits, took = asking(links.applications, CLOSED_SECONDS)
-            found = {"commits_a_second": round(len(waits) / took), **spread(waits)}
-            run.figures.setdefault("requests", {})[str(count)] = found
-            told = f"{found['commits_a_second']} a second, {found['median_ms']} ms"
-            name = f"requests of {count} application{'s' * (count > 1)}, each behind the last"
-            run.tell(name, f"{told} (99th {found['p99_ms']})")
-            for it in links.all():
-                it.socket.setblocking(True)
-            links.close()
+        runs.listed(run, program, few + many)
 
 
 def first_answer(program):
@@ -299,7 +177,7 @@ def full(run):
 
 def full_load(run, program, found):
     """One uplink of each full device, which is answered by an item."""
-    frames = lnsd.load.made(DEVICES, 1, GATEWAYS, 1, run.given.jobs)
+    frames = runs.frames_of(run, 1)
     address = program.serve(GATEWAYS + APPLICATIONS)
     links = lnsd.load.Links.to(address, GATEWAYS, APPLICATIONS)
     time.sleep(0.5)
@@ -318,38 +196,13 @@ def full_load(run, program, found):
     ended(run, program, links, "full_end")
 
 
-def peers(run):
-    """The databases."""
-    found = run.figures["peers"] = {"sqlite": peers.sqlite(run.given.folder, PEER_SECONDS)}
-    try:
-        found["postgresql"] = peers.postgres(run.given.folder, PEER_SECONDS)
-    except peers.Missing as why:
-        print(f"speed server: {why}")
-        run.missed += 1
-    told = [("SQLite, 1 client", found["sqlite"])]
-    clients = found.get("postgresql", {}).get("clients", {})
-    told += [(f"PostgreSQL, clients: {count}", of) for count, of in clients.items()]
-    for name, of in told:
-        words = f"{of['commits_a_second']} a second, {of['median_ms']} ms (99th {of['p99_ms']})"
-        run.tell(f"{name}, a row a commit", words)
-
-
 def measured(run):
     """All of it."""
-    for name, value in run.figures["machine"].items():
-        run.tell(name.replace("_", " "), value)
     folder = run.given.folder
     run.figures["program"] = by_command("sha256sum", run.given.program).partition(" ")[0]
     run.figures["syncs_before"] = syncs(folder)
-    try:
-        uplinks(run)
-        requests(run)
-        full(run)
-        if not run.given.no_peers:
-            peers(run)
-    except (Failed, Ended, Silent, ValueError) as why:
-        print(f"speed server: {why}")
-        run.missed += 1
+    uplinks(run)
+    full(run)
     run.figures["syncs_after"] = syncs(folder)
     for name in ("syncs_before", "syncs_after"):
         one, two = (run.figures[name][it]["median_ms"] for it in ("one", "two"))
@@ -357,23 +210,5 @@ def measured(run):
 
 
 def main():
-    words = lnsd.words.of_program(__doc__)
-    words.add_argument("--folder", type=lnsd.words.folder, metavar="DIR", default=ROOT)
-    words.add_argument("--out", metavar="FILE")
-    words.add_argument("--rate", type=lnsd.words.number(101, 5000), default=4000, metavar="N")
-    words.add_argument("--seconds", type=lnsd.words.number(1, 600), default=20, metavar="N")
-    processors = len(os.sched_getaffinity(0))
-    jobs = lnsd.words.number(1, 256)
-    words.add_argument("--jobs", type=jobs, default=processors, metavar="N")
-    words.add_argument("--no-peers", action="store_true")
-    given = words.parse_args()
-    for name, value in ALLOCATOR.items():
-        os.environ.setdefault(name, value)
-    run = Run(given)
-    measured(run)
-    if given.out:
-        with open(given.out, "w", encoding="utf-8") as file:
-            json.dump(run.figures, file, indent=1)
-            file.write("\n")
-    print(f"{run.met} passed, {run.missed} failed")
-    return 1 if run.missed else 0
+    given = runs.words_of(__doc__, **runs.rates(20)).parse_args()
+    return runs.done("server", given, measured)

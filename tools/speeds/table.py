@@ -1,6 +1,9 @@
-"""The figures of tools/speed server as a page has them."""
+"""The figures of tools/speed server, run and databases as a page has them."""
 import json
 
+MEASURED = ("server", "run", "databases")
+# what a thread does, in the order in which an uplink goes through them
+ROLES = ("readers", "the closer", "the flusher", "senders")
 BEGIN, END = "<!-- figures, by tools/speed page -->", "<!-- end of the figures -->"
 
 
@@ -19,11 +22,14 @@ def spread(of):
 
 def machine(found):
     """What the figures are of."""
-    of = found["machine"]
+    first, *others = (found[f"machine of {it}"] for it in MEASURED)
+    loads = " and ".join(f"{it['load_average']:.1f}" for it in others)
     return [
-        f"{of['processor']}, {of['processors']} processors, {of['memory_gib']} GiB; Linux",
-        f"{of['kernel']}, {of['file_system']}; {of['date']}, commit {of['commit']}. Before the run",
-        f"the load average was {of['load_average']:.1f}, where a machine at rest has 0.",
+        f"{first['processor']}, {first['processors']} processors, {first['memory_gib']} GiB;",
+        f"Linux {first['kernel']}, {first['file_system']}; {first['date']}, commit",
+        f"{first['commit']}. The load average was {first['load_average']:.1f} before",
+        f"`speed server`, and {loads} before `speed run` and `speed databases`,",
+        "where a machine at rest has 0.",
         "",
     ]
 
@@ -70,24 +76,80 @@ def others(found):
     )
 
 
+def each(of, names):
+    """Values of these names, parted."""
+    return "; ".join(str(of.get(it, 0)) for it in names)
+
+
+def modes(found):
+    """`run` beside `serve`."""
+    both = [found["run"][it] for it in ("serve", "run")]
+    rate = round(both[0]["uplinks_a_second"])
+
+    def row(what, told):
+        return (what, *map(told, both))
+
+    return table(
+        (f"{rate:,} uplinks a second, {both[0]['uplinks']:,} of each", "`serve`", "`run`"),
+        row("beyond the window: median; 99th", lambda it: "; ".join(spread(it["latency"])[:2])),
+        row("processor time an uplink, µs; in the kernel",
+            lambda it: each(it, ("processor_us", "kernel_us"))),
+        row("of readers; closer; flusher; senders", lambda it: each(it["threads_us"], ROLES)),
+        row("how often these were taken off a processor, an uplink",
+            lambda it: each(it["switches"], ROLES)),
+        row("commits; syncs, an uplink",
+            lambda it: each(it, ("commits", "syncs")) if "commits" in it else ""),
+    )
+
+
+def links(found):
+    """Links that say nothing, and that come anew; calls under strace."""
+    idle, anew, calls = found["idle run"], found["anew"], found.get("calls")
+    first, last = anew["used"][0], anew["used"][-1]
+    what = f"{idle['links']} links in {idle['places']} places, {idle['seconds']} s without a frame"
+    called = "not looked" if idle["system_calls"] is None else idle["system_calls"]
+    cells = [
+        (f"{what}: times a thread woke; system calls", f"{idle['switches']}; {called}"),
+        (f"memory behind {first[0]:,} links that came, and {last[0]:,}",
+         f"{first[1]:,} KiB; {last[1]:,} KiB"),
+        ("descriptors; threads, then", f"{first[2]}, {last[2]}; {first[3]}, {last[3]}"),
+        ("processor time of a link that comes and ends", f"{anew['processor_us']} µs"),
+    ]
+    if calls:
+        told = ", ".join(f"{name} {count}" for name, count in calls["calls"].items())
+        cells.append(("calls an uplink, under strace", told))
+    return table(("What, of `run`", "Figure"), *cells)
+
+
+def asked(it):
+    """A row's figures of one server, or none."""
+    if not it:
+        return ("", "", "")
+    return f"{it['commits_a_second']:,}", "; ".join(spread(it)[:2]), it["processor_us"]
+
+
 def commits(found):
-    """Durable commits of clients that wait for each, and the databases."""
-    cells, peers = [], found.get("peers", {})
-    for count, it in found["requests"].items():
-        cells.append(("lnsd, requests", count, f"{it['commits_a_second']:,}", *spread(it)))
-    if "postgresql" in peers:
-        name = f"PostgreSQL {peers['postgresql']['server_version'].split(' ')[0]}"
-        for count, it in peers["postgresql"]["clients"].items():
-            cells.append((name, count, f"{it['commits_a_second']:,}", *spread(it)))
-    if "sqlite" in peers:
-        it = peers["sqlite"]
-        cells.append((f"SQLite {it['version']}", 1, f"{it['commits_a_second']:,}", *spread(it)))
-    return table(("What", "clients", "durable a second", "median", "99th", "largest"), *cells)
+    """Requests that wait for their answers, of lnsd beside the databases."""
+    of = {
+        name: {(it["clients"], it["window"]): it for it in found["requests"][name]}
+        for name in ("lnsd", "postgresql")
+    }
+    version = found.get("postgresql", {}).get("server_version", "").split(" ")[0]
+    head = ("Clients, requests of each", "lnsd a second", "median; 99th", "µs each")
+    cells = []
+    for key in sorted({**of["lnsd"], **of["postgresql"]}, key=lambda it: it[0] * it[1]):
+        rows = (asked(of[name].get(key)) for name in ("lnsd", "postgresql"))
+        cells.append((f"{key[0]}, {key[1]}", *(it for row in rows for it in row)))
+    it = found["sqlite"]
+    name = f"1, 1: SQLite {it['version']}, in the process that asks"
+    cells.append((name, "", "", "", f"{it['commits_a_second']:,}", "; ".join(spread(it)[:2]), ""))
+    return table((*head, f"PostgreSQL {version} a second", "median; 99th", "µs each"), *cells)
 
 
 def lines(found):
     """All of it."""
-    return [*machine(found), *uplinks(found), *others(found), *commits(found)]
+    parts = (machine, uplinks, others, modes, links, commits)
+    return [line for part in parts for line in part(found)]
 
 
 def put(page, results):

@@ -1,0 +1,132 @@
+"""What the measurements of lnsd share: their words, figures and aims, a store of 4,096 devices, and
+the links of a load."""
+import json
+import os
+import sys
+
+from commands import ROOT, stop
+
+sys.path[:0] = [f"{ROOT}/examples"]
+
+import lnsd.load
+import lnsd.store
+import lnsd.words
+from server.links import Ended, Silent
+from server.program import Failed, Program
+from speeds.measure import machine
+
+# the C library's allocator, as bin/lnsd sets it
+ALLOCATOR = {"MALLOC_ARENA_MAX": "1", "MALLOC_MMAP_THRESHOLD_": "1048576"}
+DEVICES, GATEWAYS, APPLICATIONS = 4096, 8, 4
+
+
+class Run:
+    """The figures of a run, and how many aims were met."""
+
+    def __init__(self, given):
+        self.given, self.figures = given, found_in(given.out) if given.out else {}
+        self.met = self.missed = 0
+
+    def tell(self, what, value):
+        print(f"{what:<58} {value}", flush=True)
+
+    def aim(self, what, value, most, unit):
+        """Tells a figure that is to be at most so great."""
+        is_met = value is not None and value <= most
+        self.met, self.missed = self.met + is_met, self.missed + (not is_met)
+        self.tell(what, f"{value} {unit} (at most {most}){'' if is_met else '  MISSED'}".strip())
+
+    def miss(self, why):
+        """Something that was to be measured wasn't."""
+        print(f"{self.given.name}: {why}", flush=True)
+        self.missed += 1
+
+    def store(self, records, version=2):
+        """A program with a store of these records, of a version."""
+        it = Program(self.given.program, self.given.folder)
+        try:
+            came = it.format(slots=DEVICES)
+            if came != (0, "", ""):
+                raise Failed(f"lnsd format: {came}")
+            lnsd.store.put(it.store, records, version=version)
+        except BaseException:
+            it.clean()
+            raise
+        return it
+
+    def keep(self):
+        """Puts the figures into the file that they are for."""
+        with open(self.given.out, "w", encoding="utf-8") as file:
+            json.dump(self.figures, file, indent=1)
+            file.write("\n")
+
+
+def found_in(out):
+    """What other measurements put into a file, which is made where there is none."""
+    with open(out, "a+", encoding="utf-8") as file:
+        file.seek(0)
+        text = file.read()
+    try:
+        found = json.loads(text or "{}")
+    except ValueError:
+        found = None
+    if not isinstance(found, dict):
+        stop(f"{out} is there, and has no figures", 1)
+    return found
+
+
+def words_of(text, **numbers):
+    """The words of a measurement: the program, a folder, --out, and numbers, each with its least,
+    its most and what it is otherwise."""
+    it = lnsd.words.of_program(text)
+    it.add_argument("--folder", type=lnsd.words.folder, metavar="DIR", default=ROOT)
+    it.add_argument("--out", metavar="FILE")
+    for name, (least, most, default) in numbers.items():
+        number = lnsd.words.number(least, most)
+        it.add_argument(f"--{name}", type=number, default=default, metavar="N")
+    return it
+
+
+def rates(seconds):
+    """The numbers of a load."""
+    jobs = (1, 256, len(os.sched_getaffinity(0)))
+    return {"rate": (101, 5000, 4000), "seconds": (1, 600, seconds), "jobs": jobs}
+
+
+def done(name, given, measure):
+    """Does a measurement; the status."""
+    for variable, value in ALLOCATOR.items():
+        os.environ.setdefault(variable, value)
+    given.name = f"speed {name}"
+    run = Run(given)
+    run.figures[f"machine of {name}"] = of = machine(given.folder)
+    for what, value in of.items():
+        run.tell(what.replace("_", " "), value)
+    try:
+        measure(run)
+    except (Failed, Ended, Silent, ValueError) as why:
+        run.miss(why)
+    if given.out:
+        run.keep()
+    print(f"{run.met} passed, {run.missed} failed")
+    return 1 if run.missed else 0
+
+
+def listed(run, program, count):
+    """The list has each device's last counter, and as many decisions as frames."""
+    lines = program.list()
+    sent = [count // DEVICES + (it < count % DEVICES) for it in range(DEVICES)]
+    due = [f"{it} {lnsd.load.dev_eui(it)} 1 1 {sent[it]} 0 0 {sent[it]}" for it in range(DEVICES)]
+    due.append(f"devices {DEVICES} seq {DEVICES + count}")
+    differ = sum(map(str.__ne__, lines, due)) + abs(len(lines) - len(due))
+    run.aim("the list afterwards: lines that differ", differ, 0, "")
+
+
+def frames_of(run, rounds):
+    """The frames of so many rounds of all devices, one copy each."""
+    return lnsd.load.made(DEVICES, rounds, GATEWAYS, 1, run.given.jobs)
+
+
+def bare(applications=APPLICATIONS):
+    """Records of all devices, each in its session."""
+    return [lnsd.load.record(it, applications) for it in range(DEVICES)]
