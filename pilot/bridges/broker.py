@@ -21,7 +21,7 @@ except ImportError:
     try:
         from paho.mqtt import client as mqtt
     except ImportError:
-        stop("there is no Python library paho.mqtt; pilot/install has the system install it")
+        mqtt = None
 
 KEEPALIVE = 30
 LONGEST_PAUSE = 30
@@ -47,7 +47,9 @@ class Access:
 
     @classmethod
     def of(cls, given) -> "Access":
-        """What the words say."""
+        """What the words say; without the library it ends here, behind --help."""
+        if not mqtt:
+            stop("there is no Python library paho.mqtt; pilot/install has the system install it")
         if bool(given.certificate) != bool(given.key):
             stop("--certificate and --key go together", 2)
         return cls(given.broker, given.ca, given.certificate, given.key)

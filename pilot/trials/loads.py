@@ -6,17 +6,14 @@ import json
 import select
 import socket
 import sqlite3
-import sys
 import time
 from dataclasses import dataclass, field
-
-sys.path.append("/usr/lib/python3/dist-packages")
-from paho.mqtt import client as mqtt
 
 from lnsd import load, store
 from outside.frames import CHANNELS
 from server.program import HOST
 
+from .library import mqtt
 from .parts import Part, Pilot, await_that
 
 GATEWAYS, DEVICES, APPLICATION = 64, 512, 0

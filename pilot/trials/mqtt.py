@@ -4,15 +4,12 @@ import base64
 import json
 import signal
 import sqlite3
-import sys
 from contextlib import contextmanager
-
-sys.path.append("/usr/lib/python3/dist-packages")
-from paho.mqtt import client as mqtt
 
 from server.program import HOST, Failed
 
 from .field import APPLICATION, GATEWAYS, Field
+from .library import mqtt
 from .meters import Meter, Reading
 from .parts import Pilot, await_that
 

@@ -5,17 +5,14 @@ import base64
 import json
 import os
 import socket
-import sys
 import time
 from collections import deque
-
-sys.path.append("/usr/lib/python3/dist-packages")
-from paho.mqtt import client as mqtt
 
 from outside.frames import CHANNELS
 from server.program import HOST
 
 from .field import GATEWAYS, counts_in
+from .library import mqtt
 from .mqtt import Whole, whole
 
 STATS_EVERY = 1.0
