@@ -1,6 +1,8 @@
 -- The command line of `lnsd`, as clap reads it.
-use Rattle.std.specs.Prelude.{◌∷◌, [], Some, codes, false, pos, ℤ, true}
-use Rattle.clap.specs.Words.{App, Rule, Text, new_app, new_rule, with_rule, with_subcommand}
+use Rattle.std.specs.Prelude.{◌≡◌, ◌∷◌, [], IfOk, Result, Some, codes, false, pos, ℤ, true}
+use Rattle.clap.specs.Words.{App, Rule, Text, app_of, new_app, new_rule, with_rule, with_subcommand}
+use Rattle.clap.specs.declared.builder.command.Command.{Command}
+use Rattle.clap.specs.declared.builder.command.Command.TheViews.{out-Command as fields_of}
 use Rattle.clap.specs.declared.builder.action.ArgAction.TheVariants.{Set}
 use Rattle.clap.specs.declared.builder.value_parser.ValueParser.TheVariants.{Signed}
 
@@ -73,3 +75,12 @@ lnsd_line = with_subcommand (with_subcommand (with_subcommand (with_subcommand (
     (with_subcommand (with_subcommand (with_subcommand (with_subcommand top_line format_line.top)
     list_line.top) serve_line.top) run_line.top) stop_line.top) status_line.top) restore_line.top)
     devices_line.top) watch_line.top
+
+-- the command that was made, if one was, has this line
+abbrev pub HasLine : {E : Type 0} → App → Result Command E → Type 0
+HasLine line made = IfOk made (λ command. app_of command ≡ line)
+
+-- and none of its options is for its subcommands too
+abbrev pub IsCommand : {E : Type 0} → App → Result Command E → Type 0
+IsCommand line made =
+    IfOk made (λ command. (app_of command ≡ line) × ((fields_of command).has_globals ≡ false))

@@ -1,12 +1,11 @@
 // The command line as clap has it.
-ghost use Rattle.std.specs.Prelude.{◌≡◌, ◌≤ℤ◌, IfOk, Some, codes, false, pos};
-ghost use Rattle.clap.specs.Words.{app_of, rule_of};
-ghost use Rattle.clap.specs.declared.builder.command.Command.TheViews.{out-Command as fields_of};
+ghost use Rattle.std.specs.Prelude.{◌≡◌, ◌≤ℤ◌, codes, false, pos};
+ghost use Rattle.clap.specs.Words.{App, Rule, new_app, rule_of, with_rule, with_subcommand};
 ghost use Rattle.clap.specs.declared.builder.value_parser.ValueParser.TheVariants as parsers;
-ghost use Rattle.command_words.specs.CommandLine.{count_option, devices_line, format_line};
+ghost use Rattle.command_words.specs.CommandLine.{HasLine, IsCommand, devices_line, format_line};
 ghost use Rattle.command_words.specs.CommandLine.{list_line, lnsd_line, option, or_else};
-ghost use Rattle.command_words.specs.CommandLine.{restore_line, run_line, serve_line, status_line};
-ghost use Rattle.command_words.specs.CommandLine.{stop_line, top_line, watch_line, word};
+ghost use Rattle.command_words.specs.CommandLine.{range_option, restore_line, run_line, serve_line};
+ghost use Rattle.command_words.specs.CommandLine.{status_line, stop_line, top_line, watch_line, word};
 
 use clap::builder::ValueParser;
 use clap::{Arg, ArgAction, Command, value_parser};
@@ -62,22 +61,21 @@ Example: which frames are refused, and why
 
 /// The command line of `lnsd`, without the program's own name.
 pub(crate) fn lnsd<'a>(alloc: Global) -> Result<Command<'a>, AllocError>
-    ensures { IfOk result (λ command. app_of command ≡ lnsd_line) }
+    ensures { HasLine lnsd_line result }
 {
-    let lnsd = without_commands(alloc)?;
-    lnsd.subcommand(format(alloc)?)?
-        .subcommand(list(alloc)?)?
-        .subcommand(serve(alloc)?)?
-        .subcommand(run_command(alloc)?)?
-        .subcommand(stop(alloc)?)?
-        .subcommand(status(alloc)?)?
-        .subcommand(restore(alloc)?)?
-        .subcommand(devices(alloc)?)?
-        .subcommand(watch(alloc)?)
+    let lnsd = with_command(without_commands(alloc), format(alloc));
+    let lnsd = with_command(lnsd, list(alloc));
+    let lnsd = with_command(lnsd, serve(alloc));
+    let lnsd = with_command(lnsd, run_command(alloc));
+    let lnsd = with_command(lnsd, stop(alloc));
+    let lnsd = with_command(lnsd, status(alloc));
+    let lnsd = with_command(lnsd, restore(alloc));
+    let lnsd = with_command(lnsd, devices(alloc));
+    with_command(lnsd, watch(alloc))
 }
 
 fn without_commands<'a>(alloc: Global) -> Result<Command<'a>, AllocError>
-    ensures { IfOk result (λ command. app_of command ≡ top_line) }
+    ensures { HasLine top_line result }
 {
     let lnsd = Command::new(alloc, "lnsd")
         .bin_name("lnsd")?
@@ -89,11 +87,52 @@ fn without_commands<'a>(alloc: Global) -> Result<Command<'a>, AllocError>
     Ok(lnsd)
 }
 
+// The same with one command more behind the others, if there was memory for both.
+fn with_command<'a>(
+    lnsd: Result<Command<'a>, AllocError>,
+    command: Result<Command<'a>, AllocError>,
+) -> Result<Command<'a>, AllocError>
+    ensures { (app line : App) → HasLine app lnsd.entry → IsCommand line command.entry
+        → HasLine (with_subcommand app line.top) result }
+{
+    lnsd?.subcommand(command?)
+}
+
+// The same with one word or option more behind the others, if there was memory for it.
+fn with_arg<'a>(
+    command: Result<Command<'a>, AllocError>,
+    arg: Arg<'a>,
+) -> Result<Command<'a>, AllocError>
+    requires { arg.global ≡ false }
+    ensures { (app : App) (rule : Rule) → IsCommand app command.entry → rule_of arg.entry ≡ rule
+        → IsCommand (with_rule app rule) result }
+{
+    command?.arg(arg)
+}
+
+// A command of this name, whose first word is the file that it is about.
+fn command<'a>(
+    alloc: Global,
+    name: &'a str,
+    about: &'a str,
+    example: &'a str,
+    file: Arg<'a>,
+) -> Result<Command<'a>, AllocError>
+    requires { file.global ≡ false }
+    ensures { (rule : Rule) → rule_of file.entry ≡ rule
+        → IsCommand (with_rule (new_app name.entry.now) rule) result }
+{
+    Command::new(alloc, name)
+        .about(about)
+        .after_help(example)
+        .arg(file)
+}
+
 /// The words of `lnsd format`.
 pub(crate) fn format<'a>(alloc: Global) -> Result<Command<'a>, AllocError>
-    ensures app { IfOk result (λ command. app_of command ≡ format_line) }
-    ensures local { IfOk result (λ command. (fields_of command).has_globals ≡ false) }
+    ensures { IsCommand format_line result }
 {
+    let about = "Makes a store without devices, in a new file";
     let file = word(
         alloc,
         "file",
@@ -106,141 +145,102 @@ pub(crate) fn format<'a>(alloc: Global) -> Result<Command<'a>, AllocError>
         "HEX",
         "The network's NetID: 6 upper-case hexadecimal digits, from 000000 to 00003F",
     );
-    let slots = option(
+    let slots = number_option(
         alloc,
         "slots",
         "N",
         "How many devices the store has room for, for good: from 1 to 4096",
+        1,
+        4096,
     );
-    Command::new(alloc, "format")
-        .about("Makes a store without devices, in a new file")
-        .after_help(FORMAT_EXAMPLE)
-        .arg(file)?
-        .arg(net_id)?
-        .arg(slots.value_parser(number_up_to(4096)))
+    let format = command(alloc, "format", about, FORMAT_EXAMPLE, file);
+    with_arg(with_arg(format, net_id), slots)
 }
 
 fn list<'a>(alloc: Global) -> Result<Command<'a>, AllocError>
-    ensures app { IfOk result (λ command. app_of command ≡ list_line) }
-    ensures local { IfOk result (λ command. (fields_of command).has_globals ≡ false) }
+    ensures { IsCommand list_line result }
 {
-    Command::new(alloc, "list")
-        .about("Prints the devices of a store that isn't being served")
-        .after_help(LIST_EXAMPLE)
-        .arg(word(alloc, "file", "FILE", "The file of the store"))
+    let about = "Prints the devices of a store that isn't being served";
+    command(alloc, "list", about, LIST_EXAMPLE, store_file(alloc))
 }
 
 fn serve<'a>(alloc: Global) -> Result<Command<'a>, AllocError>
-    ensures app { IfOk result (λ command. app_of command ≡ serve_line) }
-    ensures local { IfOk result (λ command. (fields_of command).has_globals ≡ false) }
+    ensures { IsCommand serve_line result }
 {
-    let file = word(alloc, "file", "FILE", "The file of the store");
-    let listen = option(
-        alloc,
-        "listen",
-        "ADDR",
-        "Where links connect to: an IP address or a host's name, a colon and a TCP port",
-    );
-    let links = option(
+    let about = "Serves gateways and applications from a store, until all of their inputs end";
+    let links = number_option(
         alloc,
         "links",
         "N",
         "How many links there are, all of which have to connect: from 1 to 80",
+        1,
+        80,
     );
-    Command::new(alloc, "serve")
-        .about("Serves gateways and applications from a store, until all of their inputs end")
-        .after_help(SERVE_EXAMPLE)
-        .arg(file)?
-        .arg(listen)?
-        .arg(links.value_parser(number_up_to(80)))
+    let serve = command(alloc, "serve", about, SERVE_EXAMPLE, store_file(alloc));
+    with_arg(with_arg(serve, listen(alloc)), links)
 }
 
 fn run_command<'a>(alloc: Global) -> Result<Command<'a>, AllocError>
-    ensures app { IfOk result (λ command. app_of command ≡ run_line) }
-    ensures local { IfOk result (λ command. (fields_of command).has_globals ≡ false) }
+    ensures { IsCommand run_line result }
 {
-    let file = word(alloc, "file", "FILE", "The file of the store");
-    let listen = option(
-        alloc,
-        "listen",
-        "ADDR",
-        "Where links connect to: an IP address or a host's name, a colon and a TCP port",
-    );
-    Command::new(alloc, "run")
-        .about("Serves gateways and applications, which come and go, until `lnsd stop`")
-        .after_help(RUN_EXAMPLE)
-        .arg(file)?
-        .arg(listen)?
-        .arg(places_option(alloc))
-}
-
-fn places_option<'a>(alloc: Global) -> Arg<'a>
-    ensures rule { rule_of result ≡ or_else (count_option (codes "links") (pos 96)) (codes "96") }
-    ensures local { result.global ≡ false }
-{
-    let links = option(
+    let about = "Serves gateways and applications, which come and go, until `lnsd stop`";
+    let links = number_option(
         alloc,
         "links",
         "N",
         "How many links there may be at a time: from 1 to 96",
+        1,
+        96,
     );
-    or_else(links.value_parser(number_up_to(96)), "96")
+    let run = command(alloc, "run", about, RUN_EXAMPLE, store_file(alloc));
+    with_arg(with_arg(run, listen(alloc)), or_else(links, "96"))
 }
 
 fn stop<'a>(alloc: Global) -> Result<Command<'a>, AllocError>
-    ensures app { IfOk result (λ command. app_of command ≡ stop_line) }
-    ensures local { IfOk result (λ command. (fields_of command).has_globals ≡ false) }
+    ensures { IsCommand stop_line result }
 {
-    Command::new(alloc, "stop")
-        .about("Ends the server that runs on a store, once what it has decided is sent")
-        .after_help(STOP_EXAMPLE)
-        .arg(word(alloc, "file", "FILE", "The file of the store"))
+    let about = "Ends the server that runs on a store, once what it has decided is sent";
+    command(alloc, "stop", about, STOP_EXAMPLE, store_file(alloc))
 }
 
 fn devices<'a>(alloc: Global) -> Result<Command<'a>, AllocError>
-    ensures app { IfOk result (λ command. app_of command ≡ devices_line) }
-    ensures local { IfOk result (λ command. (fields_of command).has_globals ≡ false) }
+    ensures { IsCommand devices_line result }
 {
-    Command::new(alloc, "devices")
-        .about("Prints the devices of the server that runs on a store, and how each was heard last")
-        .after_help(DEVICES_EXAMPLE)
-        .arg(word(alloc, "file", "FILE", "The file of the store"))
+    let about =
+        "Prints the devices of the server that runs on a store, and how each was heard last";
+    command(alloc, "devices", about, DEVICES_EXAMPLE, store_file(alloc))
 }
 
 fn watch<'a>(alloc: Global) -> Result<Command<'a>, AllocError>
-    ensures app { IfOk result (λ command. app_of command ≡ watch_line) }
-    ensures local { IfOk result (λ command. (fields_of command).has_globals ≡ false) }
+    ensures { IsCommand watch_line result }
 {
-    Command::new(alloc, "watch")
-        .about("Prints what happens at the server that runs on a store, a line each, until it ends")
-        .after_help(WATCH_EXAMPLE)
-        .arg(word(alloc, "file", "FILE", "The file of the store"))
+    let about =
+        "Prints what happens at the server that runs on a store, a line each, until it ends";
+    command(alloc, "watch", about, WATCH_EXAMPLE, store_file(alloc))
 }
 
 fn status<'a>(alloc: Global) -> Result<Command<'a>, AllocError>
-    ensures app { IfOk result (λ command. app_of command ≡ status_line) }
-    ensures local { IfOk result (λ command. (fields_of command).has_globals ≡ false) }
+    ensures { IsCommand status_line result }
 {
-    let file = word(alloc, "file", "FILE", "The file of the store");
-    let wait = option(
+    let about =
+        "Prints how it goes with the server that runs on a store, a name and a value a line";
+    let wait = number_option(
         alloc,
         "wait",
         "S",
         "How long to wait until the server runs, in seconds: from 0 to 3600",
+        0,
+        3600,
     );
-    let wait = wait.value_parser(value_parser!(u32).range(0..=3600));
-    Command::new(alloc, "status")
-        .about("Prints how it goes with the server that runs on a store, a name and a value a line")
-        .after_help(STATUS_EXAMPLE)
-        .arg(file)?
-        .arg(or_else(wait, "0"))
+    let status = command(alloc, "status", about, STATUS_EXAMPLE, store_file(alloc));
+    with_arg(status, or_else(wait, "0"))
 }
 
 fn restore<'a>(alloc: Global) -> Result<Command<'a>, AllocError>
-    ensures app { IfOk result (λ command. app_of command ≡ restore_line) }
-    ensures local { IfOk result (λ command. (fields_of command).has_globals ≡ false) }
+    ensures { IsCommand restore_line result }
 {
-    let file = word(
+    let about = "Makes a new store of an older copy, so that nothing is used up twice";
+    let copy = word(
         alloc,
         "file",
         "OLD",
@@ -252,26 +252,35 @@ fn restore<'a>(alloc: Global) -> Result<Command<'a>, AllocError>
         "NEW",
         "The file of the new store, which isn't there yet",
     );
-    Command::new(alloc, "restore")
-        .about("Makes a new store of an older copy, so that nothing is used up twice")
-        .after_help(RESTORE_EXAMPLE)
-        .arg(file)?
-        .arg(new)?
-        .arg(grants_option(alloc))
-}
-
-fn grants_option<'a>(alloc: Global) -> Arg<'a>
-    ensures rule { rule_of result
-        ≡ or_else (count_option (codes "grants") (pos 65536)) (codes "1024") }
-    ensures local { result.global ≡ false }
-{
-    let grants = option(
+    let grants = number_option(
         alloc,
         "grants",
         "N",
         "How many joins of each device count as granted behind the copy: from 1 to 65536",
+        1,
+        65_536,
     );
-    or_else(grants.value_parser(number_up_to(65_536)), "1024")
+    let restore = command(alloc, "restore", about, RESTORE_EXAMPLE, copy);
+    with_arg(with_arg(restore, new), or_else(grants, "1024"))
+}
+
+fn store_file<'a>(alloc: Global) -> Arg<'a>
+    ensures rule { rule_of result ≡ word (codes "file") }
+    ensures local { result.global ≡ false }
+{
+    word(alloc, "file", "FILE", "The file of the store")
+}
+
+fn listen<'a>(alloc: Global) -> Arg<'a>
+    ensures rule { rule_of result ≡ option (codes "listen") }
+    ensures local { result.global ≡ false }
+{
+    option(
+        alloc,
+        "listen",
+        "ADDR",
+        "Where links connect to: an IP address or a host's name, a colon and a TCP port",
+    )
 }
 
 // An option that may be left out, and has this value then.
@@ -302,11 +311,30 @@ fn option<'a>(alloc: Global, name: &'a str, value: &'a str, help: &'a str) -> Ar
     word(alloc, name, value, help).long(name)
 }
 
-// Numbers from 1 to this one.
-fn number_up_to<'a>(most: i64) -> ValueParser<'a>
-    requires least { pos 1 ≤ℤ most }
+// The same, whose value is a number of this range.
+fn number_option<'a>(
+    alloc: Global,
+    name: &'a str,
+    value: &'a str,
+    help: &'a str,
+    least: i64,
+    most: i64,
+) -> Arg<'a>
+    requires least { pos 0 ≤ℤ least }
+    requires range { least ≤ℤ most }
     requires most { most ≤ℤ pos 65536 }
-    ensures { result ≡ parsers.Signed (pos 1) most }
+    ensures rule { rule_of result ≡ range_option name.entry.now least most }
+    ensures local { result.global ≡ false }
 {
-    value_parser!(u32).range(1..=most)
+    option(alloc, name, value, help).value_parser(numbers(least, most))
+}
+
+// Numbers of this range.
+fn numbers<'a>(least: i64, most: i64) -> ValueParser<'a>
+    requires least { pos 0 ≤ℤ least }
+    requires range { least ≤ℤ most }
+    requires most { most ≤ℤ pos 65536 }
+    ensures { result ≡ parsers.Signed least most }
+{
+    value_parser!(u32).range(least..=most)
 }

@@ -8,8 +8,8 @@ use link_server::{
 use std::alloc::Global;
 use std::fs::File;
 use std::io::Write;
-use std::net::{Net, TcpListener, TcpStream};
-use std::os::unix::net::UnixStream;
+use std::net::{Net, SocketAddr, TcpListener, TcpStream};
+use std::os::unix::net::{UnixListener, UnixStream};
 use std::rt::{Clock, Files};
 use std::sync::Wait;
 use std::thread::Threads;
@@ -28,12 +28,11 @@ where
     R: Clock + Threads + Wait + Sync,
 {
     let store = open_store(rt, alloc, file)?;
-    let Ok(listener) = TcpListener::bind(rt, listen) else {
-        return Err(Fault::Listen);
-    };
-    let Ok(clock) = Monotonic::start(rt) else {
-        return Err(Fault::Clock);
-    };
+    let Place {
+        listener,
+        clock,
+        ..
+    } = listen_at(rt, listen)?;
     let ServedLife { store, result, .. } = serve_links(
         rt, alloc, store, listener, links, &OpenGate, &clock,
     );
@@ -58,19 +57,12 @@ where
 {
     let times = DiskTimes::new();
     let store = open_timed(rt, alloc, file, &times)?;
-    let Ok(listener) = TcpListener::bind(rt, listen) else {
-        return Err(Fault::Listen);
-    };
-    let Ok(address) = listener.local_addr() else {
-        return Err(Fault::Listen);
-    };
-    let Ok(clock) = Monotonic::start(rt) else {
-        return Err(Fault::Clock);
-    };
-    let path = path_of(alloc, file)?;
-    let control = bind_control(rt, path.as_str())?;
-    let _ = writeln!(out, "listening {address}");
-    let _ = out.flush();
+    let Entrance {
+        listener,
+        clock,
+        path,
+        control,
+    } = open_up(rt, alloc, file, listen, out)?;
     let ServedLife {
         store,
         result,
@@ -86,6 +78,71 @@ where
     };
     tell_end(waiting, &ended);
     ended
+}
+
+// Where links come in, and the clock of the life.
+#[derive(Drop)]
+struct Place<C: Clock> {
+    listener: TcpListener,
+    address: SocketAddr,
+    clock: Monotonic<C>,
+}
+
+fn listen_at<'x, R>(rt: &'x R, listen: &str) -> Result<Place<&'x R>, Fault>
+where
+    R: Net<Listener = TcpListener, Stream = TcpStream> + Clock,
+{
+    let Ok(listener) = TcpListener::bind(rt, listen) else {
+        return Err(Fault::Listen);
+    };
+    let Ok(address) = listener.local_addr() else {
+        return Err(Fault::Listen);
+    };
+    let Ok(clock) = Monotonic::start(rt) else {
+        return Err(Fault::Clock);
+    };
+    Ok(Place {
+        listener,
+        address,
+        clock,
+    })
+}
+
+// Where links and operators come in, and the clock of the life.
+#[derive(Drop)]
+struct Entrance<C: Clock> {
+    listener: TcpListener,
+    clock: Monotonic<C>,
+    path: String,
+    control: UnixListener,
+}
+
+// Whoever connects is served from here on, which is told on `out`.
+fn open_up<'x, R, O: Write>(
+    rt: &'x R,
+    alloc: Global,
+    file: &str,
+    listen: &str,
+    out: &mut O,
+) -> Result<Entrance<&'x R>, Fault>
+where
+    R: Files<File = File> + Net<Listener = TcpListener, Stream = TcpStream> + Clock,
+{
+    let Place {
+        listener,
+        address,
+        clock,
+    } = listen_at(rt, listen)?;
+    let path = path_of(alloc, file)?;
+    let control = bind_control(rt, path.as_str())?;
+    let _ = writeln!(out, "listening {address}");
+    let _ = out.flush();
+    Ok(Entrance {
+        listener,
+        clock,
+        path,
+        control,
+    })
 }
 
 // Whoever waits is told that it is done, or why not.

@@ -1,26 +1,13 @@
-use Rattle.std.proofs.Common.{◌∙◌, ap, ap₂}
-use Rattle.std.proofs.lemmas.Result.{IfOk-weaker}
-use Rattle.clap.specs.Words.{App, with_subcommand}
 use Rattle.command_words.proofs.line.lnsd.Goals as goal
 
 pub returns : goal.returns
 returns c =
-    let shape = λ (a : App). a.top in
-    let one = c.in_ok-subcommand.ensures.shape c.in_ok-format.ensures.local
-    ∙ ap₂ with_subcommand c.in_ok-lnsd.ensures (ap shape c.in_ok-format.ensures.app) in
-    let two = c.in_ok-subcommand-2.ensures.shape c.in_ok-list.ensures.local
-    ∙ ap₂ with_subcommand one (ap shape c.in_ok-list.ensures.app) in
-    let three = c.in_ok-subcommand-3.ensures.shape c.in_ok-serve.ensures.local
-    ∙ ap₂ with_subcommand two (ap shape c.in_ok-serve.ensures.app) in
-    let four = c.in_ok-subcommand-4.ensures.shape c.in_ok-run_command.ensures.local
-    ∙ ap₂ with_subcommand three (ap shape c.in_ok-run_command.ensures.app) in
-    let five = c.in_ok-subcommand-5.ensures.shape c.in_ok-stop.ensures.local
-    ∙ ap₂ with_subcommand four (ap shape c.in_ok-stop.ensures.app) in
-    let six = c.in_ok-subcommand-6.ensures.shape c.in_ok-status.ensures.local
-    ∙ ap₂ with_subcommand five (ap shape c.in_ok-status.ensures.app) in
-    let seven = c.in_ok-subcommand-7.ensures.shape c.in_ok-restore.ensures.local
-    ∙ ap₂ with_subcommand six (ap shape c.in_ok-restore.ensures.app) in
-    let eight = c.in_ok-subcommand-8.ensures.shape c.in_ok-devices.ensures.local
-    ∙ ap₂ with_subcommand seven (ap shape c.in_ok-devices.ensures.app) in
-    IfOk-weaker c.subcommand-9.result _ _ (λ _ h. h.shape c.in_ok-watch.ensures.local
-    ∙ ap₂ with_subcommand eight (ap shape c.in_ok-watch.ensures.app)) c.subcommand-9.ensures
+    let one = c.with_command-lnsd.ensures _ _ c.without_commands.ensures c.format.ensures in
+    let two = c.with_command-lnsd-2.ensures _ _ one c.list.ensures in
+    let three = c.with_command-lnsd-3.ensures _ _ two c.serve.ensures in
+    let four = c.with_command-lnsd-4.ensures _ _ three c.run_command.ensures in
+    let five = c.with_command-lnsd-5.ensures _ _ four c.stop.ensures in
+    let six = c.with_command-lnsd-6.ensures _ _ five c.status.ensures in
+    let seven = c.with_command-lnsd-7.ensures _ _ six c.restore.ensures in
+    let eight = c.with_command-lnsd-8.ensures _ _ seven c.devices.ensures in
+    c.with_command.ensures _ _ eight c.watch.ensures

@@ -1,4 +1,4 @@
-use Rattle.std.proofs.Common.{rules, ◌≡◌, ◌∙◌, codes, sym}
+use Rattle.std.proofs.Common.{rules, ◌∙◌, codes, sym}
 use Rattle.std.proofs.lemmas.Option.{none-some}
 use Rattle.clap.specs.Words.{found_of}
 use Rattle.command_words.proofs.Rows.{text_met, text_missed}

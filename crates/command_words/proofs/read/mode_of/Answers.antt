@@ -1,9 +1,9 @@
-use Rattle.std.proofs.Common.{rules, ◌≡◌, ◌∙◌, codes, sym, subst, refl, arith}
+use Rattle.std.proofs.Common.{rules, ◌∙◌, codes, sym, subst, refl, arith}
 use Rattle.std.proofs.lemmas.Option.{none-some}
 use Rattle.clap.specs.Words.{found_of, rows_of, subcommand_rows_of}
 use Rattle.lw_types.specs.Hex.{net_id_text}
 use Rattle.command_words.specs.Asked.{HasLinkOptions, IsNumberOf}
-use Rattle.command_words.proofs.Rows.{command_met, no_file, no_format, no_restore, no_run, no_serve, no_status, number_once, same, text_met, text_missed}
+use Rattle.command_words.proofs.Rows.{command_met, no_file, no_format, no_restore, no_run, no_serve, no_status, same, text_met, text_missed}
 use Rattle.command_words.proofs.read.mode_of.Goals as goal
 
 pub returns-in_ok-slots-in-format-clause-some : goal.returns-in_ok-slots-in-format-clause-some
