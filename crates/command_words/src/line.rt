@@ -111,7 +111,7 @@ fn with_arg<'a>(
 }
 
 // A command of this name, whose first word is the file that it is about.
-fn command<'a>(
+fn file_command<'a>(
     alloc: Global,
     name: &'a str,
     about: &'a str,
@@ -153,7 +153,7 @@ pub(crate) fn format<'a>(alloc: Global) -> Result<Command<'a>, AllocError>
         1,
         4096,
     );
-    let format = command(alloc, "format", about, FORMAT_EXAMPLE, file);
+    let format = file_command(alloc, "format", about, FORMAT_EXAMPLE, file);
     with_arg(with_arg(format, net_id), slots)
 }
 
@@ -161,7 +161,7 @@ fn list<'a>(alloc: Global) -> Result<Command<'a>, AllocError>
     ensures { IsCommand list_line result }
 {
     let about = "Prints the devices of a store that isn't being served";
-    command(alloc, "list", about, LIST_EXAMPLE, store_file(alloc))
+    file_command(alloc, "list", about, LIST_EXAMPLE, store_file(alloc))
 }
 
 fn serve<'a>(alloc: Global) -> Result<Command<'a>, AllocError>
@@ -176,7 +176,7 @@ fn serve<'a>(alloc: Global) -> Result<Command<'a>, AllocError>
         1,
         80,
     );
-    let serve = command(alloc, "serve", about, SERVE_EXAMPLE, store_file(alloc));
+    let serve = file_command(alloc, "serve", about, SERVE_EXAMPLE, store_file(alloc));
     with_arg(with_arg(serve, listen(alloc)), links)
 }
 
@@ -192,7 +192,7 @@ fn run_command<'a>(alloc: Global) -> Result<Command<'a>, AllocError>
         1,
         96,
     );
-    let run = command(alloc, "run", about, RUN_EXAMPLE, store_file(alloc));
+    let run = file_command(alloc, "run", about, RUN_EXAMPLE, store_file(alloc));
     with_arg(with_arg(run, listen(alloc)), or_else(links, "96"))
 }
 
@@ -200,7 +200,7 @@ fn stop<'a>(alloc: Global) -> Result<Command<'a>, AllocError>
     ensures { IsCommand stop_line result }
 {
     let about = "Ends the server that runs on a store, once what it has decided is sent";
-    command(alloc, "stop", about, STOP_EXAMPLE, store_file(alloc))
+    file_command(alloc, "stop", about, STOP_EXAMPLE, store_file(alloc))
 }
 
 fn devices<'a>(alloc: Global) -> Result<Command<'a>, AllocError>
@@ -208,7 +208,7 @@ fn devices<'a>(alloc: Global) -> Result<Command<'a>, AllocError>
 {
     let about =
         "Prints the devices of the server that runs on a store, and how each was heard last";
-    command(alloc, "devices", about, DEVICES_EXAMPLE, store_file(alloc))
+    file_command(alloc, "devices", about, DEVICES_EXAMPLE, store_file(alloc))
 }
 
 fn watch<'a>(alloc: Global) -> Result<Command<'a>, AllocError>
@@ -216,7 +216,7 @@ fn watch<'a>(alloc: Global) -> Result<Command<'a>, AllocError>
 {
     let about =
         "Prints what happens at the server that runs on a store, a line each, until it ends";
-    command(alloc, "watch", about, WATCH_EXAMPLE, store_file(alloc))
+    file_command(alloc, "watch", about, WATCH_EXAMPLE, store_file(alloc))
 }
 
 fn status<'a>(alloc: Global) -> Result<Command<'a>, AllocError>
@@ -232,7 +232,7 @@ fn status<'a>(alloc: Global) -> Result<Command<'a>, AllocError>
         0,
         3600,
     );
-    let status = command(alloc, "status", about, STATUS_EXAMPLE, store_file(alloc));
+    let status = file_command(alloc, "status", about, STATUS_EXAMPLE, store_file(alloc));
     with_arg(status, or_else(wait, "0"))
 }
 
@@ -260,7 +260,7 @@ fn restore<'a>(alloc: Global) -> Result<Command<'a>, AllocError>
         1,
         65_536,
     );
-    let restore = command(alloc, "restore", about, RESTORE_EXAMPLE, copy);
+    let restore = file_command(alloc, "restore", about, RESTORE_EXAMPLE, copy);
     with_arg(with_arg(restore, new), or_else(grants, "1024"))
 }
 

@@ -28,7 +28,7 @@ where
     R: Clock + Threads + Wait + Sync,
 {
     let store = open_store(rt, alloc, file)?;
-    let Place {
+    let Listening {
         listener,
         clock,
         ..
@@ -82,13 +82,13 @@ where
 
 // Where links come in, and the clock of the life.
 #[derive(Drop)]
-struct Place<C: Clock> {
+struct Listening<C: Clock> {
     listener: TcpListener,
     address: SocketAddr,
     clock: Monotonic<C>,
 }
 
-fn listen_at<'x, R>(rt: &'x R, listen: &str) -> Result<Place<&'x R>, Fault>
+fn listen_at<'x, R>(rt: &'x R, listen: &str) -> Result<Listening<&'x R>, Fault>
 where
     R: Net<Listener = TcpListener, Stream = TcpStream> + Clock,
 {
@@ -101,7 +101,7 @@ where
     let Ok(clock) = Monotonic::start(rt) else {
         return Err(Fault::Clock);
     };
-    Ok(Place {
+    Ok(Listening {
         listener,
         address,
         clock,
@@ -128,7 +128,7 @@ fn open_up<'x, R, O: Write>(
 where
     R: Files<File = File> + Net<Listener = TcpListener, Stream = TcpStream> + Clock,
 {
-    let Place {
+    let Listening {
         listener,
         address,
         clock,

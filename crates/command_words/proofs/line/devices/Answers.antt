@@ -1,4 +1,4 @@
 use Rattle.command_words.proofs.line.devices.Goals as goal
 
 pub returns : goal.returns
-returns c = c.command.ensures _ c.store_file.ensures.rule
+returns c = c.file_command.ensures _ c.store_file.ensures.rule

@@ -4,6 +4,6 @@ use Rattle.command_words.proofs.line.restore.Goals as goal
 
 pub returns : goal.returns
 returns c =
-    let one = c.command-restore.ensures _ c.word-copy.ensures.rule in
+    let one = c.file_command-restore.ensures _ c.word-copy.ensures.rule in
     let two = c.with_arg.ensures _ _ one c.word-new.ensures.rule in
     c.with_arg-2.ensures _ _ two (c.or_else.ensures.rule ∙ ap (λ r. or_else r (codes "1024")) c.number_option-grants.ensures.rule)

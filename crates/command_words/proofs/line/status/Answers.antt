@@ -4,5 +4,5 @@ use Rattle.command_words.proofs.line.status.Goals as goal
 
 pub returns : goal.returns
 returns c =
-    let one = c.command-status.ensures _ c.store_file.ensures.rule in
+    let one = c.file_command-status.ensures _ c.store_file.ensures.rule in
     c.with_arg.ensures _ _ one (c.or_else.ensures.rule ∙ ap (λ r. or_else r (codes "0")) c.number_option-wait.ensures.rule)
