@@ -107,7 +107,10 @@ class Load:
             meter = self.chance.choice(self.meters)
             if meter.rests_until > time.monotonic():
                 return
-            said = wire.copy_of(meter.frame(self.chance), Copy(link.eui))
+            frame = meter.frame(self.chance)
+            # it isn't sent again: it would be older than what came meanwhile
+            meter.sent = [it for it in meter.sent if it != frame]
+            said = wire.copy_of(frame, Copy(link.eui))
         link.say(said[: self.chance.randrange(1, len(said))])
         self.changed[INSIDE] += 1
 

@@ -63,14 +63,16 @@ class Handed:
         self.turns, self.copies = defaultdict(list), {}
         # of each frame: how often it was handed in, by how many copies, and how often refused
         self.times, self.parts, self.refused = Counter(), Counter(), Counter()
-        # the frames that were handed in for the first time, and those that may be accepted
-        self.new, self.may, self.has_gaps = set(), set(), False
+        # the frames that were handed in for the first time, the last one of each device among them,
+        # and those that may be accepted
+        self.new, self.last, self.may, self.has_gaps = set(), {}, set(), False
 
     def hand_in(self, frame, hz, gateways, chance):
         """Gateways hand in a frame, each copy under a stamp of its own."""
         name = name_of(frame)
         if name not in self.ever:
             self.new.add(name)
+            self.last[self.owner_of(name)] = name
         if name not in self.out:
             self.may.add(name)
         self.ever.add(name)
@@ -130,11 +132,15 @@ class Handed:
         return [it for it in turns[: last + 1] if it.is_read or it.link is turns[last].link]
 
     def due(self, is_stopped):
-        """The new frames that have to be decided by the end of this life."""
+        """The new frames that have to be decided by the end of this life. The word that a frame was
+        refused may be lost in a kill. It can be one alone behind which its device sent another one,
+        that was decided first."""
         names = set()
         for turns in self.turns.values():
             read = [it for it in turns if it.is_read] if is_stopped else self.decided(turns)
             names |= {it.name for it in read}
+        if not is_stopped:
+            names &= self.out | set(self.last.values())
         return names & self.new
 
     def counts(self, kind, is_stopped):
@@ -155,7 +161,9 @@ class Handed:
             for name, counts in after.items():
                 grew = counts[at] - before.get(name, (0, 0))[at]
                 least = 0 if self.has_gaps else due[name] - refused[name]
-                why = f"{grew} more of {kind} are in the list of {name}, and {due[name]} were due"
                 told[f"{kind} came"] += grew
-                self.seen.holds(least <= grew <= may[name], f"{why} of {may[name]}")
+                end = "stopped" if is_stopped else "killed"
+                why = f"{grew} more of {kind} are in the list of {name} behind a life that was {end}"
+                why += f", and {due[name]} to {may[name]} were due"
+                self.seen.holds(least <= grew <= may[name], why)
         return told

@@ -67,6 +67,20 @@ class Meter(Device):
         return frame
 
 
+class Sums:
+    """Of each device, how much was seen: uplinks, items, downlinks, and the last of its sessions in
+    which it sent."""
+
+    def __init__(self, seen):
+        self.ups = Counter(name for (name, _), _ in seen.ups)
+        self.items = Counter(name for (name, _), _ in seen.items)
+        self.downlinks = Counter(name for (name, _), _ in seen.downlinks)
+        self.session = {}
+        for what, name in seen.last:
+            if what == "uplink counter":
+                self.session[name[0]] = max(name[1], self.session.get(name[0], 0))
+
+
 class Seen:
     """The marks that were seen, and the comparisons."""
 
@@ -191,10 +205,6 @@ class Seen:
         self.wrong(f"an accept that no device opens: {frame.hex().upper()}")
         return None
 
-    def came_out(self):
-        """How many uplinks of each device came out."""
-        return Counter(name[0] for name, _ in self.ups)
-
     def queue_anew(self):
         """The store is an older copy: items that had left go out again."""
         self.items.clear()
@@ -202,21 +212,22 @@ class Seen:
 
     def count_anew(self):
         """The store counts uplinks from 0."""
-        self.uncounted = self.came_out()
+        self.uncounted = Sums(self).ups
 
     def compare(self, lines, meters):
         """A list against all that was seen."""
         *devices, total = lines
         listed = {it.split(" ")[1]: it.split(" ") for it in devices}
         self.listed = {name: (int(it[2]), int(it[7])) for name, it in listed.items()}
+        sums = Sums(self)
         for it in meters:
             if it.slot is not None:
-                self.device(it, listed.get(it.dev_eui))
+                self.device(it, listed.get(it.dev_eui), sums)
         seq = int(total.split(" ")[3])
         self.holds(seq >= self.seq, f"seq {seq} came behind {self.seq}")
         self.seq = seq
 
-    def device(self, meter, words):
+    def device(self, meter, words, sums):
         """One device's line of a list."""
         if not words:
             self.wrong(f"{meter.dev_eui} isn't in the list, though it was provisioned")
@@ -226,13 +237,11 @@ class Seen:
         self.expect(f"the slot in {shown}", int(slot), meter.slot)
         seen = self.last.get(("JoinNonce", dev_eui), 0)
         self.holds(int(granted) >= seen, f"{shown}, though JoinNonce {seen} was in an accept")
-        ups = self.came_out()[dev_eui] - self.uncounted[dev_eui]
+        ups = sums.ups[dev_eui] - self.uncounted[dev_eui]
         self.holds(int(heard) >= ups, f"{shown}, though {ups} uplinks came out")
-        marks = [name for what, name in self.last if what == "uplink counter"]
-        sessions = [name[1] for name in marks if name[0] == dev_eui]
-        if not sessions:
+        if dev_eui not in sums.session:
             return
-        name = (dev_eui, max(sessions))
+        name = (dev_eui, sums.session[dev_eui])
         is_so = join_nonce != "-" and int(join_nonce) >= name[1]
         self.holds(is_so, f"{shown}, though session {name[1]} sent")
         if join_nonce == "-":
@@ -243,13 +252,12 @@ class Seen:
             self.holds(int(last_up) >= last, f"{shown}, though uplink {last} came out")
             self.holds(int(next_down) > down, f"{shown}, though downlink {down} was sent")
         if meter.keeps:
-            self.item_count(meter, shown, int(next_down), int(items))
+            self.item_count(meter, shown, int(next_down), int(items), sums)
 
-    def item_count(self, meter, shown, next_down, items):
+    def item_count(self, meter, shown, next_down, items, sums):
         """Each item that was queued waits, has left, or left unseen in a downlink of its own."""
         name = meter.dev_eui
-        left = sum(1 for (device, _), _ in self.items if device == name)
-        unseen = next_down - sum(1 for session, _ in self.downlinks if session[0] == name)
+        left, unseen = sums.items[name], next_down - sums.downlinks[name]
         told = len(self.queued.get(name, []))
         why = f"though {told} items were queued, {left} left, and {unseen} downlinks weren't seen"
         self.holds(items >= told - left - unseen, f"{shown}, {why}")

@@ -37,10 +37,9 @@ from speeds.runs import APPLICATIONS, DEVICES, GATEWAYS
 
 PLACES, NAMED = 96, (64, 16)
 IDLE_SECONDS, WITHIN = 10, 1.1
-# how often links come anew, and where it is looked what the server has then
-ANEW = (100, 2500, 5000, 7500, 10_000)
-# how much more memory may be there behind these than behind the first of them, in KiB
-LEAST_PAGES = 256
+# how often links come anew, and where it is looked what the server has then; its memory has settled
+# behind the first 2,500, and may grow by some pages from there, in KiB
+ANEW, SETTLED, PAGES = (100, 2500, 5000, 7500, 10_000), 1, 64
 STRACED = 5
 # what a thread's name ends with, or is: what it does
 ROLES = {"in": "readers", "closer": "the closer", "lnsd": "the flusher", "out": "senders"}
@@ -213,9 +212,10 @@ def anew(run):
         took = 1e6 * (seconds_of(program.server.pid) - begun) / done
         run.figures["anew"] = {"used": found, "processor_us": round(took, 1)}
         run.tell("processor time a link", f"{took:.1f} us")
-        first, last = found[0], found[-1]
+        first, settled, last = found[0], found[SETTLED], found[-1]
         run.aim("descriptors and threads more", sum(last[2:]) - sum(first[2:]), 0, "")
-        run.aim("memory more", last[1] - first[1], LEAST_PAGES, "KiB")
+        name = f"memory more behind {last[0]:,} links than behind {settled[0]:,}"
+        run.aim(name, last[1] - settled[1], PAGES, "KiB")
         program.stop()
 
 

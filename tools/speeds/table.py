@@ -1,10 +1,7 @@
 """The figures of tools/speed server, run and databases as a page has them."""
-import json
-
-MEASURED = ("server", "run", "databases")
 # what a thread does, in the order in which an uplink goes through them
 ROLES = ("readers", "the closer", "the flusher", "senders")
-BEGIN, END = "<!-- figures, by tools/speed page -->", "<!-- end of the figures -->"
+BEGIN, END = "<!-- figures, by tools/speed page: {} -->", "<!-- end of these figures -->"
 
 
 def rows_of(cells):
@@ -20,16 +17,12 @@ def spread(of):
     return f"{of['median_ms']} ms", f"{of['p99_ms']} ms", f"{of['largest_ms']} ms"
 
 
-def machine(found):
-    """What the figures are of."""
-    first, *others = (found[f"machine of {it}"] for it in MEASURED)
-    loads = " and ".join(f"{it['load_average']:.1f}" for it in others)
+def machine(of):
+    """What the figures of a measurement are of."""
     return [
-        f"{first['processor']}, {first['processors']} processors, {first['memory_gib']} GiB;",
-        f"Linux {first['kernel']}, {first['file_system']}; {first['date']}, commit",
-        f"{first['commit']}. The load average was {first['load_average']:.1f} before",
-        f"`speed server`, and {loads} before `speed run` and `speed databases`,",
-        "where a machine at rest has 0.",
+        f"{of['processor']}, {of['processors']} processors, {of['memory_gib']} GiB; Linux",
+        f"{of['kernel']}, {of['file_system']}; {of['date']}, commit {of['commit']};",
+        f"load average before: {of['load_average']:.1f}.",
         "",
     ]
 
@@ -76,9 +69,9 @@ def others(found):
     )
 
 
-def each(of, names):
+def each(of, names, digits=1):
     """Values of these names, parted."""
-    return "; ".join(str(of.get(it, 0)) for it in names)
+    return "; ".join(f"{of.get(it, 0):.{digits}f}" for it in names)
 
 
 def modes(found):
@@ -95,28 +88,28 @@ def modes(found):
         row("processor time an uplink, µs; in the kernel",
             lambda it: each(it, ("processor_us", "kernel_us"))),
         row("of readers; closer; flusher; senders", lambda it: each(it["threads_us"], ROLES)),
-        row("how often these were taken off a processor, an uplink",
-            lambda it: each(it["switches"], ROLES)),
-        row("commits; syncs, an uplink",
-            lambda it: each(it, ("commits", "syncs")) if "commits" in it else ""),
+        row("times these were taken off a processor",
+            lambda it: each(it["switches"], ROLES, 2)),
+        row("commits; syncs",
+            lambda it: each(it, ("commits", "syncs"), 2) if "commits" in it else ""),
     )
 
 
 def links(found):
     """Links that say nothing, and that come anew; calls under strace."""
     idle, anew, calls = found["idle run"], found["anew"], found.get("calls")
-    first, last = anew["used"][0], anew["used"][-1]
-    what = f"{idle['links']} links in {idle['places']} places, {idle['seconds']} s without a frame"
+    first, settled, *_, last = anew["used"]
+    what = f"{idle['links']} links, {idle['places']} places, {idle['seconds']} s without a frame"
     called = "not looked" if idle["system_calls"] is None else idle["system_calls"]
     cells = [
         (f"{what}: times a thread woke; system calls", f"{idle['switches']}; {called}"),
-        (f"memory behind {first[0]:,} links that came, and {last[0]:,}",
-         f"{first[1]:,} KiB; {last[1]:,} KiB"),
+        (f"memory behind {first[0]:,} links that came; {settled[0]:,}; {last[0]:,}",
+         "; ".join(f"{it[1]:,} KiB" for it in (first, settled, last))),
         ("descriptors; threads, then", f"{first[2]}, {last[2]}; {first[3]}, {last[3]}"),
         ("processor time of a link that comes and ends", f"{anew['processor_us']} µs"),
     ]
     if calls:
-        told = ", ".join(f"{name} {count}" for name, count in calls["calls"].items())
+        told = ", ".join(f"{name} {count:.2f}" for name, count in calls["calls"].items())
         cells.append(("calls an uplink, under strace", told))
     return table(("What, of `run`", "Figure"), *cells)
 
@@ -141,26 +134,33 @@ def commits(found):
         rows = (asked(of[name].get(key)) for name in ("lnsd", "postgresql"))
         cells.append((f"{key[0]}, {key[1]}", *(it for row in rows for it in row)))
     it = found["sqlite"]
-    name = f"1, 1: SQLite {it['version']}, in the process that asks"
+    name = f"1, 1: SQLite {it['version']}"
     cells.append((name, "", "", "", f"{it['commits_a_second']:,}", "; ".join(spread(it)[:2]), ""))
     return table((*head, f"PostgreSQL {version} a second", "median; 99th", "µs each"), *cells)
 
 
-def lines(found):
-    """All of it."""
-    parts = (machine, uplinks, others, modes, links, commits)
-    return [line for part in parts for line in part(found)]
+# the tables of each measurement
+PARTS = {"server": (uplinks, others), "run": (modes, links), "databases": (commits,)}
 
 
-def put(page, results):
-    """Puts the figures of a results file between the two lines of a page."""
-    with open(results, encoding="utf-8") as file:
-        found = json.load(file)
-    with open(page, encoding="utf-8") as file:
-        before, begins, rest = file.read().partition(BEGIN + "\n")
+def replaced(text, name, found):
+    """The text of a page with the figures of a measurement between their two lines."""
+    first = BEGIN.format(name) + "\n"
+    before, begins, rest = text.partition(first)
     _, ends, after = rest.partition(END + "\n")
     if not (begins and ends):
-        raise ValueError(f"{page} has no place for figures")
-    text = "\n".join([BEGIN, "", *lines(found), END, ""])
+        raise ValueError(f"the page has no place for the figures of {name}")
+    made = [line for part in PARTS[name] for line in part(found)]
+    told = [*machine(found[f"machine of {name}"]), *made, END, ""]
+    return before + first + "\n" + "\n".join(told) + after
+
+
+def put(page, found):
+    """Puts the figures of each measurement that was made into a page."""
+    with open(page, encoding="utf-8") as file:
+        text = file.read()
+    for name in PARTS:
+        if f"machine of {name}" in found:
+            text = replaced(text, name, found)
     with open(page, "w", encoding="utf-8") as file:
-        file.write(before + text + after)
+        file.write(text)
