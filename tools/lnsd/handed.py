@@ -163,7 +163,7 @@ class Handed:
                 least = 0 if self.has_gaps else due[name] - refused[name]
                 told[f"{kind} came"] += grew
                 end = "stopped" if is_stopped else "killed"
-                why = f"{grew} more of {kind} are in the list of {name} behind a life that was {end}"
+                why = f"{grew} more of {kind} are in the list of {name} behind a life, {end}"
                 why += f", and {due[name]} to {may[name]} were due"
                 self.seen.holds(least <= grew <= may[name], why)
         return told
