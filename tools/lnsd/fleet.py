@@ -213,14 +213,14 @@ class Load:
         drops = sum(self.changed[it] for it in DROPS)
         return drops >= share[0] and self.changed[TAKEOVER] >= share[1]
 
-    def run(self, seconds, share=(0, 0)):
-        """Goes on for so long, from when the first frame's outcome has come, and links have changed
-        as often as they should."""
+    def run(self, seconds, share=(0, 0), kinds=()):
+        """Goes on for so long, from when the first frame's outcome has come, and something of each
+        of these kinds, and links have changed as often as they should."""
         due, last = time.monotonic(), time.monotonic() + PATIENCE
         has_come, end = False, math.inf
         while time.monotonic() < min(last, end):
             come = self.come() - self.before
-            has_come = has_come or come > 0
+            has_come = has_come or come > 0 and all(it in self.came_last for it in kinds)
             if has_come and end == math.inf and self.is_done(share):
                 end = time.monotonic() + seconds
             if time.monotonic() >= due and self.sent - come < MOST:
