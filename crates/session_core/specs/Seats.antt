@@ -1,7 +1,25 @@
--- What a turn adds to a seat's share.
-use Rattle.std.specs.Prelude.{◌≡◌, ◌+◌, ◌≤◌, ℕ}
+-- What a seat says of the calls that were made through it.
+use Rattle.std.specs.Prelude.{◌≡◌, ◌+◌, ◌≤◌, ℕ, List, map, sum, Option, Some, None}
+use Rattle.session_core.specs.declared.seat.CallKind.{CallKind}
+use Rattle.session_core.specs.declared.seat.LastCall.{LastCall}
 use Rattle.session_core.specs.declared.turn.Turn.{Turn}
 
--- the share grew by the decisions of the turn, and is of those that were made so far
-abbrev pub HasMade : ℕ → ℕ → Turn → Type 0
-HasMade old new turn = (new + turn.from ≡ old + turn.to) × (new ≤ turn.to)
+-- how many decisions were made through a seat, and the last call
+pub record SeatState : Type 0 where
+  pub made : ℕ
+  pub last : Option LastCall
+
+-- a seat through which nothing was handed in yet
+abbrev pub new_seat : SeatState
+new_seat = record { made = 0; last = None }
+
+-- how many decisions were made through these seats together
+abbrev pub made_by : List SeatState → ℕ
+made_by seats = sum (map (λ s. s.made) seats)
+
+-- A call through a seat: its share grew by the decisions of the turn, and is of those that were
+-- made so far; and this call is its last one, refused as the turn tells.
+pub record HasMade (old new : SeatState) (moment : ℕ) (kind : CallKind) (turn : Turn) : Type 0 where
+  pub grown : new.made + turn.from ≡ old.made + turn.to
+  pub within : new.made ≤ turn.to
+  pub last : new.last ≡ Some (record { moment = moment; kind = kind; refused = turn.refused })

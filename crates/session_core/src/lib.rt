@@ -1,6 +1,6 @@
 //! What decides in one life: the windows in which the copies of a frame are gathered, the decisions
 //! that were made and not yet taken, the table that they leave, and what came of the last commands.
-//! [`Shared`] is a core that threads share, and [`Sessions`] what they call through its lock.
+//! [`Shared`] is a core that threads share, and [`Sessions`] its calls, each under its lock.
 #![tactic(auto)]
 
 mod books;
@@ -21,7 +21,7 @@ pub use events::Core;
 pub use locked::Sessions;
 pub use observed::ClosedFrame;
 pub use outcome::{MOST_OUTCOMES, Outcome};
-pub use seat::{Seat, Taker};
+pub use seat::{CallKind, LastCall, Seat, Taker};
 pub use sessions::Most;
 pub use shared::Shared;
 pub use turn::{LAST_MOMENT, Moment, Turn};

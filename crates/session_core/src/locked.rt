@@ -2,6 +2,7 @@
 ghost use Rattle.std.specs.Prelude.{◌≡◌, ◌+◌, length, MatchResult};
 ghost use Rattle.lw_types.specs.declared.refusal.Refusal.TheVariants.{OutOfMemory};
 ghost use Rattle.session_core.specs.Seats.{HasMade};
+ghost use Rattle.session_core.specs.declared.seat.CallKind.TheVariants.{Asked, Heard, Ticked};
 
 use crate::{Books, Moment, Most, Outcome, Seat, Shared, Taker, Turn};
 use devices::{ApplicationCommand, MacQueueing, Provisioning, Queueing};
@@ -10,20 +11,27 @@ use sessions::Batch;
 use std::alloc::Global;
 use std::sync::{Mutex, Wait};
 
-/// What the workers and the flusher of a server call: the calls of [`Shared`], each under the lock
-/// for as long as that call alone. What is known across threads is what a caller's own share says:
-/// that it grew by just what the call made. A call that waits for the lock need not return.
+/// The calls of [`Shared`], each under the lock for as long as that call alone. A server's flusher
+/// takes by them, and its closer asks for moments. What is handed in to a server goes to [`Shared`]
+/// itself, by a worker or the closer that holds the lock, since the frames whose windows the call
+/// closed are fetched before it is let go ([`Shared::take_closed`]). The other calls are for whoever
+/// leaves these frames alone, as tests.
+///
+/// What is known across threads is what a caller's own share says. A seat's grew by just what the
+/// call made, and the seat's last call is this one: of this kind, at this moment, with the refusal
+/// that is answered. Which frame or command was handed in isn't said. A call that waits for the
+/// lock need not return.
 pub trait Sessions<B: Books> {
     /// How many decisions were made in this life, for whoever looks at a core, as tests do.
     fn made<R: Wait>(&self, rt: &R) -> u64;
 
     /// A gateway heard a frame.
     fn hear<R: Wait>(&self, rt: &R, seat: &mut Seat<B>, moment: Moment, copy: FrameCopy) -> Turn
-        ensures share { HasMade seat.old seat.new result };
+        ensures share { HasMade seat.old seat.new moment Heard result };
 
     /// Time passes.
     fn tick<R: Wait>(&self, rt: &R, seat: &mut Seat<B>, moment: Moment) -> Turn
-        ensures share { HasMade seat.old seat.new result };
+        ensures share { HasMade seat.old seat.new moment Ticked result };
 
     /// An application asks for a command.
     fn ask<R: Wait>(
@@ -33,10 +41,10 @@ pub trait Sessions<B: Books> {
         moment: Moment,
         asked: ApplicationCommand,
     ) -> Turn
-        ensures share { HasMade seat.old seat.new result };
+        ensures share { HasMade seat.old seat.new moment Asked result };
 
-    /// An application provisions a device. The server calls [`Sessions::ask`]; this call, and those
-    /// that queue, are for whoever has one command, as tests.
+    /// An application provisions a device. This call, and those that queue, are for whoever has one
+    /// command.
     fn provision<R: Wait>(
         &self,
         rt: &R,
@@ -44,11 +52,11 @@ pub trait Sessions<B: Books> {
         moment: Moment,
         value: Provisioning,
     ) -> Turn
-        ensures share { HasMade seat.old seat.new result };
+        ensures share { HasMade seat.old seat.new moment Asked result };
 
     /// An application queues an item for its device.
     fn queue<R: Wait>(&self, rt: &R, seat: &mut Seat<B>, moment: Moment, value: Queueing) -> Turn
-        ensures share { HasMade seat.old seat.new result };
+        ensures share { HasMade seat.old seat.new moment Asked result };
 
     /// An application queues MAC commands for its device.
     fn queue_mac<R: Wait>(
@@ -58,7 +66,7 @@ pub trait Sessions<B: Books> {
         moment: Moment,
         value: MacQueueing,
     ) -> Turn
-        ensures share { HasMade seat.old seat.new result };
+        ensures share { HasMade seat.old seat.new moment Asked result };
 
     /// Takes the oldest untaken decisions, at most `max` of them.
     fn take<R: Wait>(&self, rt: &R, taker: &mut Taker<B>, max: Most) -> Result<Batch, Refusal>

@@ -1,14 +1,18 @@
 // A core that several threads share, with the books of what each of them made and took.
-ghost use Rattle.std.specs.Prelude.{◌≡◌, ◌+◌, ◌≤◌, ◌<◌, ◌^◌, ◌↔◌, length, sum, take, IfSome};
+ghost use Rattle.std.specs.Prelude.{◌≡◌, ◌+◌, ◌≤◌, ◌<◌, ◌^◌, ◌↔◌, length, take, IfSome};
 ghost use Rattle.std.specs.Prelude.{IsSome, IsTrue, MatchResult};
 ghost use Rattle.lw_types.specs.declared.refusal.Refusal.TheVariants.{OutOfMemory};
 ghost use Rattle.devices.specs.Command.{as_command};
 ghost use Rattle.devices.specs.declared.command.Command.TheVariants as commands;
 ghost use Rattle.session_core.specs.Deciding.{after_taking};
 ghost use Rattle.session_core.specs.Events.{Asks, Hears, IsTurn, Ticks, next_due};
-ghost use Rattle.session_core.specs.Seats.{HasMade};
+ghost use Rattle.session_core.specs.Seats.{HasMade, made_by, new_seat};
+ghost use Rattle.session_core.specs.declared.seat.CallKind.TheVariants.{Asked, Heard, Ticked};
 
-use crate::{Books, ClosedFrame, Core, Made, Moment, Most, Outcome, Seat, Taken, Taker, Turn};
+use crate::{
+    Books, CallKind, ClosedFrame, Core, LastCall, Made, Moment, Most, Outcome, Seat, Taken, Taker,
+    Turn,
+};
 use devices::{ApplicationCommand, MacQueueing, Provisioning, Queueing};
 use lw_types::{FrameCopy, Refusal};
 use sessions::Batch;
@@ -59,7 +63,7 @@ impl<B: Books> Shared<B> {
     /// A seat through which nothing was made yet. Takes no memory.
     pub fn seat(&mut self) -> Seat<B>
         requires { 0 < self.old.left }
-        ensures seat { result ≡ 0 }
+        ensures seat { result ≡ new_seat }
         ensures core { self.new.core ≡ self.old.core }
         ensures left { self.new.left + 1 ≡ self.old.left }
     {
@@ -101,22 +105,22 @@ impl<B: Books> Shared<B> {
     /// A gateway heard a frame ([`Core::hear`]).
     pub fn hear(&mut self, seat: &mut Seat<B>, moment: Moment, copy: FrameCopy) -> Turn
         ensures turn { IsTurn self.old.core moment (Hears copy) result self.new.core }
-        ensures share { HasMade seat.old seat.new result }
+        ensures share { HasMade seat.old seat.new moment Heard result }
         ensures left { self.new.left ≡ self.old.left }
     {
         let turn = self.core.hear(moment, copy);
-        count(&mut self.made, seat, &turn);
+        count(&mut self.made, seat, moment, CallKind::Heard, &turn);
         turn
     }
 
     /// Time passes ([`Core::tick`]).
     pub fn tick(&mut self, seat: &mut Seat<B>, moment: Moment) -> Turn
         ensures turn { IsTurn self.old.core moment Ticks result self.new.core }
-        ensures share { HasMade seat.old seat.new result }
+        ensures share { HasMade seat.old seat.new moment Ticked result }
         ensures left { self.new.left ≡ self.old.left }
     {
         let turn = self.core.tick(moment);
-        count(&mut self.made, seat, &turn);
+        count(&mut self.made, seat, moment, CallKind::Ticked, &turn);
         turn
     }
 
@@ -125,7 +129,7 @@ impl<B: Books> Shared<B> {
     pub fn provision(&mut self, seat: &mut Seat<B>, moment: Moment, value: Provisioning) -> Turn
         ensures turn { IsTurn self.old.core moment
             (Asks (commands.Provision value)) result self.new.core }
-        ensures share { HasMade seat.old seat.new result }
+        ensures share { HasMade seat.old seat.new moment Asked result }
         ensures left { self.new.left ≡ self.old.left }
     {
         self.ask(seat, moment, ApplicationCommand::Provision(value))
@@ -135,7 +139,7 @@ impl<B: Books> Shared<B> {
     pub fn queue(&mut self, seat: &mut Seat<B>, moment: Moment, value: Queueing) -> Turn
         ensures turn { IsTurn self.old.core moment
             (Asks (commands.Queue value)) result self.new.core }
-        ensures share { HasMade seat.old seat.new result }
+        ensures share { HasMade seat.old seat.new moment Asked result }
         ensures left { self.new.left ≡ self.old.left }
     {
         self.ask(seat, moment, ApplicationCommand::Queue(value))
@@ -145,7 +149,7 @@ impl<B: Books> Shared<B> {
     pub fn queue_mac(&mut self, seat: &mut Seat<B>, moment: Moment, value: MacQueueing) -> Turn
         ensures turn { IsTurn self.old.core moment
             (Asks (commands.QueueMac value)) result self.new.core }
-        ensures share { HasMade seat.old seat.new result }
+        ensures share { HasMade seat.old seat.new moment Asked result }
         ensures left { self.new.left ≡ self.old.left }
     {
         self.ask(seat, moment, ApplicationCommand::QueueMac(value))
@@ -155,11 +159,11 @@ impl<B: Books> Shared<B> {
     pub fn ask(&mut self, seat: &mut Seat<B>, moment: Moment, asked: ApplicationCommand) -> Turn
         ensures turn { IsTurn self.old.core moment
             (Asks (as_command asked)) result self.new.core }
-        ensures share { HasMade seat.old seat.new result }
+        ensures share { HasMade seat.old seat.new moment Asked result }
         ensures left { self.new.left ≡ self.old.left }
     {
         let turn = self.core.decide(moment, asked.into_command());
-        count(&mut self.made, seat, &turn);
+        count(&mut self.made, seat, moment, CallKind::Asked, &turn);
         turn
     }
 
@@ -214,7 +218,7 @@ impl<B: Books> Shared<B> {
     pub fn settle(self, all: u64, seats: Vec<Seat<B>>) -> Option<u64>
         requires { all ≡ B.made_parts }
         ensures made { IfSome result
-            (λ made. (made ≡ self.core.decisions.made) × (sum seats.items ≡ made)) }
+            (λ made. (made ≡ self.core.decisions.made) × (made_by seats.items ≡ made)) }
         ensures all { self.left + length seats.items ≡ all → IsSome result }
     {
         let made = self.core.made();
@@ -242,26 +246,41 @@ fn gather_shares<B: Books>(
     requires { (spare.old.parts ≡ left) × (spare.old.amount ≡ 0) }
     ensures all { IsTrue result ↔ (left + length seats.items ≡ all) }
     ensures parts { spare.new.parts ≡ left + length seats.items }
-    ensures amount { spare.new.amount ≡ sum seats.items }
+    ensures amount { spare.new.amount ≡ made_by seats.items }
 {
     let count = seats.len() as u64;
     for seat in seats {
-        let Seat { share, count: _ } = seat;
+        let Seat {
+            share,
+            count: _,
+            last: _,
+        } = seat;
         spare.merge(share);
     }
     left.checked_add(count) == Some(all)
 }
 
-// Counts the decisions of a turn.
-fn count<B: Books>(made: &mut Book<Made<B>>, seat: &mut Seat<B>, turn: &Turn)
+// Counts the decisions of a turn, and keeps the call as the seat's last one.
+fn count<B: Books>(
+    made: &mut Book<Made<B>>,
+    seat: &mut Seat<B>,
+    moment: Moment,
+    kind: CallKind,
+    turn: &Turn,
+)
     requires order { turn.now.from ≤ turn.now.to }
     requires total { made.old.total ≡ turn.now.from }
     ensures total { made.new.total ≡ turn.now.to }
-    ensures share { HasMade seat.old seat.new turn.now }
+    ensures share { HasMade seat.old seat.new moment kind turn.now }
 {
     made.audit(&mut seat.share);
     made.add(&mut seat.share, turn.to - turn.from);
     seat.count += turn.to - turn.from;
+    seat.last = Some(LastCall {
+        moment,
+        kind,
+        refused: turn.refused,
+    });
 }
 
 // Counts the decisions of a batch.

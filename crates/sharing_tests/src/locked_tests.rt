@@ -7,7 +7,9 @@ use crate::asked::{
 };
 use devices::{ApplicationCommand, Item};
 use lw_types::Refusal;
-use session_core::{Books, Core, Moment, Most, Outcome, Seat, Sessions, Shared, Taker, Turn};
+use session_core::{
+    Books, CallKind, Core, LastCall, Moment, Most, Outcome, Seat, Sessions, Shared, Taker, Turn,
+};
 use sessions::{Batch, Decision};
 use std::alloc::Global;
 use std::marker::Brand;
@@ -165,6 +167,14 @@ fn asked(alloc: Global, event: &Event) -> Result<Option<ApplicationCommand>, Ref
     })
 }
 
+fn kind_of(event: &Event) -> CallKind {
+    match event {
+        Event::Provision(_) | Event::Queue(..) | Event::Mac(_) => CallKind::Asked,
+        Event::Hear(..) => CallKind::Heard,
+        Event::Tick => CallKind::Ticked,
+    }
+}
+
 // Whether two batches have the same decisions.
 fn are_same(a: &Batch, b: &Batch) -> bool {
     let mut same = a.len() == b.len();
@@ -221,7 +231,7 @@ struct Lives<'a, B: Books> {
 
 impl<B: Books> Lives<'_, B> {
     // What is answered in the place of what the row has, where both don't answer so, or don't know
-    // the same of moments and numbers then.
+    // the same of moments and numbers then, or the seat has another last call.
     fn fault<R: Wait>(&mut self, rt: &R, row: &Row) -> Result<Option<String>, Refusal> {
         let (at, event, wanted, _) = row;
         let at = moment(*at)?;
@@ -234,7 +244,13 @@ impl<B: Books> Lives<'_, B> {
         let moments = self.sessions.effective_time(rt) == self.core.effective_time()
             && self.sessions.next_due(rt) == self.core.next_due();
         let made = self.sessions.made(rt) == locked.to;
-        if moments && made && plain == locked && told == *wanted {
+        let last = LastCall {
+            moment: at,
+            kind: kind_of(event),
+            refused: wanted.2,
+        };
+        let kept = self.seat.last() == Some(last);
+        if moments && made && kept && plain == locked && told == *wanted {
             return Ok(None);
         }
         let (from, to, refused) = told;
