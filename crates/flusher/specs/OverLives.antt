@@ -1,5 +1,5 @@
 -- What a flusher does over several lives of its store.
-use Rattle.std.specs.Prelude.{◌≡◌, ◌<◌, ◌+◌, ◌-◌, ◌^◌, ◌++◌, ℕ, List, [], ◌∷◌, map, length}
+use Rattle.std.specs.Prelude.{◌≡◌, ◌≢◌, ◌<◌, ◌+◌, ◌-◌, ◌^◌, ◌++◌, ℕ, List, [], ◌∷◌, map, length}
 use Rattle.std.specs.Prelude.{Option, None, IfSome, MatchOption, Result, Ok, Err, IfErr}
 use Rattle.std.specs.Prelude.{MatchResult, flat_map}
 use Rattle.std.specs.List.{FoldsTo}
@@ -11,6 +11,7 @@ use Rattle.disk.specs.State.{EveryImage, IsPermitted, IsSettledAt, State}
 use Rattle.disk.specs.declared.disk.Disk.{Ghosts}
 use Rattle.disk.specs.declared.sim.Image.{Image}
 use Rattle.lw_types.specs.declared.refusal.Refusal.{Refusal}
+use Rattle.lw_types.specs.declared.refusal.Refusal.TheVariants.{DeviceFailed}
 use Rattle.sessions.specs.Marks.{AreDistinct, HasUsedUp, IsSubsequence, marks_of}
 use Rattle.sessions.specs.Table.{TableState, effects_of}
 use Rattle.store.specs.Image.{HoldsTable}
@@ -30,7 +31,8 @@ pub record IsLeftBy (image : Image) (old at : State) : Type 0 where
   pub settled : IsSettledAt at.content at
 
 -- The disk crashed to this image, or there was no crash; the call with this number was to fail, if
--- any; and the store was opened, or not. What a refused opening leaves holds what the disk did.
+-- any; and the store was opened, or not. An opening is refused by the device exactly where a call
+-- failed, and what it leaves holds what the disk did.
 pub record IsReopened {D : Type 0} (disk : Ghosts D) (crash : Option Image) (failing : Option ℕ)
     (old : D) (result : Result (Store D disk) (D × Refusal)) : Type 0 where
   pub at : D
@@ -42,6 +44,9 @@ pub record IsReopened {D : Type 0} (disk : Ghosts D) (crash : Option Image) (fai
       (λ n. disk.failures old + 1 < 2 ^ 64 → disk.outlook at ≡ FailsAfter (n - 1))
   pub unarmed : failing ≡ None → disk.outlook at ≡ disk.outlook old
   pub answer : IsOpenAnswer disk at (λ error. error.1) result
+  pub device : IfErr result (λ error.
+      (error.1 ≡ DeviceFailed → disk.failures error.0 ≡ disk.failures at + 1)
+      × (error.1 ≢ DeviceFailed → disk.failures error.0 ≡ disk.failures at))
   pub kept : IfErr result (λ error. HoldsOn (disk.state old) (disk.state error.0))
 
 -- how chains that had so many decisions are answered, the last one of which may be refused

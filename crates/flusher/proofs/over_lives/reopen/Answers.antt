@@ -1,10 +1,11 @@
-use Rattle.std.proofs.Common.{◌≡◌, ◌∙◌, ◌<◌, ◌+◌, ◌-◌, ◌^◌, ℕ, Option, None, Some, MatchOption, Result, IfSome, IfErr, ap, subst, sym}
+use Rattle.std.proofs.Common.{◌≡◌, ◌≢◌, ◌∙◌, ◌<◌, ◌+◌, ◌-◌, ◌^◌, ℕ, Option, None, Some, MatchOption, Result, IfSome, IfErr, ap, subst, sym}
 use Rattle.std.proofs.lemmas.Result.{IfErr-weaker}
 use Rattle.disk.specs.Outlook.Outlook.{FailsAfter}
 use Rattle.disk.specs.State.{IsPermitted, State}
 use Rattle.disk.specs.declared.disk.Disk.{Ghosts}
 use Rattle.disk.specs.declared.sim.Image.{Image}
 use Rattle.lw_types.specs.declared.refusal.Refusal.{Refusal}
+use Rattle.lw_types.specs.declared.refusal.Refusal.TheVariants.{DeviceFailed}
 use Rattle.store.specs.Made.{IsOpenAnswer}
 use Rattle.store.specs.State.{HoldsOn}
 use Rattle.store.specs.declared.store.Store.{Store}
@@ -31,9 +32,10 @@ reopened : {D : Type 0} (disk : Ghosts D) (crash : Option Image) (failing : Opti
     → IfSome failing (λ n. disk.failures old + 1 < 2 ^ 64 → disk.outlook at ≡ FailsAfter (n - 1))
     → (failing ≡ None → disk.outlook at ≡ disk.outlook old)
     → IsOpenAnswer disk at (λ error. error.1) r
+    → IfErr r (λ error. (error.1 ≡ DeviceFailed → disk.failures error.0 ≡ disk.failures at + 1) × (error.1 ≢ DeviceFailed → disk.failures error.0 ≡ disk.failures at))
     → IfErr r (λ error. HoldsOn (disk.state at) (disk.state error.0))
     → IsReopened disk crash failing old r
-reopened disk crash failing old left at r is count same same_count armed unarmed answer kept =
+reopened disk crash failing old left at r is count same same_count armed unarmed answer device kept =
     let there : MatchOption crash (disk.state at ≡ disk.state old) (λ image. IsLeftBy image (disk.state old) (disk.state at)) =
     subst (λ (s : State). MatchOption crash (s ≡ disk.state old) (λ image. IsLeftBy image (disk.state old) s)) (sym same) is in
     record {
@@ -44,6 +46,7 @@ reopened disk crash failing old left at r is count same same_count armed unarmed
       armed = armed;
       unarmed = unarmed;
       answer = answer;
+      device = device;
       kept = IfErr-weaker r _ _ (λ error on. still_held crash (disk.state old) (disk.state at) (disk.state error.0) there on) kept;
     }
 
@@ -56,10 +59,10 @@ returns g c = elim c.match-failing.branch [
       (λ fits. ap g.D.Disk.outlook w.disk-is
       ∙ (w.arm.ensures.armed (subst (λ m. m + 1 < 2 ^ 64) (sym c.crash_to.ensures.failures) fits) ∙ ap (λ n. FailsAfter (n - 1)) w.get.ensures.value)))
       (λ none. let is = w.in-Some.is in let no : ⊥ = cc in absurd no)
-      c.open_back.ensures.made (c.open_back.ensures.kept g.met.D.Sim.is_honest)
+      c.open_back.ensures.made c.open_back.ensures.device (c.open_back.ensures.kept g.met.D.Sim.is_honest)
   | in_default w ↦ reopened g.D.Disk c.args.crash.now c.args.failing c.args.disk c.crash_to.new.disk c.match-failing.disk c.open_back.result
       c.crash_to.ensures.left c.crash_to.ensures.failures
       (ap g.D.Disk.state w.disk-is) (ap g.D.Disk.failures w.disk-is)
       (subst (λ f. IfSome f (λ n. g.D.Disk.failures c.args.disk + 1 < 2 ^ 64 → g.D.Disk.outlook c.match-failing.disk ≡ FailsAfter (n - 1))) (sym w.in_default.is) tt)
-      (λ none. ap g.D.Disk.outlook w.disk-is ∙ c.crash_to.ensures.outlook) c.open_back.ensures.made (c.open_back.ensures.kept g.met.D.Sim.is_honest)
+      (λ none. ap g.D.Disk.outlook w.disk-is ∙ c.crash_to.ensures.outlook) c.open_back.ensures.made c.open_back.ensures.device (c.open_back.ensures.kept g.met.D.Sim.is_honest)
 ]
