@@ -1,15 +1,13 @@
 // Values that several tests are about.
 use devices::{
-    Application, Channels, CurrentSession, Device, Downlink, Item, NextDown, Payload, Port,
-    Provisioning, ReceiveWindows, Rx1Offset, RxDelay, Session, SessionName, Tag,
+    Application, Channels, CurrentSession, Device, Item, NextDown, Payload, Port, Provisioning,
+    Rx1Offset, RxDelay, Session, Tag,
 };
-use lw_types::{Eui, JoinNonce, Key, PhyPayload, Refusal, read_hex, write_hex};
+use lw_types::{Eui, JoinNonce, Key, Refusal, read_hex};
 use record_codec::write_device_v1;
 use std::alloc::Global;
 
 pub const DEVICE: Eui = Eui(0x1112_1314_1516_1718);
-
-pub const GATEWAY: Eui = Eui(0xB1);
 
 pub const JOIN_EUI: Eui = Eui(0x0102_0304_0506_0708);
 
@@ -32,13 +30,6 @@ pub fn provisioning(dev_eui: Eui) -> Option<Provisioning> {
 
 pub fn new_device(alloc: Global, dev_eui: Eui) -> Option<Device> {
     Some(Device::provisioned(alloc, &provisioning(dev_eui)?))
-}
-
-pub fn name(number: u32) -> Option<SessionName> {
-    Some(SessionName {
-        dev_eui: DEVICE,
-        join_nonce: JoinNonce::new(number)?,
-    })
 }
 
 pub fn session(number: u32, channels: Channels) -> Option<Session> {
@@ -76,20 +67,6 @@ pub fn item(alloc: Global, tag: u32, len: usize) -> Option<Item> {
     }
 }
 
-// A downlink of no bytes, five seconds later.
-pub fn empty_downlink(alloc: Global) -> Option<Downlink> {
-    let delay = RxDelay::new(5)?;
-    Some(Downlink {
-        gateway: GATEWAY,
-        stamp: 1,
-        frequency: 868_500_000,
-        data_rate: 2,
-        delay,
-        windows: ReceiveWindows::Rx1OrRx2,
-        frame: PhyPayload::empty(alloc),
-    })
-}
-
 // So many items of this length, tagged from 0 on.
 pub fn items(alloc: Global, count: u32, len: usize) -> Option<Vec<Item>> {
     let mut items = Vec::new(alloc);
@@ -107,14 +84,6 @@ pub fn put_old_record(device: &Device, out: &mut Vec<u8>) -> Result<(), Refusal>
         write_device_v1(device, out)
     } else {
         Err(Refusal::Damaged)
-    }
-}
-
-// Whether bytes have this text as hex.
-pub fn has_hex(alloc: Global, bytes: &[u8], text: &str) -> bool {
-    match write_hex(alloc, bytes) {
-        Ok(hex) => hex.as_str() == text,
-        Err(_) => false,
     }
 }
 

@@ -1,5 +1,5 @@
-//! Tests of the public calls of devices, their records, and what links carry of them, a file a
-//! crate. They stand above those crates, so that each of these is proved once.
+//! Tests of the public calls of records, their changes, and the store's layout. They stand above
+//! those crates, so that each of these is proved once.
 #![tactic(auto)]
 
 #[cfg(test)]
@@ -7,13 +7,7 @@ mod change_faults_tests;
 #[cfg(test)]
 mod change_tests;
 #[cfg(test)]
-mod devices_tests;
-#[cfg(test)]
-mod feeder_tests;
-#[cfg(test)]
 mod fixtures;
-#[cfg(test)]
-mod gateway_wire_tests;
 #[cfg(test)]
 mod record_codec_tests;
 #[cfg(test)]

@@ -1,4 +1,4 @@
-use crate::fixtures::{DEVICE, current, items, new_device, put_old_record, session};
+use crate::fixtures::{DEVICE, bytes, current, items, new_device, put_old_record, session};
 use RecordVersion::{V1, V2};
 use devices::{Activation, Channels, Device, ItemQueue, MacQueue, Tag, UplinkCount};
 use lw_types::{JoinNonce, Refusal, read_hex};
@@ -30,9 +30,9 @@ fn both_sessions() -> Option<Activation> {
 enum Has {
     /// A pending session.
     Pending,
-    /// Both sessions, a tag awaited, a DevNonce of 0, these MAC commands, and so many items of this
-    /// length.
-    All(&'static [u8], u32, usize),
+    /// Both sessions, a tag awaited, a DevNonce of 0, the MAC commands of a text and so many of 06
+    /// behind them, and so many items of this length.
+    All(&'static str, usize, u32, usize),
 }
 
 fn device(alloc: Global, has: &Has) -> Option<Device> {
@@ -44,19 +44,16 @@ fn device(alloc: Global, has: &Has) -> Option<Device> {
             device.activation = activation;
             Some(device)
         }
-        Has::All(mac_commands, count, len) => full_device(alloc, mac_commands, *count, *len),
+        Has::All(hex, filled, count, len) => {
+            full_device(alloc, bytes(alloc, hex, 0x06, *filled)?, *count, *len)
+        }
     }
 }
 
-fn full_device(alloc: Global, mac_commands: &[u8], count: u32, len: usize) -> Option<Device> {
+fn full_device(alloc: Global, commands: Vec<u8>, count: u32, len: usize) -> Option<Device> {
     let activation = both_sessions()?;
-    let Ok(mac_commands) = Vec::from_slice(alloc, mac_commands) else {
-        return None;
-    };
-    match (
-        MacQueue::new(mac_commands),
-        ItemQueue::new(items(alloc, count, len)?),
-    ) {
+    let items = items(alloc, count, len)?;
+    match (MacQueue::new(commands), ItemQueue::new(items)) {
         (Ok(mac_queue), Ok(items)) => {
             let mut device = new_device(alloc, DEVICE)?;
             device.last_dev_nonce = Some(0);
@@ -138,12 +135,12 @@ fn len_of(alloc: Global, version: RecordVersion, has: &Has) -> Option<usize> {
 // A pending session takes 35 bytes more; the last record of each version is its largest.
 const LENGTHS: &[(RecordVersion, Has, usize)] = &[
     (V1, Has::Pending, 85),
-    (V1, Has::All(&[6, 4, 0], 1, 2), 144),
-    (V1, Has::All(&[6; 64], 16, 242), 4180),
+    (V1, Has::All("060400", 0, 1, 2), 144),
+    (V1, Has::All("", 64, 16, 242), 4180),
     (V2, Has::Pending, 93),
-    (V2, Has::All(&[6, 4, 0], 1, 2), 152),
-    (V2, Has::All(&[6; 64], 16, 242), 4188),
-    (V2, Has::All(&[6; 128], 16, 242), 4252),
+    (V2, Has::All("060400", 0, 1, 2), 152),
+    (V2, Has::All("", 64, 16, 242), 4188),
+    (V2, Has::All("", 128, 16, 242), 4252),
 ];
 
 #[test]

@@ -9,8 +9,8 @@ use store::{Store, open};
 use test_stores::devices_under_test::{add, heard, joining};
 use test_stores::stores_under_test::{ALL, begin_commit, new_store};
 
-/// Join-Requests of the device that joins, with the DevNonces 1 to 3.
-pub const JOIN_1: &str = "000807060504030201181716151413121101009E7419CE";
+// Join-Requests of the device that joins, with the DevNonces 1 to 3.
+const JOIN_1: &str = "000807060504030201181716151413121101009E7419CE";
 
 const JOIN_2: &str = "00080706050403020118171615141312110200C13BE455";
 

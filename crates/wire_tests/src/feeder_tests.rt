@@ -54,14 +54,11 @@ fn heard(alloc: Global, stream: &[u8], is_whole: bool) -> Option<(Fed, Option<Re
     }
 }
 
-// Whether a text with so many of 41 behind it says so many messages and this fault, and ends so,
-// however it comes.
-fn says(
-    alloc: Global,
-    (hex, filled, count): (&str, usize, usize),
-    fault: Option<Refusal>,
-    end: Option<Refusal>,
-) -> bool {
+// Whether a text with so many of 41 behind it says so many messages, and ends so, however it comes.
+// What isn't cut short has its fault before it ends.
+fn says(alloc: Global, stream: &Stream) -> bool {
+    let (hex, filled, count, end) = *stream;
+    let fault = if end == CUT_SHORT { None } else { end };
     let Some(stream) = bytes(alloc, hex, 0x41, filled) else {
         return false;
     };
@@ -74,37 +71,43 @@ fn says(
     }
 }
 
-// Texts, how many of 41 stand behind them, and how many messages they say.
-type Stream = (&'static str, usize, usize);
+// Texts, how many of 41 stand behind them, how many messages they say, and what their end is
+// refused.
+type Stream = (&'static str, usize, usize, Option<Refusal>);
 
-// Whole frames are messages.
-const FRAMES: &[Stream] = &[
-    ("", 0, 0),
-    (GREETING, 0, 1),
+const CUT_SHORT: Option<Refusal> = Some(Refusal::CutShort);
+
+const TOO_LONG: Option<Refusal> = Some(Refusal::FrameTooLong);
+
+const NO_MESSAGE: Option<Refusal> = Some(Refusal::BadMessage);
+
+const STREAMS: &[Stream] = &[
+    // whole frames: none, and a greeting
+    ("", 0, 0, None),
+    (GREETING, 0, 1, None),
     // no PHYPayload, and the longest
     (
         "00090000000000000000B100160100000000000000B133BE27A005FFECFFA10000C350",
         0,
         2,
+        None,
     ),
     (
         "00090000000000000000B101150100000000000000B133BE27A005FFECFFA10000C350",
         255,
         2,
+        None,
     ),
     // no line, one of the last ASCII, two, and the longest
-    ("00020203000103", 0, 2),
-    ("000202030002037F", 0, 2),
-    ("0002020300020341000303417E", 0, 3),
-    ("0002020F02BC03", 699, 2),
-];
-
-// A part of a frame is cut short.
-const CUT: &[Stream] = &[
-    ("00", 0, 0),
-    ("02BC", 0, 0),
-    ("00090000000000000000", 0, 0),
-    ("00090000000000000000B100", 0, 1),
+    ("00020203000103", 0, 2, None),
+    ("000202030002037F", 0, 2, None),
+    ("0002020300020341000303417E", 0, 3, None),
+    ("0002020F02BC03", 699, 2, None),
+    // parts of frames
+    ("00", 0, 0, CUT_SHORT),
+    ("02BC", 0, 0, CUT_SHORT),
+    ("00090000000000000000", 0, 0, CUT_SHORT),
+    ("00090000000000000000B100", 0, 1, CUT_SHORT),
     (
         concat!(
             "00090000000000000000B100270100000000000000B133BE27A005FFECFFA10000C35040F17DBE490002",
@@ -112,95 +115,75 @@ const CUT: &[Stream] = &[
         ),
         0,
         1,
+        CUT_SHORT,
     ),
-    ("0002020302BC03", 698, 1),
-];
-
-// A length above 700 is too long.
-const TOO_LONG: &[Stream] = &[
-    ("02BD", 0, 0),
-    ("FFFF", 9, 0),
-    ("00090000000000000000B102BD", 701, 1),
+    ("0002020302BC03", 698, 1, CUT_SHORT),
+    // lengths above 700
+    ("02BD", 0, 0, TOO_LONG),
+    ("FFFF", 9, 0, TOO_LONG),
+    ("00090000000000000000B102BD", 701, 1, TOO_LONG),
     // what follows a fault says nothing
-    ("02BD00020203", 0, 0),
-];
-
-// Other content is no message.
-const NO_MESSAGES: &[Stream] = &[
+    ("02BD00020203", 0, 0, TOO_LONG),
     // no content, no kind of these, and nothing behind a fault
-    ("0000", 0, 0),
-    ("000104", 0, 0),
-    ("00021141", 0, 0),
-    ("000000020203", 0, 0),
+    ("0000", 0, 0, NO_MESSAGE),
+    ("000104", 0, 0, NO_MESSAGE),
+    ("00021141", 0, 0, NO_MESSAGE),
+    ("000000020203", 0, 0, NO_MESSAGE),
     // greetings that are too short, too long, or of no application
-    ("000800000000000000B1", 0, 0),
-    ("000A0000000000000000B100", 0, 0),
-    ("000102", 0, 0),
-    ("0003020300", 0, 0),
-    ("00020210", 0, 0),
+    ("000800000000000000B1", 0, 0, NO_MESSAGE),
+    ("000A0000000000000000B100", 0, 0, NO_MESSAGE),
+    ("000102", 0, 0, NO_MESSAGE),
+    ("0003020300", 0, 0, NO_MESSAGE),
+    ("00020210", 0, 0, NO_MESSAGE),
     // a copy that is too short, and one of 256 bytes
     (
         "00090000000000000000B100150100000000000000B133BE27A005FFECFFA10000C3",
         0,
         1,
+        NO_MESSAGE,
     ),
     (
         "00090000000000000000B101160100000000000000B133BE27A005FFECFFA10000C350",
         256,
         1,
+        NO_MESSAGE,
     ),
     // bytes that aren't ASCII, and newlines
-    ("0002020300020380", 0, 1),
-    ("00020203000403410A41", 0, 1),
-];
-
-// Each message has its link.
-const LINKS: &[Stream] = &[
-    // before a greeting
-    (COPY, 0, 0),
-    ("00020341", 0, 0),
+    ("0002020300020380", 0, 1, NO_MESSAGE),
+    ("00020203000403410A41", 0, 1, NO_MESSAGE),
+    // messages that their links don't have: before a greeting
+    (COPY, 0, 0, NO_MESSAGE),
+    ("00020341", 0, 0, NO_MESSAGE),
     // a second greeting
-    ("00090000000000000000B100090000000000000000B1", 0, 1),
-    ("00090000000000000000B100020203", 0, 1),
-    ("0002020300020203", 0, 1),
+    (
+        "00090000000000000000B100090000000000000000B1",
+        0,
+        1,
+        NO_MESSAGE,
+    ),
+    ("00090000000000000000B100020203", 0, 1, NO_MESSAGE),
+    ("0002020300020203", 0, 1, NO_MESSAGE),
     // another gateway's copy, a line of a gateway, and a copy of an application
     (
         "00090000000000000000B100160100000000000000B233BE27A005FFECFFA10000C350",
         0,
         1,
+        NO_MESSAGE,
     ),
-    ("00090000000000000000B100020341", 0, 1),
+    ("00090000000000000000B100020341", 0, 1, NO_MESSAGE),
     (
         "0002020300160100000000000000B133BE27A005FFECFFA10000C350",
         0,
         1,
+        NO_MESSAGE,
     ),
-];
-
-// Streams, the fault that each of them has, and what its end is refused.
-const STREAMS: &[(&[Stream], Option<Refusal>, Option<Refusal>)] = &[
-    (FRAMES, None, None),
-    (CUT, None, Some(Refusal::CutShort)),
-    (
-        TOO_LONG,
-        Some(Refusal::FrameTooLong),
-        Some(Refusal::FrameTooLong),
-    ),
-    (
-        NO_MESSAGES,
-        Some(Refusal::BadMessage),
-        Some(Refusal::BadMessage),
-    ),
-    (LINKS, Some(Refusal::BadMessage), Some(Refusal::BadMessage)),
 ];
 
 #[test]
 fn streams_say_their_messages(rt: HostRuntime) {
-    for (streams, fault, end) in STREAMS {
-        for stream in *streams {
-            let says = says(rt.alloc(), *stream, *fault, *end);
-            assert!(rt; says, "{}", stream.0);
-        }
+    for stream in STREAMS {
+        let says = says(rt.alloc(), stream);
+        assert!(rt; says, "{}", stream.0);
     }
 }
 

@@ -1,6 +1,5 @@
 // Journals with changes, behind whole records as every entry was before changes came, in version 1.
 // The bytes were laid out by hand, from the format.
-use crate::store_joins_tests::JOIN_1;
 use devices::{Application, AskedBytes, Command, Queueing, Tag};
 use disk::{Image, MemDisk, Sim};
 use lw_types::{Eui, Refusal, read_hex};
@@ -161,6 +160,9 @@ fn queueing(alloc: Global, tag: u32) -> Result<Command, Refusal> {
     }
 }
 
+// A Join-Request of the device, made by Python's `cryptography`.
+const JOIN: &str = "000807060504030201181716151413121101009E7419CE";
+
 // The entries of a batch: the device is provisioned, an item is queued for it, and it joins.
 fn entries(alloc: Global) -> Result<Vec<u8>, Refusal> {
     let mut batch = Batch::new(alloc)?;
@@ -180,7 +182,7 @@ fn add_changes(alloc: Global, table: &mut Table, batch: &mut Batch) -> Result<()
     if batch.len() >= Batch::MOST {
         return Err(Refusal::OutOfStep);
     }
-    add(alloc, table, 2, batch, heard(alloc, JOIN_1)?)
+    add(alloc, table, 2, batch, heard(alloc, JOIN)?)
 }
 
 // The entries of the item and, but for its session's keys, of the join.

@@ -1,5 +1,5 @@
 use crate::fixtures::{
-    DEVICE, current, empty_downlink, has_hex, item, items, name, new_device, session,
+    DEVICE, bytes, current, empty_downlink, has_hex, item, items, name, new_device, session,
 };
 use devices::{
     Activation, Application, Channels, Effect, Effects, Hearing, Hearings, Item, ItemQueue,
@@ -31,13 +31,15 @@ fn ranges_have_their_ends(rt: HostRuntime) {
     assert!(rt; NextDown::new((1 << 32) + 1).is_none());
 }
 
-// Whether a device may have these bytes for a MAC queue, which is made of a vector as of a slice.
-fn may_wait(alloc: Global, bytes: &[u8]) -> Option<bool> {
-    let Ok(vector) = Vec::from_slice(alloc, bytes) else {
+// Whether a device may have the bytes of a text, and so many of 06 behind them, for a MAC queue,
+// which is made of a vector as of a slice.
+fn may_wait(alloc: Global, hex: &str, count: usize) -> Option<bool> {
+    let bytes = bytes(alloc, hex, 0x06, count)?;
+    let Ok(vector) = Vec::from_slice(alloc, &bytes) else {
         return None;
     };
     match MacQueue::new(vector) {
-        Ok(queue) => Some(queue.as_slice() == bytes && is_made(alloc, bytes)),
+        Ok(queue) => Some(queue.as_slice() == bytes.as_slice() && is_made(alloc, &bytes)),
         Err(_) => Some(false),
     }
 }
@@ -52,24 +54,25 @@ fn is_made(alloc: Global, bytes: &[u8]) -> bool {
     }
 }
 
-const QUEUES: &[(&[u8], bool)] = &[
-    (&[], true),
-    (&[0x03, 0x50, 0x07, 0x00, 0x01], true),
-    (&[0x06, 0x04, 0x0F, 0x06], true),
-    (&[0x06, 0x04, 0x0F], true),
-    (&[0x06; 128], true),
-    (&[0x06; 129], false),
-    (&[0x03, 0x50, 0x07, 0x00], false),
-    (&[0x04], false),
-    (&[0x02], false),
-    (&[0x06, 0x0D], false),
-    (&[0x05, 0x00, 0x00, 0x00, 0x00], false),
+const QUEUES: &[(&str, usize, bool)] = &[
+    ("", 0, true),
+    ("0350070001", 0, true),
+    ("06040F06", 0, true),
+    ("06040F", 0, true),
+    ("", 128, true),
+    ("", 129, false),
+    ("03500700", 0, false),
+    ("04", 0, false),
+    ("02", 0, false),
+    ("060D", 0, false),
+    ("0500000000", 0, false),
 ];
 
 #[test]
 fn a_mac_queue_is_whole_commands_that_may_be_queued(rt: HostRuntime) {
-    for (bytes, may) in QUEUES {
-        assert!(rt; may_wait(rt.alloc(), bytes) == Some(*may), "{bytes:?}");
+    for (hex, count, may) in QUEUES {
+        let may_wait = may_wait(rt.alloc(), hex, *count);
+        assert!(rt; may_wait == Some(*may), "{hex}, and {count}");
     }
 }
 

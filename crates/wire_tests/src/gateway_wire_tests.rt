@@ -15,14 +15,12 @@ use lw_types::{Eui, JoinNonce, NetId, PhyPayload, Reception, Refusal, Words, wri
 use sessions::{Slots, Table};
 use std::alloc::{AllocError, Global};
 
-fn payload(alloc: Global, bytes: &[u8]) -> Option<Payload> {
-    let Ok(bytes) = Vec::from_slice(alloc, bytes) else {
-        return None;
-    };
-    Payload::new(bytes).ok()
+// A payload of the bytes of a text, and so many of A5 behind them.
+fn payload(alloc: Global, (hex, count): (&str, usize)) -> Option<Payload> {
+    Payload::new(bytes(alloc, hex, 0xA5, count)?).ok()
 }
 
-// A frame of the bytes of a text and so many of A5 behind them, in a downlink, one second later.
+// A frame of such bytes in a downlink, one second later.
 fn downlink(
     alloc: Global,
     data_rate: u8,
@@ -49,7 +47,7 @@ fn downlink(
 }
 
 // A payload of the last session that there may be, at its last counter.
-fn forward(alloc: Global, bytes: &[u8]) -> Option<Effect> {
+fn forward(alloc: Global, bytes: (&str, usize)) -> Option<Effect> {
     let (application, session) = (Application::new(3)?, name(16_777_215)?);
     let (port, copies) = (Port::new(223)?, Copies::new(32)?);
     Some(Effect::Forward {
@@ -69,40 +67,40 @@ fn forward(alloc: Global, bytes: &[u8]) -> Option<Effect> {
     })
 }
 
-// What leaves: a frame of these bytes and so many of A5 behind them, an accept, a payload, and the
-// reports.
+// What leaves: a frame, an accept, a payload, and the reports.
 enum Leaving {
-    Down(u8, ReceiveWindows, &'static str, usize),
+    Down(u8, ReceiveWindows, &'static str),
     Accept,
-    Up(&'static [u8]),
+    Up(&'static str),
     Spent,
     Provisioned(u16),
     Queued(u32),
     Acked(u32),
     Lost(u32),
-    MacQueued(&'static [u8]),
-    Mac(&'static [u8]),
+    MacQueued(&'static str),
+    Mac(&'static str),
 }
 
-fn effect(alloc: Global, leaving: &Leaving) -> Option<Effect> {
+// An effect whose bytes end with so many of A5.
+fn effect(alloc: Global, leaving: &Leaving, count: usize) -> Option<Effect> {
     match leaving {
-        Leaving::Down(data_rate, windows, hex, count) => {
-            downlink(alloc, *data_rate, *windows, (hex, *count))
+        Leaving::Down(data_rate, windows, hex) => {
+            downlink(alloc, *data_rate, *windows, (hex, count))
         }
         Leaving::Accept => Some(Effect::Accept {
             session: name(1)?,
             downlink: empty_downlink(alloc)?,
         }),
-        Leaving::Up(bytes) => forward(alloc, bytes),
+        Leaving::Up(hex) => forward(alloc, (hex, count)),
         _ => Some(Effect::Report {
             application: Application::new(3)?,
             dev_eui: DEVICE,
-            report: report(alloc, leaving)?,
+            report: report(alloc, leaving, count)?,
         }),
     }
 }
 
-fn report(alloc: Global, leaving: &Leaving) -> Option<Report> {
+fn report(alloc: Global, leaving: &Leaving, count: usize) -> Option<Report> {
     let join_nonce = JoinNonce::new(1)?;
     match leaving {
         Leaving::Spent => Some(Report::Spent { join_nonce }),
@@ -110,44 +108,42 @@ fn report(alloc: Global, leaving: &Leaving) -> Option<Report> {
         Leaving::Queued(tag) => Some(Report::Queued { tag: Tag(*tag) }),
         Leaving::Acked(tag) => Some(Report::Acked { tag: Tag(*tag) }),
         Leaving::Lost(tag) => Some(Report::Lost { tag: Tag(*tag) }),
-        Leaving::MacQueued(bytes) => Some(Report::MacQueued {
-            commands: payload(alloc, bytes)?,
+        Leaving::MacQueued(hex) => Some(Report::MacQueued {
+            commands: payload(alloc, (hex, count))?,
         }),
-        Leaving::Mac(bytes) => Some(Report::Mac {
+        Leaving::Mac(hex) => Some(Report::Mac {
             join_nonce,
-            commands: payload(alloc, bytes)?,
+            commands: payload(alloc, (hex, count))?,
         }),
         _ => None,
     }
 }
 
-// The longest payload.
-const LONG: &[u8] = &[0xA5; 242];
-
-// What leaves, and as what: a text, so many of A5 in hex, and a text. A gateway is sent these
-// bytes, and the application of number 3 is told this line.
+// What leaves, and as what: a text, so many of A5 in hex, with which the bytes of what leaves end,
+// and a text. A gateway is sent these bytes, and the application of number 3 is told this line. The
+// longest payload has 242 bytes.
 const EFFECTS: &[(Leaving, &str, usize, &str)] = &[
     // The shortest downlink, a long one, and the longest.
     (
-        Leaving::Down(0, ReceiveWindows::Rx1OrRx2, "6001000054300000AABBCCDD", 0),
+        Leaving::Down(0, ReceiveWindows::Rx1OrRx2, "6001000054300000AABBCCDD"),
         "00201100000000000000B10000C35033BE27A00001026001000054300000AABBCCDD",
         0,
         "",
     ),
     (
-        Leaving::Down(5, ReceiveWindows::Rx1, "600100005400010007", 104),
+        Leaving::Down(5, ReceiveWindows::Rx1, "600100005400010007"),
         "00851100000000000000B10000C35033BE27A0050100600100005400010007",
         104,
         "",
     ),
     (
-        Leaving::Down(0, ReceiveWindows::Rx1OrRx2, "", 255),
+        Leaving::Down(0, ReceiveWindows::Rx1OrRx2, ""),
         "01131100000000000000B10000C35033BE27A0000102",
         255,
         "",
     ),
     (
-        Leaving::Down(5, ReceiveWindows::Rx1OrRx2, "", 25),
+        Leaving::Down(5, ReceiveWindows::Rx1OrRx2, ""),
         "002D1100000000000000B10000C35033BE27A0050102",
         25,
         "",
@@ -159,13 +155,13 @@ const EFFECTS: &[(Leaving, &str, usize, &str)] = &[
         "",
     ),
     (
-        Leaving::Up(&[0x00, 0xFF]),
+        Leaving::Up("00FF"),
         "up 1112131415161718 16777215 4294967295 223 00FF 32 00000000000000B1 868100000 5 -20 -95",
         0,
         "",
     ),
     (
-        Leaving::Up(LONG),
+        Leaving::Up(""),
         "up 1112131415161718 16777215 4294967295 223 ",
         242,
         " 32 00000000000000B1 868100000 5 -20 -95",
@@ -186,25 +182,20 @@ const EFFECTS: &[(Leaving, &str, usize, &str)] = &[
     ),
     (Leaving::Lost(0), "lost 1112131415161718 0", 0, ""),
     (
-        Leaving::MacQueued(&[0x06]),
+        Leaving::MacQueued("06"),
         "macqueued 1112131415161718 06",
         0,
         "",
     ),
     (
-        Leaving::MacQueued(LONG),
+        Leaving::MacQueued(""),
         "macqueued 1112131415161718 ",
         242,
         "",
     ),
-    (
-        Leaving::Mac(&[0x03, 0x07]),
-        "mac 1112131415161718 1 0307",
-        0,
-        "",
-    ),
-    (Leaving::Mac(&[]), "mac 1112131415161718 1 -", 0, ""),
-    (Leaving::Mac(LONG), "mac 1112131415161718 1 ", 242, ""),
+    (Leaving::Mac("0307"), "mac 1112131415161718 1 0307", 0, ""),
+    (Leaving::Mac(""), "mac 1112131415161718 1 -", 0, ""),
+    (Leaving::Mac(""), "mac 1112131415161718 1 ", 242, ""),
 ];
 
 // A text, so many of A5 in hex, and a text.
@@ -213,15 +204,16 @@ fn long_text(alloc: Global, front: &str, count: usize, back: &str) -> Result<Str
     format!(in alloc; "{front}{hex}{back}")
 }
 
-// Whether it is these bytes for the gateway, or this line for application 3.
-fn is_emission(alloc: Global, emission: &Emission, wanted: &str) -> bool {
+// The bytes for the gateway, or the line for application 3, as a text.
+fn shown(alloc: Global, emission: &Emission) -> Option<String> {
     match emission {
-        Emission::Gateway { gateway, frame } => {
-            *gateway == GATEWAY && has_hex(alloc, frame.as_slice(), wanted)
+        Emission::Gateway { gateway, frame } if *gateway == GATEWAY => {
+            write_hex(alloc, frame.as_slice()).ok()
         }
-        Emission::Application { application, line } => {
-            application.get() == 3 && line.as_str() == wanted
+        Emission::Application { application, line } if application.get() == 3 => {
+            format!(in alloc; "{}", line.as_str()).ok()
         }
+        _ => None,
     }
 }
 
@@ -235,42 +227,27 @@ fn is_alone(alloc: Global, effect: &Effect, wanted: &str) -> bool {
     }
 }
 
-fn leaves_as(alloc: Global, effect: &Effect, wanted: &str) -> bool {
-    match Emission::of(alloc, effect) {
-        Ok(emission) => { is_alone(alloc, effect, wanted) && is_emission(alloc, &emission, wanted) }
-        Err(_) => false,
+fn left_as(alloc: Global, effect: &Effect) -> Option<String> {
+    let text = shown(alloc, &Emission::of(alloc, effect).ok()?)?;
+    if is_alone(alloc, effect, &text) {
+        Some(text)
+    } else {
+        None
     }
 }
 
-fn leaves(alloc: Global, leaving: &Leaving, (front, count, back): (&str, usize, &str)) -> bool {
-    match (effect(alloc, leaving), long_text(alloc, front, count, back)) {
-        (Some(effect), Ok(text)) => leaves_as(alloc, &effect, &text),
-        _ => false,
-    }
-}
-
-// What leaves, as a text.
-fn shown(alloc: Global, emission: &Emission) -> Result<String, Refusal> {
-    match emission {
-        Emission::Gateway { frame, .. } => Ok(write_hex(alloc, frame.as_slice())?),
-        Emission::Application { line, .. } => Ok(format!(in alloc; "{}", line.as_str())?),
-    }
-}
-
-fn shown_of(alloc: Global, leaving: &Leaving) -> Result<String, Refusal> {
-    match emission(alloc, leaving) {
-        Some(emission) => shown(alloc, &emission),
-        None => Ok(format!(in alloc; "nothing")?),
-    }
+// What leaves, as a text, where it is for the gateway or application 3, and for it alone.
+fn shown_of(alloc: Global, leaving: &Leaving, count: usize) -> Option<String> {
+    left_as(alloc, &effect(alloc, leaving, count)?)
 }
 
 // What is wrong in the table, a line a row.
 fn wrong_effects(alloc: Global) -> Result<String, Refusal> {
     let mut wrong = String::new(alloc);
     for (number, (leaving, front, count, back)) in EFFECTS.iter().enumerate() {
-        if !leaves(alloc, leaving, (front, *count, back)) {
-            let wanted = long_text(alloc, front, *count, back)?;
-            let got = shown_of(alloc, leaving)?;
+        let wanted = long_text(alloc, front, *count, back)?;
+        let got = shown_of(alloc, leaving, *count).unwrap_or(String::new(alloc));
+        if got != wanted {
             let line = format!(in alloc;
                 "\ngateway_wire_tests.rt EFFECTS {number}: wanted {wanted}, got {got}"
             )?;
@@ -291,7 +268,7 @@ fn forward_is_marked(alloc: Global) -> Option<bool> {
         session: name(16_777_215)?,
         counter: 4_294_967_295,
     };
-    Some(forward(alloc, &[])?.mark() == Some(mark))
+    Some(forward(alloc, ("", 0))?.mark() == Some(mark))
 }
 
 #[test]
@@ -299,8 +276,8 @@ fn a_forward_has_its_mark(rt: HostRuntime) {
     assert!(rt; forward_is_marked(rt.alloc()) == Some(true));
 }
 
-fn emission(alloc: Global, leaving: &Leaving) -> Option<Emission> {
-    Emission::of(alloc, &effect(alloc, leaving)?).ok()
+fn emission(alloc: Global, leaving: &Leaving, count: usize) -> Option<Emission> {
+    Emission::of(alloc, &effect(alloc, leaving, count)?).ok()
 }
 
 // Whether an emission is as its copy, and not as that of another slot.
@@ -314,8 +291,8 @@ fn are_told_apart(emission: &Emission, other: &Emission) -> bool {
 
 fn slots_are_told_apart(alloc: Global) -> bool {
     match (
-        emission(alloc, &Leaving::Provisioned(7)),
-        emission(alloc, &Leaving::Provisioned(8)),
+        emission(alloc, &Leaving::Provisioned(7), 0),
+        emission(alloc, &Leaving::Provisioned(8), 0),
     ) {
         (Some(emission), Some(other)) => are_told_apart(&emission, &other),
         _ => false,
@@ -380,18 +357,16 @@ fn a_provisioning_is_read_and_is_a_command(rt: HostRuntime) {
 
 // What a line asks for: an item of this tag, port, kind and payload, or these MAC commands.
 enum Asks {
-    Item(u32, u8, bool, &'static [u8]),
-    Mac(&'static [u8]),
+    Item(u32, u8, bool, &'static str),
+    Mac(&'static str),
 }
 
-fn asked(alloc: Global, bytes: &[u8]) -> Option<AskedBytes> {
-    let Ok(bytes) = Vec::from_slice(alloc, bytes) else {
-        return None;
-    };
-    AskedBytes::new(bytes).ok()
+fn asked(alloc: Global, hex: &str, count: usize) -> Option<AskedBytes> {
+    AskedBytes::new(bytes(alloc, hex, 0xA5, count)?).ok()
 }
 
-fn command(alloc: Global, asks: &Asks) -> Option<Command> {
+// A command whose bytes end with so many of A5.
+fn command(alloc: Global, asks: &Asks, count: usize) -> Option<Command> {
     let application = Application::new(3)?;
     match asks {
         Asks::Item(tag, port, confirmed, payload) => Some(Command::Queue(Queueing {
@@ -400,12 +375,12 @@ fn command(alloc: Global, asks: &Asks) -> Option<Command> {
             tag: Tag(*tag),
             port: *port,
             confirmed: *confirmed,
-            payload: asked(alloc, payload)?,
+            payload: asked(alloc, payload, count)?,
         })),
         Asks::Mac(commands) => Some(Command::QueueMac(MacQueueing {
             application,
             dev_eui: DEVICE,
-            commands: asked(alloc, commands)?,
+            commands: asked(alloc, commands, count)?,
         })),
     }
 }
@@ -420,37 +395,40 @@ fn asks_for(alloc: Global, line: &str, command: &Command) -> Option<bool> {
 
 // Whether the line, with so many of A5 in hex behind it, does.
 fn is_asked(alloc: Global, front: &str, count: usize, asks: &Asks) -> Option<bool> {
-    match (command(alloc, asks), long_text(alloc, front, count, "")) {
+    match (
+        command(alloc, asks, count),
+        long_text(alloc, front, count, ""),
+    ) {
         (Some(command), Ok(line)) => asks_for(alloc, &line, &command),
         _ => None,
     }
 }
 
-// Lines, each with so many of A5 in hex behind it, and what they ask for; the fourth item is too
-// long for any data rate.
+// Lines, each with so many of A5 in hex behind it, and what they ask for, with so many behind its
+// bytes; the fourth item is too long for any data rate.
 const REQUESTS: &[(&str, usize, Asks)] = &[
     (
         "queue 1112131415161718 9 7 u AA",
         0,
-        Asks::Item(9, 7, false, &[0xAA]),
+        Asks::Item(9, 7, false, "AA"),
     ),
     (
         "queue 1112131415161718 0 0 c -",
         0,
-        Asks::Item(0, 0, true, &[]),
+        Asks::Item(0, 0, true, ""),
     ),
     (
         "queue 1112131415161718 4294967295 255 c 00FF",
         0,
-        Asks::Item(4_294_967_295, 255, true, &[0x00, 0xFF]),
+        Asks::Item(4_294_967_295, 255, true, "00FF"),
     ),
     (
         "queue 1112131415161718 9 7 u ",
         243,
-        Asks::Item(9, 7, false, &[0xA5; 243]),
+        Asks::Item(9, 7, false, ""),
     ),
-    ("mac 1112131415161718 06", 0, Asks::Mac(&[0x06])),
-    ("mac 1112131415161718 -", 0, Asks::Mac(&[])),
+    ("mac 1112131415161718 06", 0, Asks::Mac("06")),
+    ("mac 1112131415161718 -", 0, Asks::Mac("")),
 ];
 
 #[test]

@@ -1,0 +1,16 @@
+//! Tests of the public calls of the store over images that were laid out by hand, by older programs
+//! too, or spoiled. They stand above it, so that it is proved once.
+#![tactic(auto)]
+
+#[cfg(test)]
+mod changes_tests;
+#[cfg(test)]
+mod channels_tests;
+#[cfg(test)]
+mod faults_tests;
+#[cfg(test)]
+mod fronts_tests;
+#[cfg(test)]
+mod images_tests;
+#[cfg(test)]
+mod versions_tests;
