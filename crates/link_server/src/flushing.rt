@@ -1,12 +1,16 @@
 // The flusher commits what was decided, and lets its effects out.
-ghost use Rattle.std.specs.Prelude.{IsTrue};
+ghost use Rattle.std.specs.Prelude.{ℕ, IsTrue};
+ghost use Rattle.directory.specs.declared.names.Directory.{Directory};
+ghost use Rattle.flusher.specs.Released.{effects_of_all};
 ghost use Rattle.link_server.specs.Served.{IsLedOn};
+ghost use Rattle.server_links.specs.Routing.{IsRouted};
 ghost use Rattle.store.specs.State.{store_state};
 
-use crate::server::LiveServer;
 use directory::{APPLICATIONS, Directory};
 use disk::Disk;
 use flusher::{Drawn, Released, serve};
+use gateway_wire::Recipient;
+use link_workers::LiveServer;
 use lw_types::Refusal;
 use outbox::Outlet;
 use server_links::{MOST_PLACES, route};
@@ -64,7 +68,10 @@ fn let_out<B: Books, R: Wait>(
     server: &LiveServer<B>,
     outlets: &mut [Outlet],
     released: Vec<Released>,
-) {
+)
+    ensures routed { (directory : Directory) × ((lost : ℕ)
+        × IsRouted directory (effects_of_all released.items) lost outlets.old outlets.new) }
+{
     server.signals.count_commit();
     if server.is_watched() {
         tell_joins(rt, server, released.as_slice());
@@ -76,11 +83,20 @@ fn let_out<B: Books, R: Wait>(
     mark_links(&directory, server.links.len(), &mut marks);
     drop(directory);
     server.signals.count_dropped(lost as u64);
+    tell_missed(rt, server, missed);
+    ring_links(server, &marks);
+}
+
+// Operators who watch are told whom the effects were for that were lost.
+fn tell_missed<B: Books, R: Wait>(rt: &R, server: &LiveServer<B>, missed: Vec<Recipient>) {
     for name in missed {
         server.tell(rt, Sight::Dropped(name, 1));
     }
+}
+
+fn ring_links<B: Books>(server: &LiveServer<B>, marks: &[bool]) {
     for (link, is_marked) in server.links.iter().zip(marks) {
-        if is_marked {
+        if *is_marked {
             link.bell.unpark();
         }
     }

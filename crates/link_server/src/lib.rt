@@ -4,22 +4,14 @@
 //! life of them.
 #![tactic(auto)]
 
-mod attending;
-mod closing;
-mod context;
 mod flushing;
-mod hosting;
-mod observing;
 mod parts;
-mod reading;
 mod report;
 mod running;
-mod server;
 mod serving;
-mod status;
 mod threads;
 
-pub use attending::{BUSY, WATCHING};
+pub use link_workers::{BUSY, WATCHING};
 pub use report::{LifeReport, ServedLife};
 pub use server_links::{
     Gate, LifeClock, LinkCount, Monotonic, OpenGate, Order, PlaceCount, ServeFault,

@@ -1,14 +1,14 @@
 // What the threads of a life own, before they are started.
-ghost use Rattle.std.specs.Prelude.{◌≡◌, ◌+◌};
+ghost use Rattle.std.specs.Prelude.{◌≡◌, ◌+◌, ◌++◌, List, length, map, IfOk};
+ghost use Rattle.link_server.specs.Rings.{AreNewRings};
 
 use directory::APPLICATIONS;
 use lw_types::Refusal;
 use outbox::{Inlet, Outlet, ring};
 use rtrb::{Consumer, Producer, RingBuffer};
-use server_links::{PLACES, WaitingLines};
+use server_links::PLACES;
 use session_core::{Books, Seat, Shared};
 use std::alloc::Global;
-use std::sync::Mutex;
 
 /// What the two threads of a link own: the worker a seat and the end of a ring into which refusals
 /// go, the sender the ends from which effects and refusals come.
@@ -34,6 +34,9 @@ impl<B: Books> Parts<B> {
     /// memory.
     pub(crate) fn new(alloc: Global, shared: &mut Shared<B>, links: usize) -> Result<Self, Refusal>
         requires { shared.old.left ≡ links + 1 }
+        ensures links { IfOk result (λ parts. length parts.links.items ≡ links) }
+        ensures rings { IfOk result (λ parts. AreNewRings PLACES parts.outlets.items
+            (map (λ (link : LinkParts B). link.inlet) parts.links.items)) }
     {
         let mut all = Vec::new(alloc);
         let mut outlets = Vec::new(alloc);
@@ -58,12 +61,17 @@ impl<B: Books> Parts<B> {
 
     /// A ring for each application, behind those of the links: what leaves for it waits there, also
     /// while it has no link. Refused with `OutOfMemory` for want of memory.
-    pub(crate) fn add_lines(&mut self, alloc: Global) -> Result<Vec<WaitingLines>, Refusal> {
+    pub(crate) fn add_lines(&mut self, alloc: Global) -> Result<Vec<Inlet>, Refusal>
+        ensures lines { IfOk result (λ inlets. length inlets.items ≡ APPLICATIONS) }
+        ensures rings { IfOk result (λ inlets. (added : List Outlet)
+            × ((self.new.outlets.items ≡ self.old.outlets.items ++ added)
+            × AreNewRings PLACES added inlets.items)) }
+    {
         let mut all = Vec::new(alloc);
         for _application in 0..APPLICATIONS {
             let (outlet, inlet) = ring(alloc, PLACES)?;
             self.outlets.push(outlet)?;
-            all.push(Mutex::new(Some(inlet)))?;
+            all.push(inlet)?;
         }
         Ok(all)
     }

@@ -2,17 +2,12 @@
 ghost use Rattle.link_server.specs.Served.{IsLedOn};
 ghost use Rattle.store.specs.State.{store_state};
 
-use crate::attending::Attendant;
-use crate::closing::Closer;
-use crate::context::Context;
 use crate::flushing::flush;
-use crate::hosting::Host;
 use crate::parts::{LinkParts, Parts};
-use crate::reading::Worker;
-use crate::server::LiveServer;
 use crate::threads::{start_attendant, start_closer, start_host, start_sender, start_worker};
 use disk::Disk;
 use link_messages::Feeder;
+use link_workers::{Attendant, Closer, Context, Host, LiveServer, Worker};
 use lw_types::Refusal;
 use server_links::{ATTENDANTS, Gate, LifeClock, Outgoing, Sender, Socket, Spare};
 use session_core::{Books, Seat, Taker};

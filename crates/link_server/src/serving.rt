@@ -1,17 +1,19 @@
 // One life of a server.
-ghost use Rattle.std.specs.Prelude.{◌≡◌, ◌≤◌, ◌+◌, length, sum, Err, IfOk, MatchResult};
+ghost use Rattle.std.specs.Prelude.{◌≡◌, ◌≤◌, ◌+◌, length, sum, Err, IfOk};
+ghost use Rattle.std.specs.Prelude.{map, option_map, MatchResult};
 ghost use Rattle.lw_types.specs.declared.refusal.Refusal.TheVariants.{OutOfMemory};
 ghost use Rattle.link_server.specs.Served.{IsLedOn};
+ghost use Rattle.session_core.specs.Core.{new_core};
 ghost use Rattle.store.specs.State.{store_state};
 
-use crate::context::Context;
 use crate::parts::Parts;
 use crate::running::{LifeEnd, run};
-use crate::server::LiveServer;
 use crate::{LifeReport, ServedLife};
 use directory::Directory;
 use disk::Disk;
+use link_workers::{Context, LiveServer};
 use lw_types::Refusal;
+use outbox::Inlet;
 use server_links::{
     ControlSocket, Door, Gate, LifeClock, Link, LinkCount, PlaceCount, ServeFault, Signals,
     WaitingLines, accept, empty_places,
@@ -96,8 +98,8 @@ pub fn serve_links<
 /// fault; then its name and its place are free, its sender writes what waits, and gives up a peer
 /// that takes nothing for eight seconds. **A greeting with a name that has a link takes it over**:
 /// the older link is closed at once, and what waits for it is dropped, and counted. So is what
-/// finds no gateway of its name. What leaves on a link is for the name of that link, whoever had its
-/// place before. Who comes while all places are taken waits for one.
+/// finds no gateway of its name. What leaves on a link is for the name of that link, whoever had
+/// its place before. Who comes while all places are taken waits for one.
 ///
 /// What leaves for an application waits while it has no link, 1,024 lines at most, and goes on in
 /// its order on the next link that it has, but for what was being written when a link failed. What
@@ -208,6 +210,8 @@ fn serve_life<
     requires made { (made.name ≡ B.made_name) × (made.parts ≡ B.made_parts)
         × (made.parts ≡ length new_life.links.items + 1) }
     requires taken { (taken.name ≡ B.taken_name) × (taken.parts ≡ 1) }
+    requires core { new_life.core
+        ≡ new_core (store_state D.state store).table (store_state D.state store).seq }
     ensures shares { IfOk result.result (λ report. sum report.shares.items ≡ report.made) }
     ensures lives { D.honest
         → IsLedOn (store_state D.state store) (store_state D.state result.store) }
@@ -275,12 +279,23 @@ fn named<B: Books>(
     links: usize,
 ) -> Result<(Directory, Vec<WaitingLines>), Refusal>
     requires { links ≤ 96 }
+    ensures rings { IfOk result (λ named. named.0.first_ring ≡ option_map (λ _. links) door.now) }
 {
     if door.is_none() {
         return Ok((Directory::new(alloc, None)?, Vec::new(alloc)));
     }
-    let lines = parts.add_lines(alloc)?;
-    Ok((Directory::new(alloc, Some(links as u16))?, lines))
+    let inlets = parts.add_lines(alloc)?;
+    let directory = Directory::new(alloc, Some(links as u16))?;
+    Ok((directory, waiting_lines(alloc, inlets)?))
+}
+
+// Each behind a lock, in the same order.
+fn waiting_lines(alloc: Global, inlets: Vec<Inlet>) -> Result<Vec<WaitingLines>, Refusal> {
+    let mut lines = Vec::new(alloc);
+    for inlet in inlets {
+        lines.push(Mutex::new(Some(inlet)))?;
+    }
+    Ok(lines)
 }
 
 // A seat that didn't come back is of a thread that was never started, for want of memory.
@@ -293,7 +308,7 @@ fn report<B: Books>(
 ) -> Result<LifeReport, ServeFault>
     requires { all ≡ B.made_parts }
     ensures sum { IfOk result (λ report. sum report.shares.items ≡ report.made) }
-    ensures shares { IfOk result (λ report. report.shares.items ≡ seats.items) }
+    ensures shares { IfOk result (λ report. report.shares.items ≡ map (λ s. s.made) seats.items) }
 {
     let Ok(shares) = shares_of(alloc, &seats) else {
         return Err(ServeFault::Refused(Refusal::OutOfMemory));
@@ -312,7 +327,7 @@ fn report<B: Books>(
 }
 
 fn shares_of<B: Books>(alloc: Global, seats: &Vec<Seat<B>>) -> Result<Vec<u64>, Refusal>
-    ensures { MatchResult result (λ shares. shares.items ≡ seats.now.items)
+    ensures { MatchResult result (λ shares. shares.items ≡ map (λ s. s.made) seats.now.items)
         (λ e. e ≡ OutOfMemory) }
 {
     let mut shares = Vec::new(alloc);

@@ -1,11 +1,6 @@
 // The threads of a life, each with its name.
-use crate::attending::Attendant;
-use crate::closing::Closer;
-use crate::hosting::Host;
-use crate::reading::Worker;
-use lw_types::Refusal;
-use rtrb::Consumer;
-use server_links::{Gate, HostSender, LifeClock, Sender};
+use link_workers::{Attendant, Closer, Host, Worker};
+use server_links::{Gate, LifeClock, Sender};
 use session_core::{Books, Seat};
 use std::alloc::Global;
 use std::sync::Wait;
@@ -62,21 +57,6 @@ pub(crate) fn start_host<
     Builder::new()
         .name(name)
         .spawn_scoped(scope, move || host.run())
-        .ok()
-}
-
-/// Starts the sender of one link of a place; `None` where that can't be.
-pub(crate) fn start_host_sender<'x, E, R: Wait + Sync>(
-    alloc: Global,
-    scope: &Scope<'x, E>,
-    number: usize,
-    sender: HostSender<'x, R>,
-    refusals: Consumer<Refusal>,
-) -> Option<JoinHandle<()>> {
-    let name = format!(in alloc; "link-{number}-out").ok()?;
-    Builder::new()
-        .name(name)
-        .spawn_scoped(scope, move || sender.run(refusals))
         .ok()
 }
 

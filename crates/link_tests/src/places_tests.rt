@@ -144,7 +144,8 @@ fn clients<R: Net<Listener = TcpListener, Stream = TcpStream>>(
     })
 }
 
-// What operators are told: how it goes, which devices there are, and what happens. The moments vary.
+// What operators are told: how it goes, which devices there are, and what happens. The moments
+// vary.
 const STATUS: &[&str] = &[
     "places 4\n",
     "gateways 1\n",

@@ -1,2 +1,3 @@
 mod Routed
 mod Together
+mod Written

@@ -1,14 +1,15 @@
 -- What one effect does to the rings.
-use Rattle.std.proofs.Common.{◌≡◌, ◌<◌, ◌+◌, ◌++◌, ◌∷◌, ℕ, List, [], Option, Some, refl, arith, ap, sym, ◌∙◌, subst, length, get_or, set, map}
+use Rattle.std.proofs.Common.{◌≡◌, ◌≢◌, ◌<◌, ◌≤◌, ◌+◌, ◌++◌, ◌∷◌, ℕ, Bool, true, false, List, [], Option, Some, refl, arith, ap, sym, ◌∙◌, subst, length, get_or, set, map, inl, inr, append_assoc}
 use Rattle.std.specs.Prelude.{slice_get}
 use Rattle.std.specs.Option.{option_map_or}
-use Rattle.std.proofs.lemmas.List.{map-set, get_or-map}
+use Rattle.std.proofs.lemmas.Bool.{cases_eq}
+use Rattle.std.proofs.lemmas.List.{map-set, get_or-map, length-map, get_or-set_same, get_or-set_other}
 use Rattle.std.proofs.lemmas.Option.{get_or_from_slice_get}
 use Rattle.std.proofs.Math.Seq.{map-set_same}
 use Rattle.devices.specs.declared.effect.Effect.{Effect}
 use Rattle.flusher.specs.Released.{effect_of, effects_of_all}
 use Rattle.flusher.specs.declared.released.Released.{Released}
-use Rattle.server_links.specs.Routing.{put_behind, rings_of, IsRouted, IsRoutedOne}
+use Rattle.server_links.specs.Routing.{put_behind, rings_of, AreMarked, IsMarked, IsRouted, IsRoutedOne}
 use Rattle.directory.specs.declared.names.Directory.{Directory}
 use Rattle.outbox.specs.Ring.{put_in, room_of}
 use Rattle.outbox.specs.declared.ends.Outlet.{Outlet}
@@ -63,3 +64,60 @@ routed_all directory all first [] lost outlets none kept =
 routed_all directory all first (one ∷ rest) lost outlets none kept =
     let no : ⊥ = omega (arith, none) in
     absurd no
+
+-- what came first and what came then has come
+pub marked_then : (before between now : Bool) (old middle new : List Effect)
+    → IsMarked before between old middle → IsMarked between now middle new → IsMarked before now old new
+marked_then before between now old middle new (inl (is, (effect, (more, grown)))) (inl (marked, (other, (rest, on)))) =
+    inl (marked, (effect, (more ++ other ∷ rest, on ∙ (ap (λ (ring : List Effect). ring ++ other ∷ rest) grown ∙ append_assoc old (effect ∷ more) (other ∷ rest)))))
+marked_then before between now old middle new (inl (is, (effect, (more, grown)))) (inr (same, on)) =
+    inl (same ∙ is, (effect, (more, on ∙ grown)))
+marked_then before between now old middle new (inr (kept, nothing)) (inl (marked, (other, (rest, on)))) =
+    inl (marked, (other, (rest, on ∙ ap (λ (ring : List Effect). ring ++ other ∷ rest) nothing)))
+marked_then before between now old middle new (inr (kept, nothing)) (inr (same, on)) = inr (same ∙ kept, on ∙ nothing)
+
+-- an effect came into a ring, which is marked
+pub marked_one : (before now : List Bool) (old middle new : List Outlet) (n : ℕ) (effect : Effect)
+    → AreMarked before now old middle → length now ≡ length before
+    → n < length middle → n < length now → rings_of new ≡ put_behind n effect (rings_of middle)
+    → AreMarked before (set now n true) old new
+marked_one before now old middle new n effect marked long within is_marked put ring low =
+    let rings = rings_of middle in
+    let behind = get_or rings n [] ++ effect ∷ [] in
+    let here : n < length rings = omega (arith, within, length-map middle put_in) in
+    let got : get_or (rings_of new) ring [] ≡ get_or (set rings n behind) ring [] = ap (λ (all : List (List Effect)). get_or all ring []) put in
+    marked_then (get_or before ring false) (get_or now ring false) (get_or (set now n true) ring false)
+    (get_or (rings_of old) ring []) (get_or rings ring []) (get_or (rings_of new) ring [])
+    (marked ring low)
+    (elim (cases_eq ring n) [
+      | inl same ↦
+          let P : ℕ → Type 0 = λ k. get_or (set rings n behind) k [] ≡ get_or rings k [] ++ effect ∷ [] in
+          let Q : ℕ → Type 0 = λ k. get_or (set now n true) k false ≡ true in
+          inl (
+            subst Q (sym same) (get_or-set_same now n true false is_marked),
+            (effect, ([], got ∙ subst P (sym same) (get_or-set_same rings n behind [] here))),
+          )
+      | inr other ↦
+          inr (get_or-set_other now n ring true false other, got ∙ get_or-set_other rings n ring behind [] other)
+    ])
+
+-- an effect came into a ring that has no mark
+pub marked_none : (before now : List Bool) (old middle new : List Outlet) (n : ℕ) (effect : Effect)
+    → AreMarked before now old middle → length now ≡ length before
+    → length now ≤ n → rings_of new ≡ put_behind n effect (rings_of middle)
+    → AreMarked before now old new
+marked_none before now old middle new n effect marked long beyond put ring low =
+    let rings = rings_of middle in
+    let behind = get_or rings n [] ++ effect ∷ [] in
+    let got : get_or (rings_of new) ring [] ≡ get_or (set rings n behind) ring [] = ap (λ (all : List (List Effect)). get_or all ring []) put in
+    let other : ring ≢ n = λ same. omega (arith, same, low, long, beyond) in
+    marked_then (get_or before ring false) (get_or now ring false) (get_or now ring false)
+    (get_or (rings_of old) ring []) (get_or rings ring []) (get_or (rings_of new) ring [])
+    (marked ring low) (inr (refl, got ∙ get_or-set_other rings n ring behind [] other))
+
+-- an effect came into none
+pub marked_lost : (before now : List Bool) (old middle new : List Outlet)
+    → AreMarked before now old middle → rings_of new ≡ rings_of middle → AreMarked before now old new
+marked_lost before now old middle new marked same ring low =
+    let P : List (List Effect) → Type 0 = λ all. IsMarked (get_or before ring false) (get_or now ring false) (get_or (rings_of old) ring []) (get_or all ring []) in
+    subst P (sym same) (marked ring low)

@@ -1,6 +1,7 @@
 -- How released effects come into the rings of their links.
-use Rattle.std.specs.Prelude.{◌≡◌, ◌+◌, ◌++◌, ◌∷◌, ℕ, List, [], Option, Some, map, slice_get}
-use Rattle.std.specs.Prelude.{slice_index_or, slice_set, MatchOption}
+use Rattle.std.specs.Prelude.{◌≡◌, ◌<◌, ◌+◌, ◌++◌, ◌∷◌, ◌⊎◌, ℕ, Bool, true, false, List, []}
+use Rattle.std.specs.Prelude.{Option, Some, length, map, slice_get, slice_index_or, slice_set}
+use Rattle.std.specs.Prelude.{MatchOption}
 use Rattle.std.specs.Option.{option_map_or}
 use Rattle.devices.specs.declared.effect.Effect.{Effect}
 use Rattle.gateway_wire.specs.Emission.{recipient}
@@ -39,3 +40,18 @@ IsRouted directory (effect ∷ effects) lost old new =
     × (IsRoutedOne directory effect got old between
     × ((lost ≡ option_map_or (λ ring. 0) got 1 + others)
     × IsRouted directory effects others between new))))
+
+-- something came into a ring, behind what was there
+abbrev pub HasGrown : List Effect → List Effect → Type 0
+HasGrown old new = (effect : Effect) × ((more : List Effect) × (new ≡ old ++ effect ∷ more))
+
+-- a ring into which something came is marked now; into one whose mark is as it was, nothing came
+abbrev pub IsMarked : Bool → Bool → List Effect → List Effect → Type 0
+IsMarked before now old new =
+    ((now ≡ true) × HasGrown old new) ⊎ ((now ≡ before) × (new ≡ old))
+
+-- each ring that has a mark is so marked
+abbrev pub AreMarked : List Bool → List Bool → List Outlet → List Outlet → Type 0
+AreMarked before now old new = (ring : ℕ) → ring < length before
+    → IsMarked (slice_index_or before ring false) (slice_index_or now ring false)
+    (slice_index_or (rings_of old) ring []) (slice_index_or (rings_of new) ring [])

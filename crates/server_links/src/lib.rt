@@ -1,6 +1,7 @@
 //! The links of a server over sockets: what is read from them in places, what their senders write,
 //! the rings that effects come by, what the threads of a life tell each other, and where operators
-//! come in and watch. The threads themselves stand in `link_server`, for which alone this is public.
+//! come in and watch. The threads themselves stand in `link_server`, for which alone this is
+//! public.
 #![tactic(auto)]
 
 mod control;

@@ -1,7 +1,7 @@
 // Released effects go into the rings of whoever is told of them.
-ghost use Rattle.std.specs.Prelude.{◌≡◌, length};
+ghost use Rattle.std.specs.Prelude.{◌≡◌, ◌<◌, length, IfSome};
 ghost use Rattle.flusher.specs.Released.{effect_of, effects_of_all};
-ghost use Rattle.server_links.specs.Routing.{IsRouted, IsRoutedOne};
+ghost use Rattle.server_links.specs.Routing.{AreMarked, IsRouted, IsRoutedOne};
 
 use directory::Directory;
 use flusher::Released;
@@ -11,7 +11,9 @@ use outbox::Outlet;
 /// Puts an effect into the ring of whoever is told of it, and gives the ring's number. `None` where
 /// there is no such ring, or it is full: the effect is lost.
 fn route_one(directory: &Directory, outlets: &mut [Outlet], released: Released) -> Option<usize>
-    ensures { IsRoutedOne directory.now (effect_of released) result outlets.old outlets.new }
+    ensures routed { IsRoutedOne directory.now (effect_of released) result outlets.old
+        outlets.new }
+    ensures within { IfSome result (λ ring. ring < length outlets.old) }
 {
     let number = directory.ring_of(&Recipient::of(released.effect()))?;
     if number >= outlets.len() {
@@ -23,8 +25,9 @@ fn route_one(directory: &Directory, outlets: &mut [Outlet], released: Released) 
     }
 }
 
-/// Puts effects into the rings of whoever is told of them, in order, and marks those rings. How many
-/// were lost; whom these were for stands in `missed`, as far as there is memory.
+/// Puts effects into the rings of whoever is told of them, in order, and marks those rings, as far
+/// as there are marks. How many were lost; whom these were for stands in `missed`, as far as there
+/// is memory.
 pub fn route(
     directory: &Directory,
     outlets: &mut [Outlet],
@@ -32,8 +35,9 @@ pub fn route(
     marks: &mut [bool],
     missed: &mut Vec<Recipient>,
 ) -> usize
-    ensures { IsRouted directory.now (effects_of_all released.items) result outlets.old
+    ensures routed { IsRouted directory.now (effects_of_all released.items) result outlets.old
         outlets.new }
+    ensures marked { AreMarked marks.old marks.new outlets.old outlets.new }
 {
     let mut lost: usize = 0;
     for one in released {

@@ -1,4 +1,8 @@
 // A sender writes a link.
+ghost use Rattle.std.specs.Prelude.{◌≡◌, option_map, IsTrue};
+ghost use Rattle.outbox.specs.Ring.{taken_from};
+ghost use Rattle.server_links.specs.Sending.{AreGathered, IsHandedOver, IsWrittenTo};
+
 use crate::gathering::{Gathered, add_refusal, gather};
 use crate::link::Link;
 use crate::outgoing::Outgoing;
@@ -81,15 +85,37 @@ impl<'x, R: Wait> Sender<'x, R> {
 
     // Sends some of what waits, refusals first. Whether there was something.
     fn send_some(&mut self) -> bool {
+        let mut stream = self.stream;
+        let handed = self.hand_over(&mut stream);
+        self.count_dropped(handed.dropped);
+        handed.is_some
+    }
+
+    // Gathers some of what waits, and writes it.
+    fn hand_over<W: Write>(&mut self, stream: &mut W) -> HandedOver
+        ensures written { IsHandedOver (option_map (λ name. name.now) self.new.name)
+            (taken_from self.old.inlet) (taken_from self.new.inlet) result.dropped
+            (W.contents stream.old) (W.contents stream.new) }
+    {
         self.outgoing.clear();
         let is_told = self.gather_refusals();
         let Gathered { taken, lost } = self.gather_effects();
-        let is_sent = self.is_broken || self.send();
+        let is_sent = self.is_broken
+            || send_bytes(
+                self.rt,
+                self.signals,
+                self.link,
+                &mut self.inlet,
+                self.outgoing.as_slice(),
+                stream,
+            );
         if !is_sent {
             self.is_broken = true;
         }
-        self.count_dropped(if is_sent { lost } else { taken });
-        is_told || taken > 0
+        HandedOver {
+            is_some: is_told || taken > 0,
+            dropped: if is_sent { lost } else { taken },
+        }
     }
 
     fn count_dropped(&self, lost: u64) {
@@ -103,7 +129,10 @@ impl<'x, R: Wait> Sender<'x, R> {
     }
 
     // Whether there was one.
-    fn gather_refusals(&mut self) -> bool {
+    fn gather_refusals(&mut self) -> bool
+        ensures inlet { self.new.inlet ≡ self.old.inlet }
+        ensures broken { self.new.is_broken ≡ self.old.is_broken }
+    {
         let mut some = false;
         for _ in 0..SOME {
             let Ok(refusal) = self.refusals.pop() else {
@@ -118,7 +147,13 @@ impl<'x, R: Wait> Sender<'x, R> {
     }
 
     // Nothing is there for a link on which nobody has greeted.
-    fn gather_effects(&mut self) -> Gathered {
+    fn gather_effects(&mut self) -> Gathered
+        ensures gathered { AreGathered (option_map (λ name. name.now) self.new.name)
+            (taken_from self.old.inlet) (taken_from self.new.inlet) result.taken result.lost
+            self.old.outgoing self.new.outgoing }
+        ensures broken { (self.new.is_broken ≡ self.old.is_broken)
+            × (IsTrue self.old.is_broken → result.lost ≡ result.taken) }
+    {
         if self.name.is_none() {
             self.name = self.link.name();
         }
@@ -133,33 +168,52 @@ impl<'x, R: Wait> Sender<'x, R> {
             self.is_broken,
         )
     }
+}
 
-    // Whether the link took all of it. While it takes nothing the sender waits, for ever, unless
-    // nothing more comes: then it gives the link up.
-    fn send(&mut self) -> bool {
-        let mut rest = self.outgoing.as_slice();
-        let mut waits: u32 = 0;
-        for _ in self.rt.forever() {
-            if rest.is_empty() {
-                return true;
-            }
-            if self.signals.is_stopped() || waits >= PATIENCE {
-                return false;
-            }
-            match write_some(self.stream, rest) {
-                Wrote::Some(left) => {
-                    rest = left;
-                    waits = 0;
-                }
-                Wrote::Nothing if self.link.is_over() || self.inlet.is_finished() => {
-                    waits = waits.saturating_add(1);
-                }
-                Wrote::Nothing => {}
-                Wrote::End => return false,
-            }
+// Whether the link took all of these bytes. While it takes nothing the sender waits, for ever,
+// unless nothing more comes: then it gives the link up.
+fn send_bytes<R: Wait, W: Write>(
+    rt: &R,
+    signals: &Signals,
+    link: &Link,
+    inlet: &mut Inlet,
+    bytes: &[u8],
+    stream: &mut W,
+) -> bool
+    ensures written { IsWrittenTo bytes.now result (W.contents stream.old)
+        (W.contents stream.new) }
+    ensures inlet { taken_from inlet.new ≡ taken_from inlet.old }
+{
+    let mut rest = bytes;
+    let mut waits: u32 = 0;
+    for _ in rt.forever() {
+        if rest.is_empty() {
+            return true;
         }
-        unreachable!()
+        if signals.is_stopped() || waits >= PATIENCE {
+            return false;
+        }
+        match stream.write(rest) {
+            Ok(0) => return false,
+            Ok(count) => {
+                rest = &rest[count..];
+                waits = 0;
+            }
+            Err(error) if !is_passing(error.kind()) => return false,
+            Err(_) if link.is_over() || inlet.is_finished() => {
+                waits = waits.saturating_add(1);
+            }
+            Err(_) => {}
+        }
     }
+    unreachable!()
+}
+
+// Whether there was something to be sent, and how many effects were lost.
+#[derive(Clone, Copy)]
+struct HandedOver {
+    is_some: bool,
+    dropped: u64,
 }
 
 /// What the senders of a place use, one after another.
@@ -261,26 +315,8 @@ impl<'x, R: Wait> HostSender<'x, R> {
     }
 }
 
-/// What one write did.
-enum Wrote<'a> {
-    /// It took some bytes, and these are left.
-    Some(&'a [u8]),
-    Nothing,
-    End,
-}
-
-fn write_some<'a>(stream: &TcpStream, bytes: &'a [u8]) -> Wrote<'a> {
-    let mut stream = stream;
-    match stream.write(bytes) {
-        Ok(0) => Wrote::End,
-        Ok(n) => Wrote::Some(&bytes[n..]),
-        Err(e) if is_passing(e.kind()) => Wrote::Nothing,
-        Err(_) => Wrote::End,
-    }
-}
-
-/// Whether a write that failed so may be tried again: it was interrupted, or nothing was taken in the
-/// time that it had.
+/// Whether a write that failed so may be tried again: it was interrupted, or nothing was taken in
+/// the time that it had.
 pub fn is_passing(kind: ErrorKind) -> bool {
     kind == ErrorKind::Interrupted || kind == ErrorKind::WouldBlock
 }

@@ -1,7 +1,7 @@
--- where those that are left come into their rings, all have
-use Rattle.std.proofs.Common.{ℕ, ◌+◌, ◌≤◌, List, length}
+-- where those that are left come into their rings, all have; and what came so far is marked
+use Rattle.std.proofs.Common.{ℕ, ◌≡◌, ◌+◌, ◌≤◌, List, length}
 use Rattle.flusher.specs.Released.{effects_of_all}
-use Rattle.server_links.specs.Routing.{IsRouted}
+use Rattle.server_links.specs.Routing.{AreMarked, IsRouted}
 use Rattle.outbox.specs.declared.ends.Outlet.{Outlet}
 use Rattle.server_links.proofs.routing.route.Given as goal
 
@@ -10,3 +10,4 @@ invariant-loop-one l =
     ((others : ℕ) (after : List Outlet) → IsRouted l.directory (effects_of_all l.one-iterator.rest.items) others l.outlets after
     → IsRouted l.directory (effects_of_all l.fn.released.items) (l.lost + others) l.initial.outlets after)
     × (l.lost + length l.one-iterator.rest.items ≤ length l.fn.released.items)
+    × ((length l.marks ≡ length l.initial.marks) × AreMarked l.initial.marks l.marks l.initial.outlets l.outlets)

@@ -6,8 +6,8 @@ use Rattle.outbox.specs.Ring.{room_of}
 use Rattle.server_links.proofs.routing.route_one.Goals as goal
 use Rattle.server_links.proofs.routing.route_one.Goals.{in-Ok, in-Err}
 
-pub returns : goal.returns
-returns c =
+pub returns-clause-routed : goal.returns-clause-routed
+returns-clause-routed c =
     let outlets = c.args.outlets.now in
     let n = c.in_ok-number.number in
     let d = c.index-outlets-number.result in

@@ -31,17 +31,17 @@ const LONGEST_ORDER: usize = 16;
 
 /// An attendant of a control socket.
 #[derive(Drop)]
-pub(crate) struct Attendant<'x, B: Books, R: Wait, G: Gate, C: LifeClock> {
-    pub(crate) context: &'x Context<'x, R, G, C>,
-    pub(crate) server: &'x LiveServer<B>,
-    pub(crate) control: &'x ControlSocket,
+pub struct Attendant<'x, B: Books, R: Wait, G: Gate, C: LifeClock> {
+    pub context: &'x Context<'x, R, G, C>,
+    pub server: &'x LiveServer<B>,
+    pub control: &'x ControlSocket,
     // From 0.
-    pub(crate) number: usize,
+    pub number: usize,
 }
 
 impl<'x, B: Books, R: Wait, G: Gate, C: LifeClock> Attendant<'x, B, R, G, C> {
     /// Attends to one operator after another, until the life is over.
-    pub(crate) fn run(self) {
+    pub fn run(self) {
         for _ in self.context.rt.forever() {
             let accepted = self.control.listener.accept();
             if self.server.signals.is_closed() {

@@ -9,8 +9,8 @@ use timed_disk::DiskTimes;
 
 /// Lines of a name and a value: where links come in, how many there may be and are, how many of
 /// them are gateways and applications, what the sessions have, what was counted in this life and of
-/// the disk, and for each gateway that is linked the moment of the last copy that came on its link. Refused with
-/// `OutOfMemory` for want of memory.
+/// the disk, and for each gateway that is linked the moment of the last copy that came on its link.
+/// Refused with `OutOfMemory` for want of memory.
 pub(crate) fn status_text<B: Books, R: Wait>(
     rt: &R,
     alloc: Global,

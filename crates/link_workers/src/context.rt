@@ -6,11 +6,11 @@ use timed_disk::DiskTimes;
 
 /// The system and its memory, and the gate and the clock, in whose places a test has its own.
 #[derive(Drop)]
-pub(crate) struct Context<'x, R: Wait, G: Gate, C: LifeClock> {
-    pub(crate) rt: &'x R,
-    pub(crate) alloc: Global,
-    pub(crate) gate: &'x G,
-    pub(crate) clock: &'x C,
+pub struct Context<'x, R: Wait, G: Gate, C: LifeClock> {
+    pub rt: &'x R,
+    pub alloc: Global,
+    pub gate: &'x G,
+    pub clock: &'x C,
     // What operators are told of the disk, where there are any.
-    pub(crate) times: Option<&'x DiskTimes>,
+    pub times: Option<&'x DiskTimes>,
 }

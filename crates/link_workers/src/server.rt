@@ -9,21 +9,21 @@ use std::sync::{Mutex, Wait};
 /// The links, what stands behind a lock, and the signals. No thread holds both locks at once, nor
 /// one of them while it reads, writes or syncs.
 #[derive(Drop)]
-pub(crate) struct LiveServer<B: Books> {
-    pub(crate) links: Vec<Link>,
+pub struct LiveServer<B: Books> {
+    pub links: Vec<Link>,
     // Where links and operators come in; none in a life of links that stay.
-    pub(crate) door: Option<Door>,
-    pub(crate) control: Option<ControlSocket>,
-    pub(crate) sessions: Mutex<Shared<B>>,
-    pub(crate) directory: Mutex<Directory>,
+    pub door: Option<Door>,
+    pub control: Option<ControlSocket>,
+    pub sessions: Mutex<Shared<B>>,
+    pub directory: Mutex<Directory>,
     // For each application, what waits for it; none in a life of links that stay.
-    pub(crate) lines: Vec<WaitingLines>,
-    pub(crate) signals: Signals,
+    pub lines: Vec<WaitingLines>,
+    pub signals: Signals,
 }
 
 impl<B: Books> LiveServer<B> {
     /// Closes the links, so that each thread ends.
-    pub(crate) fn stop<R: Wait>(&self, rt: &R) {
+    pub fn stop<R: Wait>(&self, rt: &R) {
         self.signals.stop();
         self.shut_door();
         for link in &self.links {
@@ -50,7 +50,7 @@ impl<B: Books> LiveServer<B> {
     }
 
     /// No link takes anything more: what waits for applications is lost.
-    pub(crate) fn drop_lines<R: Wait>(&self, rt: &R) {
+    pub fn drop_lines<R: Wait>(&self, rt: &R) {
         for lines in &self.lines {
             if let Some(inlet) = lines.lock(rt).as_mut() {
                 self.signals.count_dropped(drop_all(inlet));
@@ -59,7 +59,7 @@ impl<B: Books> LiveServer<B> {
     }
 
     /// Operators are attended to no longer.
-    pub(crate) fn close<R: Wait>(&self, rt: &R) {
+    pub fn close<R: Wait>(&self, rt: &R) {
         self.signals.close();
         if let Some(control) = &self.control {
             control.close(rt);
@@ -78,7 +78,7 @@ impl<B: Books> LiveServer<B> {
     }
 
     /// The senders look at their rings again.
-    pub(crate) fn ring_senders(&self) {
+    pub fn ring_senders(&self) {
         for link in &self.links {
             link.bell.unpark();
         }

@@ -1,6 +1,8 @@
 // A worker reads a link, and hands in what is said on it.
-ghost use Rattle.std.specs.Prelude.{◌≡◌, ◌<◌, ◌↔◌, IfSome, IsTrue, Some};
-ghost use Rattle.link_messages.specs.declared.message.Peer.TheVariants.{Application as Asking};
+ghost use Rattle.std.specs.Prelude.{◌≡◌, ◌<◌, ◌↔◌, ℕ, IfSome, IsTrue, Some};
+ghost use Rattle.gateway_wire.specs.declared.recipient.Recipient.TheVariants as names;
+ghost use Rattle.link_messages.specs.declared.message.Peer.TheVariants as peers;
+ghost use Rattle.lw_types.specs.declared.identifiers.Eui.{Eui};
 
 use crate::context::Context;
 use crate::server::LiveServer;
@@ -21,19 +23,19 @@ pub(crate) const PIECE: usize = 8192;
 
 /// A link's worker.
 #[derive(Drop)]
-pub(crate) struct Worker<'x, B: Books, R: Wait, G: Gate, C: LifeClock> {
-    pub(crate) context: &'x Context<'x, R, G, C>,
-    pub(crate) server: &'x LiveServer<B>,
-    pub(crate) link: &'x Link,
+pub struct Worker<'x, B: Books, R: Wait, G: Gate, C: LifeClock> {
+    pub context: &'x Context<'x, R, G, C>,
+    pub server: &'x LiveServer<B>,
+    pub link: &'x Link,
     // The place of its link among all, from 0.
-    pub(crate) number: usize,
+    pub number: usize,
     // The calls of the sessions so far.
-    pub(crate) calls: u64,
-    pub(crate) feeder: Feeder,
-    pub(crate) seat: Seat<B>,
-    pub(crate) refusals: Producer<Refusal>,
+    pub calls: u64,
+    pub feeder: Feeder,
+    pub seat: Seat<B>,
+    pub refusals: Producer<Refusal>,
     // It hands nothing in any more.
-    pub(crate) has_ended: bool,
+    pub has_ended: bool,
 }
 
 /// What one read gave.
@@ -59,7 +61,7 @@ pub(crate) fn read_some(stream: &TcpStream, buffer: &mut [u8]) -> Incoming {
 
 // The application at the other end of a link.
 fn asking(peer: Option<Peer>) -> Option<Application>
-    ensures { IfSome result (λ application. peer ≡ Some (Asking application)) }
+    ensures { IfSome result (λ application. peer ≡ Some (peers.Application application)) }
 {
     match peer? {
         Peer::Application(application) => Some(application),
@@ -75,7 +77,12 @@ fn has_decided(turn: &Turn) -> bool
 }
 
 /// As whom a peer is told of effects.
-pub(crate) fn recipient_of(peer: &Peer) -> Recipient {
+pub(crate) fn recipient_of(peer: &Peer) -> Recipient
+    ensures gateway { (gateway : Eui) → peer.now ≡ peers.Gateway gateway
+        → result ≡ names.Gateway gateway }
+    ensures application { (application : ℕ) → peer.now ≡ peers.Application application
+        → result ≡ names.Application application }
+{
     match peer {
         Peer::Gateway(gateway) => Recipient::Gateway(*gateway),
         Peer::Application(application) => Recipient::Application(*application),
@@ -84,7 +91,7 @@ pub(crate) fn recipient_of(peer: &Peer) -> Recipient {
 
 impl<'x, B: Books, R: Wait, G: Gate, C: LifeClock> Worker<'x, B, R, G, C> {
     /// Reads a link that stays until it says nothing more or may not, and gives the seat back.
-    pub(crate) fn run(self) -> Seat<B> {
+    pub fn run(self) -> Seat<B> {
         let mut worker = self;
         let link = worker.link;
         if let Socket::Fixed(stream) = &link.socket {
@@ -114,12 +121,17 @@ impl<'x, B: Books, R: Wait, G: Gate, C: LifeClock> Worker<'x, B, R, G, C> {
                 }
                 Incoming::Bytes(n) => {
                     let piece = buffer.get(..n).unwrap_or(&[]);
-                    if !self.hear_piece(piece) || self.server.signals.is_stopped() {
+                    if !self.hear_piece(piece) || self.is_closed() {
                         break;
                     }
                 }
             }
         }
+    }
+
+    // Whether the link was closed from here: what came before that is of no use any more.
+    fn is_closed(&self) -> bool {
+        self.link.is_taken() || self.server.signals.is_stopped()
     }
 
     /// The input has ended: inside a frame, that is a fault, but where it was ended from here.

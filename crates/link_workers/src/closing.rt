@@ -15,16 +15,16 @@ const GATHER: u64 = 2;
 
 /// The closer.
 #[derive(Drop)]
-pub(crate) struct Closer<'x, B: Books, R: Wait, G: Gate, C: LifeClock> {
-    pub(crate) context: &'x Context<'x, R, G, C>,
-    pub(crate) server: &'x LiveServer<B>,
-    pub(crate) seat: Seat<B>,
+pub struct Closer<'x, B: Books, R: Wait, G: Gate, C: LifeClock> {
+    pub context: &'x Context<'x, R, G, C>,
+    pub server: &'x LiveServer<B>,
+    pub seat: Seat<B>,
 }
 
 impl<'x, B: Books, R: Wait, G: Gate, C: LifeClock> Closer<'x, B, R, G, C> {
     /// Closes windows until no link says anything more, and then all that are left. Gives the seat
     /// back.
-    pub(crate) fn run(self) -> Seat<B> {
+    pub fn run(self) -> Seat<B> {
         let mut closer = self;
         let mut next = moment_of(0);
         for _ in closer.context.rt.forever() {

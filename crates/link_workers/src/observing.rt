@@ -1,4 +1,7 @@
 // What a life does with its sessions, and what operators are told of it.
+ghost use Rattle.session_core.specs.Seats.{HasMade};
+ghost use Rattle.session_core.specs.declared.seat.CallKind.TheVariants.{Asked, Heard, Ticked};
+
 use crate::server::LiveServer;
 use devices::ApplicationCommand;
 use lw_types::FrameCopy;
@@ -9,17 +12,17 @@ use std::sync::Wait;
 
 impl<B: Books> LiveServer<B> {
     /// Where operators watch from, in a life that has operators.
-    pub(crate) fn watch(&self) -> Option<&Watch> {
+    pub fn watch(&self) -> Option<&Watch> {
         Some(&self.control.as_ref()?.watch)
     }
 
     /// Whether an operator watches.
-    pub(crate) fn is_watched(&self) -> bool {
+    pub fn is_watched(&self) -> bool {
         self.watch().is_some_and(|watch| watch.is_watched())
     }
 
     /// Tells the operators who watch.
-    pub(crate) fn tell<R: Wait>(&self, rt: &R, sight: Sight) {
+    pub fn tell<R: Wait>(&self, rt: &R, sight: Sight) {
         if let Some(watch) = self.watch() {
             watch.tell(rt, sight);
         }
@@ -32,7 +35,9 @@ impl<B: Books> LiveServer<B> {
         seat: &mut Seat<B>,
         moment: Moment,
         copy: FrameCopy,
-    ) -> Turn {
+    ) -> Turn
+        ensures share { HasMade seat.old seat.new moment Heard result }
+    {
         let mut sessions = self.sessions.lock(rt);
         let turn = sessions.hear(seat, moment, copy);
         let closed = sessions.take_closed();
@@ -48,7 +53,9 @@ impl<B: Books> LiveServer<B> {
         seat: &mut Seat<B>,
         moment: Moment,
         asked: ApplicationCommand,
-    ) -> Turn {
+    ) -> Turn
+        ensures share { HasMade seat.old seat.new moment Asked result }
+    {
         let mut sessions = self.sessions.lock(rt);
         let turn = sessions.ask(seat, moment, asked);
         let closed = sessions.take_closed();
@@ -58,7 +65,9 @@ impl<B: Books> LiveServer<B> {
     }
 
     /// Time passes.
-    pub(crate) fn tick<R: Wait>(&self, rt: &R, seat: &mut Seat<B>, moment: Moment) -> Turn {
+    pub(crate) fn tick<R: Wait>(&self, rt: &R, seat: &mut Seat<B>, moment: Moment) -> Turn
+        ensures share { HasMade seat.old seat.new moment Ticked result }
+    {
         let mut sessions = self.sessions.lock(rt);
         let turn = sessions.tick(seat, moment);
         let closed = sessions.take_closed();

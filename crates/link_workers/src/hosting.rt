@@ -1,6 +1,5 @@
 // A worker of a life whose links come and go takes one link after another.
 use crate::reading::{Incoming, PIECE, Worker, read_some, recipient_of};
-use crate::threads::start_host_sender;
 use directory::Full;
 use gateway_wire::Recipient;
 use link_messages::{Fed, Feeder};
@@ -9,10 +8,11 @@ use rtrb::{Consumer, RingBuffer};
 use server_links::{Call, Gate, HostSender, LifeClock, PLACES, drop_all, moved_on, set_options};
 use session_core::{Books, Moment, Seat};
 use sights::Sight;
+use std::alloc::Global;
 use std::net::TcpStream;
 use std::sync::Wait;
 use std::thread;
-use std::thread::{Scope, Threads};
+use std::thread::{Builder, JoinHandle, Scope, Threads};
 use std::time::Duration;
 
 // How long a link may take until it has greeted, in milliseconds.
@@ -31,13 +31,13 @@ struct Greeted {
 
 /// A worker of a life whose links come and go.
 #[derive(Drop)]
-pub(crate) struct Host<'x, B: Books, R: Wait, G: Gate, C: LifeClock> {
-    pub(crate) worker: Worker<'x, B, R, G, C>,
+pub struct Host<'x, B: Books, R: Wait, G: Gate, C: LifeClock> {
+    pub worker: Worker<'x, B, R, G, C>,
 }
 
 impl<'x, B: Books, R: Threads + Wait + Sync, G: Gate, C: LifeClock> Host<'x, B, R, G, C> {
     /// Accepts links, and serves each to its end, until the life ends. Gives the seat back.
-    pub(crate) fn run(self) -> Seat<B> {
+    pub fn run(self) -> Seat<B> {
         let mut host = self;
         let server = host.worker.server;
         for _ in host.worker.context.rt.forever() {
@@ -146,6 +146,21 @@ fn hold<'s, 'x: 's, E, B: Books, R: Threads + Wait + Sync, G: Gate, C: LifeClock
         worker.read(&call.stream);
     }
     worker.end_link(&call.name);
+}
+
+// Starts the sender of one link of a place; `None` where that can't be.
+fn start_host_sender<'x, E, R: Wait + Sync>(
+    alloc: Global,
+    scope: &Scope<'x, E>,
+    number: usize,
+    sender: HostSender<'x, R>,
+    refusals: Consumer<Refusal>,
+) -> Option<JoinHandle<()>> {
+    let name = format!(in alloc; "link-{number}-out").ok()?;
+    Builder::new()
+        .name(name)
+        .spawn_scoped(scope, move || sender.run(refusals))
+        .ok()
 }
 
 impl<'x, B: Books, R: Wait, G: Gate, C: LifeClock> Worker<'x, B, R, G, C> {

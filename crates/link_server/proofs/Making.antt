@@ -1,0 +1,14 @@
+-- One ring more.
+use Rattle.std.proofs.Common.{◌∷◌, ◌++◌, ℕ, List, []}
+use Rattle.outbox.specs.declared.ends.Inlet.{Inlet}
+use Rattle.outbox.specs.declared.ends.Outlet.{Outlet}
+use Rattle.link_server.specs.Rings.{AreNewRings, IsNewRing}
+
+pub one_ring_more : (places : ℕ) (outlets : List Outlet) (inlets : List Inlet) (outlet : Outlet) (inlet : Inlet)
+    → AreNewRings places outlets inlets → IsNewRing places outlet inlet
+    → AreNewRings places (outlets ++ outlet ∷ []) (inlets ++ inlet ∷ [])
+one_ring_more places [] [] outlet inlet are one = (one, tt {0})
+one_ring_more places [] (other ∷ others) outlet inlet are one = absurd are
+one_ring_more places (other ∷ others) [] outlet inlet are one = absurd are
+one_ring_more places (first ∷ outlets) (other ∷ inlets) outlet inlet (here, are) one =
+    (here, one_ring_more places outlets inlets outlet inlet are one)
