@@ -24,34 +24,42 @@ const PIECE: usize = 4096;
 // How many tries those are a second.
 const TRIES: u64 = 20;
 
+/// Where the control socket of a store is. Only [`path_of`] makes one, so what is removed as a socket
+/// is never the store's own file.
+#[derive(Drop)]
+pub(crate) struct ControlPath(String);
+
 /// Where the control socket of the store in a file is.
-pub(crate) fn path_of(alloc: Global, file: &str) -> Result<String, Fault> {
-    format!(in alloc; "{file}.control").map_err(|_| Fault::Refused(Refusal::OutOfMemory))
+pub(crate) fn path_of(alloc: Global, file: &str) -> Result<ControlPath, Fault> {
+    match format!(in alloc; "{file}.control") {
+        Ok(path) => Ok(ControlPath(path)),
+        Err(_) => Err(Fault::Refused(Refusal::OutOfMemory)),
+    }
 }
 
 /// Listens at a control socket. One that is there already is left over, since nobody else has the
 /// store's file, and is removed; what is no socket stays, and nothing is listened at.
 pub(crate) fn bind_control<R: Files<File = File> + Net>(
     rt: &R,
-    path: &str,
+    path: &ControlPath,
 ) -> Result<UnixListener, Fault> {
-    if let Ok(there) = fs::symlink_metadata(rt, path) {
+    if let Ok(there) = fs::symlink_metadata(rt, path.0.as_str()) {
         if !there.file_type().is_socket() {
             return Err(Fault::Control);
         }
         remove(rt, path);
     }
-    UnixListener::bind(rt, path).map_err(|_| Fault::Control)
+    UnixListener::bind(rt, path.0.as_str()).map_err(|_| Fault::Control)
 }
 
 /// Removes a control socket. Where that fails it is left over.
-pub(crate) fn remove<R: Files<File = File>>(rt: &R, path: &str) {
-    let _ = fs::remove_file(rt, path);
+pub(crate) fn remove<R: Files<File = File>>(rt: &R, path: &ControlPath) {
+    let _ = fs::remove_file(rt, path.0.as_str());
 }
 
 // A connection to whoever serves.
-fn connect<R: Net>(rt: &R, path: &str) -> Result<UnixStream, Fault> {
-    match UnixStream::connect(rt, path) {
+fn connect<R: Net>(rt: &R, path: &ControlPath) -> Result<UnixStream, Fault> {
+    match UnixStream::connect(rt, path.0.as_str()) {
         Ok(stream) => Ok(stream),
         Err(error) if error.kind() == ErrorKind::NotFound => Err(Fault::NotRunning),
         Err(error) if error.kind() == ErrorKind::ConnectionRefused => Err(Fault::LeftOver),
@@ -78,7 +86,7 @@ fn ask(alloc: Global, stream: UnixStream, order: Order) -> Result<String, Fault>
 /// where it ended by a fault is that fault.
 pub(crate) fn stop<R: Net>(rt: &R, alloc: Global, file: &str) -> Result<(), Fault> {
     let path = path_of(alloc, file)?;
-    let answer = ask(alloc, connect(rt, path.as_str())?, Order::Stop)?;
+    let answer = ask(alloc, connect(rt, &path)?, Order::Stop)?;
     if answer.as_str().trim_end() == ENDED {
         Ok(())
     } else {
@@ -95,13 +103,13 @@ pub(crate) fn status<R: Net + Clock>(
     wait: u64,
 ) -> Result<String, Fault> {
     let path = path_of(alloc, file)?;
-    let mut stream = connect(rt, path.as_str());
+    let mut stream = connect(rt, &path);
     for _ in 0..wait.saturating_mul(TRIES) {
         if stream.is_ok() {
             break;
         }
         thread::sleep(rt, Duration::from_millis(PAUSE));
-        stream = connect(rt, path.as_str());
+        stream = connect(rt, &path);
     }
     some(ask(alloc, stream?, Order::Status)?)
 }
@@ -109,7 +117,7 @@ pub(crate) fn status<R: Net + Clock>(
 /// The devices of the store in a file, by the server that runs on it.
 pub(crate) fn devices<R: Net>(rt: &R, alloc: Global, file: &str) -> Result<String, Fault> {
     let path = path_of(alloc, file)?;
-    some(ask(alloc, connect(rt, path.as_str())?, Order::Devices)?)
+    some(ask(alloc, connect(rt, &path)?, Order::Devices)?)
 }
 
 // No answer is one that was broken off.
@@ -130,7 +138,7 @@ pub(crate) fn watch<R: Net, O: Write>(
     out: &mut O,
 ) -> Result<io::Result<()>, Fault> {
     let path = path_of(alloc, file)?;
-    let mut stream = connect(rt, path.as_str())?;
+    let mut stream = connect(rt, &path)?;
     let word = Order::Watch.word();
     writeln!(stream, "{word}").map_err(|_| Fault::BrokenOff)?;
     let mut first = [0u8; WATCHING.len()];

@@ -1,46 +1,55 @@
 // A new store of an older copy.
 use crate::Fault;
-use crate::stores::{create, remove};
+use crate::new_file::{NewFile, create, remove};
 use devices::{Device, GrantsSince};
 use disk::{Disk, FileDisk, MemDisk};
 use lw_types::{JoinNonce, Refusal};
+use sessions::Table;
 use std::alloc::Global;
 use std::fs::File;
 use std::rt::Files;
 use store::{Store, establish_back, open};
 
-/// What a store has that was made of an older copy.
-#[derive(Drop)]
-pub(crate) struct Restored {
-    pub(crate) devices: usize,
-    /// How many joins may still be granted to the device that has fewest left.
-    pub(crate) grants_left: u32,
-}
-
 /// Makes a store in the file `new` of the older copy in the file `old`, as if each device had been
 /// granted so many joins behind it. The copy stays as it is. Where it fails, `new` isn't there.
+/// Gives the text that tells how many devices it has, and how many joins may still be granted to
+/// the one that has fewest left.
 pub(crate) fn restore<R: Files<File = File>>(
     rt: &R,
     alloc: Global,
     old: &str,
     new: &str,
     since: GrantsSince,
-) -> Result<Restored, Fault> {
+) -> Result<String, Fault> {
     let copy = read_older(rt, alloc, old)?;
     let mut table = copy.table().copy()?;
     let seq = copy.seq();
     if let Err(dev_eui) = table.restore(since) {
         return Err(Fault::Spent(dev_eui));
     }
-    let restored = Restored {
-        devices: table.devices().len(),
-        grants_left: fewest_left(table.devices()),
-    };
-    let disk = create(rt, new, table.slots())?;
+    let (text, disk, made) = prepare(rt, alloc, &table, new)?;
     match establish_back(alloc, disk, table, seq) {
-        Ok(_) => Ok(restored),
-        Err((disk, refusal)) => Err(remove(rt, new, disk, refusal)),
+        Ok(_) => Ok(text),
+        Err((disk, refusal)) => Err(remove(rt, made, disk, refusal)),
     }
+}
+
+// What is told of the store of a table, and a new file for it.
+fn prepare<'a, R: Files<File = File>>(
+    rt: &R,
+    alloc: Global,
+    table: &Table,
+    new: &'a str,
+) -> Result<(String, FileDisk, NewFile<'a>), Fault> {
+    let text = text_of(alloc, table.devices())?;
+    let (disk, made) = create(rt, new, table.slots())?;
+    Ok((text, disk, made))
+}
+
+// What is told of the devices of a store that was made of an older copy.
+fn text_of(alloc: Global, devices: &[Device]) -> Result<String, Refusal> {
+    let (count, left) = (devices.len(), fewest_left(devices));
+    Ok(format!(in alloc; "devices {count}\ngrants_left {left}\n")?)
 }
 
 // The store of an older copy, which is read into memory as a whole: so its file stays as it is,

@@ -1,14 +1,11 @@
 // Commands, from their words to their status.
-ghost use Rattle.std.specs.Prelude.{◌≡◌, ◌≤◌, ◌⊎◌, IfErr, IfOk, map};
-ghost use Rattle.command_words.specs.Asked.{AreWrong, AskFor, AskForHelp};
-ghost use Rattle.command_words.specs.declared.mode.Mode.{Mode};
-ghost use Rattle.gateway_server.specs.Told.{AsksToRun, TellsEarly};
+ghost use Rattle.std.specs.Prelude.{◌≡◌, ◌≢◌, ◌≤◌, ◌⊎◌, ◌↔◌, IsOk, OnOk, map};
+ghost use Rattle.std.specs.Io.KnownBytes.{Appends};
+ghost use Rattle.command_words.specs.Asked.{AreWrong, AskForHelp};
+ghost use Rattle.gateway_server.specs.Told.{AsksToRun, CannotListen, WasObeyed, FellShort, IsDone};
 
-use crate::Fault;
-use crate::control::{devices, status, stop, watch};
-use crate::restoring::{Restored, restore};
 use crate::serving::{run_server, serve};
-use crate::stores::{format, list};
+use crate::{Commands, Fault};
 use command_words::{Mode, Usage, words};
 use link_server::LifeReport;
 use lw_types::Refusal;
@@ -21,13 +18,15 @@ use std::rt::{Clock, Files};
 use std::sync::Wait;
 use std::thread::Threads;
 
-/// Does what these words ask for, which come without the program's name. `out` is standard output,
-/// `err` is standard error. Gives the status of the process: 0 where it was done, also where help
-/// was asked for; 1 where it failed, or what it tells couldn't be written; 2 for words that ask for
-/// nothing, and then nothing goes to `out`; 3 where `run` can't listen on its address, which may
-/// only come up later. That a failure is told on `err`, no contract says.
-pub fn command<R, O: Write, E: Write>(
+/// Does what these words ask for, which come without the program's name, by the commands that are
+/// lent. `out` is standard output, `err` is standard error. Gives the status of the process: 0
+/// where it was done and told, also where help was asked for; 1 where it failed, or what it tells
+/// couldn't be written; 2 for words that ask for nothing, and then nothing is done, or goes to
+/// `out`; 3 where `run` can't listen on its address, which may only come up later. That a failure
+/// is told on `err`, no contract says.
+pub fn command<R, C: Commands, O: Write, E: Write>(
     rt: &R,
+    commands: &mut C,
     alloc: Global,
     texts: &[&str],
     out: &mut O,
@@ -37,16 +36,24 @@ where
     R: Files<File = File> + Net<Listener = TcpListener, Stream = TcpStream>,
     R: Clock + Threads + Wait + Sync,
     ensures status { result ≤ 3 }
-    ensures address { result ≡ 3
-        → (mode : Mode) × (AskFor (map (λ w. w.now) texts.now) mode × AsksToRun mode) }
-    ensures done { result ≡ 0 → ((mode : Mode) × AskFor (map (λ w. w.now) texts.now) mode)
-        ⊎ AskForHelp (map (λ w. w.now) texts.now) }
+    ensures done { result ≡ 0
+        → (AskForHelp (map (λ w. w.now) texts.now) × (commands.new ≡ commands.old))
+        ⊎ IsDone (λ mode outcome. C.ends commands.old mode outcome commands.new)
+        (map (λ w. w.now) texts.now) O.contents out.old out.new }
+
+    // Where nothing was done there was no memory to read the words, or help couldn't be written.
+    ensures failed { result ≡ 1 → (commands.new ≡ commands.old)
+        ⊎ FellShort (λ mode outcome. C.ends commands.old mode outcome commands.new)
+        (map (λ w. w.now) texts.now) out.old out.new }
     ensures wrong { result ≡ 2 → AreWrong (map (λ w. w.now) texts.now) }
-    ensures quiet { result ≡ 2 → out.new ≡ out.old }
+    ensures quiet { result ≡ 2 → (commands.new ≡ commands.old) × (out.new ≡ out.old) }
+    ensures address { result ≡ 3
+        → CannotListen (λ mode outcome. C.ends commands.old mode outcome commands.new)
+        (map (λ w. w.now) texts.now) }
 {
     match words(alloc, texts) {
-        Ok(mode) => match obey(rt, alloc, &mode, out, err) {
-            Ok(status) => status,
+        Ok(mode) => match obey(rt, commands, alloc, &mode, out, err) {
+            Ok(told) => status_of(&told),
             Err(fault) => fail_in(err, &mode, &fault),
         },
         Err(Usage::Help(text)) => status_of(&tell(out, text.as_str())),
@@ -68,7 +75,9 @@ pub fn fail<E: Write>(err: &mut E, fault: &Fault) -> u8
 
 // Tells why what was asked for failed, and gives the status of that.
 fn fail_in<E: Write>(err: &mut E, mode: &Mode<'_>, fault: &Fault) -> u8
-    ensures { (result ≡ 1) ⊎ ((result ≡ 3) × AsksToRun mode.now) }
+    ensures range { (result ≡ 1) ⊎ (result ≡ 3) }
+    ensures one { result ≡ 1 → AsksToRun mode.now → fault.now ≢ Fault.Listen }
+    ensures three { result ≡ 3 → AsksToRun mode.now × (fault.now ≡ Fault.Listen) }
 {
     let status = fail(err, fault);
     match (mode, fault) {
@@ -77,19 +86,20 @@ fn fail_in<E: Write>(err: &mut E, mode: &Mode<'_>, fault: &Fault) -> u8
     }
 }
 
-// The status of what was done.
-fn obey<R, O: Write, E: Write>(
+// Does what was asked for, and tells what is to be told of it.
+fn obey<R, C: Commands, O: Write, E: Write>(
     rt: &R,
+    commands: &mut C,
     alloc: Global,
     mode: &Mode<'_>,
     out: &mut O,
     err: &mut E,
-) -> Result<u8, Fault>
+) -> Result<io::Result<()>, Fault>
 where
     R: Files<File = File> + Net<Listener = TcpListener, Stream = TcpStream>,
     R: Clock + Threads + Wait + Sync,
-    ensures status { IfOk result (λ status. status ≤ 1) }
-    ensures quiet { IfErr result (λ _. TellsEarly mode.now ⊎ (out.new ≡ out.old)) }
+    ensures { WasObeyed (λ m outcome. C.ends commands.old m outcome commands.new) mode.now
+        O.contents out.old out.new result }
 {
     match *mode {
         Mode::Format {
@@ -97,50 +107,55 @@ where
             net_id,
             slots,
         } => {
-            format(rt, alloc, file, net_id, slots)?;
-            Ok(0)
+            commands.format(rt, alloc, file, net_id, slots)?;
+            Ok(Ok(()))
         }
         Mode::List { file } => {
-            let text = list(rt, alloc, file)?;
-            Ok(status_of(&tell(out, text.as_str())))
+            let text = commands.list(rt, alloc, file)?;
+            Ok(tell(out, text.as_str()))
         }
         Mode::Serve {
             file,
             listen,
             links,
         } => {
-            let report = serve(rt, alloc, file, listen, links)?;
-            Ok(status_of(&tell_report(err, &report)))
+            let life = serve(rt, alloc, file, listen, links);
+            commands.life_ended(mode, &life);
+            Ok(tell_report(err, life?.report()))
         }
         Mode::Run {
             file,
             listen,
             links,
         } => {
-            let report = run_server(rt, alloc, file, listen, links, out)?;
-            Ok(status_of(&tell_run(err, &report)))
+            let life = run_server(rt, alloc, file, listen, links, out);
+            commands.life_ended(mode, &life);
+            Ok(tell_run(err, life?.report()))
         }
         Mode::Stop { file } => {
-            stop(rt, alloc, file)?;
-            Ok(0)
+            commands.stop(rt, alloc, file)?;
+            Ok(Ok(()))
         }
         Mode::Devices { file } => {
-            let text = devices(rt, alloc, file)?;
-            Ok(status_of(&tell(out, text.as_str())))
+            let text = commands.devices(rt, alloc, file)?;
+            Ok(tell(out, text.as_str()))
         }
-        Mode::Watch { file } => Ok(status_of(&watch(rt, alloc, file, out)?)),
+        Mode::Watch { file } => commands.watch(rt, alloc, file, out),
         Mode::Restore { file, new, grants } => {
-            let restored = restore(rt, alloc, file, new, grants)?;
-            Ok(status_of(&tell_restored(out, &restored)))
+            let text = commands.restore(rt, alloc, file, new, grants)?;
+            Ok(tell(out, text.as_str()))
         }
         Mode::Status { file, wait } => {
-            let text = status(rt, alloc, file, wait.get())?;
-            Ok(status_of(&tell(out, text.as_str())))
+            let text = commands.status(rt, alloc, file, wait)?;
+            Ok(tell(out, text.as_str()))
         }
     }
 }
 
-fn tell<W: Write>(to: &mut W, text: &str) -> io::Result<()> {
+// Writes this text whole.
+fn tell<W: Write>(to: &mut W, text: &str) -> io::Result<()>
+    ensures { OnOk result (Appends (W.contents to.old) (W.contents to.new) text.now) }
+{
     to.write_all(text.as_bytes())?;
     to.flush()
 }
@@ -160,19 +175,10 @@ fn tell_run<E: Write>(err: &mut E, report: &LifeReport) -> io::Result<()> {
     err.flush()
 }
 
-fn tell_restored<O: Write>(out: &mut O, restored: &Restored) -> io::Result<()> {
-    let Restored {
-        devices,
-        grants_left,
-    } = restored;
-    writeln!(out, "devices {devices}")?;
-    writeln!(out, "grants_left {grants_left}")?;
-    out.flush()
-}
-
 // The status of a command that was done, by whether what it has to tell could be written.
 fn status_of(told: &io::Result<()>) -> u8
-    ensures { result ≤ 1 }
+    ensures range { result ≤ 1 }
+    ensures told { (result ≡ 0) ↔ IsOk told.now }
 {
     match told {
         Ok(()) => 0,

@@ -1,7 +1,10 @@
 // A store in a file, served.
+ghost use Rattle.std.specs.Prelude.{◌≡◌, IfOk};
+
 use crate::Fault;
-use crate::control::{ENDED, bind_control, path_of, remove};
+use crate::control::{ControlPath, ENDED, bind_control, path_of, remove};
 use crate::stores::{open_store, open_timed};
+use command_words::Mode;
 use link_server::{
     LifeReport, LinkCount, Monotonic, OpenGate, PlaceCount, ServedLife, serve_links, serve_on,
 };
@@ -15,17 +18,32 @@ use std::sync::Wait;
 use std::thread::Threads;
 use timed_disk::DiskTimes;
 
+/// A life of a server that ended with no fault: what it was asked for by, and its report. Only
+/// [`serve`] and [`run_server`] make one.
+#[derive(Drop)]
+pub struct FinishedLife<'a> {
+    mode: Mode<'a>,
+    report: LifeReport,
+}
+
+impl<'a> FinishedLife<'a> {
+    pub(crate) fn report(&self) -> &LifeReport {
+        &self.report
+    }
+}
+
 /// Serves so many links, which connect to an address, from the store in a file.
-pub(crate) fn serve<R>(
+pub(crate) fn serve<'a, R>(
     rt: &R,
     alloc: Global,
-    file: &str,
-    listen: &str,
+    file: &'a str,
+    listen: &'a str,
     links: LinkCount,
-) -> Result<LifeReport, Fault>
+) -> Result<FinishedLife<'a>, Fault>
 where
     R: Files<File = File> + Net<Listener = TcpListener, Stream = TcpStream>,
     R: Clock + Threads + Wait + Sync,
+    ensures { IfOk result (λ life. life.mode ≡ Mode.Serve file.entry listen.entry links) }
 {
     let store = open_store(rt, alloc, file)?;
     let Listening {
@@ -37,23 +55,32 @@ where
         rt, alloc, store, listener, links, &OpenGate, &clock,
     );
     drop(store);
-    Ok(result?)
+    let mode = Mode::Serve {
+        file,
+        listen,
+        links,
+    };
+    match result {
+        Ok(report) => Ok(FinishedLife { mode, report }),
+        Err(fault) => Err(Fault::from(fault)),
+    }
 }
 
 /// Serves links that come and go, so many at a time, from the store in a file, until the server is
 /// stopped over its control socket. Tells on `out` where it listens, once whoever connects is
 /// served. Whoever stopped it is told of the end once the file is free.
-pub(crate) fn run_server<R, O: Write>(
+pub(crate) fn run_server<'a, R, O: Write>(
     rt: &R,
     alloc: Global,
-    file: &str,
-    listen: &str,
+    file: &'a str,
+    listen: &'a str,
     links: PlaceCount,
     out: &mut O,
-) -> Result<LifeReport, Fault>
+) -> Result<FinishedLife<'a>, Fault>
 where
     R: Files<File = File> + Net<Listener = TcpListener, Stream = TcpStream>,
     R: Clock + Threads + Wait + Sync,
+    ensures { IfOk result (λ life. life.mode ≡ Mode.Run file.entry listen.entry links) }
 {
     let times = DiskTimes::new();
     let store = open_timed(rt, alloc, file, &times)?;
@@ -71,9 +98,14 @@ where
         rt, alloc, store, listener, control, links, &OpenGate, &clock, &times,
     );
     drop(store);
-    remove(rt, path.as_str());
+    remove(rt, &path);
+    let mode = Mode::Run {
+        file,
+        listen,
+        links,
+    };
     let ended = match result {
-        Ok(report) => Ok(report),
+        Ok(report) => Ok(FinishedLife { mode, report }),
         Err(fault) => Err(Fault::from(fault)),
     };
     tell_end(waiting, &ended);
@@ -113,7 +145,7 @@ where
 struct Entrance<C: Clock> {
     listener: TcpListener,
     clock: Monotonic<C>,
-    path: String,
+    path: ControlPath,
     control: UnixListener,
 }
 
@@ -134,7 +166,7 @@ where
         clock,
     } = listen_at(rt, listen)?;
     let path = path_of(alloc, file)?;
-    let control = bind_control(rt, path.as_str())?;
+    let control = bind_control(rt, &path)?;
     let _ = writeln!(out, "listening {address}");
     let _ = out.flush();
     Ok(Entrance {
@@ -146,7 +178,7 @@ where
 }
 
 // Whoever waits is told that it is done, or why not.
-fn tell_end(waiting: Vec<UnixStream>, ended: &Result<LifeReport, Fault>) {
+fn tell_end(waiting: Vec<UnixStream>, ended: &Result<FinishedLife<'_>, Fault>) {
     for stream in waiting {
         let mut stream = stream;
         let _ = match ended {

@@ -1,15 +1,14 @@
 // Stores in files.
 use crate::Fault;
+use crate::new_file::{create, remove};
 use disk::FileDisk;
 use gateway_wire::list_text;
-use lw_types::{NetId, Refusal};
+use lw_types::NetId;
 use sessions::Slots;
 use std::alloc::Global;
-use std::fs;
 use std::fs::File;
-use std::io::ErrorKind;
 use std::rt::{Clock, Files};
-use store::{Store, disk_len, format_back, open};
+use store::{Store, format_back, open};
 use timed_disk::{DiskTimes, TimedDisk};
 
 /// Makes a store without devices in a new file. Where that fails the file is removed again, unless
@@ -21,38 +20,11 @@ pub(crate) fn format<R: Files<File = File>>(
     net_id: NetId,
     slots: Slots,
 ) -> Result<(), Fault> {
-    let disk = create(rt, file, slots)?;
+    let (disk, made) = create(rt, file, slots)?;
     match format_back(alloc, disk, net_id, slots.get()) {
         Ok(_) => Ok(()),
-        Err((disk, refusal)) => Err(remove(rt, file, disk, refusal)),
+        Err((disk, refusal)) => Err(remove(rt, made, disk, refusal)),
     }
-}
-
-/// A new file for a store with so many slots.
-pub(crate) fn create<R: Files<File = File>>(
-    rt: &R,
-    file: &str,
-    slots: Slots,
-) -> Result<FileDisk, Fault> {
-    match FileDisk::create(rt, file, disk_len(slots)) {
-        Ok(disk) => Ok(disk),
-        Err(error) if error.kind() == ErrorKind::AlreadyExists => Err(Fault::Exists),
-        Err(_) => Err(Fault::File),
-    }
-}
-
-/// Removes the file of a store that couldn't be made, and tells why. A removal that fails is passed
-/// over.
-pub(crate) fn remove<R: Files<File = File>>(
-    rt: &R,
-    file: &str,
-    disk: FileDisk,
-    refusal: Refusal,
-) -> Fault {
-    // removed before its lock is given up, so that nobody opens it in between
-    let _ = fs::remove_file(rt, file);
-    drop(disk);
-    Fault::Refused(refusal)
 }
 
 /// The list of the devices of the store in a file, and the number of its last decision.

@@ -2,7 +2,7 @@
 //! and serves gateways and applications over TCP.
 #![tactic(auto)]
 
-use gateway_server::{Fault, command, fail};
+use gateway_server::{Fault, ServerCommands, command, fail};
 use lw_types::Refusal;
 use std::alloc::{AllocError, Global};
 use std::env;
@@ -15,7 +15,14 @@ fn main(rt: HostRuntime) -> ExitCode {
     let (mut out, mut err) = (rt.stdout(), rt.stderr());
     let status = match arguments(&rt, alloc) {
         Ok(all) => match texts_of(alloc, all.as_slice()) {
-            Ok(texts) => command(&rt, alloc, texts.as_slice(), &mut out, &mut err),
+            Ok(texts) => command(
+                &rt,
+                &mut ServerCommands,
+                alloc,
+                texts.as_slice(),
+                &mut out,
+                &mut err,
+            ),
             Err(AllocError) => fail(&mut err, &Fault::Refused(Refusal::OutOfMemory)),
         },
         Err(AllocError) => fail(&mut err, &Fault::Refused(Refusal::OutOfMemory)),

@@ -1,7 +1,8 @@
 // Commands of these tests, and their files.
-use gateway_server::command;
+use gateway_server::{ServerCommands, command};
 use std::alloc::Global;
 use std::fs::File;
+use std::io::Write;
 use std::net::{Net, TcpListener, TcpStream};
 use std::rt::{Clock, Files};
 use std::sync::Wait;
@@ -34,6 +35,21 @@ pub fn failed(err: &'static str) -> Told<'static> {
     }
 }
 
+/// The status of these words.
+pub fn status_of<R, O: Write, E: Write>(
+    rt: &R,
+    alloc: Global,
+    words: &[&str],
+    out: &mut O,
+    err: &mut E,
+) -> u8
+where
+    R: Files<File = File> + Net<Listener = TcpListener, Stream = TcpStream>,
+    R: Clock + Threads + Wait + Sync,
+{
+    command(rt, &mut ServerCommands, alloc, words, out, err)
+}
+
 /// Whether these words end so.
 pub fn ends<R>(rt: &R, alloc: Global, words: &[&str], told: &Told<'_>) -> bool
 where
@@ -41,7 +57,7 @@ where
     R: Clock + Threads + Wait + Sync,
 {
     let (mut out, mut err) = (Vec::new(alloc), Vec::new(alloc));
-    let status = command(rt, alloc, words, &mut out, &mut err);
+    let status = status_of(rt, alloc, words, &mut out, &mut err);
     status == told.status
         && out.as_slice() == told.out.as_bytes()
         && err.as_slice() == told.err.as_bytes()
@@ -54,7 +70,7 @@ where
     R: Clock + Threads + Wait + Sync,
 {
     let (mut out, mut err) = (Vec::new(alloc), Vec::new(alloc));
-    let status = command(rt, alloc, words, &mut out, &mut err);
+    let status = status_of(rt, alloc, words, &mut out, &mut err);
     status == 0 && err.is_empty() && out.as_slice().starts_with(told.as_bytes())
 }
 

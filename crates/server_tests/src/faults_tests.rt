@@ -1,6 +1,6 @@
 // What fails first, and output that can't be written.
-use crate::asked::{Told, done, ends, failed, formats, lists, path_of, remove, serves};
-use gateway_server::{Fault, command, fail};
+use crate::asked::{Told, done, ends, failed, formats, lists, path_of, remove, serves, status_of};
+use gateway_server::{Fault, fail};
 use lw_types::Refusal;
 use std::io;
 use std::io::{ErrorKind, Write};
@@ -16,7 +16,7 @@ fn words_come_before_the_file_and_the_file_before_the_address(rt: HostRuntime) {
     assert!(rt; serves(&rt, alloc, file, "nonsense", &failed("lnsd: listen\n")));
     let (mut out, mut err) = (Vec::new(alloc), Vec::new(alloc));
     let format = ["format", file, "--netid", "00002A", "--slots", "0"];
-    assert!(rt; command(&rt, alloc, &format, &mut out, &mut err) == 2);
+    assert!(rt; status_of(&rt, alloc, &format, &mut out, &mut err) == 2);
     assert!(rt; out.is_empty() && !err.is_empty());
     remove(&rt, file);
 }
@@ -55,7 +55,7 @@ fn an_address_in_use_is_not_listened_on(rt: HostRuntime) {
 fn help_is_told_on_standard_output(rt: HostRuntime) {
     let alloc = rt.alloc();
     let (mut out, mut err) = (Vec::new(alloc), Vec::new(alloc));
-    assert!(rt; command(&rt, alloc, &["--help"], &mut out, &mut err) == 0);
+    assert!(rt; status_of(&rt, alloc, &["--help"], &mut out, &mut err) == 0);
     assert!(rt; !out.is_empty() && err.is_empty());
     let told = Told {
         status: 0,
@@ -64,7 +64,7 @@ fn help_is_told_on_standard_output(rt: HostRuntime) {
     };
     assert!(rt; ends(&rt, alloc, &["--version"], &told));
     let (mut out, mut err) = (Vec::new(alloc), Vec::new(alloc));
-    assert!(rt; command(&rt, alloc, &[], &mut out, &mut err) == 2);
+    assert!(rt; status_of(&rt, alloc, &[], &mut out, &mut err) == 2);
     assert!(rt; out.is_empty() && !err.is_empty());
 }
 
@@ -88,14 +88,14 @@ fn output_that_is_closed_is_a_failure(rt: HostRuntime) {
     let path = path_of(&rt, "closed").expect(&rt, "a path");
     let file = path.as_str();
     let format = ["format", file, "--netid", "00002A", "--slots", "8"];
-    assert!(rt; command(&rt, alloc, &format, &mut Closed, &mut Closed) == 0);
+    assert!(rt; status_of(&rt, alloc, &format, &mut Closed, &mut Closed) == 0);
     let mut err = Vec::new(alloc);
-    assert!(rt; command(&rt, alloc, &["list", file], &mut Closed, &mut err) == 1);
-    assert!(rt; command(&rt, alloc, &["--help"], &mut Closed, &mut err) == 1);
+    assert!(rt; status_of(&rt, alloc, &["list", file], &mut Closed, &mut err) == 1);
+    assert!(rt; status_of(&rt, alloc, &["--help"], &mut Closed, &mut err) == 1);
     assert!(rt; err.is_empty());
-    assert!(rt; command(&rt, alloc, &["stop"], &mut Closed, &mut Closed) == 2);
+    assert!(rt; status_of(&rt, alloc, &["stop"], &mut Closed, &mut Closed) == 2);
     assert!(rt;
-        command(
+        status_of(
             &rt,
             alloc,
             &["list", "none/store"],
