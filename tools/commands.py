@@ -17,6 +17,8 @@ SOURCES = (".rt", ".antt")
 COSTS = f"{ROOT}/tools/costs.txt"
 # What a check may take, in bytes; most take less.
 MEMORY = 4 << 30
+# What a part of a check counts, in its last line of this form.
+COUNTS = re.compile(r"^(?:test result: \w+\. )?(\d+) passed[,;] (\d+) failed", re.MULTILINE)
 
 
 class Words(argparse.ArgumentParser):
@@ -169,6 +171,14 @@ def lanes():
     if limit and used is not None:
         free.append(limit - used)
     return max(1, min(len(os.sched_getaffinity(0)), min(free) // MEMORY))
+
+
+def counted(said, status):
+    """How much passed and failed of what a part of a check said; what ended badly and counts no
+    failure, or counts nothing, has failed once."""
+    found = COUNTS.findall(said)
+    passed, failed = map(int, found[-1]) if found else (0, 1)
+    return passed, max(failed, 1 if status else 0)
 
 
 def answer(word, *words):

@@ -1,5 +1,6 @@
 """The program lnsd, run on a store in a folder of its own."""
 
+import itertools
 import os
 import random
 import shutil
@@ -17,9 +18,21 @@ class Failed(Exception):
     """The program did something else than it should have."""
 
 
+def own_ports():
+    """The ports of LNSD_PORTS, which tools/side-by-side gives to each command, or all that
+    connections don't get by themselves, one after another; so no two of a process are the same
+    before all have been."""
+    first, _, last = (os.environ.get("LNSD_PORTS") or "20000-31999").partition("-")
+    ports = range(int(first), int(last) + 1)
+    return itertools.cycle(random.sample(ports, len(ports)))
+
+
+PORTS = own_ports()
+
+
 def free_port():
-    """A port that nobody listens on. It isn't one that connections get by themselves."""
-    for port in random.sample(range(20000, 32000), 200):
+    """A port that nobody listens on."""
+    for port in itertools.islice(PORTS, 200):
         with socket.socket() as it:
             try:
                 it.bind((HOST, port))

@@ -35,8 +35,22 @@ def folder(text):
     return os.path.abspath(text)
 
 
+class ProgramWords(commands.Words):
+    """Words among which --program names lnsd, which is looked for once all of them are right."""
+
+    def __init__(self, text):
+        super().__init__(text)
+        self.add_argument("--program", metavar="FILE", default=BUILT)
+
+    def parse_args(self, args=None, namespace=None):
+        given = super().parse_args(args, namespace)
+        try:
+            given.program = program(given.program)
+        except argparse.ArgumentTypeError as missing:
+            self.error(missing)
+        return given
+
+
 def of_program(text):
     """The words of a command that runs the program."""
-    it = commands.Words(text)
-    it.add_argument("--program", type=program, metavar="FILE", default=BUILT)
-    return it
+    return ProgramWords(text)
