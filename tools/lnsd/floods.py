@@ -91,6 +91,27 @@ def copies(trials):
         finish(trials, program, [application, *links])
 
 
+def two_windows(trials):
+    """Each frame keeps its own window: what another gateway hands in of it still counts behind a
+    frame that came meanwhile, and beside a window that is due."""
+    with trials.store(records=records(1, OWNER)) as program:
+        address = program.serve(3)
+        application = Application(address, OWNER)
+        first, second = await_links([Gateway(address, it) for it in euis(2)])
+        device = load.device(0)
+        older, younger = sent(device, 0), sent(device, 0)
+        best, later = Copy(first.eui, snr=10), Copy(second.eui, snr=-20)
+        first.hands_in(older, best)
+        time.sleep(0.1)
+        first.hands_in(younger, best)
+        time.sleep(0.05)
+        second.hands_in(older, later)
+        trials.compare("the older frame", application.hears(), up(0, 1, 2, best))
+        second.hands_in(younger, later)
+        trials.compare("the younger frame", application.hears(), up(0, 2, 2, best))
+        finish(trials, program, [application, first, second])
+
+
 def channels(trials):
     """A session that was stored with three channels is served on these; a join, which is served on
     these alone, gives eight."""
@@ -350,6 +371,7 @@ def refused_link(trials):
 TRIALS = {
     "a 65th gateway": gateways,
     "the 33rd copy, a gateway's second one, the best one": copies,
+    "two windows at once": two_windows,
     "a session of three channels": channels,
     "the 1,025th window": windows,
     "requests faster than the disk": backlog,
