@@ -9,7 +9,9 @@ import subprocess
 # one of the number FAILING_CALL fails, a write when half of it is written, and in that of the
 # number KILLING_CALL the program is killed, in the middle of a write, too. The first SLOW_SYNCS
 # syncs take SLOW_MS and SLOW_MICROS longer. Each write and sync that succeeds is added to the file
-# CALL_LOG: its kind, w or s, its place (8 bytes) and length (4) in the machine's order, its bytes.
+# CALL_LOG: its kind, its place (8 bytes) and length (4) in the machine's order, its bytes. The kind
+# is w for a write, s for a sync of what a file holds, and where all of it is synced f for a file
+# and d for a folder.
 CALLS = r"""
 #define _GNU_SOURCE
 #include <errno.h>
@@ -18,6 +20,7 @@ CALLS = r"""
 #include <stdint.h>
 #include <stdlib.h>
 #include <string.h>
+#include <sys/stat.h>
 #include <sys/syscall.h>
 #include <unistd.h>
 
@@ -79,6 +82,13 @@ int fdatasync(int file) {
     if (++syncs <= number("SLOW_SYNCS")) usleep(1000 * number("SLOW_MS") + number("SLOW_MICROS"));
     int status = syscall(SYS_fdatasync, file);
     if (!status) note('s', 0, "", 0);
+    return status;
+}
+
+int fsync(int file) {
+    struct stat it;
+    int status = syscall(SYS_fsync, file);
+    if (!status && !fstat(file, &it)) note(S_ISDIR(it.st_mode) ? 'd' : 'f', 0, "", 0);
     return status;
 }
 

@@ -12,10 +12,14 @@ FEW = 4
 class Call:
     """A write with its place and bytes, or a sync; and where it ends in the log."""
 
-    is_write: bool
+    kind: bytes
     place: int
     content: bytes
     end: int
+
+    @property
+    def is_write(self):
+        return self.kind == b"w"
 
 
 def logged(path):
@@ -26,7 +30,7 @@ def logged(path):
     while at < len(log):
         kind, place, length = head.unpack_from(log, at)
         at += head.size + length
-        calls.append(Call(kind == b"w", place, log[at - length : at], at))
+        calls.append(Call(kind, place, log[at - length : at], at))
     return calls
 
 

@@ -1,11 +1,12 @@
 """Trials of lnsd on a disk whose calls fail, or whose syncs are slow. The C library's calls are
 replaced in the program's process, so a C compiler is needed."""
+import os
 import tempfile
 import time
 from functools import cache
 
 import preloads
-from . import floods, load, starts
+from . import calls, floods, load, starts
 from .trials import EUI, OWNER, Pair, end_all, records
 from server import wire
 from server.links import Application, Ended, Gateway
@@ -77,6 +78,27 @@ def fails(trials, program, number):
     return has_failed
 
 
+def kinds_of(log):
+    """The kinds of the calls in a log, of which so many writes in a row count once."""
+    kinds = b"".join(it.kind for it in calls.logged(log)).decode()
+    return "".join(it for at, it in enumerate(kinds) if it != "w" or kinds[at - 1 : at] != "w")
+
+
+def made(trials):
+    """A new store's file is synced, and then its folder, before anything is committed: else a power
+    cut might leave no file of a store that is there."""
+    with trials.store() as program:
+        log, new = f"{program.folder}/calls", f"{program.folder}/new"
+        words = ("format", new, "--netid", "00002A", "--slots", "8")
+        came = program.run(*words, env=with_disk(CALL_LOG=log))
+        trials.compare("lnsd format", came, (0, "", ""))
+        trials.compare("the calls before the first commit", kinds_of(log)[:3], "wfd")
+        os.remove(log)
+        came = program.run("restore", new, f"{new}er", env=with_disk(CALL_LOG=log))
+        trials.compare("lnsd restore", came[0], 0)
+        trials.holds("the file and its folder aren't synced", "wfd" in kinds_of(log))
+
+
 def stuck(trials):
     """A sync fails while an application doesn't read what it is sent: the end doesn't wait."""
     with trials.store(4096, records(floods.LONG // 8, OWNER)) as program:
@@ -137,6 +159,7 @@ def backlog(trials):
 
 TRIALS = {
     "a disk whose nth call fails": failing,
+    "a new store's file and its folder are synced": made,
     "a disk that fails while an application doesn't read": stuck,
     "a disk whose syncs are slow": slow,
     "4,096 decisions that wait for the disk": backlog,
