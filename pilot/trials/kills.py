@@ -1,4 +1,4 @@
-"""Each part is killed again and again in the middle of a load, and what that may cost is counted."""
+"""Each part is killed again and again in the middle of a load, and what that costs is counted."""
 
 import random
 import resource

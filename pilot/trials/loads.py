@@ -1,5 +1,5 @@
-"""A load of the whole pilot: meters in their sessions send confirmed readings through many gateways,
-and each is acknowledged by a downlink through the bridge that it came by."""
+"""A load of the whole pilot: meters in their sessions send confirmed readings through many
+gateways, and each is acknowledged by a downlink through the bridge that it came by."""
 
 import base64
 import json

@@ -4,8 +4,9 @@ ghost use Rattle.clap.specs.Words.{App, Rule, new_app, rule_of, with_rule, with_
 ghost use Rattle.clap.specs.declared.builder.value_parser.ValueParser.TheVariants as parsers;
 ghost use Rattle.command_words.specs.CommandLine.{HasLine, IsCommand, devices_line, format_line};
 ghost use Rattle.command_words.specs.CommandLine.{list_line, lnsd_line, option, or_else};
-ghost use Rattle.command_words.specs.CommandLine.{range_option, restore_line, run_line, serve_line};
-ghost use Rattle.command_words.specs.CommandLine.{status_line, stop_line, top_line, watch_line, word};
+ghost use Rattle.command_words.specs.CommandLine.{range_option, restore_line, run_line};
+ghost use Rattle.command_words.specs.CommandLine.{serve_line, status_line, stop_line, top_line};
+ghost use Rattle.command_words.specs.CommandLine.{watch_line, word};
 
 use clap::builder::ValueParser;
 use clap::{Arg, ArgAction, Command, value_parser};

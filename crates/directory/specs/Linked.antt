@@ -1,6 +1,6 @@
 -- Who is linked, and at which link.
-use Rattle.std.specs.Prelude.{◌≡◌, ◌≢◌, ◌+◌, ◌&&◌, ◌||◌, ℕ, Bool, Option, Some, None, is_none, is_some}
-use Rattle.std.specs.Prelude.{List, length, nat_eq, nat_lt, not, slice_index_or}
+use Rattle.std.specs.Prelude.{◌≡◌, ◌≢◌, ◌+◌, ◌&&◌, ◌||◌, ℕ, Bool, Option, Some, None, is_none}
+use Rattle.std.specs.Prelude.{is_some, List, length, nat_eq, nat_lt, not, slice_index_or}
 use Rattle.std.specs.List.{find}
 use Rattle.std.specs.Option.{option_map}
 use Rattle.lw_types.specs.declared.identifiers.Eui.{Eui}

@@ -1,5 +1,9 @@
 -- The rings of a life, as they are made.
 use Rattle.std.specs.Prelude.{◌≡◌, ◌∷◌, ⊤, ℕ, List, []}
+use Rattle.lw_types.specs.declared.refusal.Refusal.{Refusal}
+use Rattle.rtrb.specs.Ring.{sent, received, known_free, IsPair}
+use Rattle.rtrb.specs.declared.consumer.Consumer.{Consumer}
+use Rattle.rtrb.specs.declared.producer.Producer.{Producer}
 use Rattle.outbox.specs.Ring.{put_in, room_of, taken_from, AreEnds}
 use Rattle.outbox.specs.declared.ends.Inlet.{Inlet}
 use Rattle.outbox.specs.declared.ends.Outlet.{Outlet}
@@ -17,3 +21,10 @@ AreNewRings places [] (inlet ∷ inlets) = ⊥
 AreNewRings places (outlet ∷ outlets) [] = ⊥
 AreNewRings places (outlet ∷ outlets) (inlet ∷ inlets) =
     IsNewRing places outlet inlet × AreNewRings places outlets inlets
+
+-- the two ends of one ring of so many refusals, into which nothing came yet
+abbrev pub IsNewRingOfRefusals : {A P : Type 0} → ℕ → Producer Refusal A P → Consumer Refusal A P
+    → Type 0
+IsNewRingOfRefusals places producer consumer =
+    IsPair producer consumer × ((sent producer ≡ []) × ((received consumer ≡ [])
+    × (known_free producer ≡ places)))

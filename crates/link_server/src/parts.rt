@@ -1,6 +1,7 @@
 // What the threads of a life own, before they are started.
-ghost use Rattle.std.specs.Prelude.{◌≡◌, ◌+◌, ◌++◌, List, length, map, IfOk};
-ghost use Rattle.link_server.specs.Rings.{AreNewRings};
+ghost use Rattle.std.specs.Prelude.{◌≡◌, ◌+◌, ◌++◌, List, length, map, All, IfErr, IfOk};
+ghost use Rattle.lw_types.specs.declared.refusal.Refusal.TheVariants.{OutOfMemory};
+ghost use Rattle.link_server.specs.Rings.{AreNewRings, IsNewRingOfRefusals};
 
 use directory::APPLICATIONS;
 use lw_types::Refusal;
@@ -37,6 +38,9 @@ impl<B: Books> Parts<B> {
         ensures links { IfOk result (λ parts. length parts.links.items ≡ links) }
         ensures rings { IfOk result (λ parts. AreNewRings PLACES parts.outlets.items
             (map (λ (link : LinkParts B). link.inlet) parts.links.items)) }
+        ensures refusals { IfOk result (λ parts. All (λ (link : LinkParts B).
+            IsNewRingOfRefusals PLACES link.refused link.refusals) parts.links.items) }
+        ensures refused { IfErr result (λ e. e ≡ OutOfMemory) }
     {
         let mut all = Vec::new(alloc);
         let mut outlets = Vec::new(alloc);
@@ -66,6 +70,7 @@ impl<B: Books> Parts<B> {
         ensures rings { IfOk result (λ inlets. (added : List Outlet)
             × ((self.new.outlets.items ≡ self.old.outlets.items ++ added)
             × AreNewRings PLACES added inlets.items)) }
+        ensures refused { IfErr result (λ e. e ≡ OutOfMemory) }
     {
         let mut all = Vec::new(alloc);
         for _application in 0..APPLICATIONS {

@@ -1,5 +1,5 @@
 // One life of a server.
-ghost use Rattle.std.specs.Prelude.{◌≡◌, ◌≤◌, ◌+◌, length, sum, Err, IfOk};
+ghost use Rattle.std.specs.Prelude.{◌≡◌, ◌≤◌, ◌+◌, length, sum, Err, IfErr, IfOk};
 ghost use Rattle.std.specs.Prelude.{map, option_map, MatchResult};
 ghost use Rattle.lw_types.specs.declared.refusal.Refusal.TheVariants.{OutOfMemory};
 ghost use Rattle.link_server.specs.Served.{IsLedOn};
@@ -162,13 +162,13 @@ fn begin<R: Threads + Wait + Sync, D: Disk + Drop, G: Gate + Sync, C: LifeClock 
         Err(refusal) => return failed(context.alloc, store, ServeFault::Refused(refusal)),
     };
     let seats = links.len() as u64 + 1;
-    let new_life = NewLife {
+    let places = Places {
         links,
         door,
         control,
-        core,
     };
-    serve_life::<Brand, R, D, G, C>(context, store, new_life, Blank::new(seats), Blank::new(1))
+    let (made, taken) = (Blank::new(seats), Blank::new(1));
+    serve_life::<Brand, R, D, G, C>(context, store, places, core, made, taken)
 }
 
 fn failed<D: Disk>(alloc: Global, store: Store<D>, fault: ServeFault) -> ServedLife<D>
@@ -182,16 +182,13 @@ fn failed<D: Disk>(alloc: Global, store: Store<D>, fault: ServeFault) -> ServedL
     }
 }
 
-// The links of a life, and its core, to which nothing has come yet.
+// The links of a life, and where links and operators come in.
 #[derive(Drop)]
-struct NewLife {
+struct Places {
     links: Vec<Link>,
     door: Option<Door>,
     control: Option<ControlSocket>,
-    core: Core,
     ghost few: { length links.items ≤ 96 },
-    ghost none_made: { core.decisions.made ≡ 0 },
-    ghost none_taken: { core.decisions.taken ≡ 0 },
 }
 
 fn serve_life<
@@ -203,38 +200,38 @@ fn serve_life<
 >(
     context: &Context<'_, R, G, C>,
     store: Store<D>,
-    new_life: NewLife,
+    places: Places,
+    core: Core,
     made: Blank,
     taken: Blank,
 ) -> ServedLife<D>
     requires made { (made.name ≡ B.made_name) × (made.parts ≡ B.made_parts)
-        × (made.parts ≡ length new_life.links.items + 1) }
+        × (made.parts ≡ length places.links.items + 1) }
     requires taken { (taken.name ≡ B.taken_name) × (taken.parts ≡ 1) }
-    requires core { new_life.core
+    requires core { core
         ≡ new_core (store_state D.state store).table (store_state D.state store).seq }
     ensures shares { IfOk result.result (λ report. sum report.shares.items ≡ report.made) }
     ensures lives { D.honest
         → IsLedOn (store_state D.state store) (store_state D.state result.store) }
 {
-    let NewLife {
+    let all = places.links.len() as u64 + 1;
+    let (mut shared, taker) = Shared::<B>::new(core, all, made, taken);
+    if places.control.is_some() {
+        shared.observe();
+    }
+    let Equipment {
+        parts,
+        directory,
+        lines,
+    } = match Equipment::new(context.alloc, &mut shared, &places) {
+        Ok(equipment) => equipment,
+        Err(refusal) => return failed(context.alloc, store, ServeFault::Refused(refusal)),
+    };
+    let Places {
         links,
         door,
         control,
-        core,
-    } = new_life;
-    let all = links.len() as u64 + 1;
-    let (mut shared, taker) = Shared::<B>::new(core, all, made, taken);
-    if control.is_some() {
-        shared.observe();
-    }
-    let mut parts = match Parts::new(context.alloc, &mut shared, links.len()) {
-        Ok(parts) => parts,
-        Err(refusal) => return failed(context.alloc, store, ServeFault::Refused(refusal)),
-    };
-    let (directory, lines) = match named(context.alloc, &mut parts, &door, links.len()) {
-        Ok(named) => named,
-        Err(refusal) => return failed(context.alloc, store, ServeFault::Refused(refusal)),
-    };
+    } = places;
     let server = LiveServer {
         signals: Signals::new(links.len() as u64),
         links,
@@ -270,27 +267,42 @@ fn serve_life<
     }
 }
 
-// Nobody is linked yet. Where links come and go, applications have rings of their own, behind those
-// of so many links.
-fn named<B: Books>(
-    alloc: Global,
-    parts: &mut Parts<B>,
-    door: &Option<Door>,
-    links: usize,
-) -> Result<(Directory, Vec<WaitingLines>), Refusal>
-    requires { links ≤ 96 }
-    ensures rings { IfOk result (λ named. named.0.first_ring ≡ option_map (λ _. links) door.now) }
-{
-    if door.is_none() {
-        return Ok((Directory::new(alloc, None)?, Vec::new(alloc)));
-    }
-    let inlets = parts.add_lines(alloc)?;
-    let directory = Directory::new(alloc, Some(links as u16))?;
-    Ok((directory, waiting_lines(alloc, inlets)?))
+// What a life takes memory for before it begins.
+struct Equipment<B: Books> {
+    parts: Parts<B>,
+    directory: Directory,
+    lines: Vec<WaitingLines>,
 }
 
-// Each behind a lock, in the same order.
-fn waiting_lines(alloc: Global, inlets: Vec<Inlet>) -> Result<Vec<WaitingLines>, Refusal> {
+impl<B: Books> Equipment<B> {
+    // Nobody is linked yet. Where links come and go, applications have rings of their own, behind
+    // those of the links.
+    fn new(alloc: Global, shared: &mut Shared<B>, places: &Places) -> Result<Self, Refusal>
+        requires { shared.old.left ≡ length places.now.links.items + 1 }
+        ensures rings { IfOk result (λ equipment. equipment.directory.first_ring
+            ≡ option_map (λ _. length places.now.links.items) places.now.door) }
+        ensures refused { IfErr result (λ e. e ≡ OutOfMemory) }
+    {
+        let links = places.links.len();
+        let mut parts = Parts::new(alloc, shared, links)?;
+        let (first_ring, lines) = if places.door.is_some() {
+            let inlets = parts.add_lines(alloc)?;
+            (Some(links as u16), waiting_lines(alloc, inlets)?)
+        } else {
+            (None, Vec::new(alloc))
+        };
+        Ok(Equipment {
+            parts,
+            directory: Directory::new(alloc, first_ring)?,
+            lines,
+        })
+    }
+}
+
+// Each behind a lock, in the same order. Refused with `OutOfMemory` for want of memory.
+fn waiting_lines(alloc: Global, inlets: Vec<Inlet>) -> Result<Vec<WaitingLines>, Refusal>
+    ensures refused { IfErr result (λ e. e ≡ OutOfMemory) }
+{
     let mut lines = Vec::new(alloc);
     for inlet in inlets {
         lines.push(Mutex::new(Some(inlet)))?;

@@ -1,3 +1,4 @@
+mod Answered
 mod Routed
 mod Together
 mod Written

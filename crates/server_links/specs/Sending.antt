@@ -1,9 +1,10 @@
 -- What is put together to be sent on a link.
-use Rattle.std.specs.Prelude.{◌≡◌, ◌+◌, ◌++◌, ◌∷◌, ◌⊎◌, ℕ, Bool, List, [], Option, None, Some}
-use Rattle.std.specs.Prelude.{IsTrue, length}
+use Rattle.std.specs.Prelude.{◌≡◌, ◌<◌, ◌+◌, ◌++◌, ◌∷◌, ◌⊎◌, ◌↔◌, ℕ, Bool, true, false, List, []}
+use Rattle.std.specs.Prelude.{Option, None, Some, IsTrue, length}
 use Rattle.std.specs.Io.KnownBytes.{Appends}
+use Rattle.lw_types.specs.declared.refusal.Refusal.{Refusal}
 use Rattle.devices.specs.declared.effect.Effect.{Effect}
-use Rattle.gateway_wire.specs.Answer.{answer_frame}
+use Rattle.gateway_wire.specs.Answer.{answer_frame, refused_line}
 use Rattle.gateway_wire.specs.Emission.{emission, recipient}
 use Rattle.gateway_wire.specs.declared.emission.Emission.{Emission}
 use Rattle.gateway_wire.specs.declared.emission.Emission.TheVariants.{Gateway, Application}
@@ -40,25 +41,54 @@ AreGathered name old_taken new_taken taken lost old_bytes new_bytes =
     × ((taken ≡ length effects) × ((new_bytes ≡ old_bytes ++ bytes)
     × AreGatheredFor name effects lost bytes))))
 
+-- the answers to requests that were refused, one after another, but for those that are lost
+abbrev pub AreAnswers : List Refusal → List ℕ → Type 0
+AreAnswers [] bytes = bytes ≡ []
+AreAnswers (refusal ∷ refusals) bytes =
+    AreAnswers refusals bytes
+    ⊎ ((rest : List ℕ) × ((bytes ≡ answer_frame (refused_line refusal) ++ rest)
+    × AreAnswers refusals rest))
+
+-- refusals came out of a ring, and whether there were any; the answers that are to be sent stand
+-- behind what was there, none of them on a broken link
+pub record HaveAnswered (is_broken : Bool) (old_received new_received : List Refusal)
+    (is_some : Bool) (old_bytes new_bytes : List ℕ) : Type 0 where
+  pub refusals : List Refusal
+  pub received : new_received ≡ old_received ++ refusals
+  pub some : IsTrue is_some ↔ (0 < length refusals)
+  pub bytes : List ℕ
+  pub put : new_bytes ≡ old_bytes ++ bytes
+  pub answers : AreAnswers refusals bytes
+  pub silent : IsTrue is_broken → bytes ≡ []
+
 -- a beginning of the bytes was written, and all of them where it says so
 abbrev pub IsWrittenTo : List ℕ → Bool → Option (List ℕ) → Option (List ℕ) → Type 0
 IsWrittenTo bytes is_whole before after =
     (gone : List ℕ) × ((rest : List ℕ) × ((bytes ≡ gone ++ rest)
     × (Appends before after gone × (IsTrue is_whole → rest ≡ []))))
 
--- Effects came out of a ring. The frames of those that are for the link of this name were put
--- together, behind what tells of refusals, and written: all of it, or a beginning, and then each of
--- these effects counts as dropped.
-pub record IsHandedOver (name : Option Recipient) (old_taken new_taken : List Effect) (dropped : ℕ)
+-- A turn of a sender. Refusals and effects came out of its rings, and whether any did. The answers
+-- to the refusals were put together, and behind them the frames of those effects that are for the
+-- link of this name, and written: all of it, and then the lost effects count as dropped, or a
+-- beginning, and then each of these effects counts as dropped, and the link is broken. On a link
+-- that was broken before nothing is written, and it stays broken.
+pub record IsHandedOver (name : Option Recipient) (old_received new_received : List Refusal)
+    (old_taken new_taken : List Effect) (is_some was_broken is_broken : Bool) (dropped : ℕ)
     (before after : Option (List ℕ)) : Type 0 where
+  pub refusals : List Refusal
+  pub received : new_received ≡ old_received ++ refusals
   pub effects : List Effect
   pub taken : new_taken ≡ old_taken ++ effects
-  pub told : List ℕ
-  pub bytes : List ℕ
+  pub some : IsTrue is_some ↔ (0 < length refusals + length effects)
+  pub answers : List ℕ
+  pub answered : AreAnswers refusals answers
+  pub frames : List ℕ
   pub lost : ℕ
-  pub gathered : AreGatheredFor name effects lost bytes
+  pub gathered : AreGatheredFor name effects lost frames
   pub gone : List ℕ
   pub rest : List ℕ
-  pub split : told ++ bytes ≡ gone ++ rest
+  pub split : answers ++ frames ≡ gone ++ rest
   pub written : Appends before after gone
-  pub counted : ((rest ≡ []) × (dropped ≡ lost)) ⊎ (dropped ≡ length effects)
+  pub counted : ((was_broken ≡ false) × ((is_broken ≡ false) × ((rest ≡ []) × (dropped ≡ lost))))
+      ⊎ ((is_broken ≡ true) × (dropped ≡ length effects))
+  pub silent : IsTrue was_broken → gone ≡ []

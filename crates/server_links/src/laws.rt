@@ -8,8 +8,8 @@ use crate::rings::PLACES;
 use directory::MOST_GATEWAYS;
 
 /// How many gateways are linked at most, how many links a life has that stay, and how many places
-/// for those that don't; how many places a ring has, and how many effects and bytes are put together
-/// before they are sent.
+/// for those that don't; how many places a ring has, and how many effects and bytes are put
+/// together before they are sent.
 pub fn limits_are_these()
     ensures gateways { MOST_GATEWAYS ≡ 64 }
     ensures links { MOST_LINKS ≡ 80 }

@@ -1,7 +1,8 @@
 // A sender writes a link.
-ghost use Rattle.std.specs.Prelude.{◌≡◌, option_map, IsTrue};
+ghost use Rattle.std.specs.Prelude.{◌≡◌, ◌⊎◌, None, option_map, IsTrue};
 ghost use Rattle.outbox.specs.Ring.{taken_from};
-ghost use Rattle.server_links.specs.Sending.{AreGathered, IsHandedOver, IsWrittenTo};
+ghost use Rattle.rtrb.specs.Ring.{received};
+ghost use Rattle.server_links.specs.Sending.{AreGathered, HaveAnswered, IsHandedOver, IsWrittenTo};
 
 use crate::gathering::{Gathered, add_refusal, gather};
 use crate::link::Link;
@@ -94,8 +95,12 @@ impl<'x, R: Wait> Sender<'x, R> {
     // Gathers some of what waits, and writes it.
     fn hand_over<W: Write>(&mut self, stream: &mut W) -> HandedOver
         ensures written { IsHandedOver (option_map (λ name. name.now) self.new.name)
-            (taken_from self.old.inlet) (taken_from self.new.inlet) result.dropped
+            (received self.old.refusals) (received self.new.refusals)
+            (taken_from self.old.inlet) (taken_from self.new.inlet) result.is_some
+            self.old.is_broken self.new.is_broken result.dropped
             (W.contents stream.old) (W.contents stream.new) }
+        ensures keeps { self.new.keeps ≡ self.old.keeps }
+        ensures named { (self.old.name ≡ None) ⊎ (self.new.name ≡ self.old.name) }
     {
         self.outgoing.clear();
         let is_told = self.gather_refusals();
@@ -128,10 +133,14 @@ impl<'x, R: Wait> Sender<'x, R> {
         }
     }
 
-    // Whether there was one.
+    // Whether there was one. On a broken link nobody is told.
     fn gather_refusals(&mut self) -> bool
+        ensures answered { HaveAnswered self.old.is_broken (received self.old.refusals)
+            (received self.new.refusals) result self.old.outgoing self.new.outgoing }
         ensures inlet { self.new.inlet ≡ self.old.inlet }
         ensures broken { self.new.is_broken ≡ self.old.is_broken }
+        ensures keeps { self.new.keeps ≡ self.old.keeps }
+        ensures name { self.new.name ≡ self.old.name }
     {
         let mut some = false;
         for _ in 0..SOME {
@@ -153,6 +162,9 @@ impl<'x, R: Wait> Sender<'x, R> {
             self.old.outgoing self.new.outgoing }
         ensures broken { (self.new.is_broken ≡ self.old.is_broken)
             × (IsTrue self.old.is_broken → result.lost ≡ result.taken) }
+        ensures refusals { self.new.refusals ≡ self.old.refusals }
+        ensures keeps { self.new.keeps ≡ self.old.keeps }
+        ensures named { (self.old.name ≡ None) ⊎ (self.new.name ≡ self.old.name) }
     {
         if self.name.is_none() {
             self.name = self.link.name();

@@ -1,6 +1,11 @@
--- The ring of effects stays as it is.
+-- What came out of the ring so far was answered; all else stays as it is.
 use Rattle.std.proofs.Common.{◌≡◌}
+use Rattle.rtrb.specs.Ring.{received}
+use Rattle.server_links.specs.Sending.{HaveAnswered}
 use Rattle.server_links.proofs.writing.Sender.gather_refusals.Given as goal
 
 abbrev pub invariant-loop : goal.invariant-loop
-invariant-loop g l = (l.self.inlet ≡ l.initial.self.inlet) × (l.self.is_broken ≡ l.initial.self.is_broken)
+invariant-loop g l =
+    HaveAnswered l.initial.self.is_broken (received l.initial.self.refusals) (received l.self.refusals) l.some l.initial.self.outgoing l.self.outgoing
+    × ((l.self.inlet ≡ l.initial.self.inlet) × ((l.self.is_broken ≡ l.initial.self.is_broken)
+    × ((l.self.keeps ≡ l.initial.self.keeps) × (l.self.name ≡ l.initial.self.name))))
