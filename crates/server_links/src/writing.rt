@@ -1,12 +1,12 @@
 // A sender writes a link.
-ghost use Rattle.std.specs.Prelude.{◌≡◌, ◌⊎◌, None, option_map, IsTrue};
-ghost use Rattle.outbox.specs.Ring.{taken_from};
-ghost use Rattle.rtrb.specs.Ring.{received};
+ghost use Rattle.std.specs.Prelude.{◌≡◌, ◌≤◌, ◌+◌, ◌⊎◌, ◌↔◌, [], None, length, option_map, IsTrue};
+ghost use Rattle.outbox.specs.Ring.{seen_by, taken_from};
+ghost use Rattle.rtrb.specs.Ring.{known_items, received};
 ghost use Rattle.server_links.specs.Sending.{AreGathered, HaveAnswered, IsHandedOver, IsWrittenTo};
 
-use crate::gathering::{Gathered, add_refusal, gather};
+use crate::gathering::{Gathered, SOME, add_refusal, gather};
 use crate::link::Link;
-use crate::outgoing::Outgoing;
+use crate::outgoing::{MUCH, Outgoing};
 use crate::rings::WaitingLines;
 use crate::signals::Signals;
 use crate::watching::Watch;
@@ -21,7 +21,7 @@ use std::net::{Shutdown, TcpStream};
 use std::sync::Wait;
 
 // How many refusals are put together before they are sent.
-const SOME: u32 = 64;
+const SOME_REFUSALS: u32 = 64;
 
 // How many writes in a row may wait in vain once nothing more comes. Each waits a second.
 const PATIENCE: u32 = 8;
@@ -75,7 +75,10 @@ impl<'x, R: Wait> Sender<'x, R> {
     }
 
     // Whether what waits is left for the next link of this name.
-    fn is_given_up(&self) -> bool {
+    fn is_given_up(&self) -> bool
+        ensures keeps { IsTrue result → IsTrue self.now.keeps }
+        ensures broken { IsTrue self.now.keeps → IsTrue self.now.is_broken → IsTrue result }
+    {
         self.keeps && (self.is_broken || self.link.is_taken())
     }
 
@@ -99,6 +102,9 @@ impl<'x, R: Wait> Sender<'x, R> {
             (taken_from self.old.inlet) (taken_from self.new.inlet) result.is_some
             self.old.is_broken self.new.is_broken result.dropped
             (W.contents stream.old) (W.contents stream.new) }
+        ensures refusals { (length (received self.new.refusals)
+            ≡ length (received self.old.refusals) + SOME_REFUSALS)
+            ⊎ (known_items self.new.refusals ≡ []) }
         ensures keeps { self.new.keeps ≡ self.old.keeps }
         ensures named { (self.old.name ≡ None) ⊎ (self.new.name ≡ self.old.name) }
     {
@@ -137,13 +143,16 @@ impl<'x, R: Wait> Sender<'x, R> {
     fn gather_refusals(&mut self) -> bool
         ensures answered { HaveAnswered self.old.is_broken (received self.old.refusals)
             (received self.new.refusals) result self.old.outgoing self.new.outgoing }
+        ensures enough { (length (received self.new.refusals)
+            ≡ length (received self.old.refusals) + SOME_REFUSALS)
+            ⊎ (known_items self.new.refusals ≡ []) }
         ensures inlet { self.new.inlet ≡ self.old.inlet }
         ensures broken { self.new.is_broken ≡ self.old.is_broken }
         ensures keeps { self.new.keeps ≡ self.old.keeps }
         ensures name { self.new.name ≡ self.old.name }
     {
         let mut some = false;
-        for _ in 0..SOME {
+        for _ in 0..SOME_REFUSALS {
             let Ok(refusal) = self.refusals.pop() else {
                 break;
             };
@@ -160,6 +169,8 @@ impl<'x, R: Wait> Sender<'x, R> {
         ensures gathered { AreGathered (option_map (λ name. name.now) self.new.name)
             (taken_from self.old.inlet) (taken_from self.new.inlet) result.taken result.lost
             self.old.outgoing self.new.outgoing }
+        ensures enough { (self.new.name ≡ None) ⊎ ((result.taken ≡ SOME)
+            ⊎ ((MUCH ≤ length self.new.outgoing) ⊎ (seen_by self.new.inlet ≡ []))) }
         ensures broken { (self.new.is_broken ≡ self.old.is_broken)
             × (IsTrue self.old.is_broken → result.lost ≡ result.taken) }
         ensures refusals { self.new.refusals ≡ self.old.refusals }
@@ -329,6 +340,9 @@ impl<'x, R: Wait> HostSender<'x, R> {
 
 /// Whether a write that failed so may be tried again: it was interrupted, or nothing was taken in
 /// the time that it had.
-pub fn is_passing(kind: ErrorKind) -> bool {
+pub fn is_passing(kind: ErrorKind) -> bool
+    ensures { IsTrue result
+        ↔ ((kind ≡ ErrorKind.Interrupted) ⊎ (kind ≡ ErrorKind.WouldBlock)) }
+{
     kind == ErrorKind::Interrupted || kind == ErrorKind::WouldBlock
 }

@@ -1,9 +1,7 @@
-use Rattle.std.proofs.Common.{◌+◌, ◌∷◌, ◌++◌, ◌∙◌, List, [], ap, length, append_assoc, subst, sym}
+use Rattle.std.proofs.Common.{◌+◌, ◌∷◌, ◌++◌, ◌∙◌, List, [], ap, length, append_assoc, refl}
 use Rattle.std.proofs.lemmas.List.{length_push}
-use Rattle.outbox.specs.declared.ends.Inlet.{Inlet}
 use Rattle.outbox.specs.declared.ends.Outlet.{Outlet}
-use Rattle.link_server.specs.Rings.{AreNewRings}
-use Rattle.link_server.proofs.Making.{one_ring_more}
+use Rattle.link_server.proofs.Making.{rings_with_one_more}
 use Rattle.link_server.proofs.parts.Parts.add_lines.Goals as goal
 
 -- one ring more, behind those of the links
@@ -15,15 +13,13 @@ loop-application-preserved g c =
     let inlet = c.in_ok-outlet.inlet in
     let inlets = c.loop-application.all.items in
     let put = c.in_ok-push.ensures.items in
-    let pushed = c.in_ok-push-2.ensures.items in
-    let more = one_ring_more 1024 added inlets outlet inlet are (ends.ends, (ends.outlet.0, (ends.inlet.0, ends.outlet.1))) in
-    let Q = λ (inlets : List Inlet). AreNewRings 1024 (added ++ outlet ∷ []) inlets in (
+    let pushed = c.in_ok-push-2.ensures.items in (
       ap length pushed ∙ (length_push inlets inlet ∙ ap (λ n. n + 1) count),
       (
         added ++ outlet ∷ [],
         (
           put ∙ (ap (λ (outlets : List Outlet). outlets ++ outlet ∷ []) stand ∙ append_assoc c.args.self.now.outlets.items added (outlet ∷ [])),
-          subst Q (sym pushed) more,
+          rings_with_one_more 1024 added (added ++ outlet ∷ []) inlets c.push-in-loop-application.new.self.items outlet inlet are (ends.ends, (ends.outlet.0, (ends.inlet.0, ends.outlet.1))) refl pushed,
         ),
       ),
     )

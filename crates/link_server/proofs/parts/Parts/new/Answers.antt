@@ -1,11 +1,9 @@
-use Rattle.std.proofs.Common.{◌≡◌, ◌+◌, ◌∷◌, ◌++◌, ◌∙◌, List, [], ap, arith, length, map, subst, sym}
+use Rattle.std.proofs.Common.{◌≡◌, ◌+◌, ◌∷◌, ◌++◌, ◌∙◌, [], ap, arith, length, map}
 use Rattle.std.proofs.lemmas.List.{length_push, map_push}
 use Rattle.std.proofs.lemmas.List.Elements.{All-push, All-same}
-use Rattle.outbox.specs.declared.ends.Inlet.{Inlet}
-use Rattle.outbox.specs.declared.ends.Outlet.{Outlet}
-use Rattle.link_server.specs.Rings.{AreNewRings, IsNewRingOfRefusals}
+use Rattle.link_server.specs.Rings.{IsNewRingOfRefusals}
 use Rattle.link_server.specs.declared.parts.LinkParts.{LinkParts}
-use Rattle.link_server.proofs.Making.{one_ring_more}
+use Rattle.link_server.proofs.Making.{rings_with_one_more}
 use Rattle.link_server.proofs.parts.Parts.new.Goals as goal
 
 -- one link more, with the two ends of one ring
@@ -20,16 +18,13 @@ loop-number-preserved g c =
     let put = c.in_ok-push.ensures.items in
     let pushed = c.in_ok-push-2.ensures.items in
     let inlets : map inlet_of c.push-in-loop-number.new.self.items ≡ map inlet_of links ++ inlet ∷ [] = ap (map inlet_of) pushed ∙ map_push inlet_of links _ in
-    let more = one_ring_more 1024 c.loop-number.outlets.items (map inlet_of links) outlet inlet are (ends.ends, (ends.outlet.0, (ends.inlet.0, ends.outlet.1))) in
     let Paired = λ (link : LinkParts g.row.B.Denot). IsNewRingOfRefusals 1024 link.refused link.refusals in
-    let pair = c.in_ok-refused.ensures in
-    let P = λ (outlets : List Outlet). AreNewRings 1024 outlets (map inlet_of links ++ inlet ∷ []) in
-    let Q = λ (inlets : List Inlet). AreNewRings 1024 c.push.new.self.items inlets in (
+    let pair = c.in_ok-refused.ensures in (
       omega (arith, left, c.seat-seat.ensures.left),
       (
         ap length pushed ∙ (length_push links _ ∙ ap (λ n. n + 1) count),
         (
-          subst Q (sym inlets) (subst P (sym put) more),
+          rings_with_one_more 1024 c.loop-number.outlets.items c.push.new.self.items (map inlet_of links) (map inlet_of c.push-in-loop-number.new.self.items) outlet inlet are (ends.ends, (ends.outlet.0, (ends.inlet.0, ends.outlet.1))) put inlets,
           All-same Paired c.push-in-loop-number.new.self.items _ pushed (All-push Paired links _ paired (pair.pair, (pair.producer.0, (pair.consumer.0, pair.producer.1)))),
         ),
       ),

@@ -1,5 +1,5 @@
 -- What came out of the ring so far was answered; all else stays as it is.
-use Rattle.std.proofs.Common.{◌≡◌}
+use Rattle.std.proofs.Common.{◌≡◌, ◌+◌, length}
 use Rattle.rtrb.specs.Ring.{received}
 use Rattle.server_links.specs.Sending.{HaveAnswered}
 use Rattle.server_links.proofs.writing.Sender.gather_refusals.Given as goal
@@ -7,5 +7,6 @@ use Rattle.server_links.proofs.writing.Sender.gather_refusals.Given as goal
 abbrev pub invariant-loop : goal.invariant-loop
 invariant-loop g l =
     HaveAnswered l.initial.self.is_broken (received l.initial.self.refusals) (received l.self.refusals) l.some l.initial.self.outgoing l.self.outgoing
+    × ((length (received l.self.refusals) ≡ length (received l.initial.self.refusals) + l.counter)
     × ((l.self.inlet ≡ l.initial.self.inlet) × ((l.self.is_broken ≡ l.initial.self.is_broken)
-    × ((l.self.keeps ≡ l.initial.self.keeps) × (l.self.name ≡ l.initial.self.name))))
+    × ((l.self.keeps ≡ l.initial.self.keeps) × (l.self.name ≡ l.initial.self.name)))))
