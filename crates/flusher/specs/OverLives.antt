@@ -6,8 +6,9 @@ use Rattle.std.specs.List.{FoldsTo}
 use Rattle.devices.specs.declared.effect.Effect.{Effect}
 use Rattle.devices.specs.declared.mark.Mark.{Mark}
 use Rattle.disk.specs.Crash.{IsCrashed}
-use Rattle.disk.specs.Outlook.Outlook.{FailsAfter}
-use Rattle.disk.specs.State.{EveryImage, IsPermitted, IsSettledAt, State}
+use Rattle.disk.specs.Outlook.{IsArmed}
+use Rattle.disk.specs.Outlook.Outlook.{AllSucceed, FailsAfter}
+use Rattle.disk.specs.State.{EveryImage, IsPermitted, IsSettledAt, NothingOpen, State}
 use Rattle.disk.specs.declared.disk.Disk.{Ghosts}
 use Rattle.disk.specs.declared.sim.Image.{Image}
 use Rattle.lw_types.specs.declared.refusal.Refusal.{Refusal}
@@ -32,7 +33,9 @@ pub record IsLeftBy (image : Image) (old at : State) : Type 0 where
 
 -- The disk crashed to this image, or there was no crash; the call with this number was to fail, if
 -- any; and the store was opened, or not. An opening is refused by the device exactly where a call
--- failed, and what it leaves holds what the disk did.
+-- failed, and what it leaves holds what the disk did; any other refusal comes before something is
+-- written. Behind a call that failed no other is to fail; one that was to fail and did not come is
+-- still to come.
 pub record IsReopened {D : Type 0} (disk : Ghosts D) (crash : Option Image) (failing : Option ℕ)
     (old : D) (result : Result (Store D disk) (D × Refusal)) : Type 0 where
   pub at : D
@@ -47,6 +50,15 @@ pub record IsReopened {D : Type 0} (disk : Ghosts D) (crash : Option Image) (fai
   pub device : IfErr result (λ error.
       (error.1 ≡ DeviceFailed → disk.failures error.0 ≡ disk.failures at + 1)
       × (error.1 ≢ DeviceFailed → disk.failures error.0 ≡ disk.failures at))
+  pub still_unarmed : disk.outlook at ≡ AllSucceed
+      → IfErr result (λ error. disk.outlook error.0 ≡ AllSucceed)
+  pub still_armed : IsArmed (disk.outlook at) → MatchResult result
+      (λ store. IsArmed (disk.outlook (disk_of store)))
+      (λ error. (error.1 ≡ DeviceFailed → disk.outlook error.0 ≡ AllSucceed)
+      × (error.1 ≢ DeviceFailed → IsArmed (disk.outlook error.0)))
+  pub unwritten : IfErr result (λ error. error.1 ≢ DeviceFailed
+      → NothingOpen (disk.state error.0)
+      × ((disk.state error.0).content ≡ (disk.state at).content))
   pub kept : IfErr result (λ error. HoldsOn (disk.state old) (disk.state error.0))
 
 -- how chains that had so many decisions are answered, the last one of which may be refused

@@ -1,5 +1,7 @@
 -- A server's chains.
-use Rattle.std.specs.Prelude.{◌≡◌, ◌++◌, ℕ, List, [], ◌∷◌, map, Result, Ok, Err}
+use Rattle.std.specs.Prelude.{◌≡◌, ◌++◌, ℕ, zero, suc, Bool, true, false, List, [], ◌∷◌, map}
+use Rattle.std.specs.Prelude.{Result, Ok, Err, MatchResult}
+use Rattle.std.specs.List.{FoldsTo}
 use Rattle.devices.specs.declared.effect.Effect.{Effect}
 use Rattle.disk.specs.declared.disk.Disk.{Ghosts}
 use Rattle.lw_types.specs.declared.refusal.Refusal.{Refusal}
@@ -27,3 +29,17 @@ last_answer (Err e) = Err e
 -- how all of them are answered: those before the last one had so many decisions
 abbrev pub answers_of : List ℕ → Result (Unit {0}) Refusal → List (Result ℕ Refusal)
 answers_of counts result = map (λ count. Ok count) counts ++ last_answer result ∷ []
+
+-- what is asked behind a chain that had so many decisions: whether all is done, where it had none,
+-- and it isn't
+abbrev pub GoesOnBehind : {S : Type 0} → (S → Bool → S → Type 0) → S → ℕ → S → Type 0
+GoesOnBehind ask old zero new = ask old false new
+GoesOnBehind ask old (suc count) new = new ≡ old
+
+-- what is asked behind all of them: so behind each, and at last, where none was refused, that all
+-- is done
+abbrev pub AsksBehind : {S : Type 0} → (S → Bool → S → Type 0) → List ℕ
+    → Result (Unit {0}) Refusal → S → S → Type 0
+AsksBehind {S} ask counts result old new =
+    (last : S) × (FoldsTo (GoesOnBehind ask) old counts last
+    × MatchResult result (λ _. ask last true new) (λ _. new ≡ last))

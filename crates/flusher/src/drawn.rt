@@ -6,8 +6,9 @@ use sessions::Batch;
 use std::sync::Wait;
 
 /// The decisions that wait behind the lock of a core: each batch is the oldest of them, as
-/// [`Sessions::take`] gives them. Of a batch nothing is promised but that the taker's share counts
-/// it: [`chain`](crate::chain) compares each batch with what is durable or under way.
+/// [`Sessions::take`] gives them. Of a batch nothing is promised but that it isn't longer than was
+/// asked for, and that the taker's share counts it: [`chain`](crate::chain) compares each batch with
+/// what is durable or under way.
 #[derive(Drop)]
 pub struct Drawn<'x, B: Books, S: Sessions<B>, R: Wait> {
     rt: &'x R,
@@ -38,11 +39,11 @@ impl<'x, B: Books, S: Sessions<B>, R: Wait> Drawn<'x, B, S, R> {
 }
 
 impl<'x, B: Books, S: Sessions<B>, R: Wait> Feed for Drawn<'x, B, S, R> {
-    ghost use Rattle.std.specs.Prelude.{◌≡◌, ◌+◌, length, MatchResult};
+    ghost use Rattle.std.specs.Prelude.{◌≡◌, ◌+◌, ◌≤◌, length, MatchResult};
     ghost use Rattle.lw_types.specs.declared.refusal.Refusal.TheVariants.{OutOfMemory};
 
-    ghost gives = { λ old _ answer new. MatchResult answer
-        (λ batch. new.taker ≡ old.taker + length batch)
+    ghost gives = { λ old most answer new. MatchResult answer
+        (λ batch. (new.taker ≡ old.taker + length batch) × (length batch ≤ most))
         (λ e. (e ≡ OutOfMemory) × (new.taker ≡ old.taker)) };
 
     fn next(&mut self, most: Most) -> Result<Batch, Refusal> {

@@ -1,17 +1,19 @@
 // A flusher over several lives of its store, on a simulated disk.
 ghost use Rattle.std.specs.Global.{Global};
-ghost use Rattle.std.specs.Prelude.{◌≡◌, ℕ, List, [], All, IfErr, IfOk, MatchOption, Ok, OnErr};
+ghost use Rattle.std.specs.Prelude.{◌≡◌, ◌≢◌, ◌+◌, ℕ, List, [], All, IfErr, IfOk, MatchOption, Ok, OnErr};
 ghost use Rattle.std.specs.Prelude.{Vec, length};
 ghost use Rattle.devices.specs.declared.mark.Mark.{Mark};
-ghost use Rattle.disk.specs.State.{EveryImage};
+ghost use Rattle.disk.specs.State.{EveryImage, NothingOpen};
 ghost use Rattle.flusher.specs.Lived.{AreOnDisk, GoOnFrom, LeadOn};
 ghost use Rattle.flusher.specs.OverLives.{AreFlusherLives, IsFlusherLife, IsLeftBy, IsReopened};
 ghost use Rattle.flusher.specs.OverLives.{LeaveOnce, MakeUpTo};
 ghost use Rattle.flusher.specs.Released.{effects_of_all};
 ghost use Rattle.lw_types.specs.declared.refusal.Refusal.{Refusal};
+ghost use Rattle.lw_types.specs.declared.refusal.Refusal.TheVariants.{DeviceFailed};
 ghost use Rattle.sessions.specs.Marks.{AreDistinct, Covers};
 ghost use Rattle.sessions.specs.Table.{TableState, empty_table};
 ghost use Rattle.store.specs.Faults.{IsFormatRefusal};
+ghost use Rattle.store.specs.Formatting.{IsFormatImage};
 ghost use Rattle.store.specs.Image.{HoldsTable};
 ghost use Rattle.store.specs.Made.{IsFormatAnswer};
 ghost use Rattle.store.specs.State.{disk_of, store_state};
@@ -119,6 +121,10 @@ pub fn flush_new_store<D: Sim, F: Feed, C: FnMut(Vec<Released>)>(
         (empty_table net_id slots) 0 [] (D.state last) out.old out.new) }
     ensures refused { IfErr result
         (λ e. IsFormatRefusal slots (length (D.state disk).content) e.1) }
+    ensures device { IfErr result (λ e. (e.1 ≡ DeviceFailed → D.failures e.0 ≡ D.failures disk + 1)
+        × (e.1 ≢ DeviceFailed → e.0 ≡ disk)) }
+    ensures images { NothingOpen (D.state disk) → IfErr result
+        (λ e. EveryImage (D.state e.0) (IsFormatImage net_id slots (D.state disk).content)) }
     ensures untouched { OnErr result ((feed.new ≡ feed.old) × (out.new ≡ out.old)) }
 {
     sessions::laws::no_mark_stands_twice();

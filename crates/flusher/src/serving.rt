@@ -3,7 +3,7 @@ ghost use Rattle.std.specs.Global.{Global};
 ghost use Rattle.std.specs.Prelude.{true, ◌≡◌, ℕ, List, OnOk, Vec};
 ghost use Rattle.flusher.specs.Lived.{LeadOn};
 ghost use Rattle.flusher.specs.Released.{effects_of_all};
-ghost use Rattle.flusher.specs.Serving.{MakeChains, answers_of};
+ghost use Rattle.flusher.specs.Serving.{AsksBehind, MakeChains, answers_of};
 ghost use Rattle.store.specs.State.{store_state};
 
 use crate::{ChainLength, Feed, Released, chain};
@@ -35,11 +35,14 @@ pub fn serve<R: Wait, D: Disk, F: Feed, C: FnMut(Vec<Released>), S: FnMut() -> b
         (store_state D.state store.old) (store_state D.state store.new) out.old out.new }
 
     // Its chains, in order, from what it was given to what it leaves. It ends with the refusal of
-    // the last one, or behind one without a batch, where `done` says so.
-    ensures chains { (counts : List ℕ) × MakeChains D.Disk F.gives
+    // the last one, or behind one without a batch, where `done` says so. That is asked behind each
+    // chain without a batch, and else never.
+    ensures chains { (counts : List ℕ) × (MakeChains D.Disk F.gives
         (λ (released : Vec Released Global). effects_of_all released.items)
         (λ before released after. C.step before released tt after) 64
-        store.old store.new feed.old feed.new out.old out.new (answers_of counts result) }
+        store.old store.new feed.old feed.new out.old out.new (answers_of counts result)
+        × AsksBehind (λ before answer after. S.step before answer after) counts result
+        done.old done.new) }
     ensures done { OnOk result ((before : S) × S.step before true done.new) }
 {
     for _ in rt.forever() {

@@ -17,9 +17,10 @@ new_seat = record { made = 0; last = None }
 abbrev pub made_by : List SeatState → ℕ
 made_by seats = sum (map (λ s. s.made) seats)
 
--- A call through a seat: its share grew by the decisions of the turn, and is of those that were
--- made so far; and this call is its last one, refused as the turn tells.
+-- A call through a seat: its share grew by the decisions of the turn, which may be none, and is of
+-- those that were made so far; and this call is its last one, refused as the turn tells.
 pub record HasMade (old new : SeatState) (moment : ℕ) (kind : CallKind) (turn : Turn) : Type 0 where
+  pub order : turn.from ≤ turn.to
   pub grown : new.made + turn.from ≡ old.made + turn.to
   pub within : new.made ≤ turn.to
   pub last : new.last ≡ Some (record { moment = moment; kind = kind; refused = turn.refused })

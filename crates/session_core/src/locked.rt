@@ -1,5 +1,5 @@
 // A core that several threads share, behind a lock.
-ghost use Rattle.std.specs.Prelude.{◌≡◌, ◌+◌, length, MatchResult};
+ghost use Rattle.std.specs.Prelude.{◌≡◌, ◌+◌, ◌≤◌, length, IfErr, IfOk, MatchResult};
 ghost use Rattle.lw_types.specs.declared.refusal.Refusal.TheVariants.{OutOfMemory};
 ghost use Rattle.session_core.specs.Seats.{HasMade};
 ghost use Rattle.session_core.specs.declared.seat.CallKind.TheVariants.{Asked, Heard, Ticked};
@@ -72,11 +72,13 @@ pub trait Sessions<B: Books> {
     fn take<R: Wait>(&self, rt: &R, taker: &mut Taker<B>, max: Most) -> Result<Batch, Refusal>
         ensures share { MatchResult result
             (λ batch. taker.new ≡ taker.old + length batch)
-            (λ e. (e ≡ OutOfMemory) × (taker.new ≡ taker.old)) };
+            (λ e. (e ≡ OutOfMemory) × (taker.new ≡ taker.old)) }
+        ensures few { IfOk result (λ batch. length batch ≤ max) };
 
     /// What came of the last commands that were handed in to be decided, for whoever looks at a
     /// core, as tests do.
-    fn outcomes<R: Wait>(&self, rt: &R, alloc: Global) -> Result<Vec<Outcome>, Refusal>;
+    fn outcomes<R: Wait>(&self, rt: &R, alloc: Global) -> Result<Vec<Outcome>, Refusal>
+        ensures refused { IfErr result (λ e. e ≡ OutOfMemory) };
 
     /// The moment at which the oldest window is due.
     fn next_due<R: Wait>(&self, rt: &R) -> Option<Moment>;

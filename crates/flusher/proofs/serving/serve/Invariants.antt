@@ -1,11 +1,13 @@
--- Both closures can be called again, lives have led the store here, and chains have.
+-- Both closures can be called again, lives have led the store here, and chains have,
+-- behind each of which it was asked whether all is done.
 use denote.Param.Always.{always_mut}
 use denote.Param.Members.{Called}
 use Rattle.std.proofs.Common.{Vec, Global, ℕ, List, Ok, map}
+use Rattle.std.specs.List.{FoldsTo}
 use Rattle.store.specs.State.{store_state}
 use Rattle.flusher.specs.Lived.{LeadOn}
 use Rattle.flusher.specs.Released.{effects_of_all}
-use Rattle.flusher.specs.Serving.{MakeChains}
+use Rattle.flusher.specs.Serving.{GoesOnBehind, MakeChains}
 use Rattle.flusher.specs.declared.released.Released.{Released}
 use Rattle.flusher.proofs.serving.serve.Given as goal
 
@@ -16,5 +18,6 @@ invariant-loop g l =
     × ((g.D.Disk.honest
     → LeadOn (λ (released : Vec Released Global). effects_of_all released.items) (λ before released after. Called g.C.FnMut before (released, tt) tt after)
     (store_state g.D.Disk.state l.fn.store) (store_state g.D.Disk.state l.store) l.fn.out l.out)
-    × ((counts : List ℕ) × MakeChains g.D.Disk g.F.Feed.gives (λ (released : Vec Released Global). effects_of_all released.items)
-    (λ before released after. Called g.C.FnMut before (released, tt) tt after) 64 l.fn.store l.store l.fn.feed l.feed l.fn.out l.out (map (λ count. Ok count) counts))))
+    × ((counts : List ℕ) × (MakeChains g.D.Disk g.F.Feed.gives (λ (released : Vec Released Global). effects_of_all released.items)
+    (λ before released after. Called g.C.FnMut before (released, tt) tt after) 64 l.fn.store l.store l.fn.feed l.feed l.fn.out l.out (map (λ count. Ok count) counts)
+    × FoldsTo (GoesOnBehind (λ before answer after. Called g.S.FnMut before tt answer after)) l.fn.done counts l.done))))
