@@ -1,9 +1,12 @@
 -- What a command tells, and with which status it ends.
-use Rattle.std.specs.Prelude.{◌≡◌, ◌≢◌, ◌⊎◌, ℕ, List, Option, Result, Ok, Err, MatchResult}
+use Rattle.std.specs.Prelude.{◌≡◌, ◌≢◌, ◌≤◌, ◌⊎◌, ℕ, List, Option, Result, Ok, Err, MatchResult}
+use Rattle.std.specs.Prelude.{string_bytes}
 use Rattle.std.specs.Io.KnownBytes.{Appends}
 use Rattle.command_words.specs.Asked.{AskFor}
 use Rattle.command_words.specs.declared.mode.Mode.{Mode}
 use Rattle.command_words.specs.declared.mode.Mode.TheVariants as mode
+use Rattle.command_words.specs.declared.mode.Usage.{Usage}
+use Rattle.command_words.specs.declared.mode.Usage.TheVariants as usage
 use Rattle.gateway_server.specs.declared.fault.Fault.{Fault}
 use Rattle.gateway_server.specs.declared.fault.Fault.TheVariants.{Listen}
 
@@ -58,29 +61,40 @@ WasObeyed ends m contents old new result = MatchResult result
     (λ _. SaysSomething m)))
     (λ fault. ends m (Err fault) × (TellsEarly m ⊎ (new ≡ old)))
 
--- what these words ask for was done, and what it tells was told
-pub record IsDone {O : Type 0} (ends : Mode → Result (List ℕ) Fault → Type 0) (words : List (List ℕ))
-    (contents : O → Option (List ℕ)) (old new : O) : Type 0 where
-  pub what : Mode
-  pub asked : AskFor words what
+-- these words ask for something of which this holds
+abbrev pub IsAskedFor : List (List ℕ) → (Mode → Type 0) → Type 0
+IsAskedFor words holds = (m : Mode) × (AskFor words m × holds m)
+
+-- this was done, and what it tells was told
+pub record IsDone {O : Type 0} (ends : Mode → Result (List ℕ) Fault → Type 0)
+    (contents : O → Option (List ℕ)) (old new : O) (m : Mode) : Type 0 where
   pub text : List ℕ
-  pub ended : ends what (Ok text)
-  pub told : TellsEarly what ⊎ Appends (contents old) (contents new) text
+  pub ended : ends m (Ok text)
+  pub told : TellsEarly m ⊎ Appends (contents old) (contents new) text
 
--- what these words ask for failed, and told nothing, or it was done and couldn't be told
-pub record FellShort {O : Type 0} (ends : Mode → Result (List ℕ) Fault → Type 0) (words : List (List ℕ))
-    (old new : O) : Type 0 where
-  pub what : Mode
-  pub asked : AskFor words what
+-- this failed, and told nothing, or it was done and couldn't be told
+pub record FellShort {O : Type 0} (ends : Mode → Result (List ℕ) Fault → Type 0) (old new : O)
+    (m : Mode) : Type 0 where
   pub outcome : Result (List ℕ) Fault
-  pub ended : ends what outcome
-  pub cause : MatchResult outcome (λ _. SaysSomething what)
-      (λ fault. (AsksToRun what → fault ≢ Listen) × (TellsEarly what ⊎ (new ≡ old)))
+  pub ended : ends m outcome
+  pub cause : MatchResult outcome (λ _. SaysSomething m)
+      (λ fault. (AsksToRun m → fault ≢ Listen) × (TellsEarly m ⊎ (new ≡ old)))
 
--- these words ask for links to be served that come and go, and none can be listened for
-pub record CannotListen (ends : Mode → Result (List ℕ) Fault → Type 0) (words : List (List ℕ)) : Type 0
-  where
-    pub what : Mode
-    pub asked : AskFor words what
-    pub runs : AsksToRun what
-    pub ended : ends what (Err Listen)
+-- this is to serve links that come and go, and none can be listened for
+abbrev pub CannotListen : (Mode → Result (List ℕ) Fault → Type 0) → Mode → Type 0
+CannotListen ends m = AsksToRun m × ends m (Err Listen)
+
+-- the status of what was asked for: 0 where it was done and told, 3 where it can't listen, or 1
+abbrev pub HasStatus : {O : Type 0} → (Mode → Result (List ℕ) Fault → Type 0)
+    → (O → Option (List ℕ)) → O → O → Mode → ℕ → Type 0
+HasStatus ends contents old new m status =
+    ((status ≡ 0) × IsDone ends contents old new m)
+    ⊎ (((status ≡ 1) × FellShort ends old new m) ⊎ ((status ≡ 3) × CannotListen ends m))
+
+-- The status of words that ask for nothing to be done: 2 of wrong ones; 0 of help, where its text
+-- stands on standard output behind what was there, or else 1; 1 where there was no memory.
+abbrev pub HasUsageStatus : {O : Type 0} → Usage → (O → Option (List ℕ)) → O → O → ℕ → Type 0
+HasUsageStatus (usage.Words text) contents old new status = (status ≡ 2) × (new ≡ old)
+HasUsageStatus (usage.Help text) contents old new status = (status ≤ 1)
+    × (status ≡ 0 → Appends (contents old) (contents new) (string_bytes text))
+HasUsageStatus usage.Memory contents old new status = (status ≡ 1) × (new ≡ old)

@@ -1,4 +1,6 @@
 // The control socket beside a store's file: who serves listens there, and who asks connects.
+ghost use Rattle.std.specs.Prelude.{◌≡◌, ◌≢◌, ◌++◌, [], MatchResult, codes, string_bytes};
+
 use crate::Fault;
 use link_server::{BUSY, Order, WATCHING};
 use lw_types::Refusal;
@@ -24,13 +26,17 @@ const PIECE: usize = 4096;
 // How many tries those are a second.
 const TRIES: u64 = 20;
 
-/// Where the control socket of a store is. Only [`path_of`] makes one, so what is removed as a socket
-/// is never the store's own file.
+/// Where the control socket of a store is. Only [`path_of`] makes one, so what is removed as a
+/// socket is never the store's own file.
 #[derive(Drop)]
 pub(crate) struct ControlPath(String);
 
 /// Where the control socket of the store in a file is.
-pub(crate) fn path_of(alloc: Global, file: &str) -> Result<ControlPath, Fault> {
+pub(crate) fn path_of(alloc: Global, file: &str) -> Result<ControlPath, Fault>
+    ensures { MatchResult result
+        (λ path. string_bytes path.0 ≡ file.now ++ codes ".control")
+        (λ fault. fault ≡ Fault.Refused Refusal.OutOfMemory) }
+{
     match format!(in alloc; "{file}.control") {
         Ok(path) => Ok(ControlPath(path)),
         Err(_) => Err(Fault::Refused(Refusal::OutOfMemory)),
@@ -121,7 +127,10 @@ pub(crate) fn devices<R: Net>(rt: &R, alloc: Global, file: &str) -> Result<Strin
 }
 
 // No answer is one that was broken off.
-fn some(answer: String) -> Result<String, Fault> {
+fn some(answer: String) -> Result<String, Fault>
+    ensures { MatchResult result (λ text. (text ≡ answer) × (string_bytes answer ≢ []))
+        (λ fault. (fault ≡ Fault.BrokenOff) × (string_bytes answer ≡ [])) }
+{
     if answer.is_empty() {
         Err(Fault::BrokenOff)
     } else {

@@ -38,7 +38,18 @@ pub enum Fault {
     Clock,
     /// The store refused, or its disk failed, or there was no memory.
     #[error("refused {number}", number = .0.number())]
-    Refused(#[from] Refusal),
+    Refused(Refusal),
+}
+
+impl From<Refusal> for Fault {
+    ghost use Rattle.std.specs.Prelude.{◌≡◌};
+    ghost use Rattle.gateway_server.specs.declared.fault.Fault.TheVariants.{Refused};
+
+    ghost from_gives = { λ refusal fault. fault ≡ Refused refusal };
+
+    fn from(refusal: Refusal) -> Self {
+        Fault::Refused(refusal)
+    }
 }
 
 impl From<ServeFault> for Fault {

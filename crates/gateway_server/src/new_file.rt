@@ -1,4 +1,6 @@
 // New files for stores.
+ghost use Rattle.std.specs.Prelude.{◌≡◌, IfOk};
+
 use crate::Fault;
 use disk::FileDisk;
 use lw_types::Refusal;
@@ -21,7 +23,9 @@ pub(crate) fn create<'a, R: Files<File = File>>(
     rt: &R,
     path: &'a str,
     slots: Slots,
-) -> Result<(FileDisk, NewFile<'a>), Fault> {
+) -> Result<(FileDisk, NewFile<'a>), Fault>
+    ensures { IfOk result (λ made. made.1.path ≡ path.entry) }
+{
     match FileDisk::create(rt, path, disk_len(slots)) {
         Ok(disk) => Ok((disk, NewFile { path })),
         Err(error) if error.kind() == ErrorKind::AlreadyExists => Err(Fault::Exists),
@@ -36,7 +40,9 @@ pub(crate) fn remove<R: Files<File = File>>(
     made: NewFile<'_>,
     disk: FileDisk,
     refusal: Refusal,
-) -> Fault {
+) -> Fault
+    ensures { result ≡ Fault.Refused refusal }
+{
     // removed before its lock is given up, so that nobody opens it in between
     let _ = fs::remove_file(rt, made.path);
     drop(disk);

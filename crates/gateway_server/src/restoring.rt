@@ -1,4 +1,7 @@
 // A new store of an older copy.
+ghost use Rattle.std.specs.Prelude.{◌≡◌, ◌⊎◌, MatchResult, None, Some, option_map};
+ghost use Rattle.sessions.specs.Restored.{restored_table, spent_device};
+
 use crate::Fault;
 use crate::new_file::{NewFile, create, remove};
 use devices::{Device, GrantsSince};
@@ -21,16 +24,40 @@ pub(crate) fn restore<R: Files<File = File>>(
     new: &str,
     since: GrantsSince,
 ) -> Result<String, Fault> {
-    let copy = read_older(rt, alloc, old)?;
-    let mut table = copy.table().copy()?;
-    let seq = copy.seq();
-    if let Err(dev_eui) = table.restore(since) {
-        return Err(Fault::Spent(dev_eui));
-    }
+    let (table, seq) = read_older(rt, alloc, old, since)?;
     let (text, disk, made) = prepare(rt, alloc, &table, new)?;
     match establish_back(alloc, disk, table, seq) {
         Ok(_) => Ok(text),
         Err((disk, refusal)) => Err(remove(rt, made, disk, refusal)),
+    }
+}
+
+// The table of an older copy, as if each device had been granted so many joins behind it, and the
+// number of the copy's last decision.
+fn read_older<R: Files<File = File>>(
+    rt: &R,
+    alloc: Global,
+    file: &str,
+    since: GrantsSince,
+) -> Result<(Table, u64), Fault> {
+    let copy = open_copy(rt, alloc, file)?;
+    match table_since(copy.table(), since) {
+        Ok(table) => Ok((table, copy.seq())),
+        Err(fault) => Err(fault),
+    }
+}
+
+// The same table, as if each device had been granted so many joins behind it.
+fn table_since(copy: &Table, since: GrantsSince) -> Result<Table, Fault>
+    ensures { MatchResult result (λ table. (spent_device since copy.now ≡ None)
+        × (table ≡ restored_table since copy.now))
+        (λ fault. (fault ≡ Fault.Refused Refusal.OutOfMemory)
+        ⊎ (option_map (λ d. Fault.Spent d.dev_eui) (spent_device since copy.now) ≡ Some fault)) }
+{
+    let mut table = copy.copy()?;
+    match table.restore(since) {
+        Ok(()) => Ok(table),
+        Err(dev_eui) => Err(Fault::Spent(dev_eui)),
     }
 }
 
@@ -54,19 +81,24 @@ fn text_of(alloc: Global, devices: &[Device]) -> Result<String, Refusal> {
 
 // The store of an older copy, which is read into memory as a whole: so its file stays as it is,
 // also where its records are of an older version.
-fn read_older<R: Files<File = File>>(
+fn open_copy<R: Files<File = File>>(
     rt: &R,
     alloc: Global,
     file: &str,
 ) -> Result<Store<MemDisk>, Fault> {
-    let Ok(mut disk) = FileDisk::open(rt, file) else {
-        return Err(Fault::File);
-    };
-    let content = read_all(alloc, &mut disk)?;
-    let Ok(disk) = MemDisk::new(alloc, content) else {
-        return Err(Fault::Refused(Refusal::OutOfMemory));
-    };
-    Ok(open(alloc, disk)?)
+    let content = read_file(rt, alloc, file)?;
+    match MemDisk::new(alloc, content) {
+        Ok(disk) => Ok(open(alloc, disk)?),
+        Err(_) => Err(Fault::Refused(Refusal::OutOfMemory)),
+    }
+}
+
+// All bytes of the disk in a file.
+fn read_file<R: Files<File = File>>(rt: &R, alloc: Global, file: &str) -> Result<Vec<u8>, Fault> {
+    match FileDisk::open(rt, file) {
+        Ok(mut disk) => Ok(read_all(alloc, &mut disk)?),
+        Err(_) => Err(Fault::File),
+    }
 }
 
 // All bytes of a disk.

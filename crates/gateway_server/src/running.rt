@@ -1,10 +1,12 @@
 // Commands, from their words to their status.
-ghost use Rattle.std.specs.Prelude.{◌≡◌, ◌≢◌, ◌≤◌, ◌⊎◌, ◌↔◌, IsOk, OnOk, map};
+ghost use Rattle.std.specs.Prelude.{◌≡◌, ◌≢◌, ◌≤◌, ◌⊎◌, ◌↔◌, IfErr, IfOk, IsOk, MatchResult, OnOk};
+ghost use Rattle.std.specs.Prelude.{List, ℕ, map, string_bytes};
 ghost use Rattle.std.specs.Io.KnownBytes.{Appends};
 ghost use Rattle.command_words.specs.Asked.{AreWrong, AskForHelp};
-ghost use Rattle.gateway_server.specs.Told.{AsksToRun, CannotListen, WasObeyed, FellShort, IsDone};
+ghost use Rattle.gateway_server.specs.Told.{AsksToRun, CannotListen, FellShort, HasStatus};
+ghost use Rattle.gateway_server.specs.Told.{HasUsageStatus, IsAskedFor, IsDone, WasObeyed};
 
-use crate::serving::{run_server, serve};
+use crate::serving::{FinishedLife, run_server, serve};
 use crate::{Commands, Fault};
 use command_words::{Mode, Usage, words};
 use link_server::LifeReport;
@@ -21,9 +23,10 @@ use std::thread::Threads;
 /// Does what these words ask for, which come without the program's name, by the commands that are
 /// lent. `out` is standard output, `err` is standard error. Gives the status of the process: 0
 /// where it was done and told, also where help was asked for; 1 where it failed, or what it tells
-/// couldn't be written; 2 for words that ask for nothing, and then nothing is done, or goes to
-/// `out`; 3 where `run` can't listen on its address, which may only come up later. That a failure
-/// is told on `err`, no contract says.
+/// couldn't be written, or there was no memory to read the words; 2 for words that ask for nothing,
+/// and then nothing is done, or goes to `out`; 3 where `run` can't listen on its address, which may
+/// only come up later. That a failure is told on `err`, and that it was for want of memory where
+/// nothing was done, no contract says.
 pub fn command<R, C: Commands, O: Write, E: Write>(
     rt: &R,
     commands: &mut C,
@@ -37,31 +40,62 @@ where
     R: Clock + Threads + Wait + Sync,
     ensures status { result ≤ 3 }
     ensures done { result ≡ 0
-        → (AskForHelp (map (λ w. w.now) texts.now) × (commands.new ≡ commands.old))
-        ⊎ IsDone (λ mode outcome. C.ends commands.old mode outcome commands.new)
-        (map (λ w. w.now) texts.now) O.contents out.old out.new }
+        → (AskForHelp (map (λ w. w.now) texts.now) × ((commands.new ≡ commands.old)
+        × ((text : List ℕ) × Appends (O.contents out.old) (O.contents out.new) text)))
+        ⊎ IsAskedFor (map (λ w. w.now) texts.now)
+        (IsDone (λ m outcome. C.ends commands.old m outcome commands.new)
+        O.contents out.old out.new) }
 
-    // Where nothing was done there was no memory to read the words, or help couldn't be written.
-    ensures failed { result ≡ 1 → (commands.new ≡ commands.old)
-        ⊎ FellShort (λ mode outcome. C.ends commands.old mode outcome commands.new)
-        (map (λ w. w.now) texts.now) out.old out.new }
+    // Where nothing was done, help was asked for, or nothing was told.
+    ensures failed { result ≡ 1
+        → ((commands.new ≡ commands.old)
+        × (AskForHelp (map (λ w. w.now) texts.now) ⊎ (out.new ≡ out.old)))
+        ⊎ IsAskedFor (map (λ w. w.now) texts.now)
+        (FellShort (λ m outcome. C.ends commands.old m outcome commands.new) out.old out.new) }
     ensures wrong { result ≡ 2 → AreWrong (map (λ w. w.now) texts.now) }
     ensures quiet { result ≡ 2 → (commands.new ≡ commands.old) × (out.new ≡ out.old) }
     ensures address { result ≡ 3
-        → CannotListen (λ mode outcome. C.ends commands.old mode outcome commands.new)
-        (map (λ w. w.now) texts.now) }
+        → IsAskedFor (map (λ w. w.now) texts.now)
+        (CannotListen (λ m outcome. C.ends commands.old m outcome commands.new)) }
 {
     match words(alloc, texts) {
-        Ok(mode) => match obey(rt, commands, alloc, &mode, out, err) {
-            Ok(told) => status_of(&told),
-            Err(fault) => fail_in(err, &mode, &fault),
-        },
-        Err(Usage::Help(text)) => status_of(&tell(out, text.as_str())),
-        Err(Usage::Words(text)) => {
+        Ok(mode) => carry_out(rt, commands, alloc, &mode, out, err),
+        Err(usage) => tell_usage(out, err, usage),
+    }
+}
+
+// Does what was asked for, and gives the status of that.
+fn carry_out<R, C: Commands, O: Write, E: Write>(
+    rt: &R,
+    commands: &mut C,
+    alloc: Global,
+    mode: &Mode<'_>,
+    out: &mut O,
+    err: &mut E,
+) -> u8
+where
+    R: Files<File = File> + Net<Listener = TcpListener, Stream = TcpStream>,
+    R: Clock + Threads + Wait + Sync,
+    ensures { HasStatus (λ m outcome. C.ends commands.old m outcome commands.new)
+        O.contents out.old out.new mode.now result }
+{
+    match obey(rt, commands, alloc, mode, out, err) {
+        Ok(told) => status_of(&told),
+        Err(fault) => fail_in(err, mode, &fault),
+    }
+}
+
+// Tells why nothing is done, and gives the status of that.
+fn tell_usage<O: Write, E: Write>(out: &mut O, err: &mut E, usage: Usage) -> u8
+    ensures { HasUsageStatus usage O.contents out.old out.new result }
+{
+    match usage {
+        Usage::Help(text) => status_of(&tell(out, text.as_str())),
+        Usage::Words(text) => {
             let _ = tell(err, text.as_str());
             2
         }
-        Err(Usage::Memory) => fail(err, &Fault::Refused(Refusal::OutOfMemory)),
+        Usage::Memory => fail(err, &Fault::Refused(Refusal::OutOfMemory)),
     }
 }
 
@@ -106,14 +140,8 @@ where
             file,
             net_id,
             slots,
-        } => {
-            commands.format(rt, alloc, file, net_id, slots)?;
-            Ok(Ok(()))
-        }
-        Mode::List { file } => {
-            let text = commands.list(rt, alloc, file)?;
-            Ok(tell(out, text.as_str()))
-        }
+        } => tell_nothing(commands.format(rt, alloc, file, net_id, slots)),
+        Mode::List { file } => tell_outcome(out, commands.list(rt, alloc, file)),
         Mode::Serve {
             file,
             listen,
@@ -121,7 +149,7 @@ where
         } => {
             let life = serve(rt, alloc, file, listen, links);
             commands.life_ended(mode, &life);
-            Ok(tell_report(err, life?.report()))
+            tell_life(err, life)
         }
         Mode::Run {
             file,
@@ -130,25 +158,38 @@ where
         } => {
             let life = run_server(rt, alloc, file, listen, links, out);
             commands.life_ended(mode, &life);
-            Ok(tell_run(err, life?.report()))
+            tell_run(err, life)
         }
-        Mode::Stop { file } => {
-            commands.stop(rt, alloc, file)?;
-            Ok(Ok(()))
-        }
-        Mode::Devices { file } => {
-            let text = commands.devices(rt, alloc, file)?;
-            Ok(tell(out, text.as_str()))
-        }
+        Mode::Stop { file } => tell_nothing(commands.stop(rt, alloc, file)),
+        Mode::Devices { file } => tell_outcome(out, commands.devices(rt, alloc, file)),
         Mode::Watch { file } => commands.watch(rt, alloc, file, out),
         Mode::Restore { file, new, grants } => {
-            let text = commands.restore(rt, alloc, file, new, grants)?;
-            Ok(tell(out, text.as_str()))
+            tell_outcome(out, commands.restore(rt, alloc, file, new, grants))
         }
-        Mode::Status { file, wait } => {
-            let text = commands.status(rt, alloc, file, wait)?;
-            Ok(tell(out, text.as_str()))
-        }
+        Mode::Status { file, wait } => tell_outcome(out, commands.status(rt, alloc, file, wait)),
+    }
+}
+
+// What was done tells nothing.
+fn tell_nothing(done: Result<(), Fault>) -> Result<io::Result<()>, Fault>
+    ensures ok { IsOk done → result ≡ Ok (Ok tt) }
+    ensures err { IfErr done (λ fault. result ≡ Err fault) }
+{
+    match done {
+        Ok(()) => Ok(Ok(())),
+        Err(fault) => Err(fault),
+    }
+}
+
+// Tells the text that was asked for.
+fn tell_outcome<W: Write>(to: &mut W, text: Result<String, Fault>) -> Result<io::Result<()>, Fault>
+    ensures ok { IfOk text (λ text. MatchResult result (λ told.
+        OnOk told (Appends (W.contents to.old) (W.contents to.new) (string_bytes text))) (λ _. ⊥)) }
+    ensures err { IfErr text (λ fault. (result ≡ Err fault) × (to.new ≡ to.old)) }
+{
+    match text {
+        Ok(text) => Ok(tell(to, text.as_str())),
+        Err(fault) => Err(fault),
     }
 }
 
@@ -160,16 +201,44 @@ fn tell<W: Write>(to: &mut W, text: &str) -> io::Result<()>
     to.flush()
 }
 
-fn tell_report<E: Write>(err: &mut E, report: &LifeReport) -> io::Result<()> {
+// Tells how a life of links that all connected has ended.
+fn tell_life<E: Write>(
+    err: &mut E,
+    life: Result<FinishedLife<'_>, Fault>,
+) -> Result<io::Result<()>, Fault>
+    ensures ok { IsOk life.entry → IsOk result }
+    ensures err { IfErr life.entry (λ fault. result ≡ Err fault) }
+{
+    match life {
+        Ok(life) => Ok(write_report(err, life.report())),
+        Err(fault) => Err(fault),
+    }
+}
+
+// Tells how a life of links that came and went has ended.
+fn tell_run<E: Write>(
+    err: &mut E,
+    life: Result<FinishedLife<'_>, Fault>,
+) -> Result<io::Result<()>, Fault>
+    ensures ok { IsOk life.entry → IsOk result }
+    ensures err { IfErr life.entry (λ fault. result ≡ Err fault) }
+{
+    match life {
+        Ok(life) => Ok(write_run(err, life.report())),
+        Err(fault) => Err(fault),
+    }
+}
+
+fn write_report<E: Write>(err: &mut E, report: &LifeReport) -> io::Result<()> {
     let (dropped, faulted) = (report.dropped, report.faulted);
     writeln!(err, "dropped {dropped}")?;
     writeln!(err, "faulted {faulted}")?;
     err.flush()
 }
 
-fn tell_run<E: Write>(err: &mut E, report: &LifeReport) -> io::Result<()> {
+fn write_run<E: Write>(err: &mut E, report: &LifeReport) -> io::Result<()> {
     let (taken_over, silent) = (report.taken_over, report.silent);
-    tell_report(err, report)?;
+    write_report(err, report)?;
     writeln!(err, "taken_over {taken_over}")?;
     writeln!(err, "silent {silent}")?;
     err.flush()

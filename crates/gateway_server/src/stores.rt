@@ -1,9 +1,13 @@
 // Stores in files.
+ghost use Rattle.std.specs.Prelude.{◌≡◌, MatchResult, string_bytes};
+ghost use Rattle.gateway_wire.specs.DeviceList.{list_text};
+ghost use Rattle.store.specs.State.{store_state};
+
 use crate::Fault;
 use crate::new_file::{create, remove};
-use disk::FileDisk;
+use disk::{Disk, FileDisk};
 use gateway_wire::list_text;
-use lw_types::NetId;
+use lw_types::{NetId, Refusal};
 use sessions::Slots;
 use std::alloc::Global;
 use std::fs::File;
@@ -34,6 +38,16 @@ pub(crate) fn list<R: Files<File = File>>(
     file: &str,
 ) -> Result<String, Fault> {
     let store = open_store(rt, alloc, file)?;
+    devices_text(alloc, &store)
+}
+
+// The list of the devices of a store, and the number of its last decision.
+fn devices_text<D: Disk>(alloc: Global, store: &Store<D>) -> Result<String, Fault>
+    ensures { MatchResult result
+        (λ text. string_bytes text ≡ list_text (store_state D.state store.now).table.devices
+        (store_state D.state store.now).seq)
+        (λ fault. fault ≡ Fault.Refused Refusal.OutOfMemory) }
+{
     Ok(list_text(alloc, store.table().devices(), store.seq())?)
 }
 
