@@ -25,14 +25,18 @@ pub of_text : {O E S : Type 0} (ends : Mode → Result (List ℕ) Fault → Type
     (result : Result (Result (Unit {0}) E) Fault) → m ≡ asked → SaysSomething asked
     → ends asked (outcome_with text_of text)
     → IfOk text (λ t. MatchResult result
-      (λ told. OnOk told (Appends (contents old) (contents new) (text_of t))) (λ _. ⊥))
+    (λ told. OnOk told (Appends (contents old) (contents new) (text_of t))) (λ _. ⊥))
     → IfErr text (λ fault. (result ≡ Err fault) × (new ≡ old))
     → WasObeyed ends m contents old new result
 of_text ends m asked contents old new text_of (Ok t) (Ok (Ok u)) is says ended ok err =
     (text_of t, (subst (λ a. ends a (Ok (text_of t))) (sym is) ended, inr ok))
-of_text ends m asked contents old new text_of (Ok t) (Ok (Err x)) is says ended ok err =
-    (text_of t, (subst (λ a. ends a (Ok (text_of t))) (sym is) ended,
-    subst SaysSomething (sym is) says))
+of_text ends m asked contents old new text_of (Ok t) (Ok (Err x)) is says ended ok err = (
+  text_of t,
+  (
+    subst (λ a. ends a (Ok (text_of t))) (sym is) ended,
+    subst SaysSomething (sym is) says,
+  ),
+)
 of_text ends m asked contents old new text_of (Ok t) (Err x) is says ended ok err = absurd ok
 of_text ends m asked contents old new text_of (Err fault) result is says ended ok err =
     subst (λ r. WasObeyed ends m contents old new r) (sym err.0)
@@ -95,8 +99,10 @@ of_done ends m contents old new (Ok u) status was range ok =
     inl (ok.1 refl, record { text = was.0; ended = was.1.0; told = was.1.1 })
 of_done ends m contents old new (Err x) status was range ok =
     let some : status ≡ 0 → ⊥ = λ z. false≢true (ok.0 z) in
-    inr (inl (omega (arith, range, some),
-      record { outcome = Ok was.0; ended = was.1.0; cause = was.1.1 }))
+    inr (inl (
+      omega (arith, range, some),
+      record { outcome = Ok was.0; ended = was.1.0; cause = was.1.1 },
+    ))
 
 -- it failed
 pub of_fault : {O : Type 0} (ends : Mode → Result (List ℕ) Fault → Type 0) (m : Mode)

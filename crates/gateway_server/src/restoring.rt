@@ -86,19 +86,14 @@ fn open_copy<R: Files<File = File>>(
     alloc: Global,
     file: &str,
 ) -> Result<Store<MemDisk>, Fault> {
-    let content = read_file(rt, alloc, file)?;
-    match MemDisk::new(alloc, content) {
-        Ok(disk) => Ok(open(alloc, disk)?),
-        Err(_) => Err(Fault::Refused(Refusal::OutOfMemory)),
-    }
-}
-
-// All bytes of the disk in a file.
-fn read_file<R: Files<File = File>>(rt: &R, alloc: Global, file: &str) -> Result<Vec<u8>, Fault> {
-    match FileDisk::open(rt, file) {
-        Ok(mut disk) => Ok(read_all(alloc, &mut disk)?),
-        Err(_) => Err(Fault::File),
-    }
+    let Ok(mut disk) = FileDisk::open(rt, file) else {
+        return Err(Fault::File);
+    };
+    let content = read_all(alloc, &mut disk)?;
+    let Ok(disk) = MemDisk::new(alloc, content) else {
+        return Err(Fault::Refused(Refusal::OutOfMemory));
+    };
+    Ok(open(alloc, disk)?)
 }
 
 // All bytes of a disk.

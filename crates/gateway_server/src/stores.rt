@@ -38,11 +38,11 @@ pub(crate) fn list<R: Files<File = File>>(
     file: &str,
 ) -> Result<String, Fault> {
     let store = open_store(rt, alloc, file)?;
-    devices_text(alloc, &store)
+    text_of_store(alloc, &store)
 }
 
 // The list of the devices of a store, and the number of its last decision.
-fn devices_text<D: Disk>(alloc: Global, store: &Store<D>) -> Result<String, Fault>
+fn text_of_store<D: Disk>(alloc: Global, store: &Store<D>) -> Result<String, Fault>
     ensures { MatchResult result
         (λ text. string_bytes text ≡ list_text (store_state D.state store.now).table.devices
         (store_state D.state store.now).seq)
