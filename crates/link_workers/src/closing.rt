@@ -1,4 +1,9 @@
 // The closer closes the windows that are due.
+ghost use Rattle.std.specs.Prelude.{◌≡◌, ◌↔◌, IsTrue, None};
+ghost use Rattle.session_core.specs.Seats.{HasMade};
+ghost use Rattle.session_core.specs.declared.seat.CallKind.TheVariants.{Ticked};
+ghost use Rattle.session_core.specs.declared.turn.Turn.{Turn};
+
 use crate::context::Context;
 use crate::server::LiveServer;
 use dedup::WAIT;
@@ -69,7 +74,11 @@ impl<'x, B: Books, R: Wait, G: Gate, C: LifeClock> Closer<'x, B, R, G, C> {
     }
 
     // Whether all windows that were due are closed: for want of memory some are not.
-    fn tick(&mut self, moment: Moment) -> bool {
+    fn tick(&mut self, moment: Moment) -> bool
+        ensures ticked { (turn : Turn) × (HasMade self.old.seat self.new.seat moment Ticked turn
+            × (IsTrue result ↔ (turn.refused ≡ None))) }
+        ensures same { self.new ≡ record self.old { seat = self.new.seat } }
+    {
         let turn = self.server.tick(self.context.rt, &mut self.seat, moment);
         if turn.from < turn.to {
             self.server.signals.tell_frames();

@@ -180,15 +180,17 @@ impl<'x, B: Books, R: Wait, G: Gate, C: LifeClock> Worker<'x, B, R, G, C> {
                 Incoming::Late => {
                     self.server.signals.count_silent();
                     self.server.tell(self.context.rt, Sight::Silent);
-                    return None;
+                    break;
                 }
                 Incoming::End => {
                     self.end();
-                    return None;
+                    break;
                 }
                 Incoming::Bytes(n) => {
                     let piece = buffer.get(..n).unwrap_or(&[]);
-                    let fed = self.feeder.feed(piece).ok()?;
+                    let Ok(fed) = self.feeder.feed(piece) else {
+                        break;
+                    };
                     if let Some(peer) = self.feeder.peer() {
                         let _ = stream.set_read_timeout(None);
                         let name = recipient_of(&peer);
@@ -196,7 +198,7 @@ impl<'x, B: Books, R: Wait, G: Gate, C: LifeClock> Worker<'x, B, R, G, C> {
                     }
                     if fed.fault.is_some() {
                         self.count_fault();
-                        return None;
+                        break;
                     }
                 }
             }

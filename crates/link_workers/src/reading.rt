@@ -1,8 +1,11 @@
 // A worker reads a link, and hands in what is said on it.
-ghost use Rattle.std.specs.Prelude.{◌≡◌, ◌<◌, ◌↔◌, ℕ, IfSome, IsTrue, Some};
+ghost use Rattle.std.specs.Prelude.{◌≡◌, ◌<◌, ◌+◌, ◌^◌, ◌↔◌, ℕ, IfSome, IsTrue, None, Some, true};
 ghost use Rattle.gateway_wire.specs.declared.recipient.Recipient.TheVariants as names;
 ghost use Rattle.link_messages.specs.declared.message.Peer.TheVariants as peers;
 ghost use Rattle.lw_types.specs.declared.identifiers.Eui.{Eui};
+ghost use Rattle.session_core.specs.Seats.{HasMade};
+ghost use Rattle.session_core.specs.declared.seat.CallKind.TheVariants.{Asked, Heard};
+ghost use Rattle.session_core.specs.declared.turn.Turn.{Turn};
 
 use crate::context::Context;
 use crate::server::LiveServer;
@@ -61,7 +64,9 @@ pub(crate) fn read_some(stream: &TcpStream, buffer: &mut [u8]) -> Incoming {
 
 // The application at the other end of a link.
 fn asking(peer: Option<Peer>) -> Option<Application>
-    ensures { IfSome result (λ application. peer ≡ Some (peers.Application application)) }
+    ensures found { (application : ℕ) → peer ≡ Some (peers.Application application)
+        → result ≡ Some application }
+    ensures only { IfSome result (λ application. peer ≡ Some (peers.Application application)) }
 {
     match peer? {
         Peer::Application(application) => Some(application),
@@ -102,7 +107,9 @@ impl<'x, B: Books, R: Wait, G: Gate, C: LifeClock> Worker<'x, B, R, G, C> {
     }
 
     /// The worker hands nothing in any more.
-    pub(crate) fn end_input(&mut self) {
+    pub(crate) fn end_input(&mut self)
+        ensures { self.new ≡ record self.old { has_ended = true } }
+    {
         if !self.has_ended {
             self.has_ended = true;
             self.server.signals.end_input();
@@ -158,7 +165,9 @@ impl<'x, B: Books, R: Wait, G: Gate, C: LifeClock> Worker<'x, B, R, G, C> {
     }
 
     /// Hears messages, and counts the fault behind them. Whether the link is read on.
-    pub(crate) fn hear_all(&mut self, fed: Fed) -> bool {
+    pub(crate) fn hear_all(&mut self, fed: Fed) -> bool
+        ensures { IsTrue result → fed.fault ≡ None }
+    {
         let Fed { messages, fault } = fed;
         for message in messages {
             if !self.hear(message) {
@@ -205,7 +214,12 @@ impl<'x, B: Books, R: Wait, G: Gate, C: LifeClock> Worker<'x, B, R, G, C> {
     }
 
     // Where it is refused, operators who watch are told, and nobody else.
-    fn hear_copy(&mut self, copy: FrameCopy) {
+    fn hear_copy(&mut self, copy: FrameCopy)
+        ensures heard { (moment : ℕ) × ((turn : Turn)
+            × HasMade self.old.seat self.new.seat moment Heard turn) }
+        ensures same { self.new ≡ record self.old
+            { seat = self.new.seat; calls = self.new.calls } }
+    {
         self.pass_gate();
         let rt = self.context.rt;
         let moment = self.context.clock.now();
@@ -228,7 +242,10 @@ impl<'x, B: Books, R: Wait, G: Gate, C: LifeClock> Worker<'x, B, R, G, C> {
     }
 
     // An application asks, and is told a refusal.
-    fn hear_line(&mut self, line: &Line) {
+    fn hear_line(&mut self, line: &Line)
+        ensures gateway { (gateway : Eui) → self.old.feeder.peer ≡ Some (peers.Gateway gateway)
+            → self.new ≡ self.old }
+    {
         let Some(application) = asking(self.feeder.peer()) else {
             return;
         };
@@ -242,7 +259,12 @@ impl<'x, B: Books, R: Wait, G: Gate, C: LifeClock> Worker<'x, B, R, G, C> {
         }
     }
 
-    fn ask(&mut self, application: Application, request: Request) -> Option<Refusal> {
+    fn ask(&mut self, application: Application, request: Request) -> Option<Refusal>
+        ensures asked { (moment : ℕ) × ((turn : Turn)
+            × (HasMade self.old.seat self.new.seat moment Asked turn × (result ≡ turn.refused))) }
+        ensures same { self.new ≡ record self.old
+            { seat = self.new.seat; calls = self.new.calls } }
+    {
         self.pass_gate();
         let moment = self.context.clock.now();
         let asked = request.asked_by(application);
@@ -255,7 +277,10 @@ impl<'x, B: Books, R: Wait, G: Gate, C: LifeClock> Worker<'x, B, R, G, C> {
         turn.refused
     }
 
-    fn pass_gate(&mut self) {
+    fn pass_gate(&mut self)
+        ensures counted { self.old.calls + 1 < 2 ^ 64 → self.new.calls ≡ self.old.calls + 1 }
+        ensures same { self.new ≡ record self.old { calls = self.new.calls } }
+    {
         self.calls = self.calls.saturating_add(1);
         self.context
             .gate

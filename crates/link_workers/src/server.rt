@@ -1,4 +1,9 @@
 // What the threads of a life share.
+ghost use Rattle.std.specs.Prelude.{◌≡◌, ℕ, None, slice_get};
+ghost use Rattle.std.specs.Option.{option_copied};
+ghost use Rattle.gateway_wire.specs.declared.recipient.Recipient.TheVariants as names;
+ghost use Rattle.lw_types.specs.declared.identifiers.Eui.{Eui};
+
 use directory::Directory;
 use gateway_wire::Recipient;
 use server_links::{ControlSocket, Door, Link, Signals, WaitingLines, drop_all};
@@ -42,7 +47,11 @@ impl<B: Books> LiveServer<B> {
     }
 
     /// What waits for an application, where applications have rings of their own.
-    pub(crate) fn lines_of(&self, name: &Recipient) -> Option<&WaitingLines> {
+    pub(crate) fn lines_of(&self, name: &Recipient) -> Option<&WaitingLines>
+        ensures gateway { (gateway : Eui) → name.now ≡ names.Gateway gateway → result ≡ None }
+        ensures application { (application : ℕ) → name.now ≡ names.Application application
+            → option_copied result ≡ slice_get self.now.lines.items application }
+    {
         match name {
             Recipient::Application(application) => self.lines.get(application.get() as usize),
             Recipient::Gateway(_) => None,

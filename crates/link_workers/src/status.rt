@@ -1,11 +1,54 @@
 // How a life goes, as an operator reads it.
 use crate::server::LiveServer;
-use lw_types::Refusal;
+use lw_types::{Eui, Refusal};
 use server_links::ControlSocket;
 use session_core::Books;
-use std::alloc::Global;
+use std::alloc::{AllocError, Global};
+use std::io;
+use std::net::SocketAddr;
 use std::sync::Wait;
 use timed_disk::DiskTimes;
+
+// Lines of a text. Where there is no memory for one of them, that is answered once, at the end.
+#[derive(Drop)]
+struct StatusLines {
+    text: String,
+    result: Result<(), AllocError>,
+}
+
+impl StatusLines {
+    fn new(alloc: Global) -> Self {
+        StatusLines {
+            text: String::new(alloc),
+            result: Ok(()),
+        }
+    }
+
+    fn add_address(&mut self, address: SocketAddr) {
+        if self.result.is_ok() {
+            self.result = writeln!(self.text, "listening {address}");
+        }
+    }
+
+    fn add_counts(&mut self, counts: &[(&str, u64)]) {
+        for (name, count) in counts {
+            if self.result.is_ok() {
+                self.result = writeln!(self.text, "{name} {count}");
+            }
+        }
+    }
+
+    fn add_last_copy(&mut self, gateway: Eui, moment: u64) {
+        if self.result.is_ok() {
+            self.result = writeln!(self.text, "last_copy_{gateway} {moment}");
+        }
+    }
+
+    fn whole(self) -> Result<String, Refusal> {
+        self.result?;
+        Ok(self.text)
+    }
+}
 
 /// Lines of a name and a value: where links come in, how many there may be and are, how many of
 /// them are gateways and applications, what the sessions have, what was counted in this life and of
@@ -17,67 +60,46 @@ pub(crate) fn status_text<B: Books, R: Wait>(
     server: &LiveServer<B>,
     times: Option<&DiskTimes>,
 ) -> Result<String, Refusal> {
-    let mut text = String::new(alloc);
+    let mut lines = StatusLines::new(alloc);
     if let Some(door) = &server.door {
-        text = format!(in alloc; "listening {}\n", door.address())?;
+        lines.add_address(door.address());
     }
-    add_links(rt, alloc, server, &mut text)?;
-    add_sessions(rt, alloc, server, &mut text)?;
+    add_links(rt, server, &mut lines);
+    add_sessions(rt, server, &mut lines);
     let signals = &server.signals;
-    let counts = [
+    lines.add_counts(&[
         ("commits", signals.commits()),
         ("dropped", signals.dropped()),
         ("faulted", signals.faulted()),
         ("taken_over", signals.taken_over()),
         ("silent", signals.silent()),
-    ];
-    add_counts(alloc, &counts, &mut text)?;
+    ]);
     if let Some(times) = times {
-        let counts = [
+        lines.add_counts(&[
             ("checkpoints", times.checkpoints()),
             ("syncs", times.syncs()),
             ("longest_sync_us", times.longest_sync()),
-        ];
-        add_counts(alloc, &counts, &mut text)?;
+        ]);
     }
-    add_last_copies(rt, alloc, server, &mut text)?;
-    Ok(text)
+    add_last_copies(rt, server, &mut lines);
+    lines.whole()
 }
 
-fn add_counts(alloc: Global, counts: &[(&str, u64)], text: &mut String) -> Result<(), Refusal> {
-    for (name, count) in counts {
-        let line = format!(in alloc; "{name} {count}\n")?;
-        text.push_str(line.as_str())?;
-    }
-    Ok(())
-}
-
-fn add_links<B: Books, R: Wait>(
-    rt: &R,
-    alloc: Global,
-    server: &LiveServer<B>,
-    text: &mut String,
-) -> Result<(), Refusal> {
+fn add_links<B: Books, R: Wait>(rt: &R, server: &LiveServer<B>, lines: &mut StatusLines) {
     let directory = server.directory.lock(rt);
     let gateways = directory.gateways().len();
     let links = directory.applications().iter();
     let applications = links.filter(|link| link.is_some()).count();
     drop(directory);
-    let counts = [
+    lines.add_counts(&[
         ("places", server.links.len() as u64),
         ("links", server.signals.linked()),
         ("gateways", gateways as u64),
         ("applications", applications as u64),
-    ];
-    add_counts(alloc, &counts, text)
+    ]);
 }
 
-fn add_sessions<B: Books, R: Wait>(
-    rt: &R,
-    alloc: Global,
-    server: &LiveServer<B>,
-    text: &mut String,
-) -> Result<(), Refusal> {
+fn add_sessions<B: Books, R: Wait>(rt: &R, server: &LiveServer<B>, lines: &mut StatusLines) {
     let sessions = server.sessions.lock(rt);
     let core = sessions.core();
     let counts = [
@@ -89,25 +111,17 @@ fn add_sessions<B: Books, R: Wait>(
         ("decided", core.seq()),
     ];
     drop(sessions);
-    add_counts(alloc, &counts, text)
+    lines.add_counts(&counts);
 }
 
-fn add_last_copies<B: Books, R: Wait>(
-    rt: &R,
-    alloc: Global,
-    server: &LiveServer<B>,
-    text: &mut String,
-) -> Result<(), Refusal> {
+fn add_last_copies<B: Books, R: Wait>(rt: &R, server: &LiveServer<B>, lines: &mut StatusLines) {
     let directory = server.directory.lock(rt);
     for linked in directory.gateways() {
         let link = server.links.get(linked.link);
         if let Some(moment) = link.and_then(|link| link.last_copy()) {
-            let gateway = linked.gateway;
-            let line = format!(in alloc; "last_copy_{gateway} {moment}\n")?;
-            text.push_str(line.as_str())?;
+            lines.add_last_copy(linked.gateway, moment);
         }
     }
-    Ok(())
 }
 
 /// The list of the devices as the decisions so far leave them, durable or not, with how each was
