@@ -4,7 +4,6 @@ use lw_types::{Eui, Refusal};
 use server_links::ControlSocket;
 use session_core::Books;
 use std::alloc::{AllocError, Global};
-use std::io;
 use std::net::SocketAddr;
 use std::sync::Wait;
 use timed_disk::DiskTimes;
