@@ -7,8 +7,8 @@ use std::sync::Wait;
 
 /// The decisions that wait behind the lock of a core: each batch is the oldest of them, as
 /// [`Sessions::take`] gives them. Of a batch nothing is promised but that it isn't longer than was
-/// asked for, and that the taker's share counts it: [`chain`](crate::chain) compares each batch with
-/// what is durable or under way.
+/// asked for, and that the taker's share counts it: [`chain`](crate::chain) compares each batch
+/// with what is durable or under way.
 #[derive(Drop)]
 pub struct Drawn<'x, B: Books, S: Sessions<B>, R: Wait> {
     rt: &'x R,

@@ -1,7 +1,7 @@
 // A flusher over several lives of its store, on a simulated disk.
 ghost use Rattle.std.specs.Global.{Global};
-ghost use Rattle.std.specs.Prelude.{◌≡◌, ◌≢◌, ◌+◌, ℕ, List, [], All, IfErr, IfOk, MatchOption, Ok, OnErr};
-ghost use Rattle.std.specs.Prelude.{Vec, length};
+ghost use Rattle.std.specs.Prelude.{◌≡◌, ◌≢◌, ◌+◌, ℕ, List, [], All, IfErr, IfOk, MatchOption, Ok};
+ghost use Rattle.std.specs.Prelude.{OnErr, Vec, length};
 ghost use Rattle.devices.specs.declared.mark.Mark.{Mark};
 ghost use Rattle.disk.specs.State.{EveryImage, NothingOpen};
 ghost use Rattle.flusher.specs.Lived.{AreOnDisk, GoOnFrom, LeadOn};

@@ -14,8 +14,8 @@ use std::sync::{Mutex, Wait};
 /// The calls of [`Shared`], each under the lock for as long as that call alone. A server's flusher
 /// takes by them, and its closer asks for moments. What is handed in to a server goes to [`Shared`]
 /// itself, by a worker or the closer that holds the lock, since the frames whose windows the call
-/// closed are fetched before it is let go ([`Shared::take_closed`]). The other calls are for whoever
-/// leaves these frames alone, as tests.
+/// closed are fetched before it is let go ([`Shared::take_closed`]). The other calls are for
+/// whoever leaves these frames alone, as tests.
 ///
 /// What is known across threads is what a caller's own share says. A seat's grew by just what the
 /// call made, and the seat's last call is this one: of this kind, at this moment, with the refusal
