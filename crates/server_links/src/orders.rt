@@ -1,4 +1,6 @@
 // What an operator tells a life.
+ghost use Rattle.std.specs.Prelude.{◌≡◌, ◌≢◌, MatchOption};
+ghost use Rattle.server_links.specs.Orders.{order_word};
 
 /// What an operator tells a server over its control socket, as a line of one word.
 #[derive(Clone, Copy, Debug, PartialEq, Eq)]
@@ -14,10 +16,10 @@ pub enum Order {
 }
 
 impl Order {
-    const ALL: [Order; 4] = [Order::Stop, Order::Status, Order::Devices, Order::Watch];
-
     /// The word of this order.
-    pub fn word(self) -> &'static str {
+    pub fn word(self) -> &'static str
+        ensures { result.now ≡ order_word self }
+    {
         match self {
             Order::Stop => "stop",
             Order::Status => "status",
@@ -26,8 +28,17 @@ impl Order {
         }
     }
 
-    /// The order of this word.
-    pub fn of(word: &str) -> Option<Self> {
-        Order::ALL.into_iter().find(|order| order.word() == word)
+    /// The order of this word, if there is one.
+    pub fn of(word: &str) -> Option<Self>
+        ensures { MatchOption result ((order : Order) → word.now ≢ order_word order)
+            (λ order. word.now ≡ order_word order) }
+    {
+        match word {
+            "stop" => Some(Order::Stop),
+            "status" => Some(Order::Status),
+            "devices" => Some(Order::Devices),
+            "watch" => Some(Order::Watch),
+            _ => None,
+        }
     }
 }
