@@ -1,6 +1,7 @@
 """Trials of lnsd's words, files and addresses: each fault with its answer, in their order."""
 import os
 import socket
+import subprocess
 
 from .trials import OWNER, as_nobody, records
 from server.links import Application
@@ -8,6 +9,7 @@ from server.program import HOST, free_port
 
 WRONG_IDS = ("000040", "FFFFFF", "00002a", "2A", "00002A0", "", "0x002A", "-0002A", "  002A")
 FORMATS = ("--netid", "00002A", "--slots", "8")
+WORDS = ("format", "list", "serve", "run", "stop", "status", "devices", "watch", "restore")
 
 
 def words(trials):
@@ -32,10 +34,28 @@ def words(trials):
             trials.holds(f"{it}: nothing on standard error", said.strip() != "")
             trials.holds(f"{it}: a trace on standard error", "panic" not in said)
         trials.holds("a wrong word made a file", not os.path.exists(new))
-        for it in [("--help",), ("serve", "--help"), ("format", "--help"), ("list", "--help")]:
+        for it in [("--help",), *((it, "--help") for it in WORDS)]:
             status, out, said = program.run(*it)
             trials.compare(f"status and errors of {it}", (status, said), (0, ""))
             trials.holds(f"{it}: no text", len(out) > 40)
+        for it in ("--version", "-V"):
+            trials.compare(it, program.run(it), (0, "lnsd 0.1.0\n", ""))
+
+
+def full(trials):
+    """Output that can't be written: where a text was asked for, that is a failure, of which nothing
+    is said; what has no text is done all the same."""
+    with trials.store() as program, open("/dev/full", "wb") as nothing:
+        how = {"stdin": subprocess.DEVNULL, "stdout": nothing, "timeout": 60, "check": False}
+        new, missing = (os.path.join(program.folder, it) for it in ("new", "missing"))
+        commands = [(0, "format", new, *FORMATS), (2, "stop"), (1, "list", missing)]
+        texts = [(1, "list", new), (1, "--help"), (1, "--version")]
+        for status, *given in commands + texts:
+            ended = subprocess.run([program.path, *given], stderr=nothing, **how)
+            trials.compare(f"{given}, with no output at all", ended.returncode, status)
+        for status, *given in texts:
+            ended = subprocess.run([program.path, *given], stderr=subprocess.PIPE, **how)
+            trials.compare(f"{given}", (ended.returncode, ended.stderr), (status, b""))
 
 
 def command(trials, program, due, *given, **how):
@@ -98,8 +118,9 @@ def files(trials):
 def formats(trials):
     """Files that can't be made, and a store's bytes."""
     with trials.store() as program:
-        command(trials, program, "exists", "format", program.store, *FORMATS)
-        command(trials, program, "exists", "format", program.folder, *FORMATS)
+        for it in (program.store, program.folder):
+            command(trials, program, "exists", "format", it, *FORMATS)
+            command(trials, program, "exists", "format", it, "--netid", "000000", "--slots", "9")
         for it in (f"{program.folder}/no/such", f"{program.store}/x"):
             command(trials, program, "file", "format", it, *FORMATS)
         with open(program.store, "rb") as file:
@@ -123,6 +144,7 @@ def uses(trials):
         for it in ("nonsense", "127.0.0.1", "127.0.0.1:65536", "192.0.2.1:5600", ""):
             words_of = ("serve", program.store, "--listen", it, "--links", "1")
             command(trials, program, "listen", *words_of)
+        trials.compare("the list", program.list(), ["devices 0 seq 0"])
         command(trials, program, "file", *served(missing, port))
         command(trials, program, "refused 43", *served(nothing, port))
         address = program.serve(1)
@@ -133,6 +155,7 @@ def uses(trials):
             it.asks("hello")
             trials.compare("a link all the while", it.hears(), "refused 51")
         trials.ended(program)
+        trials.compare("the list", program.list(), ["devices 0 seq 0"])
 
 
 def read_only(trials):
@@ -155,6 +178,7 @@ def read_only(trials):
 
 TRIALS = {
     "words": words,
+    "output that can't be written": full,
     "files that are no stores": files,
     "format": formats,
     "stores and addresses in use, and the order of faults": uses,

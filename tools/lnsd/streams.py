@@ -4,7 +4,7 @@ import time
 from .trials import EUI, HEARD, OWNER, PROVISION, Pair, await_links, end_all
 from outside.gateway import Copy
 from server import wire
-from server.links import Application, Link
+from server.links import Application, Gateway, Link
 
 # a healthy gateway beside these is the 61st at most, of the 64 that there may be
 MOST = 60
@@ -176,10 +176,12 @@ def lines(trials, link):
 
 
 def names(trials):
-    """The second link of a name, and that what stands behind its greeting isn't read."""
+    """The second link of a name, and that what stands behind its greeting isn't read. A gateway
+    whose number is an application's has another name."""
     with trials.store() as program:
-        address = program.serve(4)
+        address = program.serve(5)
         pair, second, third = Pair(address), Link(address), Link(address)
+        other = Gateway(address, f"{OWNER:016X}")
         pair.greet()
         await_links(pair.links())
         second.say(wire.application_greeting(OWNER) + wire.request(PROVISION))
@@ -189,7 +191,7 @@ def names(trials):
         third.say(wire.copy_of(pair.device.uplink(7, b"\x04\xd2"), HEARD))
         time.sleep(0.4)
         pair.sends(trials)
-        end_all(trials, [second, third, *pair.links()])
+        end_all(trials, [second, third, other, *pair.links()])
         trials.ended(program, faulted=2)
 
 

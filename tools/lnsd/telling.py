@@ -13,7 +13,7 @@ from outside.frames import LATER_CHANNELS
 from outside.gateway import Copy
 from server import wire
 from server.links import Application, Ended, Gateway, Link, Silent
-from server.program import HOST, Failed
+from server.program import HOST, Failed, free_port
 
 OTHER, STRANGER = "00000000000000B2", "1112131415161799"
 # the names of a status, but for the last copies
@@ -234,12 +234,16 @@ def left_over(trials):
             trials.compare(f"{word} of one that was killed", program.run(word, program.store), due)
         program.run_on(2)
         address = f"{HOST}:{program.address[1]}"
+        run = ("run", program.store, "--listen", f"{HOST}:{free_port()}")
+        trials.compare("a run beside a run", program.run(*run), (1, "", "lnsd: file\n"))
         stopped(trials, program)
         trials.holds("its socket is there yet", not os.path.exists(control))
         with open(control, "w", encoding="utf-8") as file:
             file.write("a text")
         run = ("run", program.store, "--listen", address)
         trials.compare("a run beside a text", program.run(*run), (1, "", "lnsd: control\n"))
+        run = ("run", program.store, "--listen", "nonsense")
+        trials.compare("a run on no address", program.run(*run), (3, "", "lnsd: listen\n"))
         trials.compare("a status of a text", program.run("status", program.store)[0], 1)
         with open(control, encoding="utf-8") as file:
             trials.compare("the text", file.read(), "a text")

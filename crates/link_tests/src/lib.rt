@@ -9,8 +9,6 @@ mod faults_tests;
 #[cfg(test)]
 mod gates;
 #[cfg(test)]
-mod greetings_tests;
-#[cfg(test)]
 mod held_tests;
 #[cfg(test)]
 mod lives;

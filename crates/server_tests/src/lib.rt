@@ -1,19 +1,11 @@
-//! Tests of the server as a user has it: words, files, addresses, standard output, standard error
-//! and statuses, and one life of two links over loopback. They stand above `gateway_server`, so
-//! that it is proved once.
+//! Tests of the server's words, of its answers to words that need no store, and of the lines that
+//! it tells. They stand above `gateway_server`, so that it is proved once. Whole runs of the server
+//! are played on the built program, by `tools/lnsd-hostile` and `examples/server/walk`.
 #![tactic(auto)]
 
 #[cfg(test)]
-mod asked;
-#[cfg(test)]
 mod faults_tests;
 #[cfg(test)]
-mod links_tests;
-#[cfg(test)]
-mod runs_tests;
-#[cfg(test)]
 mod sights_tests;
-#[cfg(test)]
-mod stores_tests;
 #[cfg(test)]
 mod words_tests;
