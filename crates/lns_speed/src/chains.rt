@@ -40,12 +40,7 @@ pub fn tell_chains<R: Clock + Eprint + Files<File = File>>(
             Ok((a_second, calls)) => eprintln!(rt;
                 "durable on a file, {name}: {a_second} decisions a second, {calls} calls a run"
             )?,
-            Err(Unmeasured::Refused(refusal)) => eprintln!(rt;
-                "durable on a file, {name}: not measured, as it was refused: {refusal}"
-            )?,
-            Err(_) => eprintln!(rt;
-                "durable on a file, {name}: not measured, for want of a clock"
-            )?,
+            Err(why) => eprintln!(rt; "durable on a file, {name}: {why}")?,
         }
     }
     Ok(())

@@ -20,7 +20,7 @@ use std::fs::File;
 use std::process::ExitCode;
 use std::rt::{Clock, Env, Files};
 use std::{env, io};
-use told::{Told, tell};
+use told::tell;
 
 /// The slots of a small table, of one between them, and of the largest.
 const SLOTS: [u16; 3] = [8, 512, MOST];
@@ -62,7 +62,7 @@ fn compare(
     let mut most = 0;
     for slots in SLOTS {
         let nanos = decided::measure(rt, alloc, workload, slots);
-        tell(rt, name, slots, Told::of(nanos))?;
+        tell(rt, name, slots, nanos)?;
         most = nanos.unwrap_or(0);
         few = few.or(Some(most));
     }

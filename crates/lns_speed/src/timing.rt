@@ -1,5 +1,6 @@
 // What a measurement gives, or why nothing was measured.
 use lw_types::Refusal;
+use std::fmt;
 use std::rt::Clock;
 
 /// Why nothing was measured.
@@ -18,6 +19,18 @@ impl From<Refusal> for Unmeasured {
 
     fn from(refusal: Refusal) -> Self {
         Unmeasured::Refused(refusal)
+    }
+}
+
+impl fmt::Display for Unmeasured {
+    fn fmt<W: fmt::Write>(&self, f: &mut fmt::Formatter<W>) -> fmt::Result {
+        match *self {
+            Unmeasured::Refused(refusal) => {
+                write!(f, "not measured, as it was refused: {refusal}")
+            }
+            Unmeasured::NoClock => f.write_str("not measured, as the clock can't be read"),
+            Unmeasured::OddClock => f.write_str("not measured, as the clock stands still or leaps"),
+        }
     }
 }
 
