@@ -8,9 +8,10 @@ its edits. They are read four times a second from the processes that the gate st
 quarter of a second of each is missing; the sum at the end is the system's own. What the gate
 itself says goes to out/gate.log, and its last line is repeated here.
 
-  --beside COMMIT  the gate of a clone of that commit runs beside it, each with half of the
-                   processors, and the last line tells how many times as much this one took: on
-                   virtual machines only what runs at the same time can be compared
+  --beside COMMIT  the gate of a clone of that commit runs beside it, with half of the processors,
+                   and this one with one more, so that they end at about the same time; the last
+                   line tells how many times as much this one took: on virtual machines only what
+                   runs at the same time can be compared
   --keep           writes the table to tools/costs.txt, where it passed: by it bin/build says how
                    long it will take, and docs/GATE_COSTS.md speaks of it
 
@@ -161,12 +162,13 @@ def main():
     os.makedirs(f"{ROOT}/out", exist_ok=True)
     with tempfile.TemporaryDirectory() as room:
         roots = [ROOT, *([clone_of(given.beside, f"{room}/beside")] if given.beside else [])]
-        lanes = max(1, commands.lanes() // len(roots))
+        half = max(1, commands.lanes() // 2)
+        lanes = [half + 1, half] if given.beside else [commands.lanes()]
         logs = [f"{ROOT}/out/gate.log", f"{ROOT}/out/gate-beside.log"]
         gates = []
         try:
-            for root, log in zip(roots, logs):
-                gates.append(Gate(root, given.crates, lanes, log))
+            for root, many, log in zip(roots, lanes, logs):
+                gates.append(Gate(root, given.crates, many, log))
             while any([it.look() for it in gates]):
                 time.sleep(0.25)
         finally:
