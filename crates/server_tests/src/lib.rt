@@ -1,6 +1,6 @@
-//! Tests of the server's words, of its answers to words that need no store, and of the lines that
-//! it tells. They stand above `gateway_server`, so that it is proved once. Whole runs of the server
-//! are played on the built program, by `tools/lnsd-hostile` and `examples/server/walk`.
+//! Tests of the server's words, of its faults' words, and of the lines that it tells. They stand
+//! above `gateway_server`, so that it is proved once. Whole runs of the server are played on the
+//! built program, by `tools/lnsd-hostile` and `examples/server/walk`.
 #![tactic(auto)]
 
 #[cfg(test)]
