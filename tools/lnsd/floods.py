@@ -46,11 +46,7 @@ def finish(trials, program, links, dropped=0, faulted=0):
 
 
 def gateways(trials):
-    """64 gateways and 16 applications are linked, and a 65th gateway is read no further."""
-    with trials.store() as program:
-        address = program.serve(80)
-        links = [Application(address, it) for it in range(16)]
-        finish(trials, program, await_links(links + [Gateway(address, it) for it in euis(64)]))
+    """64 gateways are linked, and a 65th is read no further."""
     with trials.store(records=records(1, OWNER)) as program:
         address = program.serve(66)
         application = Application(address, OWNER)
