@@ -1,5 +1,5 @@
 // The core, and what comes to it.
-ghost use Rattle.std.specs.Prelude.{◌≡◌, ◌≤◌, MatchResult, take, length};
+ghost use Rattle.std.specs.Prelude.{◌≡◌, ◌≤◌, IsSome, MatchResult, take, length};
 ghost use Rattle.lw_types.specs.declared.refusal.Refusal.TheVariants.{OutOfMemory};
 ghost use Rattle.devices.specs.declared.command.Command.TheVariants as commands;
 ghost use Rattle.session_core.specs.State.{now_of, last_number};
@@ -237,6 +237,7 @@ impl Core {
     /// one is due, else `OutOfMemory`.
     pub fn decide_without_memory(&mut self, moment: Moment, command: &Command) -> Turn
         ensures turn { IsTurn self.old moment (Asks command.now) result self.new }
+        ensures refused { IsSome result.refused }
         ensures lawful { IsLawfulCore self.old }
     {
         let from = self.made();
