@@ -220,6 +220,7 @@ impl<B: Books> Shared<B> {
         ensures made { IfSome result
             (λ made. (made ≡ self.core.decisions.made) × (made_by seats.items ≡ made)) }
         ensures all { self.left + length seats.items ≡ all → IsSome result }
+        ensures none_missing { IsSome result → self.left + length seats.items ≡ all }
     {
         let made = self.core.made();
         let Shared {
