@@ -16,7 +16,7 @@ use Rattle.store.specs.State.{IsSettled, StoreState, disk_of, store_state}
 use Rattle.store.specs.declared.store.Store.{Store}
 use Rattle.flusher.specs.Calls.{HaveSucceeded, IsUntouched, LastFailed, calls_of_room}
 use Rattle.flusher.specs.Chain.HasBroken.{FeedRefused, HadNoRoom, WasUncommitted, WasUnready}
-use Rattle.flusher.specs.Chain.{GivesAll, FeedGives, HasBroken, HasEnded, IsChain, LeaveInOrder, calls_of_batches, batched_decisions, store_behind}
+use Rattle.flusher.specs.Chain.{GivesAll, FeedGives, HasBroken, HasEnded, IsChain, LeaveInOrder, MakesCalls, calls_of_batches, batched_decisions, store_behind}
 use Rattle.flusher.specs.Cycle.{Commits, HoldsWithOrWithout, IsReady, IsUncommitted, IsUnready}
 use Rattle.flusher.specs.Lived.{GoOn, HaveLed}
 use Rattle.flusher.specs.Lives.{Lives, lives_after}
@@ -87,13 +87,21 @@ module _ {D F C V : Type 0} (disk : Ghosts D) (gives : FeedGives F) (effects : V
   done (Ok count) chain = done_by count chain.batches chain.feed chain.given chain.few chain.commits chain.leave chain.ends.0 chain.ends.1.1
   done (Err e) chain = tt
 
+  no_batches : (batches : List (List Decision)) → length batches < 1 → batches ≡ []
+  no_batches [] few = refl
+  no_batches (b ∷ batches) few = absurd (omega (arith, few))
+
   -- how many calls that took
   abbrev MadeFor : ℕ → Type 0
   MadeFor count = HaveSucceeded (calls_of_room s + (if count == 0 then 0 else 4)) (disk.outlook (disk_of old)) (disk.outlook (disk_of new))
 
+  -- and where it was refused
+  abbrev pub MadeBefore : Refusal → Type 0
+  MadeBefore e = MakesCalls (disk.outlook (disk_of old)) (disk.outlook (disk_of new)) (calls_of_room s) [] (Err e)
+
   pub made : (r : Result ℕ Refusal) → IsChain disk gives effects step 1 old new feed feed' out out' r
-      → IfOk r (λ count. HaveSucceeded (calls_of_room s + (if count == 0 then 0 else 4)) (disk.outlook (disk_of old)) (disk.outlook (disk_of new)))
-  made (Err e) chain = tt
+      → MatchResult r (λ count. HaveSucceeded (calls_of_room s + (if count == 0 then 0 else 4)) (disk.outlook (disk_of old)) (disk.outlook (disk_of new))) MadeBefore
+  made (Err e) chain = subst (λ l. MakesCalls (disk.outlook (disk_of old)) (disk.outlook (disk_of new)) (calls_of_room s) l (Err e)) (no_batches chain.batches chain.ends.0) chain.made
   made (Ok count) chain = by chain.batches chain.feed chain.given chain.few chain.ends.0 chain.made
     where
       none : (b : List Decision) → b ≢ [] → length b ≡ 0 → ⊥
@@ -110,10 +118,6 @@ module _ {D F C V : Type 0} (disk : Ghosts D) (gives : FeedGives F) (effects : V
       by (b ∷ c ∷ batches) here given few counted is = absurd (no_more b c batches few)
 
   -- ---- it was refused
-
-  no_batches : (batches : List (List Decision)) → length batches < 1 → batches ≡ []
-  no_batches [] few = refl
-  no_batches (b ∷ batches) few = absurd (omega (arith, few))
 
   pub held_back : (r : Result ℕ Refusal) → IsChain disk gives effects step 1 old new feed feed' out out' r → OnErr r (out' ≡ out)
   held_back (Ok count) chain = tt

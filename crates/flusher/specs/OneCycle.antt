@@ -14,7 +14,7 @@ use Rattle.store.specs.Image.{HoldsTable}
 use Rattle.store.specs.State.{StoreState, IsSettled, disk_of, store_state}
 use Rattle.store.specs.declared.store.Store.{Store}
 use Rattle.flusher.specs.Calls.{HaveSucceeded, IsUntouched, LastFailed, NoneFailed, calls_of_room}
-use Rattle.flusher.specs.Chain.{FeedGives}
+use Rattle.flusher.specs.Chain.{FeedGives, MakesCalls}
 use Rattle.flusher.specs.Cycle.{Commits, HoldsWithOrWithout, IsReady, IsUncommitted, IsUnready}
 
 -- the batch that the feed gave is committed, and its effects left, once; an empty one leaves
@@ -62,10 +62,14 @@ pub record IsCycle {D F C V : Type 0} (disk : Ghosts D) (gives : FeedGives F)
       (λ _. NoneFailed disk.failures disk.outlook old new)
       (λ e. NoneFailed disk.failures disk.outlook old new
       ⊎ ((e ≡ DeviceFailed) × LastFailed disk.failures disk.outlook old new))
-  -- a batch takes four calls, behind those that make room
-  pub made : IfOk result (λ count.
-      HaveSucceeded (calls_of_room (store_state disk.state old) + (if count == 0 then 0 else 4))
+  -- a batch takes four calls, behind those that make room; where it is refused, they are those of a
+  -- chain that committed none
+  pub made : MatchResult result
+      (λ count. HaveSucceeded
+      (calls_of_room (store_state disk.state old) + (if count == 0 then 0 else 4))
       (disk.outlook (disk_of old)) (disk.outlook (disk_of new)))
+      (λ e. MakesCalls (disk.outlook (disk_of old)) (disk.outlook (disk_of new))
+      (calls_of_room (store_state disk.state old)) [] (Err e))
   -- where no call of the disk failed, nothing is under way
   pub settled : disk.honest → IsSettled (store_state disk.state old)
       → NoneFailed disk.failures disk.outlook old new → IsSettled (store_state disk.state new)
