@@ -55,9 +55,9 @@ module _ {F : Type 0} (gives : FeedGives F) (more : ℕ) (s : StoreState) (mid h
       → MatchResult end (λ _. NoneFollows gives more s opened here feed) (λ e. IsFollowRefusal gives more s opened here feed e) → Asked here
   asked_alone opened (Ok x) (inl (same, why)) = inl same
   asked_alone opened (Ok x) (inr (some, given)) = inr (some, (Ok [], given))
-  asked_alone opened (Err e) (some, inl (same, why)) = inl same
-  asked_alone opened (Err e) (some, inr (inl given)) = inr (some, (Err e, given))
-  asked_alone opened (Err e) (some, inr (inr (batch, ((next, (has, given), is), why)))) =
+  asked_alone opened (Err e) (some, (room, inl (same, why))) = inl same
+  asked_alone opened (Err e) (some, (room, inr (inl given))) = inr (some, (Err e, given))
+  asked_alone opened (Err e) (some, (room, inr (inr (batch, ((next, (has, given), is), why))))) =
       inr (some, (Ok batch, subst (λ f. gives here MOST (Ok batch) f) is given))
 
   pub torn_of : (under_way : UnderWay Room) → 1 ≤ length (flights_in under_way) → GivesAll gives mid (batches_of (flights_in under_way)) here
@@ -194,6 +194,7 @@ module _ (laws : FoldLaws) (on_disk : IsSettledOnDisk) {D F C V : Type 0} (disk 
                   | inr (more_may, answer) ↦ inr (is, (omega (arith, number, more_may), answer))
                 ]),
           );
+          roomy = λ more none. absurd (let a = none.count in let b = last.count in omega (arith, a, b));
           calls = inr (is, last);
           made = inr (inr (made_within disk old now new under_way most more some making roomy up_to.done number refusal call));
           settled = λ honest settled none. absurd (let a = none.count in let b = last.count in omega (arith, a, b));
@@ -283,6 +284,12 @@ module _ (laws : FoldLaws) (on_disk : IsSettledOnDisk) {D F C V : Type 0} (disk 
         let end = ap (λ (t : Tip). t.end) alone.tip in
         full (omega (arith, next, end, there))
 
+    has_room : IsRoomyBehind s1 alone.opened → IsRoomy s2
+    has_room room =
+        let next = ap (λ (t : Tip). t.next) alone.tip in
+        let end = ap (λ (t : Tip). t.end) alone.tip in
+        omega (arith, next, end, room)
+
     why_ended : NoneFollows gives more s1 alone.opened up_to.here feed → HasEnded gives most s2 batches up_to.here feed
     why_ended (inl (same, inl none)) = inl (same, inl (let number = up_to.number in omega (arith, number, none, long, one)))
     why_ended (inl (same, inr full)) =
@@ -307,6 +314,7 @@ module _ (laws : FoldLaws) (on_disk : IsSettledOnDisk) {D F C V : Type 0} (disk 
                 (subst (λ r. MatchResult r (λ _. NoneFollows gives more s1 alone.opened up_to.here feed) (λ e. IsFollowRefusal gives more s1 alone.opened up_to.here feed e)) is alone.behind),
           ),
         );
+        roomy = tt;
         calls = calls;
         made = made_calls;
         settled = λ honest settled none. rests honest settled;
@@ -319,11 +327,13 @@ module _ (laws : FoldLaws) (on_disk : IsSettledOnDisk) {D F C V : Type 0} (disk 
       pub torn : List Decision
       pub why : HasBroken gives most (IsUntouched disk.state old new) (LastFailed disk.failures disk.outlook old new) s0 batches torn up_to.here feed refusal
       pub some : more ≢ 0
+      pub room : IsRoomy s2
 
     why_broken : (refusal : Refusal) → IsFollowRefusal gives more s1 alone.opened up_to.here feed refusal → IsRefusedBehind refusal
-    why_broken refusal (some, inl (same, memory)) = record { torn = []; why = HadNoRoom same refl not_none memory; some = some }
-    why_broken refusal (some, inr (inl given)) = record { torn = []; why = FeedRefused (inl roomy) refl given; some = some }
-    why_broken refusal (some, inr (inr (batch, (given, why)))) = record {
+    why_broken refusal (some, (room, inl (same, memory))) =
+        record { torn = []; why = HadNoRoom same refl not_none memory; some = some; room = has_room room }
+    why_broken refusal (some, (room, inr (inl given))) = record { torn = []; why = FeedRefused (inl roomy) refl given; some = some; room = has_room room }
+    why_broken refusal (some, (room, inr (inr (batch, (given, why))))) = record {
       torn = batch;
       why =
           WasUncommitted (inl roomy) feed given
@@ -331,6 +341,7 @@ module _ (laws : FoldLaws) (on_disk : IsSettledOnDisk) {D F C V : Type 0} (disk 
           (ap (λ (t : Tip). t.table) alone.tip ∙ committed.table) (ap (λ (t : Tip). t.seq) alone.tip ∙ committed.seq) (λ none. absurd none) why)
           (inl refl);
       some = some;
+      room = has_room room;
     }
 
     pub ends_refused : (refusal : Refusal) → end ≡ Err refusal → IsChainOfSome disk gives effects step most old new before feed old_out out (Err refusal)
@@ -349,6 +360,7 @@ module _ (laws : FoldLaws) (on_disk : IsSettledOnDisk) {D F C V : Type 0} (disk 
             commits = committed;
             leave = left;
             ends = (omega (arith, number, long, one, some), why.why);
+            roomy = λ more none. why.room;
             calls = inl calls;
             made = inl made_calls;
             settled = λ honest settled none. rests honest settled;

@@ -1,5 +1,5 @@
 -- How a chain starts, and where it leads.
-use Rattle.std.proofs.Common.{◌≢◌, ◌≡◌, ◌⊎◌, ◌<◌, ◌≤◌, ◌+◌, ◌*◌, ◌∙◌, ℕ, Bool, true, false, MatchBool, MatchResult, List, [], ◌∷◌, ◌++◌, length, flat_map, Result, Ok, Err, OnOk, inl, inr, sym, ap, subst, refl, arith, append_assoc, append-nil, length-append}
+use Rattle.std.proofs.Common.{◌≢◌, ◌≡◌, ◌⊎◌, ◌<◌, ◌≤◌, ◌+◌, ◌*◌, ◌∙◌, ℕ, Bool, true, false, MatchBool, MatchResult, List, [], ◌∷◌, ◌++◌, length, flat_map, Result, Ok, Err, OnErr, OnOk, inl, inr, sym, ap, subst, refl, arith, append_assoc, append-nil, length-append}
 use Rattle.std.specs.List.{FoldsTo}
 use Rattle.std.proofs.lemmas.List.{length-map, map-append}
 use Rattle.devices.specs.declared.effect.Effect.{Effect}
@@ -52,12 +52,17 @@ no_batch disk gives effects step most old new feed feed' out torn r some table s
       commits = record { continues = record { fit = tt; numbered = tt }; table = table; seq = omega (arith, seq) };
       leave = refl;
       ends = by r ends;
+      roomy = never r;
       calls = calls;
       made = made;
       settled = settled;
       images = λ honest is image p. inl (images honest is image p);
     }
   where
+    never : (r : Result ℕ Refusal) → OnErr r (◌≢◌ {A = List (List Decision)} [] [] → NoneFailed disk.failures disk.outlook old new → IsRoomy (store_state disk.state new))
+    never (Ok n) = tt
+    never (Err e) = λ some none. absurd (some refl)
+
     by : (r : Result ℕ Refusal) → MatchResult r (λ count. (count ≡ 0) × ((torn ≡ []) × gives feed MOST (Ok []) feed'))
         (λ e. HasBroken gives most (IsUntouched disk.state old new) (LastFailed disk.failures disk.outlook old new) (store_state disk.state old) [] torn feed feed' e)
         → MatchResult r (λ count. (count ≡ 0) × ((torn ≡ []) × HasEnded gives most (store_state disk.state new) [] feed feed'))
@@ -157,12 +162,21 @@ module _ {D F C V : Type 0} (disk : Ghosts D) (gives : FeedGives F) (effects : V
     commits = commits_along (store_state disk.state old) (store_state disk.state mid) (store_state disk.state new) (batched_decisions chain.batches) table seq chain.commits;
     leave = subst (λ t. LeaveInOrder effects step t chain.batches out out') table chain.leave;
     ends = by r chain.ends;
+    roomy = room r chain.calls chain.roomy;
     calls = calls_along r chain.calls;
     made = made_along chain.batches r chain.made;
     settled = λ honest is none. chain.settled honest (settled honest is) (none_back r chain.calls none);
     images = λ honest is. chain.images honest (settled honest is);
   }
     where
+      room : (r : Result ℕ Refusal)
+          → MatchResult r (λ _. NoneFailed disk.failures disk.outlook mid new)
+          (λ e. NoneFailed disk.failures disk.outlook mid new ⊎ ((e ≡ DeviceFailed) × LastFailed disk.failures disk.outlook mid new))
+          → OnErr r (chain.batches ≢ [] → NoneFailed disk.failures disk.outlook mid new → IsRoomy (store_state disk.state new))
+          → OnErr r (chain.batches ≢ [] → NoneFailed disk.failures disk.outlook old new → IsRoomy (store_state disk.state new))
+      room (Ok n) calls is = tt
+      room (Err e) calls is = λ some none. is some (none_back (Err e) calls none)
+
       by : (r : Result ℕ Refusal)
           → MatchResult r
           (λ count. (count ≡ length (batched_decisions chain.batches)) × ((chain.torn ≡ []) × HasEnded gives most (store_state disk.state new) chain.batches chain.feed feed'))

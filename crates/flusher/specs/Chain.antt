@@ -2,7 +2,7 @@
 use Rattle.std.specs.Prelude.{◌≡◌, ◌≢◌, ◌⊎◌, ◌<◌, ◌≤◌, ◌+◌, ◌*◌, ℕ, List, [], ◌∷◌, length}
 use Rattle.std.specs.Prelude.{flat_map}
 use Rattle.std.specs.List.{FoldsTo}
-use Rattle.std.specs.Prelude.{Result, Ok, Err, MatchResult}
+use Rattle.std.specs.Prelude.{Result, Ok, Err, MatchResult, OnErr}
 use Rattle.devices.specs.declared.effect.Effect.{Effect}
 use Rattle.disk.specs.Outlook.{Outlook}
 use Rattle.disk.specs.State.{EveryImage}
@@ -121,6 +121,9 @@ pub record IsChain {D F C V : Type 0} (disk : Ghosts D) (gives : FeedGives F)
       × HasBroken gives most (IsUntouched disk.state old new)
       (LastFailed disk.failures disk.outlook old new)
       (store_state disk.state old) batches torn feed new_feed e)
+  -- behind a batch it is refused only where the journal has room for another, or a call failed
+  pub roomy : OnErr result (batches ≢ [] → NoneFailed disk.failures disk.outlook old new
+      → IsRoomy (store_state disk.state new))
   pub calls : MatchResult result
       (λ _. NoneFailed disk.failures disk.outlook old new)
       (λ e. NoneFailed disk.failures disk.outlook old new
@@ -168,13 +171,14 @@ pub record FollowsOpened {F : Type 0} (gives : FeedGives F) (more : ℕ) (s : St
   pub may : MayFollowBehind s opened begun
   pub on_disk : IsBegunBehind s opened begun
 
--- one was refused: there was no memory for its effects, or the feed refused it, or it was given and
--- not begun
+-- one was refused, where the journal has room behind the one under way: there was no memory for its
+-- effects, or the feed refused it, or it was given and not begun
 abbrev pub IsFollowRefusal : {F : Type 0} → FeedGives F → ℕ → StoreState → GateWritten → F → F
     → Refusal → Type 0
 IsFollowRefusal gives more s opened old_feed new_feed e =
     (more ≢ 0)
+    × (IsRoomyBehind s opened
     × (((new_feed ≡ old_feed) × (e ≡ OutOfMemory))
     ⊎ (gives old_feed MOST (Err e) new_feed
     ⊎ ((batch : List Decision) × (GivesAll gives old_feed (batch ∷ []) new_feed
-    × IsUncommitted (store_behind_opened s opened) batch ⊥ e))))
+    × IsUncommitted (store_behind_opened s opened) batch ⊥ e)))))
