@@ -1,7 +1,11 @@
 // A worker reads a link, and hands in what is said on it.
-ghost use Rattle.std.specs.Prelude.{◌≡◌, ◌<◌, ◌+◌, ◌^◌, ◌↔◌, ℕ, IfSome, IsTrue, None, Some, true};
-ghost use Rattle.gateway_wire.specs.declared.recipient.Recipient.TheVariants as names;
+ghost use Rattle.std.specs.Prelude.{◌≡◌, ◌<◌, ◌+◌, ◌^◌, ◌↔◌, ◌++◌, ℕ, [], IfSome, IsTrue, List};
+ghost use Rattle.std.specs.Prelude.{None, Some, true};
+ghost use Rattle.link_messages.specs.Feeding.{Feeds, fault_in};
+ghost use Rattle.link_messages.specs.declared.message.Message.TheVariants as said;
 ghost use Rattle.link_messages.specs.declared.message.Peer.TheVariants as peers;
+ghost use Rattle.link_workers.specs.Hearing.{AreHeard, IsAnswered, IsOneHeard, IsTold};
+ghost use Rattle.link_workers.specs.Named.{peer_name};
 ghost use Rattle.lw_types.specs.declared.identifiers.Eui.{Eui};
 ghost use Rattle.session_core.specs.Seats.{HasMade};
 ghost use Rattle.session_core.specs.declared.seat.CallKind.TheVariants.{Asked, Heard};
@@ -83,10 +87,7 @@ fn has_decided(turn: &Turn) -> bool
 
 /// As whom a peer is told of effects.
 pub(crate) fn recipient_of(peer: &Peer) -> Recipient
-    ensures gateway { (gateway : Eui) → peer.now ≡ peers.Gateway gateway
-        → result ≡ names.Gateway gateway }
-    ensures application { (application : ℕ) → peer.now ≡ peers.Application application
-        → result ≡ names.Application application }
+    ensures { result ≡ peer_name peer.now }
 {
     match peer {
         Peer::Gateway(gateway) => Recipient::Gateway(*gateway),
@@ -157,7 +158,19 @@ impl<'x, B: Books, R: Wait, G: Gate, C: LifeClock> Worker<'x, B, R, G, C> {
     }
 
     // Whether the link is read on. Without memory it isn't, which is no fault of its own.
-    fn hear_piece(&mut self, piece: &[u8]) -> bool {
+    fn hear_piece(&mut self, piece: &[u8]) -> bool
+        ensures heard { IsTrue result → (messages : List Message)
+            × (Feeds self.old.feeder piece.now messages self.new.feeder
+            × ((fault_in self.new.feeder.end ≡ None)
+            × AreHeard self.new.feeder.peer messages self.old.seat self.old.refusals
+            self.new.seat self.new.refusals)) }
+        ensures same { self.new ≡ record self.old {
+          feeder = self.new.feeder;
+          seat = self.new.seat;
+          calls = self.new.calls;
+          refusals = self.new.refusals;
+        } }
+    {
         match self.feeder.feed(piece) {
             Ok(fed) => self.hear_all(fed),
             Err(_) => false,
@@ -166,7 +179,13 @@ impl<'x, B: Books, R: Wait, G: Gate, C: LifeClock> Worker<'x, B, R, G, C> {
 
     /// Hears messages, and counts the fault behind them. Whether the link is read on.
     pub(crate) fn hear_all(&mut self, fed: Fed) -> bool
-        ensures { IsTrue result → fed.fault ≡ None }
+        ensures fault { IsTrue result → fed.fault ≡ None }
+        ensures heard { (heard : List Message) × ((left : List Message)
+            × ((fed.messages.items ≡ heard ++ left)
+            × (AreHeard self.old.feeder.peer heard self.old.seat self.old.refusals
+            self.new.seat self.new.refusals × (IsTrue result → left ≡ [])))) }
+        ensures same { self.new ≡ record self.old
+            { seat = self.new.seat; calls = self.new.calls; refusals = self.new.refusals } }
     {
         let Fed { messages, fault } = fed;
         for message in messages {
@@ -181,7 +200,12 @@ impl<'x, B: Books, R: Wait, G: Gate, C: LifeClock> Worker<'x, B, R, G, C> {
     }
 
     // Whether the link is read on.
-    fn hear(&mut self, message: Message) -> bool {
+    fn hear(&mut self, message: Message) -> bool
+        ensures heard { IsOneHeard self.old.feeder.peer message self.old.seat self.old.refusals
+            self.new.seat self.new.refusals }
+        ensures same { self.new ≡ record self.old
+            { seat = self.new.seat; calls = self.new.calls; refusals = self.new.refusals } }
+    {
         match message {
             Message::Greeting(peer) => self.greet(&peer),
             Message::Copy(copy) => {
@@ -215,6 +239,7 @@ impl<'x, B: Books, R: Wait, G: Gate, C: LifeClock> Worker<'x, B, R, G, C> {
 
     // Where it is refused, operators who watch are told, and nobody else.
     fn hear_copy(&mut self, copy: FrameCopy)
+        ensures counted { self.old.calls + 1 < 2 ^ 64 → self.new.calls ≡ self.old.calls + 1 }
         ensures heard { (moment : ℕ) × ((turn : Turn)
             × HasMade self.old.seat self.new.seat moment Heard turn) }
         ensures same { self.new ≡ record self.old
@@ -245,14 +270,34 @@ impl<'x, B: Books, R: Wait, G: Gate, C: LifeClock> Worker<'x, B, R, G, C> {
     fn hear_line(&mut self, line: &Line)
         ensures gateway { (gateway : Eui) → self.old.feeder.peer ≡ Some (peers.Gateway gateway)
             → self.new ≡ self.old }
+        ensures heard { IsOneHeard self.old.feeder.peer (said.Line line.now) self.old.seat
+            self.old.refusals self.new.seat self.new.refusals }
+        ensures same { self.new ≡ record self.old
+            { seat = self.new.seat; calls = self.new.calls; refusals = self.new.refusals } }
     {
         let Some(application) = asking(self.feeder.peer()) else {
             return;
         };
-        let refused = match read_line(self.context.alloc, line.as_str()) {
+        let refused = self.answer(application, line);
+        self.tell_asker(refused);
+    }
+
+    // Why a line is refused, if it is.
+    fn answer(&mut self, application: Application, line: &Line) -> Option<Refusal>
+        ensures answered { IsAnswered line.now self.old.seat self.new.seat result }
+        ensures same { self.new ≡ record self.old
+            { seat = self.new.seat; calls = self.new.calls } }
+    {
+        match read_line(self.context.alloc, line.as_str()) {
             Ok(request) => self.ask(application, request),
             Err(refusal) => Some(refusal),
-        };
+        }
+    }
+
+    fn tell_asker(&mut self, refused: Option<Refusal>)
+        ensures told { IsTold refused self.old.refusals self.new.refusals }
+        ensures same { self.new ≡ record self.old { refusals = self.new.refusals } }
+    {
         if let Some(refusal) = refused {
             let _ = self.refusals.push(refusal);
             self.link.bell.unpark();
@@ -260,6 +305,7 @@ impl<'x, B: Books, R: Wait, G: Gate, C: LifeClock> Worker<'x, B, R, G, C> {
     }
 
     fn ask(&mut self, application: Application, request: Request) -> Option<Refusal>
+        ensures counted { self.old.calls + 1 < 2 ^ 64 → self.new.calls ≡ self.old.calls + 1 }
         ensures asked { (moment : ℕ) × ((turn : Turn)
             × (HasMade self.old.seat self.new.seat moment Asked turn × (result ≡ turn.refused))) }
         ensures same { self.new ≡ record self.old

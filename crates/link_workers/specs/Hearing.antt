@@ -1,0 +1,50 @@
+-- What becomes of the messages of a link.
+use Rattle.std.specs.Prelude.{◌≡◌, ◌⊎◌, ◌∷◌, ◌++◌, ℕ, List, [], Option, Some, None}
+use Rattle.lw_types.specs.declared.refusal.Refusal.{Refusal}
+use Rattle.lw_types.specs.declared.refusal.Refusal.TheVariants.{BadMessage, OutOfMemory}
+use Rattle.gateway_wire.specs.Request.{IsRequestLine}
+use Rattle.link_messages.specs.declared.message.Message.{Message}
+use Rattle.link_messages.specs.declared.message.Message.TheVariants.{Copy, Line}
+use Rattle.link_messages.specs.declared.message.Peer.{Peer}
+use Rattle.link_messages.specs.declared.message.Peer.TheVariants.{Application}
+use Rattle.rtrb.specs.Ring.{sent, known_free}
+use Rattle.rtrb.specs.declared.producer.Producer.{Producer}
+use Rattle.session_core.specs.Seats.{SeatState, HasMade}
+use Rattle.session_core.specs.declared.seat.CallKind.TheVariants.{Asked, Heard}
+use Rattle.session_core.specs.declared.turn.Turn.{Turn}
+
+-- A request is handed in, and refused as its turn tells. A line that is none is refused, or one
+-- that there is no memory for, and then nothing is handed in.
+abbrev pub IsAnswered : List ℕ → SeatState → SeatState → Option Refusal → Type 0
+IsAnswered line old new refused =
+    (IsRequestLine line × ((moment : ℕ) × ((turn : Turn)
+    × (HasMade old new moment Asked turn × (refused ≡ turn.refused)))))
+    ⊎ ((new ≡ old) × ((refused ≡ Some OutOfMemory)
+    ⊎ ((refused ≡ Some BadMessage) × ¬ (IsRequestLine line))))
+
+-- a refusal, if there is one, came into the ring of whoever asked, or the ring is full
+abbrev pub IsTold : {A P : Type 0} → Option Refusal → Producer Refusal A P → Producer Refusal A P
+    → Type 0
+IsTold None old new = new ≡ old
+IsTold (Some refusal) old new =
+    (sent new ≡ sent old ++ refusal ∷ []) ⊎ ((sent new ≡ sent old) × (known_free new ≡ 0))
+
+-- what a message of this peer does to its worker's seat and to the ring of refusals: a copy is
+-- handed in, and a line is answered
+abbrev pub IsOneHeard : {A P : Type 0} → Option Peer → Message → SeatState → Producer Refusal A P
+    → SeatState → Producer Refusal A P → Type 0
+IsOneHeard peer (Copy copy) seat told new_seat new_told =
+    ((moment : ℕ) × ((turn : Turn) × HasMade seat new_seat moment Heard turn)) × (new_told ≡ told)
+IsOneHeard (Some (Application application)) (Line line) seat told new_seat new_told =
+    (refused : Option Refusal) × (IsAnswered line seat new_seat refused
+    × IsTold refused told new_told)
+IsOneHeard peer message seat told new_seat new_told = (new_seat ≡ seat) × (new_told ≡ told)
+
+-- messages are heard, one after another
+abbrev pub AreHeard : {A P : Type 0} → Option Peer → List Message → SeatState
+    → Producer Refusal A P → SeatState → Producer Refusal A P → Type 0
+AreHeard peer [] seat told new_seat new_told = (new_seat ≡ seat) × (new_told ≡ told)
+AreHeard {A} {P} peer (message ∷ messages) seat told new_seat new_told =
+    (next_seat : SeatState) × ((next_told : Producer Refusal A P)
+    × (IsOneHeard peer message seat told next_seat next_told
+    × AreHeard peer messages next_seat next_told new_seat new_told))
