@@ -1,4 +1,7 @@
 // A worker of a life whose links come and go takes one link after another.
+ghost use Rattle.std.specs.Prelude.{◌≡◌, IfSome, IsTrue, Some, option_map};
+ghost use Rattle.link_workers.specs.Named.{peer_name};
+
 use crate::reading::{Incoming, PIECE, Worker, read_some, recipient_of};
 use directory::Full;
 use gateway_wire::Recipient;
@@ -166,7 +169,11 @@ fn start_host_sender<'x, E, R: Wait + Sync>(
 impl<'x, B: Books, R: Wait, G: Gate, C: LifeClock> Worker<'x, B, R, G, C> {
     // Reads until the peer has greeted. `None` where it doesn't in time, says something else, or
     // has gone.
-    fn hear_greeting(&mut self, stream: &TcpStream) -> Option<Greeted> {
+    fn hear_greeting(&mut self, stream: &TcpStream) -> Option<Greeted>
+        ensures named { IfSome result
+            (λ greeted. option_map peer_name self.new.feeder.peer ≡ Some greeted.name) }
+        ensures same { self.new ≡ record self.old { feeder = self.new.feeder } }
+    {
         let until = moved_on(self.context.clock.now(), GREETING_WAIT);
         let mut buffer = [0u8; PIECE];
         for _ in self.context.rt.forever() {
@@ -241,7 +248,10 @@ impl<'x, B: Books, R: Wait, G: Gate, C: LifeClock> Worker<'x, B, R, G, C> {
 
     // The link is read no further. Its name is free, unless the life ends: then it stays, for what
     // is still to be sent.
-    fn end_link(&mut self, name: &Recipient) {
+    fn end_link(&mut self, name: &Recipient)
+        ensures ended { IsTrue self.old.has_ended → IsTrue self.new.has_ended }
+        ensures same { self.new ≡ record self.old { has_ended = self.new.has_ended } }
+    {
         if self.server.signals.is_ending() {
             self.end_input();
         } else {
