@@ -1,4 +1,10 @@
 // How a life goes, as an operator reads it.
+ghost use Rattle.std.specs.Prelude.{◌≡◌, ◌++◌, [], IfErr, IsErr, IsOk, MatchResult};
+ghost use Rattle.std.specs.List.{flat_map};
+ghost use Rattle.std.specs.String.{string_bytes};
+ghost use Rattle.link_workers.specs.Status.{count_line};
+ghost use Rattle.lw_types.specs.declared.refusal.Refusal.TheVariants.{OutOfMemory};
+
 use crate::server::LiveServer;
 use lw_types::{Eui, Refusal};
 use server_links::ControlSocket;
@@ -16,34 +22,56 @@ struct StatusLines {
 }
 
 impl StatusLines {
-    fn new(alloc: Global) -> Self {
+    fn new(alloc: Global) -> Self
+        ensures { (string_bytes result.text ≡ []) × IsOk result.result }
+    {
         StatusLines {
             text: String::new(alloc),
             result: Ok(()),
         }
     }
 
-    fn add_address(&mut self, address: SocketAddr) {
+    fn add_address(&mut self, address: SocketAddr)
+        ensures { IsErr self.old.result → self.new ≡ self.old }
+    {
         if self.result.is_ok() {
             self.result = writeln!(self.text, "listening {address}");
         }
     }
 
-    fn add_counts(&mut self, counts: &[(&str, u64)]) {
+    fn add_counts(&mut self, counts: &[(&str, u64)])
+        ensures kept { IsErr self.old.result → self.new ≡ self.old }
+        ensures text { IsOk self.new.result → string_bytes self.new.text
+            ≡ string_bytes self.old.text
+            ++ flat_map (λ counted. count_line counted.0.now counted.1) counts.now }
+    {
         for (name, count) in counts {
-            if self.result.is_ok() {
-                self.result = writeln!(self.text, "{name} {count}");
-            }
+            self.add_count(name, *count);
         }
     }
 
-    fn add_last_copy(&mut self, gateway: Eui, moment: u64) {
+    fn add_count(&mut self, name: &str, count: u64)
+        ensures kept { IsErr self.old.result → self.new ≡ self.old }
+        ensures text { IsOk self.new.result → string_bytes self.new.text
+            ≡ string_bytes self.old.text ++ count_line name.now count }
+    {
+        if self.result.is_ok() {
+            self.result = writeln!(self.text, "{name} {count}");
+        }
+    }
+
+    fn add_last_copy(&mut self, gateway: Eui, moment: u64)
+        ensures { IsErr self.old.result → self.new ≡ self.old }
+    {
         if self.result.is_ok() {
             self.result = writeln!(self.text, "last_copy_{gateway} {moment}");
         }
     }
 
-    fn whole(self) -> Result<String, Refusal> {
+    fn whole(self) -> Result<String, Refusal>
+        ensures { MatchResult result (λ text. IsOk self.result × (text ≡ self.text))
+            (λ e. IsErr self.result × (e ≡ OutOfMemory)) }
+    {
         self.result?;
         Ok(self.text)
     }
@@ -58,7 +86,9 @@ pub(crate) fn status_text<B: Books, R: Wait>(
     alloc: Global,
     server: &LiveServer<B>,
     times: Option<&DiskTimes>,
-) -> Result<String, Refusal> {
+) -> Result<String, Refusal>
+    ensures { IfErr result (λ e. e ≡ OutOfMemory) }
+{
     let mut lines = StatusLines::new(alloc);
     if let Some(door) = &server.door {
         lines.add_address(door.address());
