@@ -1,4 +1,7 @@
 // Operators tell a life to end, and ask how it goes.
+ghost use Rattle.std.specs.Prelude.{◌≡◌, ◌≢◌, MatchOption};
+ghost use Rattle.server_links.specs.Orders.{order_word};
+
 use crate::context::Context;
 use crate::server::LiveServer;
 use crate::status::{devices_text, status_text};
@@ -168,10 +171,21 @@ fn read_order(stream: &UnixStream) -> Option<Order> {
         }
         len = len.saturating_add(count);
         if let Some(word) = line.get(..len)?.strip_suffix(b"\n") {
-            return Order::of(str::from_utf8(word).ok()?);
+            return order_of(word);
         }
     }
     None
+}
+
+// The order of this word, if there is one.
+fn order_of(word: &[u8]) -> Option<Order>
+    ensures { MatchOption result ((order : Order) → word.now ≢ order_word order)
+        (λ order. word.now ≡ order_word order) }
+{
+    match str::from_utf8(word) {
+        Ok(text) => Order::of(text),
+        Err(_) => None,
+    }
 }
 
 // Without memory for an answer nothing is answered.
