@@ -1,4 +1,6 @@
 // What a life does with its sessions, and what operators are told of it.
+ghost use Rattle.std.specs.Prelude.{◌≡◌, IsSome, IsTrue, option_map};
+ghost use Rattle.std.specs.Option.{option_copied};
 ghost use Rattle.session_core.specs.Seats.{HasMade};
 ghost use Rattle.session_core.specs.declared.seat.CallKind.TheVariants.{Asked, Heard, Ticked};
 
@@ -12,12 +14,16 @@ use std::sync::Wait;
 
 impl<B: Books> LiveServer<B> {
     /// Where operators watch from, in a life that has operators.
-    pub fn watch(&self) -> Option<&Watch> {
+    pub fn watch(&self) -> Option<&Watch>
+        ensures { option_copied result ≡ option_map (λ control. control.watch) self.now.control }
+    {
         Some(&self.control.as_ref()?.watch)
     }
 
     /// Whether an operator watches.
-    pub fn is_watched(&self) -> bool {
+    pub fn is_watched(&self) -> bool
+        ensures { IsTrue result → IsSome self.now.control }
+    {
         self.watch().is_some_and(|watch| watch.is_watched())
     }
 

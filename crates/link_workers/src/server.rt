@@ -1,5 +1,5 @@
 // What the threads of a life share.
-ghost use Rattle.std.specs.Prelude.{◌≡◌, ℕ, None, slice_get};
+ghost use Rattle.std.specs.Prelude.{◌≡◌, ℕ, IsSome, None, slice_get};
 ghost use Rattle.std.specs.Option.{option_copied};
 ghost use Rattle.gateway_wire.specs.declared.recipient.Recipient.TheVariants as names;
 ghost use Rattle.lw_types.specs.declared.identifiers.Eui.{Eui};
@@ -76,7 +76,9 @@ impl<B: Books> LiveServer<B> {
     }
 
     /// The next link that comes in; `None` where it fails, or nobody comes in any more.
-    pub(crate) fn accept(&self) -> Option<TcpStream> {
+    pub(crate) fn accept(&self) -> Option<TcpStream>
+        ensures { IsSome result → IsSome self.now.door }
+    {
         self.door.as_ref()?.accept().ok()
     }
 
