@@ -1,7 +1,8 @@
 // The flusher commits what was decided, and lets its effects out.
-ghost use Rattle.std.specs.Prelude.{ℕ, IsTrue};
+ghost use Rattle.std.specs.Prelude.{◌≡◌, ℕ, IsTrue, false, slice_index_or};
 ghost use Rattle.directory.specs.declared.names.Directory.{Directory};
 ghost use Rattle.flusher.specs.Released.{effects_of_all};
+ghost use Rattle.link_server.specs.Marks.{AreLinksMarked, with_link};
 ghost use Rattle.link_server.specs.Served.{IsLedOn};
 ghost use Rattle.server_links.specs.Routing.{IsRouted};
 ghost use Rattle.store.specs.State.{store_state};
@@ -117,17 +118,32 @@ fn tell_times<B: Books, R: Wait>(rt: &R, server: &LiveServer<B>, times: Option<&
 
 // Marks the links of applications whose own rings are marked, which come behind those of so many
 // links.
-fn mark_links(directory: &Directory, links: usize, marks: &mut [bool]) {
-    for (application, link) in directory.applications().iter().enumerate() {
-        let ring = links.saturating_add(application);
-        if let Some(link) = *link
-            && marks.get(ring).is_some_and(|is_marked| *is_marked)
-        {
-            if let Some(mark) = marks.get_mut(link) {
-                *mark = true;
-            }
-        }
+fn mark_links(directory: &Directory, links: usize, marks: &mut [bool])
+    ensures { AreLinksMarked directory.now links marks.old marks.new }
+{
+    let applications = directory.applications();
+    for (application, link) in applications.iter().enumerate() {
+        mark_link(*link, links.saturating_add(application), marks);
     }
+}
+
+// Marks the link of an application, if it has one, where its own ring is marked.
+fn mark_link(link: Option<usize>, ring: usize, marks: &mut [bool])
+    ensures { marks.new ≡ with_link link ring marks.old }
+{
+    let is_rung = is_marked(marks, ring);
+    if let Some(link) = link
+        && is_rung
+        && link < marks.len()
+    {
+        marks[link] = true;
+    }
+}
+
+fn is_marked(marks: &[bool], place: usize) -> bool
+    ensures { result ≡ slice_index_or marks.now place false }
+{
+    place < marks.len() && marks[place]
 }
 
 // Operators who watch are told of the joins that were granted.
@@ -142,7 +158,8 @@ fn tell_joins<B: Books, R: Wait>(rt: &R, server: &LiveServer<B>, released: &[Rel
 // Whether nothing is left, behind an empty batch. The last tick may have been made behind that
 // batch, so one more is asked for once the tick is seen. Else waits for a decision.
 fn is_done<B: Books, R: Wait>(rt: &R, server: &LiveServer<B>, is_ticked: &mut bool) -> bool
-    ensures { IsTrue result → IsTrue is_ticked.old }
+    ensures done { result ≡ is_ticked.old }
+    ensures kept { IsTrue is_ticked.old → IsTrue is_ticked.new }
 {
     if *is_ticked {
         return true;
