@@ -1,4 +1,6 @@
 // The threads of a life are started and joined.
+ghost use Rattle.std.specs.Prelude.{◌≡◌, ◌<◌, ◌∷◌, ◌++◌, [], IsSome, IsSomeAnd, IsTrue, MatchBool};
+ghost use Rattle.std.specs.Prelude.{◌+◌, length, vec_capacity, vec_len};
 ghost use Rattle.link_server.specs.Served.{IsLedOn};
 ghost use Rattle.store.specs.State.{store_state};
 
@@ -185,7 +187,13 @@ impl<B: Books + Send + Sync> Started<B> {
         scope: &Scope<'s, E>,
         context: &'s Context<'s, R, G, C>,
         server: &'s LiveServer<B>,
-    ) {
+    )
+        ensures whole { IsTrue self.new.is_whole → IsTrue self.old.is_whole
+            × (IsSome server.now.control → length self.new.attendants.items
+            ≡ length self.old.attendants.items + ATTENDANTS) }
+        ensures same { self.new ≡ record self.old
+            { attendants = self.new.attendants; is_whole = self.new.is_whole } }
+    {
         let Some(control) = &server.control else {
             return;
         };
@@ -196,17 +204,35 @@ impl<B: Books + Send + Sync> Started<B> {
                 control,
                 number,
             };
-            let thread = start_attendant(context.alloc, scope, attendant);
-            self.is_whole = keep_thread(&mut self.attendants, thread) && self.is_whole;
+            self.keep_attendant(start_attendant(context.alloc, scope, attendant));
         }
     }
 
-    fn keep_seated(&mut self, thread: Option<JoinHandle<Seat<B>>>) {
+    fn keep_seated(&mut self, thread: Option<JoinHandle<Seat<B>>>)
+        ensures whole { IsTrue self.new.is_whole → IsTrue self.old.is_whole
+            × IsSomeAnd thread (λ one. self.new.seated.items ≡ self.old.seated.items ++ one ∷ []) }
+        ensures same { self.new ≡ record self.old
+            { seated = self.new.seated; is_whole = self.new.is_whole } }
+    {
         self.is_whole = keep_thread(&mut self.seated, thread) && self.is_whole;
     }
 
-    fn keep_sender(&mut self, thread: Option<JoinHandle<()>>) {
+    fn keep_sender(&mut self, thread: Option<JoinHandle<()>>)
+        ensures whole { IsTrue self.new.is_whole → IsTrue self.old.is_whole × IsSomeAnd thread
+            (λ one. self.new.senders.items ≡ self.old.senders.items ++ one ∷ []) }
+        ensures same { self.new ≡ record self.old
+            { senders = self.new.senders; is_whole = self.new.is_whole } }
+    {
         self.is_whole = keep_thread(&mut self.senders, thread) && self.is_whole;
+    }
+
+    fn keep_attendant(&mut self, thread: Option<JoinHandle<()>>)
+        ensures whole { IsTrue self.new.is_whole → IsTrue self.old.is_whole × IsSomeAnd thread
+            (λ one. self.new.attendants.items ≡ self.old.attendants.items ++ one ∷ []) }
+        ensures same { self.new ≡ record self.old
+            { attendants = self.new.attendants; is_whole = self.new.is_whole } }
+    {
+        self.is_whole = keep_thread(&mut self.attendants, thread) && self.is_whole;
     }
 
     // The seats that come back. The attendants end last, so that operators are told of the end.
@@ -239,7 +265,13 @@ impl<B: Books + Send + Sync> Started<B> {
 }
 
 // Whether there is a thread, and it is kept.
-fn keep_thread<T: Drop>(threads: &mut Vec<JoinHandle<T>>, thread: Option<JoinHandle<T>>) -> bool {
+fn keep_thread<T: Drop>(threads: &mut Vec<JoinHandle<T>>, thread: Option<JoinHandle<T>>) -> bool
+    ensures kept { MatchBool result
+        (IsSomeAnd thread (λ one. threads.new.items ≡ threads.old.items ++ one ∷ []))
+        (threads.new.items ≡ threads.old.items) }
+    ensures roomy { IsSome thread → vec_len threads.old < vec_capacity threads.old
+        → IsTrue result }
+{
     match thread {
         Some(thread) => threads.push(thread).is_ok(),
         None => false,
