@@ -301,6 +301,7 @@ impl<B: Books> Equipment<B> {
 
 // Each behind a lock, in the same order. Refused with `OutOfMemory` for want of memory.
 fn waiting_lines(alloc: Global, inlets: Vec<Inlet>) -> Result<Vec<WaitingLines>, Refusal>
+    ensures lines { IfOk result (λ lines. length lines.items ≡ length inlets.items) }
     ensures refused { IfErr result (λ e. e ≡ OutOfMemory) }
 {
     let mut lines = Vec::new(alloc);
