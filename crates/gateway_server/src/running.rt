@@ -1,8 +1,9 @@
 // Commands, from their words to their status.
 ghost use Rattle.std.specs.Prelude.{◌≡◌, ◌≢◌, ◌≤◌, ◌⊎◌, ◌↔◌, IfErr, IfOk, IsOk, MatchResult, OnOk};
-ghost use Rattle.std.specs.Prelude.{List, ℕ, map, string_bytes};
+ghost use Rattle.std.specs.Prelude.{List, ℕ, OnErr, map, string_bytes};
 ghost use Rattle.std.specs.Io.KnownBytes.{Appends};
 ghost use Rattle.command_words.specs.Asked.{AreWrong, AskForHelp};
+ghost use Rattle.gateway_server.specs.Lines.{report_text, run_text};
 ghost use Rattle.gateway_server.specs.Told.{AsksToRun, CannotListen, FellShort, HasStatus};
 ghost use Rattle.gateway_server.specs.Told.{HasUsageStatus, IsAskedFor, IsDone, WasObeyed};
 
@@ -207,7 +208,10 @@ fn tell_life<E: Write>(
     life: Result<FinishedLife<'_>, Fault>,
 ) -> Result<io::Result<()>, Fault>
     ensures ok { IsOk life.entry → IsOk result }
+    ensures told { IfOk life.entry (λ life. IfOk result (λ told.
+        OnOk told (Appends (E.contents err.old) (E.contents err.new) (report_text life.report)))) }
     ensures err { IfErr life.entry (λ fault. result ≡ Err fault) }
+    ensures quiet { OnErr life.entry (err.new ≡ err.old) }
 {
     match life {
         Ok(life) => Ok(write_report(err, life.report())),
@@ -221,7 +225,10 @@ fn tell_run<E: Write>(
     life: Result<FinishedLife<'_>, Fault>,
 ) -> Result<io::Result<()>, Fault>
     ensures ok { IsOk life.entry → IsOk result }
+    ensures told { IfOk life.entry (λ life. IfOk result (λ told.
+        OnOk told (Appends (E.contents err.old) (E.contents err.new) (run_text life.report)))) }
     ensures err { IfErr life.entry (λ fault. result ≡ Err fault) }
+    ensures quiet { OnErr life.entry (err.new ≡ err.old) }
 {
     match life {
         Ok(life) => Ok(write_run(err, life.report())),
@@ -229,14 +236,20 @@ fn tell_run<E: Write>(
     }
 }
 
-fn write_report<E: Write>(err: &mut E, report: &LifeReport) -> io::Result<()> {
+fn write_report<E: Write>(err: &mut E, report: &LifeReport) -> io::Result<()>
+    ensures { OnOk result
+        (Appends (E.contents err.old) (E.contents err.new) (report_text report.now)) }
+{
     let (dropped, faulted) = (report.dropped, report.faulted);
     writeln!(err, "dropped {dropped}")?;
     writeln!(err, "faulted {faulted}")?;
     err.flush()
 }
 
-fn write_run<E: Write>(err: &mut E, report: &LifeReport) -> io::Result<()> {
+fn write_run<E: Write>(err: &mut E, report: &LifeReport) -> io::Result<()>
+    ensures { OnOk result
+        (Appends (E.contents err.old) (E.contents err.new) (run_text report.now)) }
+{
     let (taken_over, silent) = (report.taken_over, report.silent);
     write_report(err, report)?;
     writeln!(err, "taken_over {taken_over}")?;

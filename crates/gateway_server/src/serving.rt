@@ -27,7 +27,9 @@ pub struct FinishedLife<'a> {
 }
 
 impl<'a> FinishedLife<'a> {
-    pub(crate) fn report(&self) -> &LifeReport {
+    pub(crate) fn report(&self) -> &LifeReport
+        ensures { result.now ≡ self.now.report }
+    {
         &self.report
     }
 }

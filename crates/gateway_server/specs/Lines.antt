@@ -1,0 +1,19 @@
+-- The lines that tell of a life.
+use Rattle.std.specs.Prelude.{ℕ, List, [], ◌∷◌, ◌++◌, codes}
+use Rattle.std.specs.Fmt.{decimal}
+use Rattle.link_server.specs.declared.report.LifeReport.{LifeReport}
+
+-- a name, a space, a number and a newline
+abbrev pub count_line : List ℕ → ℕ → List ℕ
+count_line name count = name ++ 32 ∷ decimal count ++ 10 ∷ []
+
+-- how a life of links that all connected has ended
+abbrev pub report_text : LifeReport → List ℕ
+report_text r =
+    count_line (codes "dropped") r.dropped ++ count_line (codes "faulted") r.faulted
+
+-- how a life of links that came and went has ended
+abbrev pub run_text : LifeReport → List ℕ
+run_text r =
+    report_text r ++ count_line (codes "taken_over") r.taken_over
+    ++ count_line (codes "silent") r.silent
