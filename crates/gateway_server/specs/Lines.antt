@@ -1,7 +1,11 @@
--- The lines that tell of a life.
-use Rattle.std.specs.Prelude.{ℕ, List, [], ◌∷◌, ◌++◌, codes}
+-- The lines that tell of a life, and of a store that was made of an older copy.
+use Rattle.std.specs.Prelude.{◌≡◌, ℕ, ◌-◌, ◌^◌, min, List, [], ◌∷◌, ◌++◌, length, codes}
+use Rattle.std.specs.Prelude.{None, unwrap_or}
 use Rattle.std.specs.Fmt.{decimal}
+use Rattle.devices.specs.declared.device.Device.{Device}
 use Rattle.link_server.specs.declared.report.LifeReport.{LifeReport}
+use Rattle.sessions.specs.Restored.{restored_table, spent_device}
+use Rattle.sessions.specs.Table.{TableState}
 
 -- a name, a space, a number and a newline
 abbrev pub count_line : List ℕ → ℕ → List ℕ
@@ -17,3 +21,25 @@ abbrev pub run_text : LifeReport → List ℕ
 run_text r =
     report_text r ++ count_line (codes "taken_over") r.taken_over
     ++ count_line (codes "silent") r.silent
+
+-- how many joins may still be granted: the JoinNonces above the last one (TS001-1.0.4 §6.2.6: 24
+-- bits)
+abbrev pub grants_left : Device → ℕ
+grants_left d = 2 ^ 24 - 1 - unwrap_or d.activation.granted 0
+
+-- how many the one has that has fewest left, and where there is no device, a new one
+abbrev pub fewest_left : List Device → ℕ
+fewest_left [] = 2 ^ 24 - 1
+fewest_left (d ∷ devices) = min (grants_left d) (fewest_left devices)
+
+-- how many devices a store has, and how many grants are left to the one that has fewest
+abbrev pub restored_text : List Device → List ℕ
+restored_text devices =
+    codes "devices " ++ (decimal (length devices)
+    ++ 10 ∷ (codes "grants_left " ++ (decimal (fewest_left devices) ++ 10 ∷ [])))
+
+-- what is told of a store of which each device was granted so many joins behind the copy
+abbrev pub TellsOfRestored : ℕ → List ℕ → Type 0
+TellsOfRestored since text =
+    (copy : TableState) × ((spent_device since copy ≡ None)
+    × (text ≡ restored_text (restored_table since copy).devices))

@@ -1,6 +1,10 @@
 // A new store of an older copy.
-ghost use Rattle.std.specs.Prelude.{◌≡◌, ◌⊎◌, MatchResult, None, Some, option_map};
+ghost use Rattle.std.specs.Prelude.{◌≡◌, ◌⊎◌, IfOk, MatchResult, None, Some, option_map};
+ghost use Rattle.std.specs.Prelude.{string_bytes};
+ghost use Rattle.gateway_server.specs.Lines.{TellsOfRestored, fewest_left, grants_left};
+ghost use Rattle.gateway_server.specs.Lines.{restored_text};
 ghost use Rattle.sessions.specs.Restored.{restored_table, spent_device};
+ghost use Rattle.sessions.specs.Table.{TableState};
 
 use crate::Fault;
 use crate::new_file::{NewFile, create, remove};
@@ -23,7 +27,9 @@ pub(crate) fn restore<R: Files<File = File>>(
     old: &str,
     new: &str,
     since: GrantsSince,
-) -> Result<String, Fault> {
+) -> Result<String, Fault>
+    ensures { IfOk result (λ text. TellsOfRestored since (string_bytes text)) }
+{
     let (table, seq) = read_older(rt, alloc, old, since)?;
     let (text, disk, made) = prepare(rt, alloc, &table, new)?;
     match establish_back(alloc, disk, table, seq) {
@@ -39,7 +45,10 @@ fn read_older<R: Files<File = File>>(
     alloc: Global,
     file: &str,
     since: GrantsSince,
-) -> Result<(Table, u64), Fault> {
+) -> Result<(Table, u64), Fault>
+    ensures { IfOk result (λ read. (copy : TableState) × ((spent_device since copy ≡ None)
+        × (read.0 ≡ restored_table since copy))) }
+{
     let copy = open_copy(rt, alloc, file)?;
     match table_since(copy.table(), since) {
         Ok(table) => Ok((table, copy.seq())),
@@ -67,14 +76,19 @@ fn prepare<'a, R: Files<File = File>>(
     alloc: Global,
     table: &Table,
     new: &'a str,
-) -> Result<(String, FileDisk, NewFile<'a>), Fault> {
+) -> Result<(String, FileDisk, NewFile<'a>), Fault>
+    ensures { IfOk result (λ ready. string_bytes ready.0 ≡ restored_text table.now.devices) }
+{
     let text = text_of(alloc, table.devices())?;
     let (disk, made) = create(rt, new, table.slots())?;
     Ok((text, disk, made))
 }
 
 // What is told of the devices of a store that was made of an older copy.
-fn text_of(alloc: Global, devices: &[Device]) -> Result<String, Refusal> {
+fn text_of(alloc: Global, devices: &[Device]) -> Result<String, Refusal>
+    ensures { MatchResult result (λ text. string_bytes text ≡ restored_text devices.now)
+        (λ refusal. refusal ≡ Refusal.OutOfMemory) }
+{
     let (count, left) = (devices.len(), fewest_left(devices));
     Ok(format!(in alloc; "devices {count}\ngrants_left {left}\n")?)
 }
@@ -106,13 +120,23 @@ fn read_all(alloc: Global, disk: &mut FileDisk) -> Result<Vec<u8>, Refusal> {
     }
 }
 
-fn fewest_left(devices: &[Device]) -> u32 {
+// How many grants are left to the device that has fewest left.
+fn fewest_left(devices: &[Device]) -> u32
+    ensures { result ≡ fewest_left devices.now }
+{
     let mut fewest = LAST_NONCE;
     for device in devices {
-        let granted = device.activation.granted().map_or(0, JoinNonce::get);
-        fewest = fewest.min(LAST_NONCE.saturating_sub(granted));
+        fewest = fewest.min(grants_left(device));
     }
     fewest
+}
+
+// How many joins may still be granted to a device.
+fn grants_left(device: &Device) -> u32
+    ensures { result ≡ grants_left device.now }
+{
+    let granted = device.activation.granted().map_or(0, JoinNonce::get);
+    LAST_NONCE.saturating_sub(granted)
 }
 
 // The last JoinNonce (TS001-1.0.4 §6.2.6).
