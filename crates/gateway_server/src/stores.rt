@@ -1,5 +1,6 @@
 // Stores in files.
-ghost use Rattle.std.specs.Prelude.{◌≡◌, MatchResult, string_bytes};
+ghost use Rattle.std.specs.Prelude.{◌≡◌, ℕ, IfOk, List, MatchResult, string_bytes};
+ghost use Rattle.devices.specs.declared.device.Device.{Device};
 ghost use Rattle.gateway_wire.specs.DeviceList.{list_text};
 ghost use Rattle.store.specs.State.{store_state};
 
@@ -36,7 +37,10 @@ pub(crate) fn list<R: Files<File = File>>(
     rt: &R,
     alloc: Global,
     file: &str,
-) -> Result<String, Fault> {
+) -> Result<String, Fault>
+    ensures { IfOk result (λ text. (devices : List Device) × ((seq : ℕ)
+        × (string_bytes text ≡ list_text devices seq))) }
+{
     let store = open_store(rt, alloc, file)?;
     text_of_store(alloc, &store)
 }
