@@ -1,5 +1,6 @@
 // The control socket beside a store's file: who serves listens there, and who asks connects.
-ghost use Rattle.std.specs.Prelude.{◌≡◌, ◌≢◌, ◌++◌, [], MatchResult, codes, string_bytes};
+ghost use Rattle.std.specs.Prelude.{◌≡◌, ◌≢◌, ◌++◌, [], IfOk, MatchResult, OnErr, codes};
+ghost use Rattle.std.specs.Prelude.{string_bytes};
 
 use crate::Fault;
 use link_server::{BUSY, Order, WATCHING};
@@ -65,12 +66,27 @@ pub(crate) fn remove<R: Files<File = File>>(rt: &R, path: &ControlPath) {
 
 // A connection to whoever serves.
 fn connect<R: Net>(rt: &R, path: &ControlPath) -> Result<UnixStream, Fault> {
-    match UnixStream::connect(rt, path.0.as_str()) {
-        Ok(stream) => Ok(stream),
-        Err(error) if error.kind() == ErrorKind::NotFound => Err(Fault::NotRunning),
-        Err(error) if error.kind() == ErrorKind::ConnectionRefused => Err(Fault::LeftOver),
-        Err(_) => Err(Fault::Control),
+    UnixStream::connect(rt, path.0.as_str()).map_err(|error| fault_of_connecting(error.kind()))
+}
+
+// Why nobody could be connected to.
+fn fault_of_connecting(kind: ErrorKind) -> Fault
+    ensures none { kind ≡ ErrorKind.NotFound → result ≡ Fault.NotRunning }
+    ensures refused { kind ≡ ErrorKind.ConnectionRefused → result ≡ Fault.LeftOver }
+    ensures other { kind ≢ ErrorKind.NotFound → kind ≢ ErrorKind.ConnectionRefused
+        → result ≡ Fault.Control }
+{
+    match kind {
+        ErrorKind::NotFound => Fault::NotRunning,
+        ErrorKind::ConnectionRefused => Fault::LeftOver,
+        _ => Fault::Control,
     }
+}
+
+// A connection to whoever serves the store in a file.
+fn reach<R: Net>(rt: &R, alloc: Global, file: &str) -> Result<UnixStream, Fault> {
+    let path = path_of(alloc, file)?;
+    connect(rt, &path)
 }
 
 // Gives an order, and gives back all of its answer.
@@ -91,8 +107,7 @@ fn ask(alloc: Global, stream: UnixStream, order: Order) -> Result<String, Fault>
 /// Stops the server that runs on the store in a file, and waits until it has ended. What it answers
 /// where it ended by a fault is that fault.
 pub(crate) fn stop<R: Net>(rt: &R, alloc: Global, file: &str) -> Result<(), Fault> {
-    let path = path_of(alloc, file)?;
-    let answer = ask(alloc, connect(rt, &path)?, Order::Stop)?;
+    let answer = ask(alloc, reach(rt, alloc, file)?, Order::Stop)?;
     if answer.as_str().trim_end() == ENDED {
         Ok(())
     } else {
@@ -107,7 +122,9 @@ pub(crate) fn status<R: Net + Clock>(
     alloc: Global,
     file: &str,
     wait: u64,
-) -> Result<String, Fault> {
+) -> Result<String, Fault>
+    ensures { IfOk result (λ text. string_bytes text ≢ []) }
+{
     let path = path_of(alloc, file)?;
     let mut stream = connect(rt, &path);
     for _ in 0..wait.saturating_mul(TRIES) {
@@ -121,9 +138,10 @@ pub(crate) fn status<R: Net + Clock>(
 }
 
 /// The devices of the store in a file, by the server that runs on it.
-pub(crate) fn devices<R: Net>(rt: &R, alloc: Global, file: &str) -> Result<String, Fault> {
-    let path = path_of(alloc, file)?;
-    some(ask(alloc, connect(rt, &path)?, Order::Devices)?)
+pub(crate) fn devices<R: Net>(rt: &R, alloc: Global, file: &str) -> Result<String, Fault>
+    ensures { IfOk result (λ text. string_bytes text ≢ []) }
+{
+    some(ask(alloc, reach(rt, alloc, file)?, Order::Devices)?)
 }
 
 // No answer is one that was broken off.
@@ -145,21 +163,28 @@ pub(crate) fn watch<R: Net, O: Write>(
     alloc: Global,
     file: &str,
     out: &mut O,
-) -> Result<io::Result<()>, Fault> {
-    let path = path_of(alloc, file)?;
-    let mut stream = connect(rt, &path)?;
+) -> Result<io::Result<()>, Fault>
+    ensures { OnErr result (out.new ≡ out.old) }
+{
+    let mut stream = reach(rt, alloc, file)?;
+    begin_to_watch(&mut stream)?;
+    Ok(pass_on(&mut stream, out))
+}
+
+// Asks to be told what happens, and reads the first line of it.
+fn begin_to_watch(stream: &mut UnixStream) -> Result<(), Fault> {
     let word = Order::Watch.word();
     writeln!(stream, "{word}").map_err(|_| Fault::BrokenOff)?;
     let mut first = [0u8; WATCHING.len()];
-    let count = fill_front(&mut stream, &mut first);
-    if first.get(..count) != Some(WATCHING.as_bytes()) {
-        return Err(if first.get(..count) == Some(BUSY.as_bytes()) {
-            Fault::Busy
-        } else {
-            Fault::BrokenOff
-        });
+    let count = fill_front(stream, &mut first);
+    let first = first.get(..count);
+    if first == Some(WATCHING.as_bytes()) {
+        Ok(())
+    } else if first == Some(BUSY.as_bytes()) {
+        Err(Fault::Busy)
+    } else {
+        Err(Fault::BrokenOff)
     }
-    Ok(pass_on(&mut stream, out))
 }
 
 // Fills as much of the buffer as comes. How much that is.
