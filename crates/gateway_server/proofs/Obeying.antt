@@ -1,6 +1,8 @@
 -- From how a command ended, and what of it was told, to what is said of it.
-use Rattle.std.proofs.Common.{◌≡◌, ◌≢◌, ◌≤◌, ◌⊎◌, ◌↔◌, ℕ, List, [], Option, None, Some, Result, Ok, Err}
-use Rattle.std.proofs.Common.{MatchResult, IfOk, IfErr, IsOk, OnOk, inl, inr, refl, subst, sym}
+use Rattle.std.proofs.Common.{◌≡◌, ◌≢◌, ◌≤◌, ◌⊎◌, ◌↔◌, ℕ, List, [], Option, None, Some, Result}
+use Rattle.std.proofs.Common.{Ok, Err}
+use Rattle.std.proofs.Common.{MatchResult, IfOk, IfErr, IsOk, OnErr, OnOk, inl, inr, refl}
+use Rattle.std.proofs.Common.{subst, sym}
 use Rattle.std.proofs.Common.{append-nil, arith}
 use Rattle.std.proofs.lemmas.Bool.{false≢true}
 use Rattle.std.specs.Prelude.{string_bytes}
@@ -12,7 +14,8 @@ use Rattle.command_words.specs.declared.mode.Usage.TheVariants as usage
 use Rattle.gateway_server.specs.declared.fault.Fault.{Fault}
 use Rattle.gateway_server.specs.declared.fault.Fault.TheVariants.{Listen}
 use Rattle.gateway_server.specs.Told.{AsksToRun, CannotListen, FellShort, HasStatus, HasUsageStatus}
-use Rattle.gateway_server.specs.Told.{IsAskedFor, IsDone, SaysSomething, TellsEarly, WasObeyed, outcome_with}
+use Rattle.gateway_server.specs.Told.{IsAskedFor, IsDone, SaysSomething, TellsEarly, WasObeyed}
+use Rattle.gateway_server.specs.Told.{outcome_with}
 
 -- nothing is told
 appends_nothing : (known : Option (List ℕ)) → Appends known known []
@@ -75,20 +78,31 @@ pub of_early : {O E S : Type 0} (ends : Mode → Result (List ℕ) Fault → Typ
     (contents : O → Option (List ℕ)) (old new : O) (ended : Result S Fault)
     (result : Result (Result (Unit {0}) E) Fault) → m ≡ asked → TellsEarly asked
     → SaysSomething asked → ends m (outcome_with (λ _. []) ended)
-    → (IsOk ended → IsOk result) → IfErr ended (λ fault. result ≡ Err fault)
+    → (IsOk ended → IsOk result)
+    → IfErr ended (λ fault. (result ≡ Err fault) × (AsksToRun asked ⊎ (new ≡ old)))
     → WasObeyed ends m contents old new result
 of_early ends m asked contents old new (Ok x) (Ok (Ok u)) is early says e ok err =
     ([], (e, inl (subst TellsEarly (sym is) early)))
 of_early ends m asked contents old new (Ok x) (Ok (Err y)) is early says e ok err =
     ([], (e, subst SaysSomething (sym is) says))
-of_early ends m asked contents old new (Ok x) (Err f) is early says e ok err = absurd (false≢true (ok refl))
+of_early ends m asked contents old new (Ok x) (Err f) is early says e ok err =
+    absurd (false≢true (ok refl))
 of_early ends m asked contents old new (Err fault) result is early says e ok err =
-    subst (λ r. WasObeyed ends m contents old new r) (sym err)
-    (e, inl (subst TellsEarly (sym is) early))
+    subst (λ r. WasObeyed ends m contents old new r) (sym err.0)
+    (e, subst (λ a. AsksToRun a ⊎ (new ≡ old)) (sym is) err.1)
 
-pub itself : {A : Type 0} (r : Result A Fault) → IfErr r (λ fault. r ≡ Err fault)
-itself (Ok x) = tt
-itself (Err fault) = refl
+-- a fault is told on, whatever was told before
+pub told_on : {S T : Type 0} (Q R : Type 0) (ended : Result S Fault) (result : Result T Fault) → Q
+    → IfErr ended (λ fault. result ≡ Err fault)
+    → IfErr ended (λ fault. (result ≡ Err fault) × (Q ⊎ R))
+told_on Q R (Ok x) result asked err = tt
+told_on Q R (Err fault) result asked err = (err, inl asked)
+
+-- a fault is its own answer, and nothing was told
+pub itself : {S : Type 0} (Q R : Type 0) (ended : Result S Fault) → OnErr ended R
+    → IfErr ended (λ fault. (ended ≡ Err fault) × (Q ⊎ R))
+itself Q R (Ok x) quiet = tt
+itself Q R (Err fault) quiet = (refl, inr quiet)
 
 -- it was done
 pub of_done : {O E : Type 0} (ends : Mode → Result (List ℕ) Fault → Type 0) (m : Mode)
@@ -107,7 +121,7 @@ of_done ends m contents old new (Err x) status was range ok =
 -- it failed
 pub of_fault : {O : Type 0} (ends : Mode → Result (List ℕ) Fault → Type 0) (m : Mode)
     (contents : O → Option (List ℕ)) (old new : O) (fault : Fault) (status : ℕ)
-    → ends m (Err fault) × (TellsEarly m ⊎ (new ≡ old)) → (status ≡ 1) ⊎ (status ≡ 3)
+    → ends m (Err fault) × (AsksToRun m ⊎ (new ≡ old)) → (status ≡ 1) ⊎ (status ≡ 3)
     → (status ≡ 1 → AsksToRun m → fault ≢ Listen)
     → (status ≡ 3 → AsksToRun m × (fault ≡ Listen)) → HasStatus ends contents old new m status
 of_fault ends m contents old new fault status was (inl is) one three =

@@ -10,7 +10,7 @@ use Rattle.command_words.specs.declared.mode.Usage.TheVariants as usage
 use Rattle.gateway_server.specs.declared.fault.Fault.{Fault}
 use Rattle.gateway_server.specs.declared.fault.Fault.TheVariants.{Listen}
 
--- it tells where it listens, or what happens, and may fail afterwards
+-- it tells where it listens, or what happens, while it is done
 abbrev pub TellsEarly : Mode → Type 0
 TellsEarly (mode.Run file listen links) = Unit
 TellsEarly (mode.Watch file) = Unit
@@ -34,7 +34,7 @@ SaysSomething (mode.Devices file) = Unit
 SaysSomething (mode.Status file wait) = Unit
 SaysSomething (mode.Restore file new_file grants) = Unit
 
--- it is to serve links that come and go
+-- it is to serve links that come and go, and may fail once it has told where it listens
 abbrev pub AsksToRun : Mode → Type 0
 AsksToRun (mode.Run file listen links) = Unit
 AsksToRun (mode.Watch file) = ⊥
@@ -59,7 +59,7 @@ WasObeyed ends m contents old new result = MatchResult result
     (λ told. (text : List ℕ) × (ends m (Ok text)
     × MatchResult told (λ _. TellsEarly m ⊎ Appends (contents old) (contents new) text)
     (λ _. SaysSomething m)))
-    (λ fault. ends m (Err fault) × (TellsEarly m ⊎ (new ≡ old)))
+    (λ fault. ends m (Err fault) × (AsksToRun m ⊎ (new ≡ old)))
 
 -- these words ask for something of which this holds
 abbrev pub IsAskedFor : List (List ℕ) → (Mode → Type 0) → Type 0
@@ -78,7 +78,7 @@ pub record FellShort {O : Type 0} (ends : Mode → Result (List ℕ) Fault → T
   pub outcome : Result (List ℕ) Fault
   pub ended : ends m outcome
   pub cause : MatchResult outcome (λ _. SaysSomething m)
-      (λ fault. (AsksToRun m → fault ≢ Listen) × (TellsEarly m ⊎ (new ≡ old)))
+      (λ fault. (AsksToRun m → fault ≢ Listen) × (AsksToRun m ⊎ (new ≡ old)))
 
 -- this is to serve links that come and go, and none can be listened for
 abbrev pub CannotListen : (Mode → Result (List ℕ) Fault → Type 0) → Mode → Type 0

@@ -14,7 +14,7 @@ use std::rt::{Clock, Files};
 /// What does what a mode asks for. That it was done, or failed, is known by these calls alone: so
 /// whoever is lent commands can claim no more than they answered.
 pub trait Commands {
-    ghost use Rattle.std.specs.Prelude.{◌≡◌, ℕ, List, [], Result, IfOk, string_bytes};
+    ghost use Rattle.std.specs.Prelude.{◌≡◌, ℕ, List, [], Result, IfOk, OnErr, string_bytes};
     ghost use Rattle.command_words.specs.declared.mode.Mode.{Mode};
     ghost use Rattle.command_words.specs.declared.mode.Mode.TheVariants as mode;
     ghost use Rattle.gateway_server.specs.Told.{outcome_with};
@@ -56,7 +56,7 @@ pub trait Commands {
             (outcome_with string_bytes result) self.new };
 
     /// Tells on `out` what happens at the server that runs on the store in a file, until it ends,
-    /// and gives what came of writing it.
+    /// and gives what came of writing it. Where it fails, nothing was told.
     fn watch<R: Net, O: Write>(
         &mut self,
         rt: &R,
@@ -64,7 +64,9 @@ pub trait Commands {
         file: &str,
         out: &mut O,
     ) -> Result<io::Result<()>, Fault>
-        ensures { ends self.old (mode.Watch file.entry) (outcome_with (λ _. []) result) self.new };
+        ensures ended { ends self.old (mode.Watch file.entry) (outcome_with (λ _. []) result)
+            self.new }
+        ensures quiet { OnErr result (out.new ≡ out.old) };
 
     /// How it goes with the server that runs on the store in a file, or begins within so many
     /// seconds.

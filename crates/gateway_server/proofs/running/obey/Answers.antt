@@ -1,6 +1,6 @@
 use Rattle.std.proofs.Common.{[], subst, sym}
 use Rattle.std.specs.Prelude.{string_bytes}
-use Rattle.gateway_server.proofs.Obeying.{itself, of_early, of_life, of_nothing, of_text}
+use Rattle.gateway_server.proofs.Obeying.{itself, of_early, of_life, of_nothing, of_text, told_on}
 use Rattle.gateway_server.specs.Told.{outcome_with}
 use Rattle.gateway_server.proofs.running.obey.Goals as goal
 
@@ -50,11 +50,12 @@ pub returns-in-Run : goal.returns-in-Run
 returns-in-Run g c =
     of_early (λ m o. g.C.Commands.ends c.args.commands.now m o c.life_ended-in-Run.new.self)
     _ _ g.O.Write.contents _ _ _ _ c.in-Run.is tt tt
-    c.life_ended-in-Run.ensures c.tell_run.ensures.ok c.tell_run.ensures.err
+    c.life_ended-in-Run.ensures c.tell_run.ensures.ok (told_on _ _ _ _ tt c.tell_run.ensures.err)
 
 pub returns-in-Watch : goal.returns-in-Watch
 returns-in-Watch g c =
     of_early (λ m o. g.C.Commands.ends c.args.commands.now m o c.watch.new.self)
     _ _ g.O.Write.contents _ _ _ _ c.in-Watch.is tt tt
     (subst (λ m. g.C.Commands.ends c.args.commands.now m (outcome_with (λ _. []) c.watch.result)
-    c.watch.new.self) (sym c.in-Watch.is) c.watch.ensures) (λ ok. ok) (itself c.watch.result)
+    c.watch.new.self) (sym c.in-Watch.is) c.watch.ensures.ended) (λ ok. ok)
+    (itself _ _ c.watch.result c.watch.ensures.quiet)
