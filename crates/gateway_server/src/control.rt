@@ -83,12 +83,6 @@ fn fault_of_connecting(kind: ErrorKind) -> Fault
     }
 }
 
-// A connection to whoever serves the store in a file.
-fn reach<R: Net>(rt: &R, alloc: Global, file: &str) -> Result<UnixStream, Fault> {
-    let path = path_of(alloc, file)?;
-    connect(rt, &path)
-}
-
 // Gives an order, and gives back all of its answer.
 fn ask(alloc: Global, stream: UnixStream, order: Order) -> Result<String, Fault> {
     let mut stream = stream;
@@ -107,7 +101,8 @@ fn ask(alloc: Global, stream: UnixStream, order: Order) -> Result<String, Fault>
 /// Stops the server that runs on the store in a file, and waits until it has ended. What it answers
 /// where it ended by a fault is that fault.
 pub(crate) fn stop<R: Net>(rt: &R, alloc: Global, file: &str) -> Result<(), Fault> {
-    let answer = ask(alloc, reach(rt, alloc, file)?, Order::Stop)?;
+    let path = path_of(alloc, file)?;
+    let answer = ask(alloc, connect(rt, &path)?, Order::Stop)?;
     if answer.as_str().trim_end() == ENDED {
         Ok(())
     } else {
@@ -141,7 +136,8 @@ pub(crate) fn status<R: Net + Clock>(
 pub(crate) fn devices<R: Net>(rt: &R, alloc: Global, file: &str) -> Result<String, Fault>
     ensures { IfOk result (λ text. string_bytes text ≢ []) }
 {
-    some(ask(alloc, reach(rt, alloc, file)?, Order::Devices)?)
+    let path = path_of(alloc, file)?;
+    some(ask(alloc, connect(rt, &path)?, Order::Devices)?)
 }
 
 // No answer is one that was broken off.
@@ -166,25 +162,20 @@ pub(crate) fn watch<R: Net, O: Write>(
 ) -> Result<io::Result<()>, Fault>
     ensures { OnErr result (out.new ≡ out.old) }
 {
-    let mut stream = reach(rt, alloc, file)?;
-    begin_to_watch(&mut stream)?;
-    Ok(pass_on(&mut stream, out))
-}
-
-// Asks to be told what happens, and reads the first line of it.
-fn begin_to_watch(stream: &mut UnixStream) -> Result<(), Fault> {
+    let path = path_of(alloc, file)?;
+    let mut stream = connect(rt, &path)?;
     let word = Order::Watch.word();
     writeln!(stream, "{word}").map_err(|_| Fault::BrokenOff)?;
     let mut first = [0u8; WATCHING.len()];
-    let count = fill_front(stream, &mut first);
-    let first = first.get(..count);
-    if first == Some(WATCHING.as_bytes()) {
-        Ok(())
-    } else if first == Some(BUSY.as_bytes()) {
-        Err(Fault::Busy)
-    } else {
-        Err(Fault::BrokenOff)
+    let count = fill_front(&mut stream, &mut first);
+    if first.get(..count) != Some(WATCHING.as_bytes()) {
+        return Err(if first.get(..count) == Some(BUSY.as_bytes()) {
+            Fault::Busy
+        } else {
+            Fault::BrokenOff
+        });
     }
+    Ok(pass_on(&mut stream, out))
 }
 
 // Fills as much of the buffer as comes. How much that is.
