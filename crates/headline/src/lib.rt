@@ -143,10 +143,10 @@ pub fn crash_after_adoption<D: Sim + Drop>(
 /// `OutOfMemory`, `DeviceFailed`, `JoinNonceSpent` where a device hasn't so many JoinNonces left,
 /// or `WrongSize` where the disk hasn't the length of such a store.
 ///
-/// Of all marks that were used up before the copy and behind it, where they are distinct and no
-/// device was granted more sessions behind the copy than were counted, and of those of what has
-/// left since, none stands twice, whatever the lost disk had; and the table that is recovered
-/// covers them all.
+/// Of all marks of devices that the copy has, used up before it and behind it, where they are
+/// distinct and none of these devices was granted more sessions behind the copy than were counted,
+/// and of those of what has left since, none stands twice, whatever the lost disk had; and the
+/// table that is recovered covers them all. Of a device that the copy hasn't nothing is said.
 pub fn crash_after_restoring<D: Sim + Drop>(
     alloc: Global,
     older: Table,

@@ -12,7 +12,8 @@ use std::net::TcpStream;
 use std::sync::{Mutex, Wait};
 
 /// The links, what stands behind a lock, and the signals. No thread holds both locks at once, nor
-/// one of them while it reads, writes or syncs.
+/// one of them while it reads, writes or syncs. Behind the directory's a link that loses its name
+/// is closed, which takes the locks of its socket and of those who watch, and nothing else does.
 #[derive(Drop)]
 pub struct LiveServer<B: Books> {
     pub links: Vec<Link>,

@@ -34,7 +34,7 @@ pub enum Refusal {
     MacBoth,
     /// An item is to be queued for a device for which 16 items wait.
     QueueFull,
-    /// MAC commands are to be queued, and with them more than 64 bytes would wait.
+    /// MAC commands are to be queued, and with them more than 128 bytes would wait.
     MacQueueFull,
     /// An item is to be queued whose payload has more than 242 bytes.
     TooLong,

@@ -59,7 +59,8 @@ commands_in direction bytes = first_commands (length bytes) direction bytes
 
 -- ---- of an uplink
 
--- all commands are reported but those that the network answers: LinkCheckReq and DeviceTimeReq
+-- all commands are reported but LinkCheckReq, which the network answers, and DeviceTimeReq, which
+-- it passes over
 abbrev pub is_reported_cid : Cid → Bool
 is_reported_cid LinkCheck = false
 is_reported_cid DeviceTime = false

@@ -60,8 +60,8 @@ impl Cid {
         matches!(self, Cid::LinkAdr | Cid::DutyCycle | Cid::DevStatus)
     }
 
-    /// Whether the uplink command is reported to the application: all but LinkCheckReq and
-    /// DeviceTimeReq, which the network answers or passes over.
+    /// Whether the uplink command is reported to the application: all but LinkCheckReq, which the
+    /// network answers, and DeviceTimeReq, which it passes over.
     pub fn is_reported(self) -> bool
         ensures { result ≡ is_reported_cid self }
     {

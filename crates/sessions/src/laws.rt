@@ -95,9 +95,9 @@ pub fn no_mark_stands_twice()
     uplinks::laws::a_fit_is_of_its_device();
 }
 
-/// A table that is taken back of an older copy rules out each mark of before it, and of behind it
-/// where no device was granted more sessions than were counted: so a network that has used up these
-/// marks, none of them twice, goes on with it.
+/// A table that is taken back of an older copy rules out each mark of a device that the copy has,
+/// of before it, and of behind it where no such device was granted more sessions than were counted:
+/// so a network that has used up these marks, none of them twice, goes on with it.
 pub fn a_restored_table_covers()
     ensures covered { (since : ℕ) (t : TableState) (marks : List Mark) →
         All (λ m. IsSince since t m) marks → All (λ m. Covers (restored_table since t) m) marks }

@@ -37,7 +37,7 @@ pub enum Fit {
 pub enum Trial {
     /// It has another address.
     OtherDevAddr,
-    /// Its counter is the last one or too far above it.
+    /// Its counter is too far above the last one.
     BadCounter,
     /// Its MIC isn't the session's.
     BadMic,
