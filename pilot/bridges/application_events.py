@@ -20,7 +20,7 @@ REFUSALS = {
     13: ("MAC_QUEUE_FULL", "too many MAC commands wait for the device"),
     14: ("DOWNLINK_PAYLOAD_SIZE", "the payload has more than 242 bytes"),
     15: ("BAD_PORT", "the port isn't one from 1 to 223"),
-    16: ("DEV_EUI_TAKEN", "a device has this DevEUI already"),
+    16: ("DEV_EUI_TAKEN", "a device has this DevEUI already; it stays as it was"),
     17: ("TABLE_FULL", "each slot of the network has a device"),
     23: ("BACKLOG", "too many decisions wait"),
     30: ("OUT_OF_MEMORY", "the network has no memory left"),
@@ -100,9 +100,10 @@ def device_of(topic: str, application: int) -> str:
 
 
 class Translator:
-    """Makes events of one application's lines."""
+    """Makes events of one application's lines. `names` has the ids of items by their devices and
+    tags."""
 
-    def __init__(self, application: int, names: dict[int, str]):
+    def __init__(self, application: int, names: dict[tuple[str, int], str]):
         self.application, self.names = application, names
 
     def event(self, line: str, time: str) -> Event:
@@ -118,6 +119,8 @@ class Translator:
         }
         if kind not in of_kind:
             raise Wrong(f"a line {kind[:20]}")
+        if not re.fullmatch("[0-9A-F]{16}", device):
+            raise Wrong(f"a line {kind} of no device")
         told, body = of_kind[kind](device, *words)
         base = {"time": time, "deviceInfo": self.device_info(device)}
         return Event(device, told, {**base, **body})
@@ -142,21 +145,21 @@ class Translator:
             "txInfo": {"frequency": int(hz), "modulation": {"lora": lora}},
         }
 
-    def acked(self, _device, tag):
+    def acked(self, device, tag):
         """The device acknowledged an item."""
-        return "ack", {**self.item(tag), "acknowledged": True}
+        return "ack", {**self.item(device, tag), "acknowledged": True}
 
-    def lost(self, _device, tag):
+    def lost(self, device, tag):
         """The device didn't acknowledge an item."""
-        return "ack", {**self.item(tag), "acknowledged": False}
+        return "ack", {**self.item(device, tag), "acknowledged": False}
 
-    def queued(self, _device, tag):
+    def queued(self, device, tag):
         """An item waits."""
-        return "queued", self.item(tag)
+        return "queued", self.item(device, tag)
 
-    def item(self, tag) -> dict:
+    def item(self, device, tag) -> dict:
         """Which item it was: by the id that it was asked with, where that is known still."""
-        return {"queueItemId": self.names.get(int(tag), tag), "tag": int(tag)}
+        return {"queueItemId": self.names.get((device, int(tag)), tag), "tag": int(tag)}
 
     def mac(self, _device, session, commands):
         """The device sent MAC commands; its status has an event of its own."""
@@ -190,6 +193,9 @@ def status(battery: int, margin: int) -> dict:
 
 
 def refusal(line: str) -> tuple[str, str]:
-    """The code and the description of a line `refused`."""
-    number = int(line.split(" ")[1])
+    """The code and the description of a line `refused`, which may have no number in it."""
+    found = re.fullmatch(r"refused ([0-9]{1,3})", line)
+    if not found:
+        return "REFUSED", "the network doesn't say why"
+    number = int(found[1])
     return REFUSALS.get(number, (f"REFUSED_{number}", "docs/FORMATS.md tells what it means"))

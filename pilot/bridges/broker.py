@@ -8,9 +8,11 @@ import argparse
 import asyncio
 import socket
 import sys
+import threading
 from collections.abc import Callable
 from dataclasses import dataclass
 
+from .handovers import Handover
 from .words import Address, stop, tell
 
 DEBIAN = "/usr/lib/python3/dist-packages"
@@ -27,6 +29,10 @@ KEEPALIVE = 30
 LONGEST_PAUSE = 30
 # messages of the broker that wait to be looked at, behind which they are dropped
 MOST_READ = 10_000
+# how long the broker may take to hear a goodbye, in seconds
+GOODBYE = 1.0
+# a broker's answer for a topic that may not be read, and above
+REFUSED = 0x80
 
 
 @dataclass(frozen=True)
@@ -52,6 +58,8 @@ class Access:
             stop("there is no Python library paho.mqtt; pilot/install has the system install it")
         if bool(given.certificate) != bool(given.key):
             stop("--certificate and --key go together", 2)
+        if given.certificate and not given.ca:
+            stop("--certificate needs --ca: TLS is used with it alone", 2)
         return cls(given.broker, given.ca, given.certificate, given.key)
 
 
@@ -62,7 +70,9 @@ def at_once(_client, _data, it: socket.socket):
 
 class Broker:
     """What is published is kept until the broker has it; `has_room` says whether fewer than `room`
-    messages wait. What comes is given to `take`, in the event loop that this was made in."""
+    messages wait. What comes is given to `take`, in the event loop that this was made in. Where
+    nothing `is_kept`, the broker keeps nothing that comes while this is away, and what is said to
+    it is of no use later."""
 
     def __init__(
         self,
@@ -74,10 +84,12 @@ class Broker:
         room: int = 10_000,
     ):
         self.access, self.topics, self.take, self.room = access, topics, take, room
-        self.loop = asyncio.get_running_loop()
         self.has_room = asyncio.Event()
         self.has_room.set()
-        self.waiting, self.unread, self.overrun, self.connects = 0, 0, 0, 0
+        self.waiting, self.overrun, self.counted = 0, 0, 0
+        self.taken, self.came = Handover(self.take_taken), Handover(self.read)
+        self.is_gone, self.fault = threading.Event(), ""
+        self.is_gone.set()
         self.client = mqtt.Client(client_id=name, clean_session=not is_kept)
         self.client.max_inflight_messages_set(1000)
         self.client.reconnect_delay_set(1, LONGEST_PAUSE)
@@ -85,9 +97,13 @@ class Broker:
             self.secure()
         self.client.on_socket_open = at_once
         self.client.on_connect = self.on_connect
+        self.client.on_connect_fail = self.on_connect_fail
         self.client.on_disconnect = self.on_disconnect
-        self.client.on_publish = lambda *_: self.later(self.taken)
+        if is_kept:
+            # the library also calls it for what was said, which isn't counted
+            self.client.on_publish = lambda *_: self.taken.give(None)
         self.client.on_message = self.on_message
+        self.client.on_subscribe = self.on_subscribe
 
     def secure(self):
         """Sets the certificates up, which are looked at here."""
@@ -102,17 +118,26 @@ class Broker:
         self.client.loop_start()
 
     def end(self):
-        """Says goodbye, where the broker is there to hear it."""
-        if self.client.is_connected():
+        """Says goodbye, where the broker is there to hear it. The library's thread isn't waited
+        for: it would stay until a broker that hangs has all messages."""
+        if self.is_there():
             self.client.disconnect()
-            self.client.loop_stop()
+            self.is_gone.wait(GOODBYE)
+        self.overrun += len(self.came.rest())
 
-    def publish(self, topic: str, payload: bytes):
-        """Has the broker get a message at least once, for as long as this program lives."""
+    def is_there(self) -> bool:
+        """Whether the broker is connected to."""
+        return not self.is_gone.is_set()
+
+    def publish(self, topic: str, payload: bytes) -> bool:
+        """Has the broker get a message at least once, for as long as this program lives; whether
+        the library has a number left for it."""
+        if self.client.publish(topic, payload, qos=1).rc == mqtt.MQTT_ERR_QUEUE_SIZE:
+            return False
         self.waiting += 1
         if self.waiting >= self.room:
             self.has_room.clear()
-        self.client.publish(topic, payload, qos=1)
+        return True
 
     def say(self, topic: str, payload: bytes) -> bool:
         """Publishes what is of no use later, now or never; whether the broker is there."""
@@ -120,14 +145,19 @@ class Broker:
 
     def dropped(self) -> int:
         """How many messages weren't looked at since this was asked last."""
-        count, self.overrun = self.overrun, 0
-        return count
+        before, self.counted = self.counted, self.overrun
+        return self.counted - before
 
-    def taken(self):
-        """The broker has one of the messages."""
-        self.waiting = max(0, self.waiting - 1)
+    def take_taken(self, found: list):
+        """The broker has some of the messages."""
+        self.waiting -= len(found)
         if self.waiting < self.room:
             self.has_room.set()
+
+    def read(self, found: list):
+        """Looks at messages."""
+        for topic, payload in found:
+            self.take(topic, payload)
 
     # what follows is called in the library's thread
 
@@ -136,32 +166,34 @@ class Broker:
         if code:
             tell(f"the broker refuses the connection: {mqtt.connack_string(code)}")
             return
-        self.connects += 1
+        self.is_gone.clear()
+        self.fault = ""
         tell(f"connected to the broker at {self.access.address}")
         if self.topics:
             client.subscribe([(it, 1) for it in self.topics])
 
+    def on_connect_fail(self, *_):
+        """Why nobody is connected to, each reason once: the library tries again without end."""
+        why = str(sys.exc_info()[1])
+        if why != self.fault:
+            tell(f"no broker at {self.access.address}: {why}")
+        self.fault = why
+
+    def on_subscribe(self, _client, _data, _number, granted):
+        """What may not be read is told, since nothing will come of it. (mosquitto grants all, and
+        passes on what its list allows.)"""
+        if any(it >= REFUSED for it in granted):
+            tell("the broker refuses topics: whose certificate is it?")
+
     def on_disconnect(self, _client, _data, code):
         """The library connects again by itself."""
+        self.is_gone.set()
         if code:
             tell(f"no broker at {self.access.address}: {mqtt.error_string(code)}")
 
     def on_message(self, _client, _data, message):
         """A message, which is looked at in the event loop. What was retained is of the past."""
-        if message.retain or self.unread >= MOST_READ:
+        if message.retain or len(self.came.waiting) >= MOST_READ:
             self.overrun += 1
-            return
-        self.unread += 1
-        self.later(self.read, message.topic, message.payload)
-
-    def later(self, what: Callable, *of):
-        """Has the event loop do something, where it hasn't ended."""
-        try:
-            self.loop.call_soon_threadsafe(what, *of)
-        except RuntimeError:
-            pass
-
-    def read(self, topic: str, payload: bytes):
-        """Looks at a message."""
-        self.unread -= 1
-        self.take(topic, payload)
+        else:
+            self.came.give((message.topic, message.payload))

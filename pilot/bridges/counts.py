@@ -9,10 +9,11 @@ EVERY = 10.0
 
 
 class Counts:
-    """Counts by their names, each with a sentence on what it counts."""
+    """Counts by their names, each with a sentence on what it counts. Labels tell apart what two
+    programs count under one prefix: node_exporter takes no number twice."""
 
-    def __init__(self, prefix: str, helps: dict[str, str], file: str | None = None):
-        self.prefix, self.helps, self.file = prefix, helps, file
+    def __init__(self, prefix: str, helps: dict[str, str], file: str | None = None, labels=""):
+        self.prefix, self.helps, self.file, self.labels = prefix, helps, file, labels
         self.values = dict.fromkeys(helps, 0)
 
     def add(self, name: str, more: int = 1):
@@ -25,7 +26,7 @@ class Counts:
         for name, value in self.values.items():
             whole = f"{self.prefix}_{name}_total"
             lines += [f"# HELP {whole} {self.helps[name]}", f"# TYPE {whole} counter"]
-            lines.append(f"{whole} {value}")
+            lines.append(f"{whole}{self.labels} {value}")
         return "\n".join(lines) + "\n"
 
     def told(self) -> str:

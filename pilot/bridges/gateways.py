@@ -66,7 +66,7 @@ class Gateways:
             self.pass_over(eui)
             return None
         it.last = self.clock()
-        if not it.work:
+        if not it.work or it.work.done():
             it.work = asyncio.ensure_future(self.listen(it))
         return it
 

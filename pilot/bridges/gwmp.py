@@ -12,8 +12,9 @@ from .wire import MOST_PAYLOAD, Copy, Downlink, Window
 VERSIONS = (1, 2)
 HEAD = 12
 DATA_RATE = re.compile(r"SF(7|8|9|10|11|12)BW125")
-# errors of a TX_ACK by which RX1 was missed, and RX2 may still be sent
-MISSED = ("TOO_LATE", "TOO_EARLY", "COLLISION_PACKET", "COLLISION_BEACON")
+# errors of a TX_ACK by which RX1 surely wasn't sent, and RX2 may be: it is later, and on another
+# frequency with a power of its own
+MISSED = ("TOO_LATE", "COLLISION_PACKET", "COLLISION_BEACON", "TX_FREQ", "TX_POWER")
 
 
 class Kind(IntEnum):

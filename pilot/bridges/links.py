@@ -7,6 +7,7 @@ from collections import deque
 from collections.abc import AsyncIterator
 
 from . import wire
+from .lookups import connected
 from .words import Address, tell
 
 # seconds between two tries: the first, and the longest, to which they double
@@ -27,7 +28,7 @@ class Link:
     def __init__(self, name: str, address: Address, greeting: bytes, pauses=PAUSES):
         self.name, self.address, self.greeting, self.pauses = name, address, greeting, pauses
         self.writer: asyncio.StreamWriter | None = None
-        self.opened = 0
+        self.opened, self.is_ending = 0, False
         # what is said as soon as there is a link, with when it was meant to; and how much was
         self.early: deque[tuple[float, bytes]] = deque(maxlen=MOST_EARLY)
         self.caught_up = 0
@@ -55,13 +56,26 @@ class Link:
             self.caught_up += moment > last and self.say(content)
         self.early.clear()
 
+    def end_well(self) -> bool:
+        """Says that nothing more is said: what comes is read on until the network closes the link,
+        which is the last one. Answers whether there is one."""
+        if not self.writer or self.writer.is_closing():
+            return False
+        try:
+            self.writer.write_eof()
+        except OSError:
+            return False  # it is broken already
+        self.is_ending = True
+        return True
+
     def end(self):
         """Breaks the link off, where there is one."""
         if self.writer:
             self.writer.transport.abort()
 
     async def contents(self) -> AsyncIterator[bytes]:
-        """What comes over all links of this name, one behind the other, without end."""
+        """What comes over all links of this name, one behind the other, until one of them was
+        ended well."""
         (first, longest), clock = self.pauses, time.monotonic
         pause = first
         while True:
@@ -72,6 +86,8 @@ class Link:
                 why = "the network has closed it"
             except (OSError, asyncio.TimeoutError, wire.NoMessage) as fault:
                 why = str(fault) or "nothing answers"
+            if self.is_ending:
+                return
             lasted = clock() - begun > LASTING
             pause = first if lasted else pause
             tell(f"{self.name}: no link to {self.address}, again in {pause:.1f} s: {why}")
@@ -80,8 +96,8 @@ class Link:
 
     async def of_one(self) -> AsyncIterator[bytes]:
         """What comes over one link."""
-        opening = asyncio.open_connection(self.address.host, self.address.port)
-        reader, writer = await asyncio.wait_for(opening, PATIENCE)
+        connection = await asyncio.wait_for(connected(self.address), PATIENCE)
+        reader, writer = await asyncio.open_connection(sock=connection)
         try:
             self.prepare(writer.get_extra_info("socket"))
             writer.write(wire.framed(self.greeting))

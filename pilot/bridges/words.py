@@ -35,14 +35,25 @@ class Address:
     @classmethod
     def read(cls, text: str) -> "Address":
         """HOST:PORT, an IPv6 host in brackets."""
-        host, colon, port = text.rpartition(":")
+        host, _, port = text.rpartition(":")
+        host = host.strip("[]")
         is_port = port.isascii() and port.isdigit() and 0 < int(port) < 65536
-        if not (host and colon and is_port):
+        if not (host and is_port and is_name(host)):
             raise argparse.ArgumentTypeError(f"{text} is no HOST:PORT")
-        return cls(host.strip("[]"), int(port))
+        return cls(host, int(port))
 
     def __str__(self):
         return f"[{self.host}]:{self.port}" if ":" in self.host else f"{self.host}:{self.port}"
+
+
+def is_name(host: str) -> bool:
+    """Whether a host can be looked up: an empty label, or one of more than 63 letters, is a fault
+    to Python that isn't one of the system."""
+    try:
+        host.encode("idna")
+    except UnicodeError:
+        return False
+    return True
 
 
 def eui(text: str) -> bytes:
@@ -66,7 +77,7 @@ def number(least: int, most: int):
 def euis_in(file: str) -> list[bytes]:
     """The EUIs of a file, one a line; what stands behind # is a comment."""
     found = []
-    with open(file, encoding="utf-8", errors="replace") as lines:
+    with open(file, encoding="utf-8-sig", errors="replace") as lines:
         for place, line in enumerate(lines, 1):
             text = line.partition("#")[0].strip()
             if text and not EUI.fullmatch(text):
@@ -76,8 +87,14 @@ def euis_in(file: str) -> list[bytes]:
 
 
 def tell(text: str):
-    """Says a line on standard output, which a service's journal keeps."""
-    print(f"{time.strftime('%H:%M:%S')}  {text}", flush=True)
+    """Says a line on standard output, which a service's journal keeps. Where nobody takes it (a
+    closed pipe, a full disk) the line is lost, and nothing else: so nothing of it is buffered."""
+    line = f"{time.strftime('%H:%M:%S')}  {text}\n"
+    try:
+        if sys.stdout:
+            os.write(sys.stdout.fileno(), line.encode(sys.stdout.encoding, "backslashreplace"))
+    except OSError:
+        pass
 
 
 def stop(why: str, status: int = 1):
@@ -89,11 +106,30 @@ def stop(why: str, status: int = 1):
 def end_with(main):
     """Ends with the status of `main`, and with no traceback of what the machine lacks."""
     try:
-        sys.exit(main())
+        status = status_of(main)
+        if sys.stdout:
+            sys.stdout.flush()
+        sys.exit(status)
     except KeyboardInterrupt:
         stop("interrupted", 130)
     except BrokenPipeError:
-        os.dup2(os.open(os.devnull, os.O_WRONLY), sys.stdout.fileno())
+        forget_output()
         sys.exit(141)
     except OSError as error:
+        forget_output()
         stop(f"{error.filename or 'the system'}: {error.strerror or error}")
+
+
+def status_of(main):
+    """The status of `main`, also where it ends by itself, as for --help: its text isn't written
+    yet."""
+    try:
+        return main()
+    except SystemExit as end:
+        return end.code
+
+
+def forget_output():
+    """What couldn't be written to standard output isn't tried again."""
+    if sys.stdout:
+        os.dup2(os.open(os.devnull, os.O_WRONLY), sys.stdout.fileno())

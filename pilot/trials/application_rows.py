@@ -89,7 +89,7 @@ FILES = (
 
 def translated(line: str):
     """The kind of a line's event, and what it says besides whose it is and when."""
-    it = Translator(3, {9: "3ac7e3c4"}).event(line, TIME)
+    it = Translator(3, {(DEVICE, 9): "3ac7e3c4"}).event(line, TIME)
     if (it.body.pop("time"), it.body.pop("deviceInfo")) != (TIME, INFO):
         return "another device"
     return it.kind, it.body

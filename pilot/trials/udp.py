@@ -84,9 +84,9 @@ def lost_window(trials, it: Linked):
     trials.compare("RX2", (told[1]["datr"], told[1]["freq"]), RX2)
     apart = (told[1]["tmst"] - told[0]["tmst"]) % 2**32
     trials.compare("RX2 is a second later", apart, 1_000_000)
-    first.errors.append("TX_FREQ")
+    first.errors.append("TOO_EARLY")
     count = len(first.told)
-    trials.holds("a frequency that it can't send on", not it.reading(it.meters[1], 2.0))
+    trials.holds("a moment that is too far away", not it.reading(it.meters[1], 2.0))
     trials.compare("what it was told then", len(first.told), count + 1)
 
 
