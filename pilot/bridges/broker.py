@@ -1,6 +1,7 @@
 """A connection to an MQTT broker that comes back by itself.
 
-The library is Debian's `python3-paho-mqtt`, of version 1.6. It lies where Debian's own Python looks
+The library is Debian's `python3-paho-mqtt`, of version 1.6; one of version 2 is used in the same
+way. It lies where Debian's own Python looks
 for it, and where another Python is first on the PATH it is taken from there too: it is of Python
 alone."""
 
@@ -68,6 +69,14 @@ def at_once(_client, _data, it: socket.socket):
     it.setsockopt(socket.IPPROTO_TCP, socket.TCP_NODELAY, 1)
 
 
+def client_of(name: str, is_kept: bool):
+    """The library's client. From version 2 on it wants to be told how it calls back."""
+    how = {"client_id": name, "clean_session": not is_kept}
+    if hasattr(mqtt, "CallbackAPIVersion"):
+        how["callback_api_version"] = mqtt.CallbackAPIVersion.VERSION1
+    return mqtt.Client(**how)
+
+
 class Broker:
     """What is published is kept until the broker has it; `has_room` says whether fewer than `room`
     messages wait. What comes is given to `take`, in the event loop that this was made in. Where
@@ -90,7 +99,7 @@ class Broker:
         self.taken, self.came = Handover(self.take_taken), Handover(self.read)
         self.is_gone, self.fault = threading.Event(), ""
         self.is_gone.set()
-        self.client = mqtt.Client(client_id=name, clean_session=not is_kept)
+        self.client = client_of(name, is_kept)
         self.client.max_inflight_messages_set(1000)
         self.client.reconnect_delay_set(1, LONGEST_PAUSE)
         if access.ca:

@@ -5,7 +5,9 @@ from .wire import MICROSECONDS
 WRAP = 2**32
 # by how much a stamp may be off: datagrams come late, and demodulators end out of order; in seconds
 SLACK = 10.0
-# for how long a stamp that came early stays what others are compared with: clocks differ a little
+# for how long a stamp that came early stays what others are compared with: clocks differ a little.
+# Where nothing was heard for long they differ by more than the slack, and the clock is taken for a
+# new one: 100 millionths are 10 s after 28 hours
 LASTING = 60.0
 
 

@@ -3,7 +3,8 @@
 import re
 from dataclasses import dataclass
 
-HEAD = ("deveui", "joineui", "appkey", "offset", "delay")
+# what the first three fields of a head are called; the others have names of many kinds
+HEAD = ("deveui", "joineui", "appkey")
 HEX = re.compile(r"[0-9A-Fa-f]*")
 
 
@@ -72,7 +73,7 @@ def read(file: str) -> list[Device | Fault]:
         for place, line in enumerate(text, 1):
             bare = line.partition("#")[0].strip()
             row = [it.strip().strip('"') for it in re.split("[,;\t]", bare)] if bare else []
-            names = tuple(re.sub(r"[^a-z0-9]", "", it.lower()) for it in row)
-            if row and not (not found and names == HEAD[: len(row)]):
+            names = tuple(re.sub(r"[^a-z0-9]", "", it.lower()) for it in row[:3])
+            if row and (found or names != HEAD):
                 found.append(device_of(place, row))
     return found

@@ -11,8 +11,8 @@ from .words import tell
 
 COUNTED = {
     "copies": "frames that were handed to the network",
-    "unlinked": "frames that were heard while there was no link to the network",
-    "caught_up": "of these, frames that were handed in on a link that came soon",
+    "unlinked": "frames that were heard while no link took them",
+    "caught_up": "of these, frames that were handed in soon behind that",
     "without_crc": "frames whose CRC was wrong, or that had none",
     "other_modulations": "frames that aren't LoRa of 125 kHz",
     "downlinks": "downlinks that gateways were told to send",
@@ -24,6 +24,8 @@ COUNTED = {
 }
 # unknown gateways that are told; the others are counted alone
 MOST_TOLD = 16
+# links of gateways that the network has at a time
+MOST_LINKED = 64
 LOOK = 1.0
 
 
@@ -38,7 +40,7 @@ class Gateway:
     work: asyncio.Task | None = None
 
     def hand_in(self, copy: wire.Copy, counts: Counts):
-        """Gives the network a copy, where there is a link."""
+        """Gives the network a copy, now or soon."""
         counts.add("copies" if self.link.say_soon(copy.content()) else "unlinked")
 
 
@@ -53,6 +55,9 @@ class Gateways:
         self.gateways = {it: self.gateway(it) for it in given.euis}
         self.clock = asyncio.get_running_loop().time
         self.told: set[bytes] = set()
+        if len(self.gateways) > MOST_LINKED:
+            named = f"{len(self.gateways)} gateways are named"
+            tell(f"{named}, and the network has links of {MOST_LINKED} at a time")
 
     def gateway(self, eui: bytes) -> Gateway:
         """A gateway that hasn't said anything yet."""
@@ -101,6 +106,7 @@ class Gateways:
     def tidy(self):
         """Closes the links of gateways that are silent, and counts what links caught up with."""
         for it in self.gateways.values():
+            it.link.catch_up()
             self.counts.add("caught_up", it.link.caught_up)
             it.link.caught_up = 0
             if it.work and it.last < self.clock() - self.given.silent:

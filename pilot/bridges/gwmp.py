@@ -63,9 +63,14 @@ def response(version: int, token: bytes, txpk: dict) -> bytes:
     return head + fields.compact({"txpk": txpk})
 
 
+def bare(body: bytes) -> bytes:
+    """A datagram's text; some forwarders send the NUL that ends it in C."""
+    return body.strip(b"\0 \r\n")
+
+
 def heard_in(body: bytes) -> list:
     """The `rxpk` of a PUSH_DATA's text."""
-    heard = fields.table(fields.parsed(body)).get("rxpk", [])
+    heard = fields.table(fields.parsed(bare(body))).get("rxpk", [])
     if not isinstance(heard, list):
         raise Wrong("rxpk is no list")
     return heard
@@ -79,14 +84,33 @@ def copy_of(gateway: bytes, rxpk) -> Copy:
     found = DATA_RATE.fullmatch(str(rxpk.get("datr")))
     if rxpk.get("modu") != "LORA" or not found:
         raise OtherFrame("other_modulations")
+    payload = fields.payload(rxpk, "data", MOST_PAYLOAD)
+    if rxpk.get("size", len(payload)) != len(payload):
+        raise Wrong("data isn't of its size")
+    snr, rssi = signal_of(rxpk)
     return Copy(
         gateway=gateway,
         hz=round(fields.number(rxpk, "freq", 0, 4294) * 1e6),
         data_rate=12 - int(found[1]),
-        snr=round(4 * fields.number(rxpk, "lsnr", -8000, 8000)),
-        rssi=round(fields.number(rxpk, "rssi", -32768, 32767)),
+        snr=snr,
+        rssi=rssi,
         stamp=fields.whole(rxpk, "tmst", 0, 2**32 - 1),
-        payload=fields.payload(rxpk, "data", MOST_PAYLOAD),
+        payload=payload,
+    )
+
+
+def signal_of(rxpk: dict) -> tuple[int, int]:
+    """SNR in quarter dB, and the channel's RSSI: a gateway of several antennas says both of each,
+    and the best one counts."""
+    antennas = [rxpk]
+    if "lsnr" not in rxpk and isinstance(rxpk.get("rsig"), list) and rxpk["rsig"]:
+        antennas = [{**fields.table(it), "rssi": it.get("rssic")} for it in rxpk["rsig"]]
+    return max(
+        (
+            round(4 * fields.number(it, "lsnr", -8000, 8000)),
+            round(fields.number(it, "rssi", -32768, 32767)),
+        )
+        for it in antennas
     )
 
 
@@ -110,8 +134,8 @@ def txpk_of(downlink: Downlink, window: Window, power: int) -> dict:
 
 def error_in(body: bytes) -> str:
     """The error of a TX_ACK's text, or `NONE`."""
-    if not body.strip(b"\0 \r\n"):
+    if not bare(body):
         return "NONE"
-    said = fields.table(fields.parsed(body.strip(b"\0 \r\n"))).get("txpk_ack") or {}
+    said = fields.table(fields.parsed(bare(body))).get("txpk_ack") or {}
     error = fields.table(said).get("error", "NONE")
     return error if isinstance(error, str) and error else "NONE"

@@ -16,7 +16,7 @@ PAUSES = (1.0, 30.0)
 LASTING, PATIENCE = 10.0, 5.0
 # what may wait for a network that doesn't read, in bytes: what is heard is of no use later
 MOST_WAITING = 65536
-# what is heard just before a link is there is said on it, if it isn't older, in seconds
+# what is heard while no link takes it is said on the first that does, if it isn't older, in seconds
 LATEST, MOST_EARLY = 2.0, 64
 # a link has no signs of life, so the system asks for them
 KEEPALIVE = ((socket.TCP_KEEPIDLE, 60), (socket.TCP_KEEPINTVL, 15), (socket.TCP_KEEPCNT, 4))
@@ -29,7 +29,7 @@ class Link:
         self.name, self.address, self.greeting, self.pauses = name, address, greeting, pauses
         self.writer: asyncio.StreamWriter | None = None
         self.opened, self.is_ending = 0, False
-        # what is said as soon as there is a link, with when it was meant to; and how much was
+        # what is said as soon as a link takes it, with when it was meant to; and how much was
         self.early: deque[tuple[float, bytes]] = deque(maxlen=MOST_EARLY)
         self.caught_up = 0
 
@@ -43,18 +43,23 @@ class Link:
         return True
 
     def say_soon(self, content: bytes) -> bool:
-        """Says it now, or as soon as there is a link, if that isn't long; whether it was now."""
-        is_said = self.say(content)
+        """Says it now, or as soon as a link takes it, if that isn't long; whether it was now. What
+        waits is said before it, since what is older is of no use behind it."""
+        self.catch_up()
+        is_said = not self.early and self.say(content)
         if not is_said:
             self.early.append((time.monotonic(), content))
         return is_said
 
     def catch_up(self):
-        """Says what waited for a link."""
+        """Says what waited for a link, where one takes it now."""
         last = time.monotonic() - LATEST
-        for moment, content in self.early:
-            self.caught_up += moment > last and self.say(content)
-        self.early.clear()
+        while self.early:
+            moment, content = self.early[0]
+            if moment > last and not self.say(content):
+                return
+            self.early.popleft()
+            self.caught_up += moment > last
 
     def end_well(self) -> bool:
         """Says that nothing more is said: what comes is read on until the network closes the link,

@@ -4,7 +4,7 @@ its format: ChirpStack's events and commands (version 4), docs/FORMATS.md."""
 import tempfile
 
 from bridges import devices
-from bridges.application_events import Item, Translator, status
+from bridges.application_events import Item, Translator, refusal, status
 from bridges.fields import Wrong
 
 from .gateway_rows import outcome
@@ -42,6 +42,7 @@ LINES = (
     (f"mac {DEVICE} 5 068014", ("status", STATUS)),
     (f"mac {DEVICE} 5 0307", ("mac", {"joinNonce": 5, "commands": "0307"})),
     (f"hello {DEVICE}", Wrong),
+    (f"mac {DEVICE[:8]}/+ 5 0307", Wrong),
 )
 
 # of a DevStatusAns: battery and margin (TS001-1.0.4 §5.5)
@@ -78,6 +79,14 @@ FILES = (
         f'\ufeffDev EUI,Join EUI,App Key\r\n"{DEVICE}" , 01-02-03-04-05-06-07-08,{KEY},2 # roof',
         [f"{DEVICE} 0102030405060708 {KEY} 2 1"],
     ),
+    (
+        f"DevEUI,JoinEUI,AppKey,RX1DROffset,RXDelay\n{DEVICE},0102030405060708,{KEY},0,5\n",
+        [f"{DEVICE} 0102030405060708 {KEY} 0 5"],
+    ),
+    (
+        f"{DEVICE},0102030405060708,{KEY}\nDevEUI,JoinEUI,AppKey\n",
+        [f"{DEVICE} 0102030405060708 {KEY} 0 1", "line 2: DevEUI isn't 16 hex digits"],
+    ),
     ("# nothing\n\n", []),
     ("\0,\0,\0", ["line 1: DevEUI isn't 16 hex digits"]),
     (f"{DEVICE},0102030405060708,{KEY}0", ["line 1: AppKey isn't 32 hex digits"]),
@@ -85,6 +94,11 @@ FILES = (
     (f"{DEVICE},0102030405060708,{KEY},0,0", ["line 1: the delay is no number from 1 to 15"]),
     (f"\n{DEVICE}", ["line 2: 1 fields, and not 3 to 5"]),
 )
+
+
+# a line that refuses, and how its code begins
+REFUSED = (("refused 12", "QUEUE_FULL"), ("refused 99", "REFUSED_99"))
+REFUSED += tuple((it, "REFUSED") for it in ("refused", "refused ", "refused x", "refused 1 2"))
 
 
 def translated(line: str):
@@ -129,6 +143,8 @@ def of_applications(trials):
         text, due = (it % DEVICE if "%s" in it else it for it in (text, str(due)))
         came = outcome(asked, text)
         trials.compare(f"down {text}", str(came), due)
+    for line, due in REFUSED:
+        trials.compare(line, refusal(line)[0], due)
     for text, due in FILES:
         trials.compare(f"file {text[:50]!r}", read(text), due)
 

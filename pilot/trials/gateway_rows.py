@@ -28,6 +28,16 @@ HEARD = {
 DEEP = b"[" * 60000
 HEAD = b"\x02\x12\x34"
 
+# of a gateway of three antennas, two of which heard it as well as each other
+ANTENNAS = {
+    "rssi": ...,
+    "lsnr": ...,
+    "rsig": [
+        {"ant": 0, "chan": 7, "rssic": -80, "rssis": -85, "lsnr": 2.5},
+        {"ant": 1, "chan": 39, "rssic": -91, "rssis": -95, "lsnr": 7.2},
+        {"ant": 2, "chan": 40, "rssic": -90, "rssis": -96, "lsnr": 7.2},
+    ],
+}
 # what a forwarder says of a frame: what differs from the one above, and the fields of the copy
 RXPK = (
     ({}, (863009810, 2, 22, -38, 3316387610)),
@@ -36,6 +46,11 @@ RXPK = (
     ({"freq": 868.1, "datr": "SF12BW125"}, (868100000, 0, 22, -38, 3316387610)),
     ({"freq": 867.9, "datr": "SF7BW125", "tmst": 0}, (867900000, 5, 22, -38, 0)),
     ({"freq": 868, "lsnr": 7, "tmst": 2**32 - 1}, (868000000, 2, 28, -38, 2**32 - 1)),
+    (ANTENNAS, (863009810, 2, 29, -90, 3316387610)),
+    ({**ANTENNAS, "rsig": [{"ant": 0, "rssic": -80}]}, Wrong),
+    ({**ANTENNAS, "rsig": [7]}, Wrong),
+    ({**ANTENNAS, "rsig": []}, Wrong),
+    ({"size": 33}, Wrong),
     ({"stat": -1}, "without_crc"),
     ({"stat": 0}, "without_crc"),
     ({"stat": None}, "without_crc"),
@@ -100,6 +115,7 @@ ACKS = (
 # the texts of PUSH_DATA, and how many frames are in them
 TEXTS = (
     (b'{"rxpk":[{},{}]}', 2),
+    (b'{"rxpk":[{}]}\0', 1),
     (b'{"stat":{"rxnb":2}}', 0),
     (b'{"rxpk":{}}', Wrong),
     (b"7", Wrong),
@@ -134,7 +150,8 @@ def outcome(of, *words):
 
 def copied(changes: dict):
     """What is counted, or the fields of a copy; its payload and its bytes are compared here."""
-    it = gwmp.copy_of(EUI, {**HEARD, **changes})
+    said = {name: it for name, it in {**HEARD, **changes}.items() if it is not ...}
+    it = gwmp.copy_of(EUI, said)
     how = (it.hz, it.data_rate, it.snr, it.rssi, it.stamp)
     due = b"\x01" + EUI + it.hz.to_bytes(4, "big") + bytes([it.data_rate])
     due += it.snr.to_bytes(2, "big", signed=True) + it.rssi.to_bytes(2, "big", signed=True)

@@ -11,6 +11,13 @@ except ImportError:
     mqtt = None
 
 
+def client(name: str):
+    """The library's client. From version 2 on it wants to be told how it calls back."""
+    versions = getattr(mqtt, "CallbackAPIVersion", None)
+    how = {"callback_api_version": versions.VERSION1} if versions else {}
+    return mqtt.Client(client_id=name, **how)
+
+
 def need_it():
     """Ends with a line where there is no library."""
     if not mqtt:

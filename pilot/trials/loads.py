@@ -13,7 +13,7 @@ from lnsd import load, store
 from outside.frames import CHANNELS
 from server.program import HOST
 
-from .library import mqtt
+from .library import client
 from .parts import Part, Pilot, await_that
 
 GATEWAYS, DEVICES, APPLICATION = 64, 512, 0
@@ -105,7 +105,7 @@ class ByMqtt:
 
     def __init__(self, port: int):
         self.moments, self.waits, self.number = {}, [], 0
-        self.client = mqtt.Client("stations")
+        self.client = client("stations")
         self.client.max_inflight_messages_set(1000)
         self.client.on_message = self.note
         no_delay = (socket.IPPROTO_TCP, socket.TCP_NODELAY, 1)

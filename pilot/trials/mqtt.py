@@ -9,7 +9,7 @@ from contextlib import contextmanager
 from server.program import HOST, Failed
 
 from .field import APPLICATION, GATEWAYS, Field
-from .library import mqtt
+from .library import client
 from .meters import Meter, Reading
 from .parts import Pilot, await_that
 
@@ -22,7 +22,7 @@ class Dashboard:
 
     def __init__(self, port: int, topic: str = EVENTS):
         self.events, self.unread = [], 0
-        self.client = mqtt.Client("dashboard")
+        self.client = client("dashboard")
         self.client.on_message = self.note
         self.client.on_connect = lambda client, *_: client.subscribe(topic, 1)
         self.has_topic = False

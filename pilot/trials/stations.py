@@ -12,7 +12,7 @@ from outside.frames import CHANNELS
 from server.program import HOST
 
 from .field import GATEWAYS, counts_in
-from .library import mqtt
+from .library import client
 from .mqtt import Whole, whole
 
 STATS_EVERY = 1.0
@@ -27,7 +27,7 @@ class Station:
         self.contexts, self.errors, self.told = set(), deque(), []
         self.commands, self.next_stats = deque(), 0.0
         self.socket, self.bell = socket.socketpair()
-        self.client = mqtt.Client(f"station-{self.eui}")
+        self.client = client(f"station-{self.eui}")
         self.client.on_message = self.note
         topic = f"{prefix}/gateway/{self.eui}/command/#"
         self.client.on_connect = lambda client, *_: client.subscribe(topic, 1)
