@@ -6,6 +6,8 @@ import json
 from bridges import clocks, gateway_events, gwmp, wire
 from bridges.fields import Wrong
 from bridges.gwmp import Datagram, OtherFrame
+from bridges.links import Link
+from bridges.words import Address
 
 EUI = bytes.fromhex("AA555A0000000101")
 # of PROTOCOL.TXT: a frame of 32 bytes, without padding
@@ -175,6 +177,33 @@ def begun_anew(stamps):
     return clock.begun_anew
 
 
+class Slow:
+    """A link's network that doesn't read while `size` bytes wait for it."""
+
+    def __init__(self):
+        self.size, self.said, self.transport = 0, b"", self
+
+    def get_write_buffer_size(self):
+        return self.size
+
+    def is_closing(self):
+        return False
+
+    def write(self, said):
+        self.said += said
+
+
+def slow_network(trials):
+    """What is heard while the network doesn't read is handed in once it does, and before others."""
+    link = Link("one", Address("h", 1), b"")
+    slow = link.writer = Slow()
+    for size, said in ((0, b"1"), (10**6, b"2"), (10**6, b"3"), (0, b"4")):
+        slow.size = size
+        trials.compare(f"{said} is said now", link.say_soon(said), size == 0)
+    trials.compare("all that was said", slow.said, b"\0\x011\0\x012\0\x013\0\x014")
+    trials.compare("and how much of it later", link.caught_up, 2)
+
+
 def of_gateways(trials):
     """The rows of Semtech's protocol."""
     for changes, due in RXPK:
@@ -192,6 +221,7 @@ def of_gateways(trials):
         trials.compare(f"PUSH_DATA {text[:40]}", came, due)
     for stamps, due in CLOCKS:
         trials.compare(f"stamps {stamps[:4]}", begun_anew(stamps), due)
+    slow_network(trials)
 
 
 STATION = bytes.fromhex("0016c001f153a14c")

@@ -5,6 +5,7 @@ import shutil
 import signal
 import subprocess
 import sys
+import tempfile
 import time
 from pathlib import Path
 
@@ -93,22 +94,12 @@ class Part:
         return sum(map(int, fields[11:13])) / os.sysconf("SC_CLK_TCK")
 
 
-class Pilot:
-    """A server on an empty store, and what was started beside it."""
+class Parts:
+    """What was started in a folder, which is removed."""
 
-    def __init__(self, path: str, slots: int = 256):
-        self.program = Program(path)
-        self.folder = self.program.folder
-        made = self.program.format(slots=slots)
-        if made != (0, "", ""):
-            raise Failed(f"lnsd format ended so: {made}")
-        self.address = self.program.run_on(96)
+    def __init__(self, folder: str = ""):
+        self.folder = folder or tempfile.mkdtemp(prefix="pilot-")
         self.parts, self.broker_port, self.udp_port = [], free_port(), free_port()
-
-    @property
-    def network(self) -> str:
-        """Where the server listens."""
-        return f"{HOST}:{self.address[1]}"
 
     def part(self, name: str, *words) -> Part:
         """A process of this pilot."""
@@ -139,6 +130,40 @@ class Pilot:
         conf = self.file("mosquitto.conf", text)
         return self.part("mosquitto", command("mosquitto"), "-v", "-c", conf)
 
+    def clean(self):
+        """Removes the folder."""
+        shutil.rmtree(self.folder, ignore_errors=True)
+
+    def __enter__(self):
+        return self
+
+    def __exit__(self, kind, *_):
+        for it in self.parts:
+            if it.process and it.process.poll() is None:
+                it.process.send_signal(signal.SIGCONT)
+                it.kill()
+        torn = [it.said() for it in self.parts if "Traceback" in it.said()]
+        self.clean()
+        if torn and not kind:
+            raise Failed(f"a traceback: {torn[0][torn[0].index('Traceback'):][-800:]}")
+
+
+class Pilot(Parts):
+    """A server on an empty store, and what was started beside it."""
+
+    def __init__(self, path: str, slots: int = 256):
+        self.program = Program(path)
+        super().__init__(self.program.folder)
+        made = self.program.format(slots=slots)
+        if made != (0, "", ""):
+            raise Failed(f"lnsd format ended so: {made}")
+        self.address = self.program.run_on(96)
+
+    @property
+    def network(self) -> str:
+        """Where the server listens."""
+        return f"{HOST}:{self.address[1]}"
+
     def restart_server(self, is_killed: bool = True):
         """Ends the server in one way or the other, and starts it again."""
         if is_killed:
@@ -147,14 +172,5 @@ class Pilot:
             self.program.stop()
         self.program.run_on(96, port=self.address[1])
 
-    def __enter__(self):
-        return self
-
-    def __exit__(self, kind, *_):
-        for it in self.parts:
-            if it.process and it.process.poll() is None:
-                it.kill()
-        torn = [it.said() for it in self.parts if "Traceback" in it.said()]
+    def clean(self):
         self.program.clean()
-        if torn and not kind:
-            raise Failed(f"a traceback: {torn[0][torn[0].index('Traceback'):][-800:]}")

@@ -1,5 +1,6 @@
 """Wrong words, files and peers: a program says what is wrong in a line, or goes on."""
 
+import os
 import random
 import socket
 import subprocess
@@ -13,6 +14,8 @@ from bridges.wire import Downlink, Frames, NoMessage, line_of
 from server import wire
 from server.program import HOST
 
+from . import beside
+from .beside import nobody_reads
 from .field import GATEWAYS
 from .parts import PILOT, Pilot, await_that
 
@@ -27,6 +30,8 @@ WORDS = (
     ("gateways-udp", (*UDP, "x"), 2),
     ("gateways-udp", ("--network", "7", "--udp", AT, *GATEWAY), 2),
     ("gateways-udp", ("--network", AT, "--udp", "h:65536", *GATEWAY), 2),
+    ("gateways-udp", ("--network", AT, "--udp", "a..b:1700", *GATEWAY), 2),
+    ("gateways-udp", ("--network", f"{64 * 'a'}.b:1", "--udp", AT, *GATEWAY), 2),
     ("gateways-udp", UDP, 2),
     ("gateways-udp", (*UDP, "--gateway", "B1"), 2),
     ("gateways-udp", (*UDP, "--gateways", NOWHERE), 1),
@@ -40,6 +45,8 @@ WORDS = (
     ("gateways-mqtt", (*MQTT, *GATEWAY, "--ca", NOWHERE), 1),
     ("gateways-mqtt", (*MQTT, *GATEWAY, "--ca", "/bin/sh"), 1),
     ("gateways-mqtt", (*MQTT, *GATEWAY, "--certificate", "x"), 2),
+    ("gateways-mqtt", (*MQTT, *GATEWAY, "--certificate", "x", "--key", "x"), 2),
+    ("gateways-mqtt", ("--network", AT, "--broker", "a..b:1", *GATEWAY), 2),
     ("applications-mqtt", MQTT, 2),
     ("applications-mqtt", (*MQTT, "--application", "16"), 2),
     ("applications-mqtt", (*MQTT, "--application", "3", "--devices", NOWHERE), 1),
@@ -112,6 +119,19 @@ def words(trials):
         status, out, told = ended(name, "--help")
         trials.compare(f"{name} --help", (status, told), (0, ""))
         trials.holds(f"{name} --help says something", len(out) > 200)
+    for name in ("applications-mqtt", "gateways-mqtt", "gateways-udp", "metrics"):
+        for output, due in ((open("/dev/full", "w"), (1, 1)), (nobody_reads(), (141, 0))):
+            with output:
+                status, told = helped(name, output)
+            trials.compare(f"{name} --help to {output.name}", (status, told.count("\n")), due)
+
+
+def helped(name: str, output) -> tuple[int, str]:
+    """How --help ends where its output can't be written, buffered as it is by itself."""
+    how = {"stdout": output, "stderr": subprocess.PIPE, "text": True, "check": False}
+    how["env"] = {name: of for name, of in os.environ.items() if name != "PYTHONUNBUFFERED"}
+    it = subprocess.run([sys.executable, PILOT / name, "--help"], **how)
+    return it.returncode, it.stderr
 
 
 class Stranger:
@@ -174,4 +194,4 @@ def strange_contents(trials):
             trials.holds(f"{said[:30]!r}", came)
 
 
-TOPICS = {"wrong words and files": words, "wrong peers": peers}
+TOPICS = {"wrong words and files": words, "wrong peers": peers, **beside.TOPICS}
