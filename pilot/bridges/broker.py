@@ -132,6 +132,7 @@ class Broker:
         if self.is_there():
             self.client.disconnect()
             self.is_gone.wait(GOODBYE)
+        self.taken.look()
         self.overrun += len(self.came.rest())
 
     def is_there(self) -> bool:
