@@ -180,7 +180,7 @@ def ends_well(trials, it: Bridge, *lines: str):
     trials.compare("the end of its link", it.link.hears(), None)
     it.link.tell(*lines)
     it.link.close()
-    trials.compare("its status", it.part.process.wait(10), 0)
+    trials.compare("its status", it.part.ended(), 0)
 
 
 def commands(trials, it: Bridge):
@@ -200,7 +200,7 @@ def commands(trials, it: Bridge):
 
 def broker_hangs(trials):
     """A broker that takes nothing: a command waits for its answer, and the end is cut short."""
-    with bridge("--room", "5", behind="it.PATIENCE = 0.5") as it:
+    with bridge("--room", "5", behind="it.PATIENCE, it.LEAVING = 0.5, 60") as it:
         it.dashboard.down(FIRST, fPort=7, data="AA==", id="x")
         tag = it.link.asked()[2]
         it.broker.process.send_signal(signal.SIGSTOP)
@@ -213,12 +213,12 @@ def broker_hangs(trials):
         it.link.tell(*map(up, range(50, 53)))
         time.sleep(0.3)
         it.part.process.terminate()
-        it.link.hears()
+        trials.compare("the end of its link", it.link.hears(), None)
         it.link.close()
         time.sleep(0.3)
         trials.compare("it waits for the broker", it.part.process.poll(), None)
         it.part.process.terminate()
-        trials.compare("its status", it.part.process.wait(3), 0)
+        trials.compare("its status", it.part.ended(), 0)
         trials.holds("it says what is lost", "3 events are lost" in it.part.said())
         it.broker.process.send_signal(signal.SIGCONT)
 

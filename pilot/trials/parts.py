@@ -70,12 +70,16 @@ class Part:
     def end(self, how=signal.SIGTERM, seconds: float = 20.0) -> int:
         """Ends it by a signal; its status."""
         self.process.send_signal(how)
+        return self.ended(seconds)
+
+    def ended(self, seconds: float = 20.0) -> int:
+        """Waits for its end; its status."""
         try:
             return self.process.wait(seconds)
         except subprocess.TimeoutExpired:
             self.process.kill()
             self.process.wait()
-            raise Failed(f"{self.name} didn't end by signal {how}") from None
+            raise Failed(f"{self.name} didn't end in {seconds:.0f} seconds") from None
 
     def kill(self):
         """Ends it by SIGKILL."""
