@@ -203,7 +203,11 @@ class Broker:
 
     def on_message(self, _client, _data, message):
         """A message, which is looked at in the event loop. What was retained is of the past."""
-        if message.retain or len(self.came.waiting) >= MOST_READ:
+        try:
+            topic = message.topic
+        except UnicodeDecodeError:
+            topic = ""  # no text, which would end the library's thread
+        if not topic or message.retain or len(self.came.waiting) >= MOST_READ:
             self.overrun += 1
         else:
-            self.came.give((message.topic, message.payload))
+            self.came.give((topic, message.payload))
