@@ -105,7 +105,7 @@ def bridge(*words, **how):
 def ids(trials):
     """Items under ids, and their answers; what is counted of one application."""
     with bridge() as it:
-        for tried in (two_devices, refused, unanswered, labelled):
+        for tried in (two_devices, refused, a_word_more, unanswered, labelled):
             tried(trials, it)
 
 
@@ -141,6 +141,15 @@ def refused(trials, it: Bridge):
         is_so = body["code"].startswith(code or "REFUSED") and body["level"] == "ERROR"
         trials.holds(f"{line}: {body['code']}", is_so)
         trials.compare("which one", body["context"]["queue_item_id"], "y")
+
+
+def a_word_more(trials, it: Bridge):
+    """An answer that says more than its format has is the answer all the same."""
+    before = len(it.dashboard.of(FIRST, "queued"))
+    it.dashboard.down(FIRST, fPort=7, data="AA==", id="more")
+    it.link.tell(" ".join(["queued", *it.link.asked()[1:3], "more"]))
+    body = it.events("queued", count=before + 1)[-1]
+    trials.compare("which one", body["queueItemId"], "more")
 
 
 def unanswered(trials, it: Bridge):
@@ -341,6 +350,10 @@ def surroundings(trials):
         named = [word for number in range(65) for word in ("--gateway", f"{number:016X}")]
         it = gateways(parts, "127.0.0.1:1", *named, ready="for 65 gateways")
         trials.holds("it says how many there may be", " 64 " in it.said())
+        words = ("--network", "127.0.0.1:1", "--broker", "127.0.0.1:1", "--application", "3")
+        it = parts.own("applications-mqtt", *words).start("no link to")
+        await_that("it says so", lambda: it.has_said("no broker at"), 10)
+        trials.compare("the end without a broker", it.end(), 0)
 
 
 TOPICS = {
