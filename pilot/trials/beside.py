@@ -302,7 +302,7 @@ def second_window(trials, it: Forwarder, link: End):
         trials.compare(f"windows behind {error}", len(it.told), windows)
 
 
-def next_link(network: Network, it: Forwarder, seconds=8.0) -> End:
+def next_link(network: Network, it: Forwarder, seconds=20.0) -> End:
     """The next link, of a gateway that asks until it is there."""
     last = time.monotonic() + seconds
     while True:
@@ -346,7 +346,7 @@ def surroundings(trials):
         it = gateways(parts, "slow.example:1", *named, before=SLOW, ready="for 1 gateways")
         Forwarder(GATEWAYS[0], parts.udp_port).say(2)
         time.sleep(0.3)
-        trials.compare("the end while a name is looked up", it.end(seconds=5), 0)
+        trials.compare("the end while a name is looked up", it.end(), 0)
         named = [word for number in range(65) for word in ("--gateway", f"{number:016X}")]
         it = gateways(parts, "127.0.0.1:1", *named, ready="for 65 gateways")
         trials.holds("it says how many there may be", " 64 " in it.said())
