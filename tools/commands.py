@@ -46,20 +46,37 @@ def need_rt():
 
 
 def end_with(main):
-    """Ends with the status of `main`, with no traceback of an interrupt or a missing file."""
+    """Ends with the status of `main`, with no traceback of an interrupt, a missing file, or output
+    that can't be written."""
     for it in (signal.SIGTERM, signal.SIGHUP):
         signal.signal(it, lambda number, _: sys.exit(128 + number))
     try:
-        status = main()
-        sys.stdout.flush()
+        try:
+            status = main()
+        except SystemExit as end:  # also of --help, whose text isn't written yet
+            status = end.code
+        if sys.stdout:
+            sys.stdout.flush()
         sys.exit(status)
     except KeyboardInterrupt:
+        forget_unwritten()
         stop("interrupted", 130)
     except BrokenPipeError:
-        os.dup2(os.open(os.devnull, os.O_WRONLY), sys.stdout.fileno())
+        forget_unwritten()
         sys.exit(141)
     except OSError as error:
-        stop(f"{error.filename or 'a file'}: {error.strerror or error}", 1)
+        forget_unwritten()
+        stop(f"{error.filename or 'the system'}: {error.strerror or error}", 1)
+
+
+def forget_unwritten():
+    """Writes what waits for standard output. What can't be written is let go of: else Python tries
+    it at the very end, and tells of it by half a traceback and a status of its own."""
+    try:
+        if sys.stdout:
+            sys.stdout.flush()
+    except OSError:
+        os.dup2(os.open(os.devnull, os.O_WRONLY), sys.stdout.fileno())
 
 
 def lines():
@@ -128,6 +145,18 @@ def is_built(crate):
     return os.access(made, os.X_OK) and is_fresh(made, crate)
 
 
+def program_of(given, crate):
+    """The program that was given, or the proved one of that crate."""
+    if given:
+        if not (os.path.isfile(given) and os.access(given, os.X_OK)):
+            stop(f"{given} is no program")
+        return os.path.abspath(given)
+    if not is_built(crate):
+        name = crate.replace("_", "-")
+        stop(f"the proved {name} isn't built of these sources: run bin/build {name}")
+    return f"{ROOT}/crates/{crate}/out/{crate}"
+
+
 def commit_of(program):
     """Of which commit the sources of a program are."""
     how = {"stdout": subprocess.PIPE, "stderr": subprocess.DEVNULL, "text": True, "check": False}
@@ -142,13 +171,17 @@ def commit_of(program):
 
 def by_word(text, package):
     """Does what the first word names: a module of this package, with its own text and main."""
-    words = Words(text)
-    words.add_argument("word", metavar="WORD", choices=package.WORDS)
-    name = words.parse_args(sys.argv[1:2]).word
-    global NAME
-    NAME = f"{NAME} {name}"
-    sys.argv[:2] = [NAME]
-    end_with(importlib.import_module(f"{package.__name__}.{name}").main)
+
+    def main():
+        global NAME
+        words = Words(text)
+        words.add_argument("word", metavar="WORD", choices=package.WORDS)
+        name = words.parse_args(sys.argv[1:2]).word
+        NAME = f"{NAME} {name}"
+        sys.argv[:2] = [NAME]
+        return importlib.import_module(f"{package.__name__}.{name}").main()
+
+    end_with(main)
 
 
 def number_in(file, pattern):

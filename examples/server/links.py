@@ -24,7 +24,13 @@ class Silent(Exception):
 def address_of(text):
     """HOST:PORT as a pair."""
     host, colon, port = text.rpartition(":")
-    if not (host and colon and port.isdigit() and 0 < int(port) < 65536):
+    is_port = port.isascii() and port.isdigit() and 0 < int(port) < 65536
+    try:
+        # as connecting does: it would raise no OSError of an empty or a long part of a name
+        host.encode("idna")
+    except UnicodeError:
+        host = ""
+    if not (host and colon and is_port):
         raise ValueError(f"{text} is no HOST:PORT")
     return host.strip("[]"), int(port)
 

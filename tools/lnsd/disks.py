@@ -14,13 +14,18 @@ from server.links import Application, Ended, Gateway
 # more than the calls of a run of `Pair.play` and two more uplinks
 CALLS, WAITING, ASKED = 80, 4096, 5000
 FAILED = (1, "", "lnsd: refused 40\n")
-MADE = tempfile.TemporaryDirectory(prefix="lnsd-disks-")
+
+
+@cache
+def folder():
+    """A folder that goes when this command ends."""
+    return tempfile.TemporaryDirectory(prefix="lnsd-disks-")
 
 
 @cache
 def library():
     """What is loaded before the program, made once."""
-    return preloads.made(preloads.CALLS, MADE.name)
+    return preloads.made(preloads.CALLS, folder().name)
 
 
 def with_disk(**settings):

@@ -23,7 +23,7 @@ import tempfile
 
 import commands
 import preloads
-from commands import ROOT, stop
+from commands import stop
 from lnsd.words import folder, number
 
 # how much longer a sync takes, in microseconds; the aim, in percent
@@ -32,16 +32,6 @@ CALLS = (256, 193)
 EVERY_SYNC = 1_000_000
 LINE = re.compile(r"durable on a file, .*: (\d+) decisions a second, (\d+) calls a run")
 SECONDS = 300
-
-
-def program_of(given):
-    if given:
-        if not (os.path.isfile(given) and os.access(given, os.X_OK)):
-            stop(f"{given} is no program")
-        return os.path.abspath(given)
-    if not commands.is_built("lns_speed"):
-        stop("the proved lns-speed isn't built of these sources: run bin/build lns-speed")
-    return f"{ROOT}/crates/lns_speed/out/lns_speed"
 
 
 def measured(program, where, how):
@@ -83,7 +73,7 @@ def main():
     words.add_argument("--folder", type=folder, default=".", metavar="DIR")
     words.add_argument("--times", type=number(1, 100), default=1, metavar="N")
     given = words.parse_args()
-    program = program_of(given.program)
+    program = commands.program_of(given.program, "lns_speed")
     passed, failed = 0, 0
     with tempfile.TemporaryDirectory(prefix="chain-speed-", dir=given.folder) as where:
         library = preloads.made(preloads.CALLS, os.path.abspath(where))
