@@ -4,6 +4,9 @@ import os
 import re
 import subprocess
 import sys
+import tempfile
+import time
+from pathlib import Path
 
 from server.program import HOST
 
@@ -86,7 +89,10 @@ def alerts(trials):
     with Pilot(trials.path) as pilot:
         played = pilot.file("played", "#!/bin/sh\n" + "".join(f"echo {it} 1\n" for it in LINES))
         os.chmod(played, 0o755)
-        found = {it.split("{")[0] for it in samples(trials, metrics("store", "--lnsd", played)[1])}
+        os.mkdir(certificates := pilot.file("certificates"))
+        pilot.file("certificates/none.crt", "no certificate")
+        words = ("store", "--lnsd", played, "--certificates", certificates)
+        found = {it.split("{")[0] for it in samples(trials, metrics(*words)[1])}
         pilot.broker().start("running")
         at = ("--network", pilot.network, "--broker", f"{HOST}:{pilot.broker_port}")
         udp = ("--network", pilot.network, "--udp", f"{HOST}:{pilot.udp_port}")
@@ -104,4 +110,53 @@ def alerts(trials):
         trials.holds(f"{name} is a number", name in found)
 
 
-TOPICS = {"numbers for Prometheus": numbers, "alerts": alerts}
+def copies(trials):
+    """Counts of bridges are copied as old as they are; a link isn't followed, nor is a pipe waited
+    for; copies of bridges that have ended go, and nothing else does."""
+    with tempfile.TemporaryDirectory(prefix="pilot-copies-") as folder:
+        run, to = Path(folder, "run"), Path(folder, "out")
+        to.mkdir()
+        for name in ("applications-mqtt-4", "other"):
+            (to / f"{name}.prom").write_text("old 1\n", encoding="utf-8")
+        names = ("gateways-udp", "gateways-mqtt", "applications-mqtt-3")
+        sources = [run / f"bozintar-{name}" / f"{name}.prom" for name in names]
+        for it in sources:
+            it.parent.mkdir(parents=True)
+        sources[0].write_text("new 1\n", encoding="utf-8")
+        sources[0].chmod(0o600)
+        os.utime(sources[0], (1000, 1000))
+        sources[1].symlink_to(to / "other.prom")
+        os.mkfifo(sources[2])
+        words = ("store", "--lnsd", "/bin/false", "--out", to / "lnsd.prom", "--counts", run)
+        status, _, said = metrics(*words)
+        trials.compare("what isn't copied is told", (status, said.count("\n")), (1, 2))
+        due = ["gateways-udp.prom", "lnsd.prom", "other.prom"]
+        trials.compare("what is there", sorted(os.listdir(to)), due)
+        of = (to / due[0]).stat()
+        trials.compare("age and mode", (of.st_mtime, of.st_mode & 0o777), (1000, 0o644))
+        trials.compare("text", (to / due[0]).read_text(encoding="utf-8"), "new 1\n")
+
+
+def ends_of_certificates(trials):
+    """When certificates end; one that can't be read has ended, and no folder is none."""
+    with tempfile.TemporaryDirectory(prefix="pilot-ends-") as folder:
+        it = [sys.executable, PILOT / "secure/certificates", folder, "authority", "--days", "10"]
+        subprocess.run(it, capture_output=True, check=True)
+        Path(folder, "none.crt").write_text("no certificate", encoding="utf-8")
+        words = ("--certificates", folder, "--certificates", "/nowhere")
+        said = metrics("store", "--lnsd", "/bin/false", *words)[1].splitlines()
+        came = dict(line.rsplit(" ", 1) for line in said if not line.startswith("#"))
+        name = 'pilot_certificate_end_seconds{file="%s/%s.crt"}'
+        due = {name % (folder, it) for it in ("ca", "none")}
+        trials.compare("what is told", set(came), {"lnsd_up"} | due)
+        ends = sorted(int(came[it]) for it in due)
+        trials.compare("of what is none", ends[0], 0)
+        trials.holds("the other's end", abs(ends[1] - time.time() - 10 * 86400) < 600)
+
+
+TOPICS = {
+    "numbers for Prometheus": numbers,
+    "counts of bridges for Prometheus": copies,
+    "when certificates end": ends_of_certificates,
+    "alerts": alerts,
+}

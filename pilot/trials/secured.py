@@ -1,8 +1,10 @@
 """The doors: strangers reach neither the server nor the broker, and nobody is another one."""
 
+import json
 import os
 import shutil
 import socket
+import sqlite3
 import ssl
 import subprocess
 import sys
@@ -61,7 +63,8 @@ class Doors:
             ("gateway", *GATEWAYS[:2]),
             ("gateway", OTHERS),
             ("application", str(APPLICATION)),
-            ("bridge",),
+            ("bridge", "gateways"),
+            ("bridge", f"application-{APPLICATION}"),
         ):
             self.own.make(*words)
         self.other = Authority(pilot.file("other"))
@@ -214,6 +217,15 @@ class Secured(Station):
         self.client.connect_async("localhost", port)
 
 
+class Taker(Secured):
+    """One that says that it is the readings on loopback, and wants their session."""
+
+    def connect(self, port: int):
+        """Connects under the other one's id."""
+        self.client.reinitialise(f"readings-{APPLICATION}", clean_session=True)
+        super().connect(port)
+
+
 def refused_by_broker(port: int, context: ssl.SSLContext) -> bool:
     """Whether the broker takes no word of this client."""
     hello = bytes.fromhex("100d00044d5154540402003c000178")
@@ -245,7 +257,8 @@ def at_the_broker(trials, it: Doors):
         came = refused_by_broker(port, context)
         trials.compare(f"a client of the broker with {name} is refused", came, due)
     topics_of_its_own(trials, it, port)
-    bridge_with_certificate(trials, it, port)
+    session_of_another(trials, it, port)
+    bridges_with_certificates(trials, it, port)
 
 
 def topics_of_its_own(trials, it: Doors, port: int):
@@ -273,22 +286,64 @@ def topics_of_its_own(trials, it: Doors, port: int):
     dashboard.end()
 
 
-def bridge_with_certificate(trials, it: Doors, port: int):
-    """A bridge and a gateway that come by certificates, and a reading over them."""
-    pilot = it.pilot
-    certificate, key = it.own.of("bridge")
-    words = ("--network", pilot.network, "--broker", f"localhost:{port}", "--gateway", GATEWAYS[0])
-    words += ("--ca", f"{it.own.folder}/ca.crt", "--certificate", certificate, "--key", key)
-    pilot.own("gateways-mqtt", *words).start("connected to")
-    station, meter = Secured(GATEWAYS[0], port, it.own, GATEWAYS[0].lower()), Meter(1)
-    air, reader = Air([station], [meter]), Application(pilot.address, APPLICATION)
-    reader.asks("provision " + " ".join(meter.row().split(",")))
-    reader.hears()
+def stored_in(database: str) -> int:
+    """How many readings a database has."""
+    with sqlite3.connect(f"file:{database}?mode=ro", uri=True) as it:
+        return it.execute("SELECT count(*) FROM readings").fetchone()[0]
+
+
+def session_of_another(trials, it: Doors, port: int):
+    """A gateway that connects under the id of the readings on loopback doesn't get their session:
+    they stay connected, and what waits for them while they are away is there afterwards."""
+    pilot, database = it.pilot, it.pilot.file("loopback.db")
+    words = ("--broker", f"{HOST}:{pilot.broker_port}", "--application", APPLICATION)
+    readings = pilot.own("readings", "--db", database, *words, name="readings-loopback")
+    readings.start("connected")
+    dashboard = Dashboard(pilot.broker_port)
+    body = {"time": "now", "deviceInfo": {"devEui": OTHERS}, "joinNonce": 1, "fPort": 7, "data": ""}
+    topic = f"application/{APPLICATION}/device/{OTHERS.lower()}/event/up"
+    for number, is_away in enumerate((False, True)):
+        if is_away:
+            readings.end()
+        taker = Taker(GATEWAYS[0], port, it.own, GATEWAYS[0].lower())
+        await_that("the other one is connected", taker.client.is_connected)
+        dashboard.say(topic, json.dumps({**body, "fCnt": number}).encode())
+        taker.end()
+        if is_away:
+            readings.start("connected")
+        await_that("the reading is stored", lambda due=number + 1: stored_in(database) == due)
+    trials.compare("connections of the readings", readings.said().count("connected to"), 2)
+    readings.end()
+    dashboard.end()
+
+
+def bridges_with_certificates(trials, it: Doors, port: int):
+    """Bridges, a gateway and readings that come by certificates, and a reading over them."""
+    pilot, meter = it.pilot, Meter(1)
+
+    def started(program: str, name: str, *words, ready: str):
+        certificate, key = it.own.of(name)
+        files = ("--ca", f"{it.own.folder}/ca.crt", "--certificate", certificate, "--key", key)
+        pilot.own(program, "--broker", f"localhost:{port}", *files, *words).start(ready)
+
+    network, application = ("--network", pilot.network), ("--application", APPLICATION)
+    devices, database = pilot.file("secured.csv", meter.row() + "\n"), pilot.file("secured.db")
+    words = (*network, "--gateway", GATEWAYS[0])
+    started("gateways-mqtt", "bridge-gateways", *words, ready="connected to")
+    words, name = (*network, *application, "--devices", devices), f"application-{APPLICATION}"
+    started("applications-mqtt", f"bridge-{name}", *words, ready="1 devices are there")
+    started("readings", name, *application, "--db", database, ready="connected to")
+    station = Secured(GATEWAYS[0], port, it.own, GATEWAYS[0].lower())
+    air = Air([station], [meter])
     air.go_on(20, lambda: pilot.program.status()["gateways"] == "1")
     station.hears(meter.join_request())
     trials.holds("a meter joins by it", air.go_on(20, lambda: meter.keys is not None))
+    station.hears(meter.reads())
+    mark = meter.awaited
+    is_there = air.go_on(10, lambda: mark in meter.acknowledged)
+    trials.holds("its reading is acknowledged", is_there)
+    trials.holds("and stored", await_that("stored", lambda: stored_in(database) == 1))
     station.end()
-    reader.close()
 
 
 def doors(trials):

@@ -24,6 +24,7 @@ GATEWAY = ("--gateway", GATEWAYS[0])
 UDP = ("--network", AT, "--udp", AT)
 MQTT = ("--network", AT, "--broker", AT)
 NOWHERE = "/nowhere/at/all"
+READINGS = ("--db", ":memory:", "--broker", AT, "--application", "3")
 # a program with its words, and the status that it ends with
 WORDS = (
     ("gateways-udp", (), 2),
@@ -57,22 +58,34 @@ WORDS = (
     ("readings", ("--db", ":memory:", "--report", "--list", NOWHERE), 1),
     ("readings", ("--db", ":memory:", "--broker", "x", "--application", "3"), 2),
     ("readings", ("--db", ":memory:", "--broker", "h:70000", "--application", "3"), 2),
+    ("readings", ("--db", ":memory:", "--report", "--devices", NOWHERE), 1),
+    ("readings", ("--db", ":memory:", "--report", "--devices", "/bin/sh"), 1),
     ("readings", ("--db", ":memory:", "--broker", AT, "--application", "x"), 2),
+    ("readings", ("--db", ":memory:", "--broker", AT, "--application", "16"), 2),
+    ("readings", (*READINGS, "--certificate", "x", "--key", "x"), 2),
+    ("readings", (*READINGS, "--ca", NOWHERE), 1),
     ("metrics", (), 2),
     ("metrics", ("store", "--lnsd", "/bin/false", "--out", "x"), 2),
     ("metrics", ("store", "--lnsd", "/bin/false", "--out", f"{NOWHERE}/x.prom"), 1),
     ("metrics", ("store", "--lnsd", "/"), 1),
+    ("metrics", ("store", "--lnsd", "/bin/false", "--counts", "/"), 2),
     ("secure/certificates", (NOWHERE, "server", "x"), 1),
     ("secure/certificates", (NOWHERE, "server"), 2),
     ("secure/certificates", (NOWHERE, "server", "a/CN=b"), 2),
+    ("secure/certificates", (NOWHERE, "server", ":"), 2),
+    ("secure/certificates", (NOWHERE, "bridge"), 2),
+    ("secure/certificates", (NOWHERE, "bridge", "a", "b"), 2),
+    ("secure/certificates", (NOWHERE, "application", "3", "A"), 2),
     ("secure/certificates", (NOWHERE, "gateway", "B1"), 2),
-    ("secure/certificates", (NOWHERE, "application", "3", "4"), 2),
+    ("secure/certificates", (NOWHERE, "application", "3", "4", "5"), 2),
     ("secure/certificates", (NOWHERE, "stranger"), 2),
     ("secure/door", (AT,), 1),
     ("secure/door", ("x",), 2),
     ("install", ("x",), 2),
     ("play", (), 2),
     ("play", ("--udp", "h:1", "--gateway", "x"), 2),
+    ("play", ("--udp", "h:\u00b2"), 2),
+    ("play", ("--udp", "no.invalid:1700"), 1),
 )
 
 # what a network that is none says: contents, or bytes
