@@ -1,17 +1,18 @@
 """A connection to an MQTT broker that comes back by itself.
 
 The library is Debian's `python3-paho-mqtt`, of version 1.6; one of version 2 is used in the same
-way. It lies where Debian's own Python looks
-for it, and where another Python is first on the PATH it is taken from there too: it is of Python
-alone."""
+way. It lies where Debian's own Python looks for it, and where another Python is first on the PATH
+it is taken from there too: it is of Python alone."""
 
 import argparse
 import asyncio
 import socket
 import sys
 import threading
+import time
 from collections.abc import Callable
 from dataclasses import dataclass
+from functools import partial
 
 from .handovers import Handover
 from .words import Address, stop, tell
@@ -28,6 +29,8 @@ except ImportError:
 
 KEEPALIVE = 30
 LONGEST_PAUSE = 30
+# how long until a broker that didn't take the certificate is tried again, in seconds
+REFUSED_PAUSE = 5
 # messages of the broker that wait to be looked at, behind which they are dropped
 MOST_READ = 10_000
 # how long the broker may take to hear a goodbye, in seconds
@@ -123,8 +126,13 @@ class Broker:
 
     def start(self):
         """Connects, now or as soon as the broker is there."""
-        self.client.connect_async(self.access.address.host, self.access.address.port, KEEPALIVE)
+        self.connect()
+        self.client.loop_forever = partial(self.go_on, self.client.loop_forever)
         self.client.loop_start()
+
+    def connect(self):
+        """Has the library connect anew."""
+        self.client.connect_async(self.access.address.host, self.access.address.port, KEEPALIVE)
 
     def end(self):
         """Says goodbye, where the broker is there to hear it. The library's thread isn't waited
@@ -171,6 +179,18 @@ class Broker:
 
     # what follows is called in the library's thread
 
+    def go_on(self, loop: Callable, **how):
+        """Has the library go on. A broker that doesn't take the certificate says so behind the
+        handshake (TLS 1.3), by which its thread would end."""
+        while True:
+            try:
+                return loop(**how)
+            except OSError as why:
+                self.is_gone.set()
+                self.miss(str(why))
+            time.sleep(REFUSED_PAUSE)
+            self.connect()
+
     def on_connect(self, client, _data, _flags, code):
         """Asks for the topics, anew behind each connection."""
         if code:
@@ -183,8 +203,11 @@ class Broker:
             client.subscribe([(it, 1) for it in self.topics])
 
     def on_connect_fail(self, *_):
-        """Why nobody is connected to, each reason once: the library tries again without end."""
-        why = str(sys.exc_info()[1])
+        """The library tries again, without end."""
+        self.miss(str(sys.exc_info()[1]))
+
+    def miss(self, why: str):
+        """Tells why nobody is connected to, each reason once."""
         if why != self.fault:
             tell(f"no broker at {self.access.address}: {why}")
         self.fault = why

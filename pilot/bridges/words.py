@@ -130,6 +130,9 @@ def status_of(main):
 
 
 def forget_output():
-    """What couldn't be written to standard output isn't tried again."""
-    if sys.stdout:
+    """Writes what waits for standard output. What can't be written isn't tried again."""
+    try:
+        if sys.stdout:
+            sys.stdout.flush()
+    except OSError:
         os.dup2(os.open(os.devnull, os.O_WRONLY), sys.stdout.fileno())

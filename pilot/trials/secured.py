@@ -257,6 +257,7 @@ def at_the_broker(trials, it: Doors):
         came = refused_by_broker(port, context)
         trials.compare(f"a client of the broker with {name} is refused", came, due)
     topics_of_its_own(trials, it, port)
+    without_certificate(trials, it, port)
     session_of_another(trials, it, port)
     bridges_with_certificates(trials, it, port)
 
@@ -284,6 +285,15 @@ def topics_of_its_own(trials, it: Doors, port: int):
     trials.compare("what it heard", set(heard), {own})
     station.end()
     dashboard.end()
+
+
+def without_certificate(trials, it: Doors, port: int):
+    """A bridge whose certificate isn't taken says so, and is there when it is told to end."""
+    words = ("--network", it.pilot.network, "--broker", f"localhost:{port}")
+    words += ("--gateway", GATEWAYS[0], "--ca", f"{it.own.folder}/ca.crt")
+    bridge = it.pilot.own("gateways-mqtt", *words, name="gateways-mqtt-refused")
+    bridge.start("no broker at")
+    trials.compare("the end of a bridge without a certificate", bridge.end(), 0)
 
 
 def stored_in(database: str) -> int:
