@@ -1,5 +1,5 @@
 -- From what is told of an answer of clap to why words ask for nothing.
-use Rattle.std.proofs.Common.{List, inl, inr, rules}
+use Rattle.std.proofs.Common.{◌≡◌, List, [], inl, inr, rules}
 use Rattle.clap.specs.Words.{HasKind, Text, fault_of, kind_of, subcommand_of}
 use Rattle.clap.specs.declared.error.Error.{Error}
 use Rattle.clap.specs.declared.error.kind.ErrorKind.TheVariants.{ValueValidation}
@@ -20,8 +20,8 @@ not_shown : IsShown ValueValidation → ⊥
 not_shown (inl e) = search rules
 not_shown (inr e) = search rules
 
-pub of_no_mode : (words : List Text) (u : Usage) → HasNoMode (subcommand_of lnsd_line words)
-    → IsToldOf ValueValidation u → IsUsageOf words u
-of_no_mode words (usage.Words text) none h = inr none
-of_no_mode words (usage.Help text) none h = absurd (not_shown h.1)
-of_no_mode words usage.Memory none h = tt
+pub of_no_mode : (words : List Text) (u : Usage) → fault_of lnsd_line words ≡ []
+    → HasNoMode (subcommand_of lnsd_line words) → IsToldOf ValueValidation u → IsUsageOf words u
+of_no_mode words (usage.Words text) no_fault none h = inr (no_fault, none)
+of_no_mode words (usage.Help text) no_fault none h = absurd (not_shown h.1)
+of_no_mode words usage.Memory no_fault none h = tt

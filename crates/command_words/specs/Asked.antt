@@ -101,7 +101,7 @@ AskFor words m = IsModeOf (subcommand_of lnsd_line words) m × (fault_of lnsd_li
 abbrev pub AreWrong : List Text → Type 0
 AreWrong words =
     ((kind : ErrorKind) × IsAmong kind (fault_of lnsd_line words) × ¬ IsShown kind)
-    ⊎ HasNoMode (subcommand_of lnsd_line words)
+    ⊎ ((fault_of lnsd_line words ≡ []) × HasNoMode (subcommand_of lnsd_line words))
 
 -- they ask for a text that clap has
 abbrev pub AskForHelp : List Text → Type 0

@@ -26,7 +26,8 @@ returns-clause-usage c =
     let texts : List Text = map (λ w. w.now) c.args.words.now in
     let app : app_of c.in-Ok.command ≡ lnsd_line = c.in-Ok.ensures in
     let met = (c.in-Ok-try_get_matches_from_mut.ensures.ok.2 (ap is_simple app ∙ is_simple_too)).1 in
-    of_no_mode texts _ (subst HasNoMode (met ∙ ap (λ a. subcommand_of a texts) app) (c.mode_of.ensures.none c.in-None.is)) c.wrong_net_id.ensures
+    let none : fault_of (app_of c.in-Ok.command) texts ≡ [] = search rules in
+    of_no_mode texts _ (subst (λ a. fault_of a texts ≡ []) app none) (subst HasNoMode (met ∙ ap (λ a. subcommand_of a texts) app) (c.mode_of.ensures.none c.in-None.is)) c.wrong_net_id.ensures
 
 pub returns-in-Some-clause-mode : goal.returns-in-Some-clause-mode
 returns-in-Some-clause-mode c =
