@@ -1,2 +1,3 @@
+mod Ending
 mod Making
 mod Marking

@@ -1,5 +1,5 @@
 // The flusher commits what was decided, and lets its effects out.
-ghost use Rattle.std.specs.Prelude.{◌≡◌, ℕ, IsTrue, false, slice_index_or};
+ghost use Rattle.std.specs.Prelude.{◌≡◌, ℕ, IsTrue, OnOk, false, slice_index_or};
 ghost use Rattle.directory.specs.declared.names.Directory.{Directory};
 ghost use Rattle.flusher.specs.Released.{effects_of_all};
 ghost use Rattle.link_server.specs.Marks.{AreLinksMarked, with_link};
@@ -27,7 +27,7 @@ const MOST_RINGS: usize = MOST_PLACES as usize + APPLICATIONS;
 
 /// Commits, and lets effects out, until nothing is decided any more and all is committed; then
 /// tells the senders that nothing more comes. A refusal closes the links, and what waits for them
-/// is lost.
+/// is lost. Where it ends well no call of the disk failed.
 pub(crate) fn flush<B: Books, R: Wait, D: Disk>(
     rt: &R,
     alloc: Global,
@@ -37,6 +37,8 @@ pub(crate) fn flush<B: Books, R: Wait, D: Disk>(
     taker: Taker<B>,
     outlets: Vec<Outlet>,
 ) -> Result<(), Refusal>
+    ensures healthy { OnOk result
+        ((store_state D.state store.new).failed ≡ (store_state D.state store.old).failed) }
     ensures lives { D.honest
         → IsLedOn (store_state D.state store.old) (store_state D.state store.new) }
 {
@@ -54,11 +56,16 @@ pub(crate) fn flush<B: Books, R: Wait, D: Disk>(
     if served.is_err() {
         server.stop(rt);
     }
+    finish(outlets);
+    server.ring_senders();
+    served
+}
+
+// Nothing more comes by these rings.
+fn finish(outlets: Vec<Outlet>) {
     for outlet in outlets {
         let _ = outlet.finish();
     }
-    server.ring_senders();
-    served
 }
 
 // The bell of each link that gets something rings once. An application that has no link finds it

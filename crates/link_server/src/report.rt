@@ -1,10 +1,12 @@
 // What comes of serving.
+ghost use Rattle.std.specs.Prelude.{◌≡◌};
+
 use disk::Disk;
 use server_links::ServeFault;
 use std::os::unix::net::UnixStream;
 use store::Store;
 
-/// What came of a life whose inputs all ended.
+/// What came of a life whose inputs all ended. A life that was served makes it, and nothing else.
 #[derive(Drop)]
 pub struct LifeReport {
     /// The effects that weren't sent: their gateway or application had no link, or the link's ring
@@ -19,9 +21,17 @@ pub struct LifeReport {
     pub silent: u64,
     /// The decisions that were made.
     pub made: u64,
-    /// How many of them each worker made, in the order in which their links were accepted, or of
-    /// their places, and the closer last.
-    pub shares: Vec<u64>,
+    pub(crate) shares: Vec<u64>,
+}
+
+impl LifeReport {
+    /// How many of the decisions each worker made, in the order in which their links were accepted,
+    /// or of their places, and the closer last.
+    pub fn shares(&self) -> &[u64]
+        ensures { result.now ≡ self.now.shares.items }
+    {
+        self.shares.as_slice()
+    }
 }
 
 /// The store as the life left it, and what came of it.

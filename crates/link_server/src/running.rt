@@ -1,6 +1,6 @@
 // The threads of a life are started and joined.
 ghost use Rattle.std.specs.Prelude.{◌≡◌, ◌<◌, ◌∷◌, ◌++◌, [], IsSome, IsSomeAnd, IsTrue, MatchBool};
-ghost use Rattle.std.specs.Prelude.{◌+◌, length, vec_capacity, vec_len};
+ghost use Rattle.std.specs.Prelude.{◌+◌, OnOk, length, vec_capacity, vec_len};
 ghost use Rattle.link_server.specs.Served.{IsLedOn};
 ghost use Rattle.store.specs.State.{store_state};
 
@@ -8,7 +8,6 @@ use crate::flushing::flush;
 use crate::parts::{LinkParts, Parts};
 use crate::threads::{start_attendant, start_closer, start_host, start_sender, start_worker};
 use disk::Disk;
-use link_messages::Feeder;
 use link_workers::{Attendant, Closer, Context, Host, LiveServer, Worker};
 use lw_types::Refusal;
 use server_links::{ATTENDANTS, Gate, LifeClock, Outgoing, Sender, Socket, Spare};
@@ -43,6 +42,8 @@ pub(crate) fn run<
     taker: Taker<B>,
     parts: Parts<B>,
 ) -> LifeEnd<D, B>
+    ensures healthy { OnOk result.result
+        ((store_state D.state result.store).failed ≡ (store_state D.state store).failed) }
     ensures lives { D.honest
         → IsLedOn (store_state D.state store) (store_state D.state result.store) }
 {
@@ -50,7 +51,9 @@ pub(crate) fn run<
         thread::scope_env(),
         context.rt,
         move |scope|
-            ensures { D.honest
+            ensures healthy { OnOk result.result
+                ((store_state D.state result.store).failed ≡ (store_state D.state store).failed) }
+            ensures lives { D.honest
                 → IsLedOn (store_state D.state store) (store_state D.state result.store) }
         { run_in(scope, context, server, store, taker, parts) },
     )
@@ -72,6 +75,8 @@ fn run_in<
     taker: Taker<B>,
     parts: Parts<B>,
 ) -> LifeEnd<D, B>
+    ensures healthy { OnOk result.result
+        ((store_state D.state result.store).failed ≡ (store_state D.state store).failed) }
     ensures lives { D.honest
         → IsLedOn (store_state D.state store) (store_state D.state result.store) }
 {
@@ -80,12 +85,7 @@ fn run_in<
         closer,
         outlets,
     } = parts;
-    let mut started = Started {
-        seated: Vec::new(context.alloc),
-        senders: Vec::new(context.alloc),
-        attendants: Vec::new(context.alloc),
-        is_whole: true,
-    };
+    let mut started = Started::new(context.alloc);
     for (number, parts) in links.into_iter().enumerate() {
         started.start_link(scope, context, server, number, parts);
     }
@@ -129,6 +129,19 @@ struct Started<B: Books> {
 }
 
 impl<B: Books + Send + Sync> Started<B> {
+    fn new(alloc: Global) -> Self
+        ensures none { (result.seated.items ≡ []) × ((result.senders.items ≡ [])
+            × (result.attendants.items ≡ [])) }
+        ensures whole { IsTrue result.is_whole }
+    {
+        Started {
+            seated: Vec::new(alloc),
+            senders: Vec::new(alloc),
+            attendants: Vec::new(alloc),
+            is_whole: true,
+        }
+    }
+
     fn start_link<'s, E, R: Threads + Wait + Sync, G: Gate + Sync, C: LifeClock + Sync>(
         &mut self,
         scope: &Scope<'s, E>,
@@ -146,17 +159,7 @@ impl<B: Books + Send + Sync> Started<B> {
             inlet,
             refusals,
         } = parts;
-        let worker = Worker {
-            context,
-            server,
-            link,
-            number,
-            calls: 0,
-            feeder: Feeder::new(context.alloc),
-            seat,
-            refusals: refused,
-            has_ended: false,
-        };
+        let worker = Worker::new(context, server, link, number, seat, refused);
         let outgoing = Outgoing::new(context.alloc);
         let Socket::Fixed(stream) = &link.socket else {
             link.set_spare(context.rt, Spare { inlet, outgoing });

@@ -1,7 +1,8 @@
 // One life of a server.
 ghost use Rattle.std.specs.Prelude.{◌≡◌, ◌≤◌, ◌+◌, length, sum, Err, IfErr, IfOk};
-ghost use Rattle.std.specs.Prelude.{map, option_map, MatchResult};
+ghost use Rattle.std.specs.Prelude.{map, option_map, MatchResult, OnOk};
 ghost use Rattle.lw_types.specs.declared.refusal.Refusal.TheVariants.{OutOfMemory};
+ghost use Rattle.server_links.specs.declared.fault.ServeFault.TheVariants.{Refused};
 ghost use Rattle.link_server.specs.Served.{IsLedOn};
 ghost use Rattle.session_core.specs.Core.{new_core};
 ghost use Rattle.store.specs.State.{store_state};
@@ -53,9 +54,9 @@ use timed_disk::DiskTimes;
 /// again each second, and the closer where there is no memory. It need not return: an input may
 /// never end.
 ///
-/// Of all this the contract says that the shares sum to the decisions, and that the store was led
-/// on from where it was; what it calls is proved for itself, and the rest is shown by tests on
-/// sockets.
+/// Of all this the contract says that the shares sum to the decisions, that there is no report
+/// where a call of the disk failed, and that the store was led on from where it was; what it calls
+/// is proved for itself, and the rest is shown by tests on sockets.
 pub fn serve_links<
     'x,
     R: Threads + Wait + Sync,
@@ -72,6 +73,8 @@ pub fn serve_links<
     clock: &'x C,
 ) -> ServedLife<D>
     ensures shares { IfOk result.result (λ report. sum report.shares.items ≡ report.made) }
+    ensures healthy { OnOk result.result
+        ((store_state D.state result.store).failed ≡ (store_state D.state store).failed) }
     ensures lives { D.honest
         → IsLedOn (store_state D.state store) (store_state D.state result.store) }
 {
@@ -120,6 +123,8 @@ pub fn serve_on<'x, R: Threads + Wait + Sync, D: Disk + Drop, G: Gate + Sync, C:
     times: &'x DiskTimes,
 ) -> ServedLife<D>
     ensures shares { IfOk result.result (λ report. sum report.shares.items ≡ report.made) }
+    ensures healthy { OnOk result.result
+        ((store_state D.state result.store).failed ≡ (store_state D.state store).failed) }
     ensures lives { D.honest
         → IsLedOn (store_state D.state store) (store_state D.state result.store) }
 {
@@ -154,6 +159,8 @@ fn begin<R: Threads + Wait + Sync, D: Disk + Drop, G: Gate + Sync, C: LifeClock 
 ) -> ServedLife<D>
     requires { length links.items ≤ 96 }
     ensures shares { IfOk result.result (λ report. sum report.shares.items ≡ report.made) }
+    ensures healthy { OnOk result.result
+        ((store_state D.state result.store).failed ≡ (store_state D.state store).failed) }
     ensures lives { D.honest
         → IsLedOn (store_state D.state store) (store_state D.state result.store) }
 {
@@ -211,6 +218,8 @@ fn serve_life<
     requires core { core
         ≡ new_core (store_state D.state store).table (store_state D.state store).seq }
     ensures shares { IfOk result.result (λ report. sum report.shares.items ≡ report.made) }
+    ensures healthy { OnOk result.result
+        ((store_state D.state result.store).failed ≡ (store_state D.state store).failed) }
     ensures lives { D.honest
         → IsLedOn (store_state D.state store) (store_state D.state result.store) }
 {
@@ -241,23 +250,39 @@ fn serve_life<
         directory: Mutex::new(directory),
         lines,
     };
-    let LifeEnd {
-        store,
-        result,
-        seats,
-    } = run(&*context, &server, store, taker, parts);
+    let end = run(&*context, &server, store, taker, parts);
+    served_life(context.alloc, server, all, end)
+}
+
+// What came of a life that has ended.
+fn served_life<B: Books + Send + Sync, D: Disk + Drop>(
+    alloc: Global,
+    server: LiveServer<B>,
+    all: u64,
+    end: LifeEnd<D, B>,
+) -> ServedLife<D>
+    requires { all ≡ B.made_parts }
+    ensures store { result.store ≡ end.store }
+    ensures shares { IfOk result.result (λ report. sum report.shares.items ≡ report.made) }
+    ensures refused { IfErr end.result (λ refusal. result.result ≡ Err (Refused refusal)) }
+{
     let LiveServer {
         sessions,
         signals,
         control,
         ..
     } = server;
+    let LifeEnd {
+        store,
+        result,
+        seats,
+    } = end;
     let waiting = match control {
         Some(control) => control.into_waiting(),
-        None => Vec::new(context.alloc),
+        None => Vec::new(alloc),
     };
     let result = match result {
-        Ok(()) => report(context.alloc, sessions.into_inner(), &signals, all, seats),
+        Ok(()) => report(alloc, sessions.into_inner(), &signals, all, seats),
         Err(refusal) => Err(ServeFault::Refused(refusal)),
     };
     ServedLife {

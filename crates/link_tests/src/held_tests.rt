@@ -3,6 +3,7 @@ use crate::disks::HeldDisk;
 use crate::gates::{HoldBoth, HoldFirst, Marks, StandingClock};
 use crate::lives::{clients, hears, new_disk, new_store, refusal_of, serve, wires};
 use devices::Device;
+use link_server::LifeReport;
 use lw_types::Refusal;
 use std::alloc::Global;
 use std::net::{Net, TcpListener, TcpStream};
@@ -91,7 +92,7 @@ fn has_items(devices: &[Device]) -> bool {
 fn hold_first<R: Net<Listener = TcpListener, Stream = TcpStream> + Threads + Wait + Sync>(
     rt: &R,
     alloc: Global,
-) -> Result<(bool, bool, bool, Vec<u64>), Refusal> {
+) -> Result<(bool, bool, bool, LifeReport), Refusal> {
     let marks = Marks::new();
     let hall = clients(rt, alloc, &wires(alloc, QUEUED)?, true)?;
     let gate = HoldFirst { marks: &marks };
@@ -103,7 +104,7 @@ fn hold_first<R: Net<Listener = TcpListener, Stream = TcpStream> + Threads + Wai
         !marks.is_late(),
         is_heard,
         has_items(store.table().devices()),
-        report.shares,
+        report,
     ))
 }
 
@@ -111,8 +112,8 @@ fn hold_first<R: Net<Listener = TcpListener, Stream = TcpStream> + Threads + Wai
 fn a_held_worker_holds_nobody(rt: HostRuntime) {
     let held = hold_first(&rt, rt.alloc());
     assert!(rt;
-        held.is_ok_and(|(held, heard, stored, shares)| {
-            held && heard && stored && shares.as_slice() == [2, 3, 0].as_slice()
+        held.is_ok_and(|(held, heard, stored, report)| {
+            held && heard && stored && report.shares() == [2, 3, 0].as_slice()
         })
     );
 }

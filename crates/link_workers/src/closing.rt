@@ -14,6 +14,9 @@ use std::sync::Wait;
 // How long until memory is asked for again, in milliseconds.
 const PAUSE: u64 = 10;
 
+// How often it is asked for at the end, so for a second.
+const LAST_TRIES: u64 = 100;
+
 // How long lies between two looks at least, in milliseconds. While many frames come, those that are
 // decided meanwhile are committed and sent together.
 const GATHER: u64 = 2;
@@ -40,16 +43,11 @@ impl<'x, B: Books, R: Wait, G: Gate, C: LifeClock> Closer<'x, B, R, G, C> {
             let now = closer.context.clock.now();
             next = moved_on(now, GATHER);
             if !closer.tick(now) {
-                let until = moved_on(now, PAUSE);
-                closer
-                    .context
-                    .clock
-                    .wait(closer.context.rt, &closer.server.signals.opened, until);
+                closer.pause();
             }
         }
         if !closer.server.signals.is_stopped() {
-            let last = closer.server.sessions.effective_time(closer.context.rt);
-            closer.tick(moved_on(last, WAIT));
+            closer.close_all();
         }
         closer.server.signals.tell_ticked();
         closer.seat
@@ -71,6 +69,26 @@ impl<'x, B: Books, R: Wait, G: Gate, C: LifeClock> Closer<'x, B, R, G, C> {
                 .clock
                 .wait(self.context.rt, &signals.opened, due.max(next));
         }
+    }
+
+    // Closes all windows that are left. For want of memory it is tried again; those for which none
+    // is there in time are given up.
+    fn close_all(&mut self) {
+        let last = self.server.sessions.effective_time(self.context.rt);
+        for _ in 0..LAST_TRIES {
+            if self.tick(moved_on(last, WAIT)) {
+                break;
+            }
+            self.pause();
+        }
+    }
+
+    // Until memory is asked for again.
+    fn pause(&self) {
+        let until = moved_on(self.context.clock.now(), PAUSE);
+        self.context
+            .clock
+            .wait(self.context.rt, &self.server.signals.opened, until);
     }
 
     // Whether all windows that were due are closed: for want of memory some are not.

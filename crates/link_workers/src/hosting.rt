@@ -88,22 +88,22 @@ impl<'x, B: Books, R: Threads + Wait + Sync, G: Gate, C: LifeClock> Host<'x, B, 
         let Some(greeted) = self.worker.hear_greeting(&stream) else {
             return;
         };
+        // each link has a ring of refusals of its own, so that none is told to the next one; where
+        // there is no memory for it, an older link of this name stays
+        let Ok((refused, refusals)) = RingBuffer::new(context.alloc, PLACES) else {
+            return;
+        };
         let name = greeted.name;
         if self.worker.take_over(&name) {
-            self.converse(stream, greeted);
+            self.worker.refusals = refused;
+            self.converse(stream, greeted, refusals);
             self.drop_rest(name);
         }
     }
 
-    // Each link has a ring of refusals of its own, so that none of them is told to the next one.
-    fn converse(&mut self, stream: TcpStream, greeted: Greeted) {
+    fn converse(&mut self, stream: TcpStream, greeted: Greeted, refusals: Consumer<Refusal>) {
         let Greeted { name, fed } = greeted;
         let context = self.worker.context;
-        let Ok((refused, refusals)) = RingBuffer::new(context.alloc, PLACES) else {
-            self.worker.end_link(&name);
-            return;
-        };
-        self.worker.refusals = refused;
         let call = Call { stream, name };
         let worker = &mut self.worker;
         thread::scope(thread::scope_env(), context.rt, |scope| {

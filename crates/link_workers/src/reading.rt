@@ -1,7 +1,7 @@
 // A worker reads a link, and hands in what is said on it.
 ghost use Rattle.std.specs.Prelude.{◌≡◌, ◌<◌, ◌+◌, ◌^◌, ◌↔◌, ◌++◌, ℕ, [], IfSome, IsTrue, List};
-ghost use Rattle.std.specs.Prelude.{None, Some, true};
-ghost use Rattle.link_messages.specs.Feeding.{Feeds, fault_in};
+ghost use Rattle.std.specs.Prelude.{None, Some, false, true};
+ghost use Rattle.link_messages.specs.Feeding.{Feeds, fault_in, new_feed};
 ghost use Rattle.link_messages.specs.declared.message.Message.TheVariants as said;
 ghost use Rattle.link_messages.specs.declared.message.Peer.TheVariants as peers;
 ghost use Rattle.link_workers.specs.Hearing.{AreHeard, IsAnswered, IsOneHeard, IsTold};
@@ -96,6 +96,40 @@ pub(crate) fn recipient_of(peer: &Peer) -> Recipient
 }
 
 impl<'x, B: Books, R: Wait, G: Gate, C: LifeClock> Worker<'x, B, R, G, C> {
+    /// The worker of the link that has this place among all. Nothing has come on it yet.
+    pub fn new(
+        context: &'x Context<'x, R, G, C>,
+        server: &'x LiveServer<B>,
+        link: &'x Link,
+        number: usize,
+        seat: Seat<B>,
+        refusals: Producer<Refusal>,
+    ) -> Self
+        ensures { result ≡ record {
+          context = context.entry;
+          server = server.entry;
+          link = link.entry;
+          number = number;
+          calls = 0;
+          feeder = new_feed;
+          seat = seat;
+          refusals = refusals;
+          has_ended = false;
+        } }
+    {
+        Worker {
+            context,
+            server,
+            link,
+            number,
+            calls: 0,
+            feeder: Feeder::new(context.alloc),
+            seat,
+            refusals,
+            has_ended: false,
+        }
+    }
+
     /// Reads a link that stays until it says nothing more or may not, and gives the seat back.
     pub fn run(self) -> Seat<B> {
         let mut worker = self;

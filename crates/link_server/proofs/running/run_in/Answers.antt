@@ -1,4 +1,4 @@
-use Rattle.std.proofs.Common.{[], sym, subst}
+use Rattle.std.proofs.Common.{◌≡◌, [], OnOk, sym, subst}
 use Rattle.store.specs.State.{store_state}
 use Rattle.link_server.specs.Served.{IsLedOn}
 use Rattle.link_server.proofs.running.run_in.Goals.{then-started, else-started}
@@ -8,6 +8,13 @@ use Rattle.link_server.proofs.running.run_in.Goals as goal
 pub returns : goal.returns
 returns g c =
     record {
+      healthy =
+          elim c.if-started.branch [
+            | then-started w ↦
+                subst (λ r. OnOk r (c.if-started.store.failed ≡ c.args.store.failed)) (sym w.result-is)
+                (subst (λ s. OnOk w.flush-result.result (s.failed ≡ c.args.store.failed)) (sym w.store-is) w.flush-result.ensures.healthy)
+            | else-started w ↦ subst (λ r. OnOk r (c.if-started.store.failed ≡ c.args.store.failed)) (sym w.result-is) (tt {0})
+          ];
       lives = λ honest.
           elim c.if-started.branch [
             | then-started w ↦

@@ -1,16 +1,14 @@
-use Rattle.std.proofs.Common.{◌≡◌, Result, IfOk, sum, sym, subst}
-use Rattle.link_server.specs.declared.report.LifeReport.{LifeReport}
-use Rattle.server_links.specs.declared.fault.ServeFault.{ServeFault}
-use Rattle.link_server.proofs.serving.serve_life.Goals.{in-Ok-result, in-Err-result}
+use Rattle.std.proofs.Common.{OnOk, ◌≡◌, sym, subst}
+use Rattle.store.specs.State.{store_state}
+use Rattle.link_server.proofs.Ending.{ended_well}
+use Rattle.link_server.specs.Served.{IsLedOn}
 use Rattle.link_server.proofs.serving.serve_life.Goals as goal
 
--- what is known of a report
-abbrev HasSum : Result LifeReport ServeFault → Type 0
-HasSum r = IfOk r (λ report. sum report.shares.items ≡ report.made)
+pub returns-clause-healthy : goal.returns-clause-healthy
+returns-clause-healthy g c =
+    ended_well c.run-end.result.result c.served_life.result.result (c.served_life.result.store.failed ≡ c.args.store.failed) c.served_life.ensures.refused
+    (subst (λ s. OnOk c.run-end.result.result (s.failed ≡ c.args.store.failed)) (sym c.served_life.ensures.store) c.run-end.ensures.healthy)
 
-pub returns-clause-shares : goal.returns-clause-shares
-returns-clause-shares g c =
-    elim c.match-result.branch [
-      | in-Ok-result w ↦ subst HasSum (sym w.result-is) w.report-result.ensures.sum
-      | in-Err-result w ↦ subst HasSum (sym w.result-is) (tt {0})
-    ]
+pub returns-clause-lives : goal.returns-clause-lives
+returns-clause-lives g c honest =
+    subst (λ s. IsLedOn (store_state g.D.Disk.state c.args.store) (store_state g.D.Disk.state s)) (sym c.served_life.ensures.store) (c.run-end.ensures.lives honest)
