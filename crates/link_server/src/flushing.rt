@@ -50,7 +50,11 @@ pub(crate) fn flush<B: Books, R: Wait, D: Disk>(
             let_out(rt, alloc, server, outlets.as_mut_slice(), released);
             tell_times(rt, server, times);
         };
-        let mut done = || is_done(rt, server, &mut is_ticked);
+        // a checkpoint may be written with no batch behind it
+        let mut done = || {
+            tell_times(rt, server, times);
+            is_done(rt, server, &mut is_ticked)
+        };
         serve(rt, store, &mut feed, alloc, &mut out, &mut done)
     };
     if served.is_err() {
