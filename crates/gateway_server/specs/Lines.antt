@@ -38,8 +38,9 @@ restored_text devices =
     codes "devices " ++ (decimal (length devices)
     ++ 10 ∷ (codes "grants_left " ++ (decimal (fewest_left devices) ++ 10 ∷ [])))
 
--- what is told of a store of which each device was granted so many joins behind the copy
-abbrev pub TellsOfRestored : ℕ → List ℕ → Type 0
-TellsOfRestored since text =
+-- a store has the table of a copy of which each device was granted so many joins more, and this is
+-- told of it
+abbrev pub IsRestoredAs : ℕ → TableState → List ℕ → Type 0
+IsRestoredAs since t text =
     (copy : TableState) × ((spent_device since copy ≡ None)
-    × (text ≡ restored_text (restored_table since copy).devices))
+    × ((t ≡ restored_table since copy) × (text ≡ restored_text t.devices)))

@@ -118,7 +118,8 @@ impl Commands for ServerCommands {
         net_id: NetId,
         slots: Slots,
     ) -> Result<(), Fault> {
-        stores::format(rt, alloc, file, net_id, slots)
+        let _store = stores::format(rt, alloc, file, net_id, slots)?;
+        Ok(())
     }
 
     fn list<R: Files<File = File>>(
@@ -127,7 +128,8 @@ impl Commands for ServerCommands {
         alloc: Global,
         file: &str,
     ) -> Result<String, Fault> {
-        stores::list(rt, alloc, file)
+        let told = stores::list(rt, alloc, file)?;
+        Ok(told.text)
     }
 
     fn stop<R: Net>(&mut self, rt: &R, alloc: Global, file: &str) -> Result<(), Fault> {
@@ -166,7 +168,8 @@ impl Commands for ServerCommands {
         new: &str,
         grants: GrantsSince,
     ) -> Result<String, Fault> {
-        restoring::restore(rt, alloc, file, new, grants)
+        let told = restoring::restore(rt, alloc, file, new, grants)?;
+        Ok(told.text)
     }
 
     fn life_ended(&mut self, _mode: &Mode<'_>, _life: &Result<FinishedLife<'_>, Fault>) {}

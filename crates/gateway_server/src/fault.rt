@@ -53,6 +53,11 @@ impl From<Refusal> for Fault {
 }
 
 impl From<ServeFault> for Fault {
+    ghost use Rattle.std.specs.Prelude.{◌≡◌};
+    ghost use Rattle.gateway_server.specs.Lives.{fault_of};
+
+    ghost from_gives = { λ served fault. fault ≡ fault_of served };
+
     fn from(fault: ServeFault) -> Self {
         match fault {
             ServeFault::Listen => Fault::Listen,

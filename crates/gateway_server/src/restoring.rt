@@ -1,13 +1,14 @@
 // A new store of an older copy.
 ghost use Rattle.std.specs.Prelude.{◌≡◌, ◌⊎◌, IfOk, MatchResult, None, Some, option_map};
 ghost use Rattle.std.specs.Prelude.{string_bytes};
-ghost use Rattle.gateway_server.specs.Lines.{TellsOfRestored, fewest_left, grants_left};
+ghost use Rattle.gateway_server.specs.Lines.{IsRestoredAs, fewest_left, grants_left};
 ghost use Rattle.gateway_server.specs.Lines.{restored_text};
 ghost use Rattle.sessions.specs.Restored.{restored_table, spent_device};
 ghost use Rattle.sessions.specs.Table.{TableState};
 
 use crate::Fault;
 use crate::new_file::{NewFile, create, remove};
+use crate::stores::ToldStore;
 use devices::{Device, GrantsSince};
 use disk::{Disk, FileDisk, MemDisk};
 use lw_types::{JoinNonce, Refusal};
@@ -19,21 +20,21 @@ use store::{Store, establish_back, open};
 
 /// Makes a store in the file `new` of the older copy in the file `old`, as if each device had been
 /// granted so many joins behind it. The copy stays as it is. Where it fails, `new` isn't there.
-/// Gives the text that tells how many devices it has, and how many joins may still be granted to
-/// the one that has fewest left.
+/// What is told of it is how many devices it has, and how many joins may still be granted to the
+/// one that has fewest left.
 pub(crate) fn restore<R: Files<File = File>>(
     rt: &R,
     alloc: Global,
     old: &str,
     new: &str,
     since: GrantsSince,
-) -> Result<String, Fault>
-    ensures { IfOk result (λ text. TellsOfRestored since (string_bytes text)) }
+) -> Result<ToldStore, Fault>
+    ensures { IfOk result (λ told. IsRestoredAs since told.store.table (string_bytes told.text)) }
 {
     let (table, seq) = read_older(rt, alloc, old, since)?;
     let (text, disk, made) = prepare(rt, alloc, &table, new)?;
     match establish_back(alloc, disk, table, seq) {
-        Ok(_) => Ok(text),
+        Ok(store) => Ok(ToldStore { store, text }),
         Err((disk, refusal)) => Err(remove(rt, made, disk, refusal)),
     }
 }

@@ -1,7 +1,7 @@
 // Stores in files.
-ghost use Rattle.std.specs.Prelude.{◌≡◌, ℕ, IfOk, List, MatchResult, string_bytes};
-ghost use Rattle.devices.specs.declared.device.Device.{Device};
+ghost use Rattle.std.specs.Prelude.{◌≡◌, IfOk, MatchResult, string_bytes};
 ghost use Rattle.gateway_wire.specs.DeviceList.{list_text};
+ghost use Rattle.sessions.specs.Table.{empty_table};
 ghost use Rattle.store.specs.State.{store_state};
 
 use crate::Fault;
@@ -16,6 +16,13 @@ use std::rt::{Clock, Files};
 use store::{Store, format_back, open};
 use timed_disk::{DiskTimes, TimedDisk};
 
+/// The store of a file, and what is told of it.
+#[derive(Drop)]
+pub(crate) struct ToldStore {
+    pub(crate) store: Store<FileDisk>,
+    pub(crate) text: String,
+}
+
 /// Makes a store without devices in a new file. Where that fails the file is removed again, unless
 /// it was there before; a removal that fails is passed over.
 pub(crate) fn format<R: Files<File = File>>(
@@ -24,25 +31,30 @@ pub(crate) fn format<R: Files<File = File>>(
     file: &str,
     net_id: NetId,
     slots: Slots,
-) -> Result<(), Fault> {
+) -> Result<Store<FileDisk>, Fault>
+    ensures { IfOk result (λ store. (store.table ≡ empty_table net_id slots) × (store.seq ≡ 0)) }
+{
     let (disk, made) = create(rt, file, slots)?;
     match format_back(alloc, disk, net_id, slots.get()) {
-        Ok(_) => Ok(()),
+        Ok(store) => Ok(store),
         Err((disk, refusal)) => Err(remove(rt, made, disk, refusal)),
     }
 }
 
-/// The list of the devices of the store in a file, and the number of its last decision.
+/// The store in a file, with the list of its devices and the number of its last decision.
 pub(crate) fn list<R: Files<File = File>>(
     rt: &R,
     alloc: Global,
     file: &str,
-) -> Result<String, Fault>
-    ensures { IfOk result (λ text. (devices : List Device) × ((seq : ℕ)
-        × (string_bytes text ≡ list_text devices seq))) }
+) -> Result<ToldStore, Fault>
+    ensures { IfOk result (λ told. string_bytes told.text
+        ≡ list_text told.store.table.devices told.store.seq) }
 {
     let store = open_store(rt, alloc, file)?;
-    text_of_store(alloc, &store)
+    match text_of_store(alloc, &store) {
+        Ok(text) => Ok(ToldStore { store, text }),
+        Err(fault) => Err(fault),
+    }
 }
 
 // The list of the devices of a store, and the number of its last decision.
