@@ -20,6 +20,20 @@ def number(least, most):
     return read
 
 
+def part(text):
+    """One of several parts, as in 2/3."""
+    which, slash, of = text.partition("/")
+    if not (which.isdecimal() and of.isdecimal() and slash and 1 <= int(which) <= int(of) <= 99):
+        raise argparse.ArgumentTypeError(f"{text} is no part, as 2/3 is one")
+    return int(which), int(of)
+
+
+def in_part(topics, chosen):
+    """The topics of a part, or all where none is chosen: every Nth one from the Kth on."""
+    which, of = chosen or (1, 1)
+    return topics[which - 1 :: of]
+
+
 def program(text):
     """A program that is there."""
     if not (os.path.isfile(text) and os.access(text, os.X_OK)):
