@@ -1,6 +1,7 @@
 // The flusher commits what was decided, and lets its effects out.
 ghost use Rattle.std.specs.Prelude.{◌≡◌, ℕ, IsTrue, OnOk, false, slice_index_or};
 ghost use Rattle.directory.specs.declared.names.Directory.{Directory};
+ghost use Rattle.flusher.specs.Calls.{NoneFailed};
 ghost use Rattle.flusher.specs.Released.{effects_of_all};
 ghost use Rattle.link_server.specs.Marks.{AreLinksMarked, with_link};
 ghost use Rattle.link_server.specs.Served.{IsLedOn};
@@ -37,8 +38,7 @@ pub(crate) fn flush<B: Books, R: Wait, D: Disk>(
     taker: Taker<B>,
     outlets: Vec<Outlet>,
 ) -> Result<(), Refusal>
-    ensures healthy { OnOk result
-        ((store_state D.state store.new).failed ≡ (store_state D.state store.old).failed) }
+    ensures healthy { OnOk result (NoneFailed D.failures D.outlook store.old store.new) }
     ensures lives { D.honest
         → IsLedOn (store_state D.state store.old) (store_state D.state store.new) }
 {

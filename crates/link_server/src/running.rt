@@ -1,6 +1,7 @@
 // The threads of a life are started and joined.
 ghost use Rattle.std.specs.Prelude.{◌≡◌, ◌<◌, ◌∷◌, ◌++◌, [], IsSome, IsSomeAnd, IsTrue, MatchBool};
 ghost use Rattle.std.specs.Prelude.{◌+◌, OnOk, length, vec_capacity, vec_len};
+ghost use Rattle.flusher.specs.Calls.{NoneFailed};
 ghost use Rattle.link_server.specs.Served.{IsLedOn};
 ghost use Rattle.store.specs.State.{store_state};
 
@@ -42,8 +43,7 @@ pub(crate) fn run<
     taker: Taker<B>,
     parts: Parts<B>,
 ) -> LifeEnd<D, B>
-    ensures healthy { OnOk result.result
-        ((store_state D.state result.store).failed ≡ (store_state D.state store).failed) }
+    ensures healthy { OnOk result.result (NoneFailed D.failures D.outlook store result.store) }
     ensures lives { D.honest
         → IsLedOn (store_state D.state store) (store_state D.state result.store) }
 {
@@ -52,7 +52,7 @@ pub(crate) fn run<
         context.rt,
         move |scope|
             ensures healthy { OnOk result.result
-                ((store_state D.state result.store).failed ≡ (store_state D.state store).failed) }
+                (NoneFailed D.failures D.outlook store result.store) }
             ensures lives { D.honest
                 → IsLedOn (store_state D.state store) (store_state D.state result.store) }
         { run_in(scope, context, server, store, taker, parts) },
@@ -75,8 +75,7 @@ fn run_in<
     taker: Taker<B>,
     parts: Parts<B>,
 ) -> LifeEnd<D, B>
-    ensures healthy { OnOk result.result
-        ((store_state D.state result.store).failed ≡ (store_state D.state store).failed) }
+    ensures healthy { OnOk result.result (NoneFailed D.failures D.outlook store result.store) }
     ensures lives { D.honest
         → IsLedOn (store_state D.state store) (store_state D.state result.store) }
 {

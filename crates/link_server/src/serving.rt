@@ -1,6 +1,7 @@
 // One life of a server.
 ghost use Rattle.std.specs.Prelude.{◌≡◌, ◌≤◌, ◌+◌, length, sum, Err, IfErr, IfOk};
 ghost use Rattle.std.specs.Prelude.{map, option_map, MatchResult, OnOk};
+ghost use Rattle.flusher.specs.Calls.{NoneFailed};
 ghost use Rattle.lw_types.specs.declared.refusal.Refusal.TheVariants.{OutOfMemory};
 ghost use Rattle.server_links.specs.declared.fault.ServeFault.TheVariants.{Refused};
 ghost use Rattle.link_server.specs.Served.{IsLedOn};
@@ -73,8 +74,7 @@ pub fn serve_links<
     clock: &'x C,
 ) -> ServedLife<D>
     ensures shares { IfOk result.result (λ report. sum report.shares.items ≡ report.made) }
-    ensures healthy { OnOk result.result
-        ((store_state D.state result.store).failed ≡ (store_state D.state store).failed) }
+    ensures healthy { OnOk result.result (NoneFailed D.failures D.outlook store result.store) }
     ensures lives { D.honest
         → IsLedOn (store_state D.state store) (store_state D.state result.store) }
 {
@@ -123,8 +123,7 @@ pub fn serve_on<'x, R: Threads + Wait + Sync, D: Disk + Drop, G: Gate + Sync, C:
     times: &'x DiskTimes,
 ) -> ServedLife<D>
     ensures shares { IfOk result.result (λ report. sum report.shares.items ≡ report.made) }
-    ensures healthy { OnOk result.result
-        ((store_state D.state result.store).failed ≡ (store_state D.state store).failed) }
+    ensures healthy { OnOk result.result (NoneFailed D.failures D.outlook store result.store) }
     ensures lives { D.honest
         → IsLedOn (store_state D.state store) (store_state D.state result.store) }
 {
@@ -159,8 +158,7 @@ fn begin<R: Threads + Wait + Sync, D: Disk + Drop, G: Gate + Sync, C: LifeClock 
 ) -> ServedLife<D>
     requires { length links.items ≤ 96 }
     ensures shares { IfOk result.result (λ report. sum report.shares.items ≡ report.made) }
-    ensures healthy { OnOk result.result
-        ((store_state D.state result.store).failed ≡ (store_state D.state store).failed) }
+    ensures healthy { OnOk result.result (NoneFailed D.failures D.outlook store result.store) }
     ensures lives { D.honest
         → IsLedOn (store_state D.state store) (store_state D.state result.store) }
 {
@@ -218,8 +216,7 @@ fn serve_life<
     requires core { core
         ≡ new_core (store_state D.state store).table (store_state D.state store).seq }
     ensures shares { IfOk result.result (λ report. sum report.shares.items ≡ report.made) }
-    ensures healthy { OnOk result.result
-        ((store_state D.state result.store).failed ≡ (store_state D.state store).failed) }
+    ensures healthy { OnOk result.result (NoneFailed D.failures D.outlook store result.store) }
     ensures lives { D.honest
         → IsLedOn (store_state D.state store) (store_state D.state result.store) }
 {

@@ -1,4 +1,5 @@
-use Rattle.std.proofs.Common.{◌≡◌, [], OnOk, sym, subst}
+use Rattle.std.proofs.Common.{[], OnOk, sym, subst}
+use Rattle.flusher.specs.Calls.{NoneFailed}
 use Rattle.store.specs.State.{store_state}
 use Rattle.link_server.specs.Served.{IsLedOn}
 use Rattle.link_server.proofs.running.run_in.Goals.{then-started, else-started}
@@ -11,9 +12,9 @@ returns g c =
       healthy =
           elim c.if-started.branch [
             | then-started w ↦
-                subst (λ r. OnOk r (c.if-started.store.failed ≡ c.args.store.failed)) (sym w.result-is)
-                (subst (λ s. OnOk w.flush-result.result (s.failed ≡ c.args.store.failed)) (sym w.store-is) w.flush-result.ensures.healthy)
-            | else-started w ↦ subst (λ r. OnOk r (c.if-started.store.failed ≡ c.args.store.failed)) (sym w.result-is) (tt {0})
+                subst (λ r. OnOk r (NoneFailed g.D.Disk.failures g.D.Disk.outlook c.args.store c.if-started.store)) (sym w.result-is)
+                (subst (λ s. OnOk w.flush-result.result (NoneFailed g.D.Disk.failures g.D.Disk.outlook c.args.store s)) (sym w.store-is) w.flush-result.ensures.healthy)
+            | else-started w ↦ subst (λ r. OnOk r (NoneFailed g.D.Disk.failures g.D.Disk.outlook c.args.store c.if-started.store)) (sym w.result-is) (tt {0})
           ];
       lives = λ honest.
           elim c.if-started.branch [

@@ -1,4 +1,5 @@
-use Rattle.std.proofs.Common.{OnOk, ◌≡◌, sym, subst}
+use Rattle.std.proofs.Common.{OnOk, sym, subst}
+use Rattle.flusher.specs.Calls.{NoneFailed}
 use Rattle.store.specs.State.{store_state}
 use Rattle.link_server.proofs.Ending.{ended_well}
 use Rattle.link_server.specs.Served.{IsLedOn}
@@ -6,8 +7,9 @@ use Rattle.link_server.proofs.serving.serve_life.Goals as goal
 
 pub returns-clause-healthy : goal.returns-clause-healthy
 returns-clause-healthy g c =
-    ended_well c.run-end.result.result c.served_life.result.result (c.served_life.result.store.failed ≡ c.args.store.failed) c.served_life.ensures.refused
-    (subst (λ s. OnOk c.run-end.result.result (s.failed ≡ c.args.store.failed)) (sym c.served_life.ensures.store) c.run-end.ensures.healthy)
+    let HasNoneFailed = NoneFailed g.D.Disk.failures g.D.Disk.outlook c.args.store in
+    ended_well c.run-end.result.result c.served_life.result.result (HasNoneFailed c.served_life.result.store) c.served_life.ensures.refused
+    (subst (λ s. OnOk c.run-end.result.result (HasNoneFailed s)) (sym c.served_life.ensures.store) c.run-end.ensures.healthy)
 
 pub returns-clause-lives : goal.returns-clause-lives
 returns-clause-lives g c honest =
