@@ -1,9 +1,21 @@
 //! Tests of the public calls of scripts: lines and answers by themselves, reads and writes that
-//! fail, and one script that is too long to be kept. The others stand in the folder `scripts` at
-//! the top.
+//! fail, and one script that is too long to be kept (the others stand in the folder `scripts` at
+//! the top). And of stops: behind each step of a script, and at each of its device calls. What is
+//! opened then is beside a plain reader of images, and what is answered beside a plain model of
+//! worlds.
 #![tactic(auto)]
 
 #[cfg(test)]
+mod failing_tests;
+#[cfg(test)]
 mod full_journal_tests;
 #[cfg(test)]
+mod images;
+#[cfg(test)]
 mod lines_tests;
+#[cfg(test)]
+mod opening_tests;
+#[cfg(test)]
+mod plays;
+#[cfg(test)]
+mod stopping_tests;
