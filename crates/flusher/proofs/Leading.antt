@@ -1,10 +1,9 @@
 -- Lives that go on by several cycles, one after another.
 use denote.Param.Always.{always_mut, mut_next}
 use denote.Param.Members.{Called, Mut}
-use Rattle.std.proofs.Common.{◌≡◌, ◌∙◌, ◌++◌, ℕ, List, [], ◌∷◌, Bool, true, false, Result, Ok, Err, length, ◌<◌, map, flat_map, ap, refl, subst, sym, append_assoc, append-nil}
+use Rattle.std.proofs.Common.{◌≡◌, ◌∙◌, ◌++◌, ℕ, List, [], ◌∷◌, Bool, true, false, Result, Ok, map, flat_map, ap, refl, subst, sym, append_assoc, append-nil}
 use Rattle.std.proofs.lemmas.List.{map-append}
 use Rattle.std.specs.List.{FoldsTo}
-use Rattle.std.specs.Result.{IsErrAnd}
 use Rattle.devices.specs.declared.effect.Effect.{Effect}
 use Rattle.disk.specs.declared.disk.Disk.{Ghosts}
 use Rattle.lw_types.specs.declared.refusal.Refusal.{Refusal}
@@ -17,9 +16,7 @@ use Rattle.flusher.specs.Chain.{FeedGives, IsChain, LeaveInOrder}
 use Rattle.flusher.specs.Lived.{GoOnFrom, HaveLed, IsKnownOfLives, LeadOn}
 use Rattle.flusher.specs.Lives.{LifeEvent, Lives, lives_after, lives_after_all}
 use Rattle.flusher.specs.Lives.LifeEvent.{Opened}
-use Rattle.flusher.specs.OverLives.{AreFlusherLives, IsFlusherLife, MakeUpTo}
 use Rattle.flusher.specs.Serving.{MakeChains}
-use Rattle.flusher.specs.declared.over_lives.FlusherLife.{FlusherLife}
 
 pub all_then : (t : TableState) (lives : Lives) (events : List LifeEvent) (event : LifeEvent)
     → lives_after_all t lives (events ++ event ∷ []) ≡ lives_after t (lives_after_all t lives events) event
@@ -138,42 +135,3 @@ pub counts_then : {D F C V : Type 0} (disk : Ghosts D) (gives : FeedGives F) (ef
 counts_then disk gives effects call most old mid new p q r x y z counts count made chain =
     subst (MakeChains disk gives effects call most old new p r x z) (sym (map-append as_answer counts (count ∷ [])))
     (chains_then disk gives effects call most old mid new p q r x y z (map (λ n. Ok n) counts) (Ok count) made chain)
-
--- so many chains, and one that was refused
-pub refused_then : {D F C V : Type 0} (disk : Ghosts D) (gives : FeedGives F) (effects : V → List Effect) (call : C → V → C → Type 0) (most chains : ℕ)
-    (old mid new : Store D disk) (p q r : F) (x y z : C) (counts : List ℕ) (result : Result (Unit {0}) Refusal) (e : Refusal)
-    → IsErrAnd result (λ answered. answered ≡ e) → length counts < chains
-    → MakeChains disk gives effects call most old mid p q x y (map (λ n. Ok n) counts)
-    → IsChain disk gives effects call most mid new q r y z (Err e)
-    → MakeUpTo disk gives effects call most chains old new p r x z result
-refused_then disk gives effects call most chains old mid new p q r x y z counts (Ok done) e is few made chain = absurd is
-refused_then disk gives effects call most chains old mid new p q r x y z counts (Err answered) e is few made chain = record {
-  counts = counts;
-  many = few;
-  made = chains_then disk gives effects call most old mid new p q r x y z (map (λ n. Ok n) counts) (Err answered) made
-      (subst (λ a. IsChain disk gives effects call most mid new q r y z (Err a)) (sym is) chain);
-}
-
--- one life more behind those that there were
-pub lives_then : {D F C V : Type 0} (disk : Ghosts D) (gives : FeedGives F) (effects : V → List Effect) (call : C → V → C → Type 0)
-    (old mid new : D) (p q r : F) (x y z : C) (lives : List FlusherLife) (life : FlusherLife)
-    → AreFlusherLives disk gives effects call lives old mid p q x y
-    → IsFlusherLife disk gives effects call life mid new q r y z
-    → AreFlusherLives disk gives effects call (lives ++ life ∷ []) old new p r x z
-lives_then disk gives effects call old mid new p q r x y z [] life (same, (same_feed, same_out)) is = (
-  new,
-  (
-    r,
-    (
-      z,
-      (
-        subst (λ d. IsFlusherLife disk gives effects call life d new p r x z) same
-            (subst (λ f. IsFlusherLife disk gives effects call life mid new f r x z) same_feed
-            (subst (λ o. IsFlusherLife disk gives effects call life mid new q r o z) same_out is)),
-        (refl, (refl, refl)),
-      ),
-    ),
-  ),
-)
-lives_then disk gives effects call old mid new p q r x y z (l ∷ lives) life (d, (f, (o, (first, rest)))) is =
-    (d, (f, (o, (first, lives_then disk gives effects call d mid new f q r o y z lives life rest is))))

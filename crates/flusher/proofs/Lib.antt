@@ -1,7 +1,5 @@
 pub mod Calling
 pub mod Chains
-pub mod CoreLives
-pub mod Decided
 pub mod Ends
 pub mod Holding
 pub mod Lasting
@@ -10,7 +8,5 @@ pub mod Leaving
 pub mod Links
 pub mod Living
 pub mod Making
-pub mod Once
 pub mod Single
 pub mod Starts
-pub mod Turned

@@ -1,13 +1,9 @@
 pub mod Calls
 pub mod Chain
-pub mod Coming
-pub mod CoreLives
 pub mod Cycle
-pub mod Deciding
 pub mod Feed
 pub mod Lived
 pub mod Lives
 pub mod OneCycle
-pub mod OverLives
 pub mod Released
 pub mod Serving

@@ -5,26 +5,20 @@
 
 mod chaining;
 mod checkpointing;
-mod core_feed;
-mod core_lives;
 mod cycles;
 mod drawn;
 mod durable;
 mod feed;
 pub mod laws;
-mod over_lives;
 mod released;
 mod room;
 mod serving;
 
 pub use chaining::{ChainLength, chain};
-pub use core_feed::{Coming, CoreEvent, CoreFeed, chain_of_core};
-pub use core_lives::{CoreLife, decide_over_lives};
 pub use cycles::cycle;
 pub use drawn::Drawn;
 pub use durable::Durable;
 pub use feed::{Feed, StoredBatches};
-pub use over_lives::{CallNumber, FlusherLife, flush_new_store, flush_over_lives};
 pub use released::Released;
 pub use room::{MOST_EFFECTS, Room};
 pub use serving::serve;

@@ -2,7 +2,8 @@
 use crate::over_lives_tests::{calls_of_opening, crash};
 use devices::Command;
 use disk::Image;
-use flusher::{CallNumber, ChainLength, Coming, CoreEvent, CoreLife, Released, decide_over_lives};
+use flusher::{ChainLength, Released};
+use flusher_lives::{CallNumber, Coming, CoreEvent, CoreLife, decide_over_lives};
 use lw_types::Refusal;
 use session_core::Moment;
 use std::alloc::Global;

@@ -2,7 +2,8 @@
 use crate::chains_tests::batches;
 use crate::flusher_tests::is_provisioned;
 use disk::{Image, Sim};
-use flusher::{CallNumber, ChainLength, FlusherLife, Released, flush_new_store};
+use flusher::{ChainLength, Released};
+use flusher_lives::{CallNumber, FlusherLife, flush_new_store};
 use lw_types::Refusal;
 use std::alloc::Global;
 use store::{disk_len, open_back};

@@ -1,7 +1,16 @@
 -- What serving makes of a store.
-use Rattle.std.specs.Prelude.{ℕ, List}
+use Rattle.std.specs.Prelude.{◌≡◌, ◌≤◌, ◌⊎◌, ℕ, true, List}
+use Rattle.disk.specs.declared.disk.Disk.{Ghosts}
+use Rattle.lw_types.specs.declared.refusal.Refusal.{Refusal}
+use Rattle.lw_types.specs.declared.refusal.Refusal.TheVariants.{Damaged, DeviceFailed, Failed}
+use Rattle.lw_types.specs.declared.refusal.Refusal.TheVariants.{OutOfMemory, OutOfStep}
+use Rattle.server_links.specs.declared.fault.ServeFault.{ServeFault}
+use Rattle.server_links.specs.declared.fault.ServeFault.TheVariants.{Listen, Refused}
 use Rattle.sessions.specs.Table.{TableState}
-use Rattle.store.specs.State.{StoreState}
+use Rattle.store.specs.declared.areas.TheConstants.{LAST_GENERATION}
+use Rattle.store.specs.declared.store.Store.{Store}
+use Rattle.store.specs.State.{StoreState, store_state}
+use Rattle.flusher.specs.Calls.{LastFailed, NoneFailed}
 use Rattle.flusher.specs.Lived.{HaveLed}
 use Rattle.flusher.specs.Lives.{LifeEvent, Lives, lives_after_all}
 
@@ -10,3 +19,28 @@ abbrev pub IsLedOn : StoreState → StoreState → Type 0
 IsLedOn here there =
     (t : TableState) (number : ℕ) (lives : Lives) → HaveLed lives t number here
     → (events : List LifeEvent) × HaveLed (lives_after_all t lives events) t number there
+
+-- Why serving was refused, by the refusal. Where a call of the disk failed it was the last one, and
+-- else none did: there was no memory, a batch was out of step, the store had failed before, or its
+-- checkpoints have no further generation.
+abbrev pub IsRefused : {D : Type 0} (disk : Ghosts D) → Store D disk → Store D disk → Refusal → Type 0
+IsRefused disk old new DeviceFailed = LastFailed disk.failures disk.outlook old new
+IsRefused disk old new OutOfMemory = NoneFailed disk.failures disk.outlook old new
+IsRefused disk old new OutOfStep = NoneFailed disk.failures disk.outlook old new
+IsRefused disk old new Failed =
+    NoneFailed disk.failures disk.outlook old new × (old.failed ≡ true)
+IsRefused disk old new Damaged =
+    NoneFailed disk.failures disk.outlook old new
+    × (LAST_GENERATION ≤ (store_state disk.state new).log.generation)
+IsRefused disk old new other = ⊥
+
+-- why a life has no report: nobody could come in, or it was refused
+abbrev pub IsFaultOf : {D : Type 0} (disk : Ghosts D) → Store D disk → Store D disk → ServeFault
+    → Type 0
+IsFaultOf disk old new Listen = new ≡ old
+IsFaultOf disk old new (Refused refusal) = IsRefused disk old new refusal
+
+-- why nothing is told of a life that ended well: there was no memory, or what was decided isn't
+-- what was taken
+abbrev pub IsUntold : ServeFault → Type 0
+IsUntold fault = (fault ≡ Refused OutOfMemory) ⊎ (fault ≡ Refused OutOfStep)

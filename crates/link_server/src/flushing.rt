@@ -1,10 +1,10 @@
 // The flusher commits what was decided, and lets its effects out.
-ghost use Rattle.std.specs.Prelude.{◌≡◌, ℕ, IsTrue, OnOk, false, slice_index_or};
+ghost use Rattle.std.specs.Prelude.{◌≡◌, ◌+◌, ℕ, IsTrue, IfErr, IfOk, OnOk, false, slice_index_or};
 ghost use Rattle.directory.specs.declared.names.Directory.{Directory};
 ghost use Rattle.flusher.specs.Calls.{NoneFailed};
 ghost use Rattle.flusher.specs.Released.{effects_of_all};
 ghost use Rattle.link_server.specs.Marks.{AreLinksMarked, with_link};
-ghost use Rattle.link_server.specs.Served.{IsLedOn};
+ghost use Rattle.link_server.specs.Served.{IsLedOn, IsRefused};
 ghost use Rattle.server_links.specs.Routing.{IsRouted};
 ghost use Rattle.store.specs.State.{store_state};
 
@@ -27,8 +27,9 @@ use timed_disk::DiskTimes;
 const MOST_RINGS: usize = MOST_PLACES as usize + APPLICATIONS;
 
 /// Commits, and lets effects out, until nothing is decided any more and all is committed; then
-/// tells the senders that nothing more comes. A refusal closes the links, and what waits for them
-/// is lost. Where it ends well no call of the disk failed.
+/// tells the senders that nothing more comes, and gives how many decisions were taken. A refusal
+/// closes the links, and what waits for them is lost. Where it ends well no call of the disk
+/// failed, and all that was taken is committed.
 pub(crate) fn flush<B: Books, R: Wait, D: Disk>(
     rt: &R,
     alloc: Global,
@@ -37,8 +38,11 @@ pub(crate) fn flush<B: Books, R: Wait, D: Disk>(
     store: &mut Store<D>,
     taker: Taker<B>,
     outlets: Vec<Outlet>,
-) -> Result<(), Refusal>
+) -> Result<u64, Refusal>
     ensures healthy { OnOk result (NoneFailed D.failures D.outlook store.old store.new) }
+    ensures committed { IfOk result (λ taken. (store_state D.state store.new).seq + taker
+        ≡ (store_state D.state store.old).seq + taken) }
+    ensures refused { IfErr result (IsRefused D.Disk store.old store.new) }
     ensures lives { D.honest
         → IsLedOn (store_state D.state store.old) (store_state D.state store.new) }
 {
@@ -62,7 +66,8 @@ pub(crate) fn flush<B: Books, R: Wait, D: Disk>(
     }
     finish(outlets);
     server.ring_senders();
-    served
+    served?;
+    Ok(feed.share())
 }
 
 // Nothing more comes by these rings.

@@ -1,8 +1,8 @@
 // The threads of a life are started and joined.
 ghost use Rattle.std.specs.Prelude.{◌≡◌, ◌<◌, ◌∷◌, ◌++◌, [], IsSome, IsSomeAnd, IsTrue, MatchBool};
-ghost use Rattle.std.specs.Prelude.{◌+◌, OnOk, length, vec_capacity, vec_len};
+ghost use Rattle.std.specs.Prelude.{◌+◌, IfErr, IfOk, OnOk, length, vec_capacity, vec_len};
 ghost use Rattle.flusher.specs.Calls.{NoneFailed};
-ghost use Rattle.link_server.specs.Served.{IsLedOn};
+ghost use Rattle.link_server.specs.Served.{IsLedOn, IsRefused};
 ghost use Rattle.store.specs.State.{store_state};
 
 use crate::flushing::flush;
@@ -19,12 +19,12 @@ use std::thread;
 use std::thread::{JoinHandle, Scope, Threads};
 use store::Store;
 
-/// What is left of a life: the store, how it ended, and the seats that came back, in the order of
-/// the links and the closer's last.
+/// What is left of a life: the store, how many decisions were taken and committed, or why not all
+/// were, and the seats that came back, in the order of the links and the closer's last.
 #[derive(Drop)]
 pub(crate) struct LifeEnd<D: Disk, B: Books> {
     pub(crate) store: Store<D>,
-    pub(crate) result: Result<(), Refusal>,
+    pub(crate) result: Result<u64, Refusal>,
     pub(crate) seats: Vec<Seat<B>>,
 }
 
@@ -44,6 +44,9 @@ pub(crate) fn run<
     parts: Parts<B>,
 ) -> LifeEnd<D, B>
     ensures healthy { OnOk result.result (NoneFailed D.failures D.outlook store result.store) }
+    ensures committed { IfOk result.result (λ taken. (store_state D.state result.store).seq + taker
+        ≡ (store_state D.state store).seq + taken) }
+    ensures refused { IfErr result.result (IsRefused D.Disk store result.store) }
     ensures lives { D.honest
         → IsLedOn (store_state D.state store) (store_state D.state result.store) }
 {
@@ -53,6 +56,10 @@ pub(crate) fn run<
         move |scope|
             ensures healthy { OnOk result.result
                 (NoneFailed D.failures D.outlook store result.store) }
+            ensures committed { IfOk result.result
+                (λ taken. (store_state D.state result.store).seq + taker
+                ≡ (store_state D.state store).seq + taken) }
+            ensures refused { IfErr result.result (IsRefused D.Disk store result.store) }
             ensures lives { D.honest
                 → IsLedOn (store_state D.state store) (store_state D.state result.store) }
         { run_in(scope, context, server, store, taker, parts) },
@@ -76,6 +83,9 @@ fn run_in<
     parts: Parts<B>,
 ) -> LifeEnd<D, B>
     ensures healthy { OnOk result.result (NoneFailed D.failures D.outlook store result.store) }
+    ensures committed { IfOk result.result (λ taken. (store_state D.state result.store).seq + taker
+        ≡ (store_state D.state store).seq + taken) }
+    ensures refused { IfErr result.result (IsRefused D.Disk store result.store) }
     ensures lives { D.honest
         → IsLedOn (store_state D.state store) (store_state D.state result.store) }
 {

@@ -4,7 +4,8 @@ ghost use Rattle.std.specs.Prelude.{map, option_map, MatchResult, OnOk};
 ghost use Rattle.flusher.specs.Calls.{NoneFailed};
 ghost use Rattle.lw_types.specs.declared.refusal.Refusal.TheVariants.{OutOfMemory};
 ghost use Rattle.server_links.specs.declared.fault.ServeFault.TheVariants.{Refused};
-ghost use Rattle.link_server.specs.Served.{IsLedOn};
+ghost use Rattle.server_links.specs.Faults.{IsOfBeginning};
+ghost use Rattle.link_server.specs.Served.{IsFaultOf, IsLedOn, IsUntold};
 ghost use Rattle.session_core.specs.Core.{new_core};
 ghost use Rattle.store.specs.State.{store_state};
 
@@ -55,9 +56,10 @@ use timed_disk::DiskTimes;
 /// again each second, and the closer where there is no memory. It need not return: an input may
 /// never end.
 ///
-/// Of all this the contract says that the shares sum to the decisions, that there is no report
-/// where a call of the disk failed, and that the store was led on from where it was; what it calls
-/// is proved for itself, and the rest is shown by tests on sockets.
+/// Of all this the contract says that the shares sum to the decisions, that these are committed
+/// where there is a report, as many as the store's number grew by, and no call of the disk failed;
+/// why there is none; and that the store was led on from where it was. What it calls is proved for
+/// itself, and the rest is shown by tests on sockets.
 pub fn serve_links<
     'x,
     R: Threads + Wait + Sync,
@@ -75,6 +77,9 @@ pub fn serve_links<
 ) -> ServedLife<D>
     ensures shares { IfOk result.result (λ report. sum report.shares.items ≡ report.made) }
     ensures healthy { OnOk result.result (NoneFailed D.failures D.outlook store result.store) }
+    ensures committed { IfOk result.result (λ report. (store_state D.state result.store).seq
+        ≡ (store_state D.state store).seq + report.made) }
+    ensures refused { IfErr result.result (IsFaultOf D.Disk store result.store) }
     ensures lives { D.honest
         → IsLedOn (store_state D.state store) (store_state D.state result.store) }
 {
@@ -124,6 +129,9 @@ pub fn serve_on<'x, R: Threads + Wait + Sync, D: Disk + Drop, G: Gate + Sync, C:
 ) -> ServedLife<D>
     ensures shares { IfOk result.result (λ report. sum report.shares.items ≡ report.made) }
     ensures healthy { OnOk result.result (NoneFailed D.failures D.outlook store result.store) }
+    ensures committed { IfOk result.result (λ report. (store_state D.state result.store).seq
+        ≡ (store_state D.state store).seq + report.made) }
+    ensures refused { IfErr result.result (IsFaultOf D.Disk store result.store) }
     ensures lives { D.honest
         → IsLedOn (store_state D.state store) (store_state D.state result.store) }
 {
@@ -159,6 +167,9 @@ fn begin<R: Threads + Wait + Sync, D: Disk + Drop, G: Gate + Sync, C: LifeClock 
     requires { length links.items ≤ 96 }
     ensures shares { IfOk result.result (λ report. sum report.shares.items ≡ report.made) }
     ensures healthy { OnOk result.result (NoneFailed D.failures D.outlook store result.store) }
+    ensures committed { IfOk result.result (λ report. (store_state D.state result.store).seq
+        ≡ (store_state D.state store).seq + report.made) }
+    ensures refused { IfErr result.result (IsFaultOf D.Disk store result.store) }
     ensures lives { D.honest
         → IsLedOn (store_state D.state store) (store_state D.state result.store) }
 {
@@ -176,9 +187,12 @@ fn begin<R: Threads + Wait + Sync, D: Disk + Drop, G: Gate + Sync, C: LifeClock 
     serve_life::<Brand, R, D, G, C>(context, store, places, core, made, taken)
 }
 
+// A life that isn't begun.
 fn failed<D: Disk>(alloc: Global, store: Store<D>, fault: ServeFault) -> ServedLife<D>
+    requires { IsOfBeginning fault }
     ensures store { result.store ≡ store }
     ensures fault { result.result ≡ Err fault }
+    ensures refused { IfErr result.result (IsFaultOf D.Disk store result.store) }
 {
     ServedLife {
         store,
@@ -217,6 +231,9 @@ fn serve_life<
         ≡ new_core (store_state D.state store).table (store_state D.state store).seq }
     ensures shares { IfOk result.result (λ report. sum report.shares.items ≡ report.made) }
     ensures healthy { OnOk result.result (NoneFailed D.failures D.outlook store result.store) }
+    ensures committed { IfOk result.result (λ report. (store_state D.state result.store).seq
+        ≡ (store_state D.state store).seq + report.made) }
+    ensures refused { IfErr result.result (IsFaultOf D.Disk store result.store) }
     ensures lives { D.honest
         → IsLedOn (store_state D.state store) (store_state D.state result.store) }
 {
@@ -261,6 +278,8 @@ fn served_life<B: Books + Send + Sync, D: Disk + Drop>(
     requires { all ≡ B.made_parts }
     ensures store { result.store ≡ end.store }
     ensures shares { IfOk result.result (λ report. sum report.shares.items ≡ report.made) }
+    ensures told { IfOk end.result (λ taken.
+        MatchResult result.result (λ report. report.made ≡ taken) IsUntold) }
     ensures refused { IfErr end.result (λ refusal. result.result ≡ Err (Refused refusal)) }
 {
     let LiveServer {
@@ -279,7 +298,7 @@ fn served_life<B: Books + Send + Sync, D: Disk + Drop>(
         None => Vec::new(alloc),
     };
     let result = match result {
-        Ok(()) => report(alloc, sessions.into_inner(), &signals, all, seats),
+        Ok(taken) => report(alloc, sessions.into_inner(), &signals, all, seats, taken),
         Err(refusal) => Err(ServeFault::Refused(refusal)),
     };
     ServedLife {
@@ -333,15 +352,18 @@ fn waiting_lines(alloc: Global, inlets: Vec<Inlet>) -> Result<Vec<WaitingLines>,
     Ok(lines)
 }
 
-// A seat that didn't come back is of a thread that was never started, for want of memory.
+// A seat that didn't come back is of a thread that was never started, for want of memory. Of a life
+// whose decisions weren't all taken nothing is told but that.
 fn report<B: Books>(
     alloc: Global,
     shared: Shared<B>,
     signals: &Signals,
     all: u64,
     seats: Vec<Seat<B>>,
+    taken: u64,
 ) -> Result<LifeReport, ServeFault>
     requires { all ≡ B.made_parts }
+    ensures told { MatchResult result (λ report. report.made ≡ taken) IsUntold }
     ensures sum { IfOk result (λ report. sum report.shares.items ≡ report.made) }
     ensures shares { IfOk result (λ report. report.shares.items ≡ map (λ s. s.made) seats.items) }
 {
@@ -351,6 +373,9 @@ fn report<B: Books>(
     let Some(made) = shared.settle(all, seats) else {
         return Err(ServeFault::Refused(Refusal::OutOfMemory));
     };
+    if made != taken {
+        return Err(ServeFault::Refused(Refusal::OutOfStep));
+    }
     Ok(LifeReport {
         dropped: signals.dropped(),
         faulted: signals.faulted(),

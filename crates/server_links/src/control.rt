@@ -1,4 +1,8 @@
 // The socket over which operators speak with a life, beside the store's file.
+ghost use Rattle.std.specs.Prelude.{◌≡◌, IfErr};
+ghost use Rattle.lw_types.specs.declared.refusal.Refusal.TheVariants.{OutOfMemory};
+ghost use Rattle.server_links.specs.Faults.{IsOfBeginning};
+
 use crate::fault::ServeFault;
 use crate::watching::Watch;
 use lw_types::Refusal;
@@ -33,7 +37,9 @@ pub struct ControlSocket {
 
 impl ControlSocket {
     /// The control socket of a life of a store with so many slots.
-    pub fn new(alloc: Global, listener: UnixListener, slots: Slots) -> Result<Self, ServeFault> {
+    pub fn new(alloc: Global, listener: UnixListener, slots: Slots) -> Result<Self, ServeFault>
+        ensures { IfErr result IsOfBeginning }
+    {
         let Ok(latch) = latch_of(&listener) else {
             return Err(ServeFault::Listen);
         };
@@ -48,7 +54,9 @@ impl ControlSocket {
         listener: UnixListener,
         latch: UnixStream,
         slots: Slots,
-    ) -> Result<Self, Refusal> {
+    ) -> Result<Self, Refusal>
+        ensures { IfErr result (λ e. e ≡ OutOfMemory) }
+    {
         let mut desks = Vec::new(alloc);
         for _number in 0..ATTENDANTS {
             desks.push(Mutex::new(None))?;

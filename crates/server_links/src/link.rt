@@ -1,6 +1,7 @@
 // A link to a gateway or an application, and the place that links have in a life.
-ghost use Rattle.std.specs.Prelude.{◌≡◌, length, IfOk, MatchResult};
+ghost use Rattle.std.specs.Prelude.{◌≡◌, length, IfErr, MatchResult};
 ghost use Rattle.lw_types.specs.declared.refusal.Refusal.TheVariants.{OutOfMemory};
+ghost use Rattle.server_links.specs.Faults.{IsOfBeginning};
 
 use crate::fault::ServeFault;
 use crate::writing::Spare;
@@ -183,7 +184,7 @@ pub fn accept(
     listener: TcpListener,
     count: LinkCount,
 ) -> Result<Vec<Link>, ServeFault>
-    ensures { IfOk result (λ links. length links.items ≡ count) }
+    ensures { MatchResult result (λ links. length links.items ≡ count) IsOfBeginning }
 {
     let mut links = Vec::new(alloc);
     for _number in 0..count.get() {
@@ -196,7 +197,9 @@ pub fn accept(
 }
 
 // A connection that is gone before it is accepted counts as a failure that passes.
-fn accept_one(listener: &TcpListener) -> Result<TcpStream, ServeFault> {
+fn accept_one(listener: &TcpListener) -> Result<TcpStream, ServeFault>
+    ensures { IfErr result IsOfBeginning }
+{
     for _ in 0..ATTEMPTS {
         if let Ok((stream, _)) = listener.accept() {
             return Ok(stream);

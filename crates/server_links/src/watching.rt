@@ -1,4 +1,7 @@
 // Operators who watch are told what happens.
+ghost use Rattle.std.specs.Prelude.{◌≡◌, IfErr};
+ghost use Rattle.lw_types.specs.declared.refusal.Refusal.TheVariants.{OutOfMemory};
+
 use lw_types::Refusal;
 use sights::Sight;
 use std::alloc::{AllocError, Global};
@@ -41,7 +44,9 @@ pub struct Watch {
 
 impl Watch {
     /// Nobody watches.
-    pub fn new(alloc: Global) -> Result<Self, Refusal> {
+    pub fn new(alloc: Global) -> Result<Self, Refusal>
+        ensures { IfErr result (λ e. e ≡ OutOfMemory) }
+    {
         let mut lookouts = Vec::new(alloc);
         for _number in 0..MOST_WATCHERS {
             lookouts.push(Lookout {

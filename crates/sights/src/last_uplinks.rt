@@ -1,5 +1,5 @@
 // How each device was heard last.
-ghost use Rattle.std.specs.Prelude.{◌≡◌, MatchResult};
+ghost use Rattle.std.specs.Prelude.{◌≡◌, IfErr, MatchResult};
 ghost use Rattle.lw_types.specs.declared.refusal.Refusal.TheVariants.{OutOfMemory};
 
 use crate::FrameName;
@@ -25,7 +25,9 @@ pub struct LastUplinks {
 
 impl LastUplinks {
     /// No device was heard yet. All the memory that it ever takes is taken here, 40 bytes a slot.
-    pub fn new(alloc: Global, slots: Slots) -> Result<Self, Refusal> {
+    pub fn new(alloc: Global, slots: Slots) -> Result<Self, Refusal>
+        ensures { IfErr result (λ e. e ≡ OutOfMemory) }
+    {
         let mut by_slot = Vec::new(alloc);
         by_slot.resize(slots.get() as usize, None)?;
         Ok(LastUplinks { by_slot })

@@ -1,20 +1,41 @@
-use Rattle.std.proofs.Common.{[], OnOk, sym, subst}
+use Rattle.std.proofs.Common.{◌≡◌, ◌+◌, [], IfErr, IfOk, OnOk, sym, subst}
 use Rattle.flusher.specs.Calls.{NoneFailed}
+use Rattle.flusher.proofs.Calling.{none_yet}
 use Rattle.store.specs.State.{store_state}
-use Rattle.link_server.specs.Served.{IsLedOn}
+use Rattle.link_server.specs.Served.{IsLedOn, IsRefused}
 use Rattle.link_server.proofs.running.run_in.Goals.{then-started, else-started}
 use Rattle.link_server.proofs.running.run_in.Goals as goal
 
 -- where each thread is there, the flusher led the store on; else it is as it was
 pub returns : goal.returns
 returns g c =
+    let failures = g.D.Disk.failures in
+    let outlook = g.D.Disk.outlook in
+    let old = c.args.store in
+    let new = c.if-started.store in
     record {
       healthy =
           elim c.if-started.branch [
             | then-started w ↦
-                subst (λ r. OnOk r (NoneFailed g.D.Disk.failures g.D.Disk.outlook c.args.store c.if-started.store)) (sym w.result-is)
-                (subst (λ s. OnOk w.flush-result.result (NoneFailed g.D.Disk.failures g.D.Disk.outlook c.args.store s)) (sym w.store-is) w.flush-result.ensures.healthy)
-            | else-started w ↦ subst (λ r. OnOk r (NoneFailed g.D.Disk.failures g.D.Disk.outlook c.args.store c.if-started.store)) (sym w.result-is) (tt {0})
+                subst (λ r. OnOk r (NoneFailed failures outlook old new)) (sym w.result-is)
+                (subst (λ s. OnOk w.flush-result.result (NoneFailed failures outlook old s)) (sym w.store-is) w.flush-result.ensures.healthy)
+            | else-started w ↦ subst (λ r. OnOk r (NoneFailed failures outlook old new)) (sym w.result-is) (tt {0})
+          ];
+      committed =
+          elim c.if-started.branch [
+            | then-started w ↦
+                subst (λ r. IfOk r (λ taken. new.seq + c.args.taker ≡ old.seq + taken)) (sym w.result-is)
+                (subst (λ s. IfOk w.flush-result.result (λ taken. s.seq + c.args.taker ≡ old.seq + taken)) (sym w.store-is) w.flush-result.ensures.committed)
+            | else-started w ↦ subst (λ r. IfOk r (λ taken. new.seq + c.args.taker ≡ old.seq + taken)) (sym w.result-is) (tt {0})
+          ];
+      refused =
+          elim c.if-started.branch [
+            | then-started w ↦
+                subst (λ r. IfErr r (IsRefused g.D.Disk old new)) (sym w.result-is)
+                (subst (λ s. IfErr w.flush-result.result (IsRefused g.D.Disk old s)) (sym w.store-is) w.flush-result.ensures.refused)
+            | else-started w ↦
+                subst (λ r. IfErr r (IsRefused g.D.Disk old new)) (sym w.result-is)
+                (subst (λ s. NoneFailed failures outlook old s) (sym w.store-is) (none_yet failures outlook old))
           ];
       lives = λ honest.
           elim c.if-started.branch [

@@ -1,0 +1,5 @@
+pub mod CoreLives
+pub mod Decided
+pub mod MoreLives
+pub mod Once
+pub mod Turned

@@ -1,0 +1,46 @@
+-- What comes to a core between the takes of a flusher, and what it makes of that.
+use Rattle.std.specs.Prelude.{◌≡◌, ℕ, List, [], ◌∷◌, take, drop, Option, Result, MatchResult, Vec}
+use Rattle.std.specs.Global.{Global}
+use Rattle.std.specs.List.{FoldsTo}
+use Rattle.devices.specs.declared.command.Command.TheVariants as commands
+use Rattle.lw_types.specs.declared.refusal.Refusal.{Refusal}
+use Rattle.lw_types.specs.declared.refusal.Refusal.TheVariants.{OutOfMemory}
+use Rattle.sessions.specs.declared.decision.Decision.{Decision}
+use Rattle.session_core.specs.Core.{CoreState, IsLawfulCore}
+use Rattle.session_core.specs.Deciding.{after_taking}
+use Rattle.session_core.specs.Events.{Asks, Hears, IsTurn, Ticks}
+use Rattle.session_core.specs.declared.turn.Turn.{Turn}
+use Rattle.flusher_lives.specs.declared.core_feed.CoreEvent.{CoreEvent}
+use Rattle.flusher_lives.specs.declared.core_feed.CoreEvent.TheVariants.{Copy, Provision, Queue}
+use Rattle.flusher_lives.specs.declared.core_feed.CoreEvent.TheVariants.{QueueMac, Tick}
+use Rattle.flusher_lives.specs.declared.core_feed.CoreFeed.{CoreFeed}
+
+-- what is an event's own, behind the closings that are due at its moment
+abbrev pub own_of : CoreEvent → CoreState → Option Refusal → CoreState → Type 0
+own_of (Copy copy) = Hears copy
+own_of (Provision value) = Asks (commands.Provision value)
+own_of (Queue value) = Asks (commands.Queue value)
+own_of (QueueMac value) = Asks (commands.QueueMac value)
+own_of Tick = Ticks
+
+-- an event came to a core at its moment
+abbrev pub Comes : CoreState → ℕ × CoreEvent → CoreState → Type 0
+Comes old at new = (turn : Turn) × IsTurn old at.0 (own_of at.1) turn new
+
+-- what comes before the next take
+abbrev pub coming_first : List (Vec (ℕ × CoreEvent) Global) → List (ℕ × CoreEvent)
+coming_first [] = []
+coming_first (coming ∷ rest) = coming.items
+
+-- A core as a feed: what comes before this take came to it, one after another, and then it was
+-- taken from.
+pub record GivesBehindComing (old : CoreFeed) (most : ℕ) (answer : Result (List Decision) Refusal)
+    (new : CoreFeed) : Type 0 where
+  pub between : CoreState
+  pub came : FoldsTo Comes old.core (coming_first old.coming.items) between
+  pub rest : new.coming.items ≡ drop 1 old.coming.items
+  pub lawful : IsLawfulCore between
+  pub took : MatchResult answer
+      (λ batch. (batch ≡ take most between.decisions.log)
+      × (new.core ≡ record between { decisions = after_taking between.decisions most }))
+      (λ e. (e ≡ OutOfMemory) × (new.core ≡ between))

@@ -1,0 +1,4 @@
+pub mod Coming
+pub mod CoreLives
+pub mod Deciding
+pub mod OverLives

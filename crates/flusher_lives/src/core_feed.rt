@@ -1,0 +1,135 @@
+// A core as a feed: what is decided between its takes.
+ghost use Rattle.std.specs.Global.{Global};
+ghost use Rattle.std.specs.Prelude.{◌≢◌, IfErr, OnOk, Vec};
+ghost use Rattle.std.specs.List.{FoldsTo};
+ghost use Rattle.flusher.specs.Chain.{IsChain};
+ghost use Rattle.flusher.specs.Lived.{LeadOn};
+ghost use Rattle.flusher.specs.Released.{effects_of_all};
+ghost use Rattle.flusher_lives.specs.Coming.{Comes, GivesBehindComing};
+ghost use Rattle.flusher_lives.specs.Deciding.{CommitsDecided, IsInStep, StaysInStep};
+ghost use Rattle.lw_types.specs.declared.refusal.Refusal.TheVariants.{OutOfStep};
+ghost use Rattle.store.specs.State.{store_state};
+
+use devices::{MacQueueing, Provisioning, Queueing};
+use disk::Disk;
+use flusher::{ChainLength, Feed, Most, Released, chain};
+use lw_types::{FrameCopy, Refusal};
+use session_core::{Core, Moment};
+use sessions::Batch;
+use std::alloc::Global;
+use std::collections::VecDeque;
+use store::Store;
+
+/// What comes to a core.
+#[derive(Drop)]
+pub enum CoreEvent {
+    /// A gateway heard a frame.
+    Copy(FrameCopy),
+    /// An application asks for this.
+    Provision(Provisioning),
+    Queue(Queueing),
+    QueueMac(MacQueueing),
+    /// Time passes.
+    Tick,
+}
+
+/// What comes between two takes, each at its moment.
+pub type Coming = Vec<(Moment, CoreEvent)>;
+
+/// A core from which a flusher takes, with what comes to it before each of the takes. This stands
+/// for whatever the threads of a server do that share the core: the flusher sees it at its takes
+/// alone, and between two of them any events may come, in any order.
+#[derive(Drop)]
+pub struct CoreFeed {
+    pub(crate) core: Core,
+    coming: VecDeque<Coming>,
+}
+
+impl CoreFeed {
+    ghost use Rattle.std.specs.Prelude.{◌≡◌};
+
+    /// A feed of this core, and of what comes to it before each take. Takes no memory.
+    pub fn new(core: Core, coming: VecDeque<Coming>) -> Self
+        ensures core { result.core ≡ core }
+        ensures coming { result.coming.items ≡ coming.items }
+    {
+        CoreFeed { core, coming }
+    }
+}
+
+impl Feed for CoreFeed {
+    ghost use Rattle.flusher_lives.specs.Coming.{GivesBehindComing};
+
+    ghost gives = { GivesBehindComing };
+
+    fn next(&mut self, most: Most) -> Result<Batch, Refusal> {
+        if let Some(coming) = self.coming.pop_front() {
+            play_all(&mut self.core, coming);
+        }
+        self.core.take(most)
+    }
+}
+
+fn play_all(core: &mut Core, coming: Coming)
+    ensures { FoldsTo Comes core.old coming.items core.new }
+{
+    for (moment, event) in coming {
+        take_event(core, moment, event);
+    }
+}
+
+fn take_event(core: &mut Core, moment: Moment, event: CoreEvent)
+    ensures { Comes core.old (moment, event) core.new }
+{
+    let _ = match event {
+        CoreEvent::Copy(copy) => core.hear(moment, copy),
+        CoreEvent::Provision(value) => core.provision(moment, value),
+        CoreEvent::Queue(value) => core.queue(moment, value),
+        CoreEvent::QueueMac(value) => core.queue_mac(moment, value),
+        CoreEvent::Tick => core.tick(moment),
+    };
+}
+
+/// A [`chain`] of what a core decides, on the store that its decisions go on from. What the store
+/// has then is a beginning of what was decided: of the decisions that waited and those that were
+/// made while the chain took, in order. So is what a crash leaves, at any moment: where the chain
+/// is refused the batch in doubt is the next one. It is never refused with `OutOfStep`, since a
+/// batch of a core continues what it gave before.
+pub fn chain_of_core<D: Disk, C: FnMut(Vec<Released>)>(
+    store: &mut Store<D>,
+    feed: &mut CoreFeed,
+    alloc: Global,
+    most: ChainLength,
+    out: &mut C,
+) -> Result<usize, Refusal>
+    requires out { C.IsAlwaysCallable out.old }
+    requires goes_on { IsInStep (store_state D.state store.old) feed.old.core.decisions }
+    ensures callable { C.IsAlwaysCallable out.new }
+    ensures chain { IsChain D.Disk GivesBehindComing
+        (λ (released : Vec Released Global). effects_of_all released.items)
+        (λ before released after. C.step before released tt after) most
+        store.old store.new feed.old feed.new out.old out.new result }
+    ensures decided { CommitsDecided D.honest
+        (λ (released : Vec Released Global). effects_of_all released.items)
+        (λ before released after. C.step before released tt after)
+        (store_state D.state store.old) (store_state D.state store.new)
+        feed.old.core.decisions out.old out.new }
+    ensures whole { OnOk result (StaysInStep D.honest
+        (λ (released : Vec Released Global). effects_of_all released.items)
+        (λ before released after. C.step before released tt after)
+        (store_state D.state store.old) (store_state D.state store.new)
+        feed.old.core.decisions feed.new.core.decisions out.old out.new) }
+    ensures in_step { IfErr result (λ e. e ≢ OutOfStep) }
+
+    // Whatever lives led the store here go on, and what left besides was given to `out`, in order.
+    ensures lives { D.honest → LeadOn (λ (released : Vec Released Global).
+        effects_of_all released.items) (λ before released after. C.step before released tt after)
+        (store_state D.state store.old) (store_state D.state store.new) out.old out.new }
+{
+    sessions::laws::folding();
+    sessions::laws::joining();
+    sessions::laws::composing();
+    // what a core keeps: its decisions continue each other
+    let _made = feed.core.made();
+    chain(store, feed, alloc, most, out)
+}

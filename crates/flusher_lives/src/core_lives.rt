@@ -1,0 +1,158 @@
+// A flusher over several lives of its store, each with a core of its own, on a simulated disk.
+ghost use Rattle.std.specs.Global.{Global};
+ghost use Rattle.std.specs.Prelude.{List, Vec, ℕ, length};
+ghost use Rattle.disk.specs.State.{EveryImage, IsPermitted};
+ghost use Rattle.flusher.specs.Released.{effects_of_all};
+ghost use Rattle.flusher_lives.specs.CoreLives.{AreCoreLives, DecidesUpTo, IsCoreLife};
+ghost use Rattle.flusher_lives.specs.Deciding.{CommitsDecided, EachHolds, HaveDecided};
+ghost use Rattle.flusher_lives.specs.Deciding.{KeepsDecided, LeaveInAll, NumberedTable};
+ghost use Rattle.session_core.specs.State.{new_decisions};
+ghost use Rattle.store.specs.Image.{HoldsTable};
+ghost use Rattle.store.specs.State.{store_state};
+
+use crate::over_lives::reopen;
+use crate::{CallNumber, Coming, CoreFeed, chain_of_core};
+use disk::{Disk, Image, Sim};
+use flusher::{ChainLength, Released};
+use lw_types::Refusal;
+use session_core::Core;
+use std::alloc::Global;
+use std::collections::VecDeque;
+use store::Store;
+
+/// A life of a server's store: it is opened, behind a crash or without one, and a core begins with
+/// what it has and decides what comes; a flusher commits it, until the power fails or it ends.
+#[derive(Drop)]
+pub struct CoreLife {
+    /// What a crash before it left of the disk; or there was none, and the disk is as it was.
+    pub crash: Option<Image>,
+    /// The call of the disk that fails, counted from the opening's first one; or none does.
+    pub failing: Option<CallNumber>,
+    /// What comes to the core before each take.
+    pub coming: VecDeque<Coming>,
+    /// How many chains are made, where none is refused.
+    pub chains: u64,
+    /// How many batches each of them has at most.
+    pub most: ChainLength,
+}
+
+/// Lives of a store, one after another, on this disk: each begins with an opening, as those of
+/// [`flush_over_lives`](crate::flush_over_lives) do, and in each a new core decides what
+/// comes to it, and chains commit that. Where there is no memory for a core, the life makes no
+/// chain, and where the opening is refused, it has no core. The next life begins with the disk that
+/// it leaves, which comes back at the end.
+///
+/// Where the disk holds a table and a number, whatever a crash leaves of it: what a crash leaves at
+/// the end is that table and, of each life, the first of the commands that were decided in it:
+/// those that were committed, whose effects were given to `out`, complete and in order, and where
+/// the power failed perhaps the next ones. So over all lives no mark is used up twice by what was
+/// given to `out`, nor one of those that were used up before, where the first table covers these:
+/// and the last table covers them all.
+pub fn decide_over_lives<D: Sim, C: FnMut(Vec<Released>)>(
+    alloc: Global,
+    disk: D,
+    lives: Vec<CoreLife>,
+    out: &mut C,
+) -> D
+    requires { C.IsAlwaysCallable out.old }
+    ensures callable { C.IsAlwaysCallable out.new }
+
+    // Each life, in order, from what was handed in to what is left.
+    ensures course { AreCoreLives D.Disk
+        (λ (released : Vec Released Global). effects_of_all released.items)
+        (λ before released after. C.step before released tt after)
+        lives.items disk result out.old out.new }
+    ensures decided { (first : NumberedTable)
+        → EveryImage (D.state disk) (HoldsTable first.table first.seq)
+        → EachHolds (D.state result) (λ last. HaveDecided
+        (λ (released : Vec Released Global). effects_of_all released.items)
+        (λ before released after. C.step before released tt after) (length lives.items)
+        first last out.old out.new) }
+    ensures left { (first : NumberedTable)
+        → EveryImage (D.state disk) (HoldsTable first.table first.seq)
+        → EachHolds (D.state result) (λ last. LeaveInAll
+        (λ (released : Vec Released Global). effects_of_all released.items)
+        (λ before released after. C.step before released tt after)
+        first last out.old out.new) }
+{
+    sessions::laws::folding();
+    sessions::laws::joining();
+    sessions::laws::composing();
+    sessions::laws::parts_of_longer_lists();
+    sessions::laws::no_mark_stands_twice();
+    let mut disk = disk;
+    for life in lives {
+        disk = live(alloc, disk, life, out);
+    }
+    disk
+}
+
+// One life.
+fn live<D: Sim, C: FnMut(Vec<Released>)>(alloc: Global, disk: D, life: CoreLife, out: &mut C) -> D
+    requires { C.IsAlwaysCallable out.old }
+    ensures callable { C.IsAlwaysCallable out.new }
+    ensures course { IsCoreLife D.Disk
+        (λ (released : Vec Released Global). effects_of_all released.items)
+        (λ before released after. C.step before released tt after)
+        life disk result out.old out.new }
+    ensures kept { EveryImage (D.state result)
+        (λ image. (left : List ℕ) × (IsPermitted (D.state disk) left
+        × ((found : NumberedTable) → HoldsTable found.table found.seq left
+        → (last : NumberedTable) × (HoldsTable last.table last.seq image × KeepsDecided
+        (λ (released : Vec Released Global). effects_of_all released.items)
+        (λ before released after. C.step before released tt after)
+        found last out.old out.new)))) }
+{
+    let CoreLife {
+        crash,
+        failing,
+        coming,
+        chains,
+        most,
+    } = life;
+    sessions::laws::folding();
+    sessions::laws::joining();
+    sessions::laws::composing();
+    match reopen(alloc, disk, &crash, failing) {
+        Ok(store) => {
+            let mut store = store;
+            let _ = decide(alloc, &mut store, coming, most, chains, out);
+            store.close()
+        }
+        Err((disk, _)) => disk,
+    }
+}
+
+// So many chains of what a new core decides, or fewer behind which one is refused.
+fn decide<D: Disk, C: FnMut(Vec<Released>)>(
+    alloc: Global,
+    store: &mut Store<D>,
+    coming: VecDeque<Coming>,
+    most: ChainLength,
+    chains: u64,
+    out: &mut C,
+) -> Result<(), Refusal>
+    requires out { C.IsAlwaysCallable out.old }
+    ensures callable { C.IsAlwaysCallable out.new }
+    ensures course { DecidesUpTo D.Disk
+        (λ (released : Vec Released Global). effects_of_all released.items)
+        (λ before released after. C.step before released tt after)
+        coming.items most chains store.old store.new out.old out.new result }
+    ensures decided { CommitsDecided D.honest
+        (λ (released : Vec Released Global). effects_of_all released.items)
+        (λ before released after. C.step before released tt after)
+        (store_state D.state store.old) (store_state D.state store.new)
+        (new_decisions (store_state D.state store.old).table (store_state D.state store.old).seq)
+        out.old out.new }
+{
+    sessions::laws::folding();
+    sessions::laws::joining();
+    sessions::laws::composing();
+    store::laws::a_settled_store_is_on_its_disk();
+    let core = Core::new(alloc, store.table(), store.seq())?;
+    let mut feed = CoreFeed::new(core, coming);
+    for _ in 0..chains {
+        chain_of_core(store, &mut feed, alloc, most, out)?;
+    }
+    Ok(())
+}

@@ -1,0 +1,220 @@
+// A flusher over several lives of its store, on a simulated disk.
+ghost use Rattle.std.specs.Global.{Global};
+ghost use Rattle.std.specs.Prelude.{◌≡◌, ◌≢◌, ◌+◌, ℕ, List, [], All, IfErr, IfOk, MatchOption, Ok};
+ghost use Rattle.std.specs.Prelude.{OnErr, Vec, length};
+ghost use Rattle.devices.specs.declared.mark.Mark.{Mark};
+ghost use Rattle.disk.specs.State.{EveryImage, NothingOpen};
+ghost use Rattle.flusher.specs.Lived.{AreOnDisk, GoOnFrom, LeadOn};
+ghost use Rattle.flusher.specs.Released.{effects_of_all};
+ghost use Rattle.flusher_lives.specs.OverLives.{AreFlusherLives, IsFlusherLife, IsLeftBy};
+ghost use Rattle.flusher_lives.specs.OverLives.{IsReopened, LeaveOnce, MakeUpTo};
+ghost use Rattle.lw_types.specs.declared.refusal.Refusal.{Refusal};
+ghost use Rattle.lw_types.specs.declared.refusal.Refusal.TheVariants.{DeviceFailed};
+ghost use Rattle.sessions.specs.Marks.{AreDistinct, Covers};
+ghost use Rattle.sessions.specs.Table.{TableState, empty_table};
+ghost use Rattle.store.specs.Faults.{IsFormatRefusal};
+ghost use Rattle.store.specs.Formatting.{IsFormatImage};
+ghost use Rattle.store.specs.Image.{HoldsTable};
+ghost use Rattle.store.specs.Made.{IsFormatAnswer};
+ghost use Rattle.store.specs.State.{disk_of, store_state};
+
+use disk::{Image, Sim};
+use flusher::{ChainLength, Feed, Released, chain, laws};
+use lw_types::{NetId, Ranged, Refusal};
+use std::alloc::Global;
+use store::Store;
+
+/// Which call of a disk, from the first one on.
+pub type CallNumber = Ranged<1, { u64::MAX }>;
+
+/// One life of a flusher: its store is opened, behind a crash or without one, and it makes chains,
+/// until the power fails or the flusher ends.
+#[derive(Drop)]
+pub struct FlusherLife {
+    /// What a crash before it left of the disk; or there was none, and the disk is as it was.
+    pub crash: Option<Image>,
+    /// The call of the disk that fails, counted from the opening's first one; or none does.
+    pub failing: Option<CallNumber>,
+    /// How many chains it makes, where none is refused.
+    pub chains: u64,
+    /// How many batches each of them has at most.
+    pub most: ChainLength,
+}
+
+/// Lives of a flusher, one after another, on this disk and with this feed. Each begins with an
+/// opening, behind a crash or without one, and chains follow; where a chain is refused, the life
+/// makes no other, and where the opening is refused, it makes none. The next life begins with the
+/// disk that it leaves, which comes back at the end: so an opening that was refused is made again,
+/// with the power on or behind a crash.
+///
+/// Where the disk holds a table and a number, whatever a crash leaves of it: what is given to `out`
+/// over all lives is, in order and complete, the effects of each batch that was released, and part
+/// of those of the durable commands. Of the marks that were used up before, where they are distinct
+/// and that table covers them, and of those of what was given, none stands twice. Whatever a crash
+/// leaves at the end holds a table that these lives lead to and that covers all these marks: so
+/// other lives may follow.
+///
+/// A power cut may come in each call of the disk: what it leaves is what a crash may leave where
+/// that call fails ([`disk::laws::a_cut_is_a_failed_call`]).
+pub fn flush_over_lives<D: Sim, F: Feed, C: FnMut(Vec<Released>)>(
+    alloc: Global,
+    disk: D,
+    feed: &mut F,
+    lives: &[FlusherLife],
+    out: &mut C,
+) -> D
+    requires { C.IsAlwaysCallable out.old }
+    ensures callable { C.IsAlwaysCallable out.new }
+
+    // Each life, in order, from what was handed in to what is left.
+    ensures course { AreFlusherLives D.Disk F.gives
+        (λ (released : Vec Released Global). effects_of_all released.items)
+        (λ before released after. C.step before released tt after)
+        lives.now disk result feed.old feed.new out.old out.new }
+
+    // Whatever lives are on the disk go on, and what left besides was given to `out`, in order.
+    ensures lives { GoOnFrom (λ (released : Vec Released Global). effects_of_all released.items)
+        (λ before released after. C.step before released tt after)
+        (λ lives t number. AreOnDisk lives t number (D.state disk))
+        (λ lives t number. AreOnDisk lives t number (D.state result)) out.old out.new }
+    ensures once { (t : TableState) (number : ℕ) (marks : List Mark)
+        → EveryImage (D.state disk) (HoldsTable t number)
+        → All (λ m. Covers t m) marks → AreDistinct marks
+        → LeaveOnce (λ (released : Vec Released Global). effects_of_all released.items)
+        (λ before released after. C.step before released tt after) t number marks
+        (D.state result) out.old out.new }
+{
+    laws::lives_go_on();
+    laws::no_mark_leaves_twice();
+    sessions::laws::no_mark_stands_twice();
+    store::laws::what_is_held_is_sound();
+    let mut disk = disk;
+    for life in lives {
+        disk = live(alloc, disk, feed, life, out);
+    }
+    disk
+}
+
+/// Makes a store without devices on this disk, and lives of a flusher on it, as
+/// [`flush_over_lives`] does: no mark was used up before. Refused as [`store::format_back`] is,
+/// before the first life; then the disk comes back, and nothing was taken or given.
+pub fn flush_new_store<D: Sim, F: Feed, C: FnMut(Vec<Released>)>(
+    alloc: Global,
+    disk: D,
+    net_id: NetId,
+    slots: u64,
+    feed: &mut F,
+    lives: &[FlusherLife],
+    out: &mut C,
+) -> Result<D, (D, Refusal)>
+    requires { C.IsAlwaysCallable out.old }
+    ensures callable { C.IsAlwaysCallable out.new }
+    ensures course { IfOk result (λ last. (store : _)
+        × (IsFormatAnswer D.Disk disk net_id slots (λ (refusal : Refusal). refusal) (Ok store)
+        × AreFlusherLives D.Disk F.gives
+        (λ (released : Vec Released Global). effects_of_all released.items)
+        (λ before released after. C.step before released tt after)
+        lives.now (disk_of store) last feed.old feed.new out.old out.new)) }
+    ensures once { IfOk result (λ last. LeaveOnce
+        (λ (released : Vec Released Global). effects_of_all released.items)
+        (λ before released after. C.step before released tt after)
+        (empty_table net_id slots) 0 [] (D.state last) out.old out.new) }
+    ensures refused { IfErr result
+        (λ e. IsFormatRefusal slots (length (D.state disk).content) e.1) }
+    ensures device { IfErr result (λ e. (e.1 ≡ DeviceFailed → D.failures e.0 ≡ D.failures disk + 1)
+        × (e.1 ≢ DeviceFailed → e.0 ≡ disk)) }
+    ensures images { NothingOpen (D.state disk) → IfErr result
+        (λ e. EveryImage (D.state e.0) (IsFormatImage net_id slots (D.state disk).content)) }
+    ensures untouched { OnErr result ((feed.new ≡ feed.old) × (out.new ≡ out.old)) }
+{
+    sessions::laws::no_mark_stands_twice();
+    store::laws::a_settled_store_is_on_its_disk();
+    match store::format_back(alloc, disk, net_id, slots) {
+        Ok(store) => Ok(flush_over_lives(alloc, store.close(), feed, lives, out)),
+        Err(refused) => Err(refused),
+    }
+}
+
+// One life.
+fn live<D: Sim, F: Feed, C: FnMut(Vec<Released>)>(
+    alloc: Global,
+    disk: D,
+    feed: &mut F,
+    life: &FlusherLife,
+    out: &mut C,
+) -> D
+    requires { C.IsAlwaysCallable out.old }
+    ensures callable { C.IsAlwaysCallable out.new }
+    ensures course { IsFlusherLife D.Disk F.gives
+        (λ (released : Vec Released Global). effects_of_all released.items)
+        (λ before released after. C.step before released tt after)
+        life.now disk result feed.old feed.new out.old out.new }
+    ensures lives { GoOnFrom (λ (released : Vec Released Global). effects_of_all released.items)
+        (λ before released after. C.step before released tt after)
+        (λ lives t number. AreOnDisk lives t number (D.state disk))
+        (λ lives t number. AreOnDisk lives t number (D.state result)) out.old out.new }
+{
+    laws::lives_go_on();
+    match reopen(alloc, disk, &life.crash, life.failing) {
+        Ok(store) => {
+            let mut store = store;
+            let _ = flush_life(alloc, &mut store, feed, life.most, life.chains, out);
+            store.close()
+        }
+        Err((disk, _)) => disk,
+    }
+}
+
+// Lets the disk crash, if it is to, has this call of it fail, and opens the store.
+pub(crate) fn reopen<D: Sim>(
+    alloc: Global,
+    disk: D,
+    crash: &Option<Image>,
+    failing: Option<CallNumber>,
+) -> Result<Store<D>, (D, Refusal)>
+    ensures { IsReopened D.Disk crash.now failing disk result }
+{
+    let mut disk = disk;
+    crash_to(&mut disk, crash);
+    if let Some(n) = failing {
+        disk.arm(n.get());
+    }
+    store::open_back(alloc, disk)
+}
+
+// Lets the disk crash to this image, if there is one.
+fn crash_to<D: Sim>(disk: &mut D, crash: &Option<Image>)
+    ensures left { MatchOption crash.now (D.state disk.new ≡ D.state disk.old)
+        (λ image. IsLeftBy image (D.state disk.old) (D.state disk.new)) }
+    ensures failures { D.failures disk.new ≡ D.failures disk.old }
+    ensures outlook { D.outlook disk.new ≡ D.outlook disk.old }
+{
+    if let Some(image) = crash {
+        disk.crash(image);
+    }
+}
+
+// So many chains, or fewer behind which one is refused.
+fn flush_life<D: Sim, F: Feed, C: FnMut(Vec<Released>)>(
+    alloc: Global,
+    store: &mut Store<D>,
+    feed: &mut F,
+    most: ChainLength,
+    chains: u64,
+    out: &mut C,
+) -> Result<(), Refusal>
+    requires { C.IsAlwaysCallable out.old }
+    ensures callable { C.IsAlwaysCallable out.new }
+    ensures course { MakeUpTo D.Disk F.gives
+        (λ (released : Vec Released Global). effects_of_all released.items)
+        (λ before released after. C.step before released tt after) most chains
+        store.old store.new feed.old feed.new out.old out.new result }
+    ensures lives { LeadOn (λ (released : Vec Released Global). effects_of_all released.items)
+        (λ before released after. C.step before released tt after)
+        (store_state D.state store.old) (store_state D.state store.new) out.old out.new }
+{
+    for _ in 0..chains {
+        chain(store, feed, alloc, most, out)?;
+    }
+    Ok(())
+}
