@@ -1,8 +1,8 @@
 // One life of a server.
-ghost use Rattle.std.specs.Prelude.{◌≡◌, ◌≤◌, ◌+◌, length, sum, Err, IfErr, IfOk};
+ghost use Rattle.std.specs.Prelude.{◌≡◌, ◌≢◌, ◌≤◌, ◌+◌, length, sum, Err, IfErr, IfOk};
 ghost use Rattle.std.specs.Prelude.{map, option_map, MatchResult, OnOk};
 ghost use Rattle.flusher.specs.Calls.{NoneFailed};
-ghost use Rattle.lw_types.specs.declared.refusal.Refusal.TheVariants.{OutOfMemory};
+ghost use Rattle.lw_types.specs.declared.refusal.Refusal.TheVariants.{OutOfMemory, OutOfStep};
 ghost use Rattle.server_links.specs.declared.fault.ServeFault.TheVariants.{Refused};
 ghost use Rattle.server_links.specs.Faults.{IsOfBeginning};
 ghost use Rattle.link_server.specs.Served.{IsFaultOf, IsLedOn, IsUntold};
@@ -364,6 +364,8 @@ fn report<B: Books>(
 ) -> Result<LifeReport, ServeFault>
     requires { all ≡ B.made_parts }
     ensures told { MatchResult result (λ report. report.made ≡ taken) IsUntold }
+    ensures out_of_step { result ≡ Err (Refused OutOfStep)
+        → shared.core.decisions.made ≢ taken }
     ensures sum { IfOk result (λ report. sum report.shares.items ≡ report.made) }
     ensures shares { IfOk result (λ report. report.shares.items ≡ map (λ s. s.made) seats.items) }
 {
