@@ -23,7 +23,8 @@ IsLedOn here there =
 -- Why serving was refused, by the refusal. Where a call of the disk failed it was the last one, and
 -- else none did: there was no memory, a batch was out of step, the store had failed before, or its
 -- checkpoints have no further generation.
-abbrev pub IsRefused : {D : Type 0} (disk : Ghosts D) → Store D disk → Store D disk → Refusal → Type 0
+abbrev pub IsRefused : {D : Type 0} (disk : Ghosts D) → Store D disk → Store D disk → Refusal
+    → Type 0
 IsRefused disk old new DeviceFailed = LastFailed disk.failures disk.outlook old new
 IsRefused disk old new OutOfMemory = NoneFailed disk.failures disk.outlook old new
 IsRefused disk old new OutOfStep = NoneFailed disk.failures disk.outlook old new

@@ -29,7 +29,7 @@ const MOST_RINGS: usize = MOST_PLACES as usize + APPLICATIONS;
 /// Commits, and lets effects out, until nothing is decided any more and all is committed; then
 /// tells the senders that nothing more comes, and gives how many decisions were taken. A refusal
 /// closes the links, and what waits for them is lost. Where it ends well no call of the disk
-/// failed, and all that was taken is committed.
+/// failed, and the store's number grew by as many as were taken.
 pub(crate) fn flush<B: Books, R: Wait, D: Disk>(
     rt: &R,
     alloc: Global,

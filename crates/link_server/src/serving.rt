@@ -56,10 +56,10 @@ use timed_disk::DiskTimes;
 /// again each second, and the closer where there is no memory. It need not return: an input may
 /// never end.
 ///
-/// Of all this the contract says that the shares sum to the decisions, that these are committed
-/// where there is a report, as many as the store's number grew by, and no call of the disk failed;
-/// why there is none; and that the store was led on from where it was. What it calls is proved for
-/// itself, and the rest is shown by tests on sockets.
+/// Of all this the contract says that the shares sum to the decisions; that where there is a report
+/// the store's number grew by as many, and no call of the disk failed; why there is none; and that
+/// the store was led on from where it was. What it calls is proved for itself, and the rest is shown
+/// by tests on sockets.
 pub fn serve_links<
     'x,
     R: Threads + Wait + Sync,
