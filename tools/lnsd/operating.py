@@ -5,6 +5,7 @@ import re
 import select
 import socket
 import subprocess
+import threading
 import time
 from contextlib import contextmanager
 
@@ -218,6 +219,35 @@ def operators(trials):
             trials.compare(f"{word} of nobody", program.run(word, program.store), due)
 
 
+# What a server may have said of its devices when it was broken off, and all of it.
+CUT_ANSWERS = (b"", b"\n", b"devices 0", b"devices 0 seq 0\n")
+WHOLE_ANSWER = b"devices 0 seq 0\n\n"
+
+
+def answer_once(listener, answer):
+    """Says this to whoever asks next, and ends."""
+    connection, _ = listener.accept()
+    with connection:
+        connection.recv(64)
+        connection.sendall(answer)
+
+
+def answers(trials):
+    """An answer that is cut off is told as that, by whatever server said it."""
+    with trials.store() as program, socket.socket(socket.AF_UNIX) as listener:
+        listener.bind(program.store + ".control")
+        listener.listen()
+        due = {it: (1, "", "lnsd: broken off\n") for it in CUT_ANSWERS}
+        due[WHOLE_ANSWER] = (0, WHOLE_ANSWER[:-1].decode(), "")
+        for answer, wanted in due.items():
+            for word in ("status", "devices"):
+                other = threading.Thread(target=answer_once, args=(listener, answer), daemon=True)
+                other.start()
+                came = program.run(word, program.store)
+                trials.compare(f"{word} that is answered {answer!r}", came, wanted)
+                other.join(PATIENCE)
+
+
 def strangers(trials):
     """Who connects and says nothing has ten seconds. A gateway that waits behind 96 of them is
     served then."""
@@ -314,6 +344,7 @@ def away(trials):
 TRIALS = {
     "an operator who doesn't read": too_many_lines,
     "operators who say nothing, or nonsense, and too many": operators,
+    "answers to operators that are cut off": answers,
     "96 strangers who say nothing": strangers,
     f"{ANEW:,} links that come anew": anew,
     "an application that is away": away,

@@ -7,6 +7,7 @@ use Rattle.lw_types.specs.declared.identifiers.Eui.{Eui}
 use Rattle.gateway_wire.specs.declared.recipient.Recipient.{Recipient}
 use Rattle.gateway_wire.specs.declared.recipient.Recipient.TheVariants.{Gateway, Application}
 use Rattle.directory.specs.declared.names.Directory.{Directory}
+use Rattle.directory.specs.declared.names.HeldName.{HeldName}
 use Rattle.directory.specs.declared.names.LinkedGateway.{LinkedGateway}
 use Rattle.directory.specs.declared.names.TheConstants.{MOST_GATEWAYS}
 
@@ -53,6 +54,10 @@ may_take_over directory name = is_some (link_of directory name) || has_free_link
 pub record IsLinked (old : Directory) (name : Recipient) (link : ℕ) (new : Directory) : Type 0 where
   pub now : link_of new name ≡ Some link
   pub others : (other : Recipient) → other ≢ name → link_of new other ≡ link_of old other
+
+-- this link has taken over this name
+abbrev pub IsHeld : Recipient → ℕ → HeldName → Type 0
+IsHeld name link held = (held.name ≡ name) × (held.link ≡ link)
 
 -- a name has no link now, and each other name the one that it had
 pub record IsUnlinked (old : Directory) (name : Recipient) (new : Directory) : Type 0 where

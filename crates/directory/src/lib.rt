@@ -3,4 +3,4 @@
 
 mod names;
 
-pub use names::{APPLICATIONS, Directory, Full, LinkedGateway, MOST_GATEWAYS};
+pub use names::{APPLICATIONS, Directory, Full, HeldName, LeftName, LinkedGateway, MOST_GATEWAYS};

@@ -19,6 +19,38 @@ pub struct LinkedGateway {
     pub link: usize,
 }
 
+/// A name that a link has taken over. Only [`Directory::take_over`] makes it.
+#[derive(Clone, Copy)]
+pub struct HeldName {
+    name: Recipient,
+    link: usize,
+}
+
+/// A name that a link has left, where it had it still. Only [`Directory::leave`] makes it.
+#[derive(Clone, Copy)]
+pub struct LeftName {
+    held: HeldName,
+    is_free: bool,
+}
+
+impl LeftName {
+    ghost use Rattle.std.specs.Prelude.{◌≡◌};
+
+    /// Whose name it is.
+    pub fn name(&self) -> Recipient
+        ensures { result ≡ self.now.held.name }
+    {
+        self.held.name
+    }
+
+    /// Whether the link had it until then, so that no link has it now.
+    pub fn is_free(&self) -> bool
+        ensures { result ≡ self.now.is_free }
+    {
+        self.is_free
+    }
+}
+
 /// Which link each gateway and each application has, by the numbers of the links. A name has one
 /// link at most. What is told on a link goes through the ring of its number; but applications may
 /// have rings of their own, so that what they are told waits while they have no link.
@@ -42,7 +74,7 @@ impl Directory {
     ghost use Rattle.gateway_wire.specs.declared.recipient.Recipient.TheVariants as names;
     ghost use Rattle.lw_types.specs.declared.identifiers.Eui.{Eui};
     ghost use Rattle.directory.specs.Linked.{gateway_link, link_of, ring_of};
-    ghost use Rattle.directory.specs.Linked.{may_greet, may_take_over, IsUnlinked, IsLinked};
+    ghost use Rattle.directory.specs.Linked.{may_greet, may_take_over, IsHeld, IsUnlinked, IsLinked};
 
     /// Nobody is linked, and applications have rings of their own from this one on, if there is
     /// one. All the memory that it ever takes is taken here.
@@ -70,21 +102,28 @@ impl Directory {
 
     /// Gives a link the name of whoever greets on it, and answers the link that had it until now.
     /// `Full` for one gateway more where 64 others are linked, and then nothing is changed.
-    pub fn take_over(&mut self, name: &Recipient, link: usize) -> Result<Option<usize>, Full>
+    pub fn take_over(
+        &mut self,
+        name: &Recipient,
+        link: usize,
+    ) -> Result<(HeldName, Option<usize>), Full>
         ensures granted { IsOk result ↔ IsTrue (may_take_over self.old name.now) }
+        ensures held { IfOk result (λ taken. IsHeld name.now link taken.0) }
         ensures named { MatchResult result
-            (λ was. (was ≡ link_of self.old name.now) × IsLinked self.old name.now link self.new)
+            (λ taken. (taken.1 ≡ link_of self.old name.now)
+            × IsLinked self.old name.now link self.new)
             (λ _. self.new ≡ self.old) }
     {
-        match name {
-            Recipient::Gateway(gateway) => self.take_over_gateway(*gateway, link),
+        let was = match name {
+            Recipient::Gateway(gateway) => self.take_over_gateway(*gateway, link)?,
             Recipient::Application(application) => {
                 let place = application.get() as usize;
                 let was = self.applications[place];
                 self.applications[place] = Some(link);
-                Ok(was)
+                was
             }
-        }
+        };
+        Ok((HeldName { name: *name, link }, was))
     }
 
     fn take_over_gateway(&mut self, gateway: Eui, link: usize) -> Result<Option<usize>, Full>
@@ -105,23 +144,31 @@ impl Directory {
         }
     }
 
-    /// Takes a name away from a link that has ended: whether the link had it. A name that went over
-    /// to another link stays there.
-    pub fn leave(&mut self, name: &Recipient, link: usize) -> bool
-        ensures had { IsTrue result ↔ (link_of self.old name.now ≡ Some link) }
-        ensures left { MatchBool result (IsUnlinked self.old name.now self.new)
+    /// Takes a name away from a link that has ended, where the link has it still. A name that went
+    /// over to another link stays there.
+    pub fn leave(&mut self, held: HeldName) -> LeftName
+        ensures held { result.held ≡ held }
+        ensures had { IsTrue result.is_free ↔ (link_of self.old held.name ≡ Some held.link) }
+        ensures left { MatchBool result.is_free (IsUnlinked self.old held.name self.new)
             (self.new ≡ self.old) }
     {
-        if self.link_of(name) != Some(link) {
-            return false;
+        let is_free = self.link_of(&held.name) == Some(held.link);
+        if is_free {
+            self.forget(&held.name);
         }
+        LeftName { held, is_free }
+    }
+
+    // Takes a name away from the link that has it, if one has.
+    fn forget(&mut self, name: &Recipient)
+        ensures { IsUnlinked self.old name.now self.new }
+    {
         match name {
             Recipient::Gateway(gateway) => self.forget_gateway(*gateway),
             Recipient::Application(application) => {
                 self.applications[application.get() as usize] = None;
             }
         }
-        true
     }
 
     // Takes the name of a gateway away from the link that has it, if one has.

@@ -4,23 +4,20 @@ use Rattle.std.specs.Prelude.{None, unwrap_or}
 use Rattle.std.specs.Fmt.{decimal}
 use Rattle.devices.specs.declared.device.Device.{Device}
 use Rattle.link_server.specs.declared.report.LifeReport.{LifeReport}
+use Rattle.server_links.specs.Counted.{count_line}
 use Rattle.sessions.specs.Restored.{restored_table, spent_device}
 use Rattle.sessions.specs.Table.{TableState}
-
--- a name, a space, a number and a newline
-abbrev pub total_line : List ℕ → ℕ → List ℕ
-total_line name count = name ++ 32 ∷ decimal count ++ 10 ∷ []
 
 -- how a life of links that all connected has ended
 abbrev pub report_text : LifeReport → List ℕ
 report_text r =
-    total_line (codes "dropped") r.dropped ++ total_line (codes "faulted") r.faulted
+    count_line (codes "dropped") r.dropped ++ count_line (codes "faulted") r.faulted
 
 -- how a life of links that came and went has ended
 abbrev pub run_text : LifeReport → List ℕ
 run_text r =
-    report_text r ++ total_line (codes "taken_over") r.taken_over
-    ++ total_line (codes "silent") r.silent
+    report_text r ++ count_line (codes "taken_over") r.taken_over
+    ++ count_line (codes "silent") r.silent
 
 -- how many joins may still be granted: the JoinNonces above the last one (TS001-1.0.4 §6.2.6: 24
 -- bits)

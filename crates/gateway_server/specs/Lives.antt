@@ -5,6 +5,6 @@ use Rattle.gateway_server.specs.declared.fault.Fault.{Fault}
 use Rattle.gateway_server.specs.declared.fault.Fault.TheVariants.{Listen, Refused}
 
 -- the fault of a command whose life ended by this one
-abbrev pub fault_of : ServeFault → Fault
-fault_of served.Listen = Listen
-fault_of (served.Refused refusal) = Refused refusal
+abbrev pub fault_of_life : ServeFault → Fault
+fault_of_life served.Listen = Listen
+fault_of_life (served.Refused refusal) = Refused refusal

@@ -1,5 +1,5 @@
 // The control socket beside a store's file: who serves listens there, and who asks connects.
-ghost use Rattle.std.specs.Prelude.{◌≡◌, ◌≢◌, ◌++◌, [], IfOk, MatchResult, OnErr, codes};
+ghost use Rattle.std.specs.Prelude.{◌≡◌, ◌≢◌, ◌++◌, ◌∷◌, [], IfOk, MatchResult, OnErr, codes};
 ghost use Rattle.std.specs.Prelude.{string_bytes};
 
 use crate::Fault;
@@ -123,13 +123,14 @@ pub(crate) fn status<R: Net + Clock>(
     let path = path_of(alloc, file)?;
     let mut stream = connect(rt, &path);
     for _ in 0..wait.saturating_mul(TRIES) {
-        if stream.is_ok() {
-            break;
+        match &stream {
+            Err(Fault::NotRunning | Fault::LeftOver) => {}
+            _ => break,
         }
         thread::sleep(rt, Duration::from_millis(PAUSE));
         stream = connect(rt, &path);
     }
-    some(ask(alloc, stream?, Order::Status)?)
+    unbroken(ask(alloc, stream?, Order::Status)?)
 }
 
 /// The devices of the store in a file, by the server that runs on it.
@@ -137,18 +138,20 @@ pub(crate) fn devices<R: Net>(rt: &R, alloc: Global, file: &str) -> Result<Strin
     ensures { IfOk result (λ text. string_bytes text ≢ []) }
 {
     let path = path_of(alloc, file)?;
-    some(ask(alloc, connect(rt, &path)?, Order::Devices)?)
+    unbroken(ask(alloc, connect(rt, &path)?, Order::Devices)?)
 }
 
-// No answer is one that was broken off.
-fn some(answer: String) -> Result<String, Fault>
-    ensures { MatchResult result (λ text. (text ≡ answer) × (string_bytes answer ≢ []))
-        (λ fault. (fault ≡ Fault.BrokenOff) × (string_bytes answer ≡ [])) }
+// The lines of an answer, without the empty one behind them: where that lacks it was broken off.
+fn unbroken(answer: String) -> Result<String, Fault>
+    ensures { MatchResult result
+        (λ text. (string_bytes answer ≡ string_bytes text ++ 10 ∷ [])
+        × (string_bytes text ≢ []))
+        (λ fault. fault ≡ Fault.BrokenOff) }
 {
-    if answer.is_empty() {
-        Err(Fault::BrokenOff)
-    } else {
-        Ok(answer)
+    let mut text = answer;
+    match text.pop() {
+        Some('\n') if text.as_bytes().ends_with(b"\n") => Ok(text),
+        _ => Err(Fault::BrokenOff),
     }
 }
 

@@ -54,9 +54,9 @@ impl From<Refusal> for Fault {
 
 impl From<ServeFault> for Fault {
     ghost use Rattle.std.specs.Prelude.{◌≡◌};
-    ghost use Rattle.gateway_server.specs.Lives.{fault_of};
+    ghost use Rattle.gateway_server.specs.Lives.{fault_of_life};
 
-    ghost from_gives = { λ served fault. fault ≡ fault_of served };
+    ghost from_gives = { λ served fault. fault ≡ fault_of_life served };
 
     fn from(fault: ServeFault) -> Self {
         match fault {

@@ -163,7 +163,7 @@ const STATUS: &[&str] = &[
 const DEVICES: &[&str] = &[
     "0 1112131415161718 1 1 0 0 1 1 ",
     " 00000000000000B1 -20 -95\n",
-    "devices 1 seq 4\n",
+    "devices 1 seq 4\n\n",
 ];
 
 const WATCHED: &[&str] = &[

@@ -1,3 +1,2 @@
 pub mod Hearing
 pub mod Named
-pub mod Status

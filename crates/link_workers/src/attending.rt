@@ -20,6 +20,10 @@ pub const WATCHING: &str = "watching\n";
 /// What an operator is told who can't be told what happens, since so many are already.
 pub const BUSY: &str = "busy\n";
 
+// What stands behind the last line of how it goes, or of the devices: an empty line. An answer that
+// lacks it was cut off.
+const WHOLE: &str = "\n";
+
 // How long an operator may say nothing, or take nothing, in seconds.
 const PATIENCE: u64 = 2;
 
@@ -190,8 +194,10 @@ fn order_of(word: &[u8]) -> Option<Order>
 
 // Without memory for an answer nothing is answered.
 fn tell_text(stream: &UnixStream, text: Result<String, Refusal>) {
-    if let Ok(text) = text {
-        let _ = send_text(stream, text.as_str());
+    if let Ok(text) = text
+        && send_text(stream, text.as_str()).is_ok()
+    {
+        let _ = send_text(stream, WHOLE);
     }
 }
 

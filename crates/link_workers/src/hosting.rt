@@ -1,14 +1,17 @@
 // A worker of a life whose links come and go takes one link after another.
 ghost use Rattle.std.specs.Prelude.{◌≡◌, IfSome, IsTrue, Some, option_map};
-ghost use Rattle.link_workers.specs.Named.{peer_name};
+ghost use Rattle.directory.specs.Linked.{IsHeld};
+ghost use Rattle.link_workers.specs.Named.{IsFarewell, peer_name};
 
 use crate::reading::{Incoming, PIECE, Worker, read_some, recipient_of};
-use directory::Full;
+use directory::{HeldName, LeftName};
 use gateway_wire::Recipient;
 use link_messages::{Fed, Feeder};
 use lw_types::Refusal;
 use rtrb::{Consumer, RingBuffer};
-use server_links::{Call, Gate, HostSender, LifeClock, PLACES, drop_all, moved_on, set_options};
+use server_links::{
+    Call, Ending, Gate, HostSender, LifeClock, PLACES, drop_all, moved_on, set_options,
+};
 use session_core::{Books, Moment, Seat};
 use sights::Sight;
 use std::alloc::Global;
@@ -30,6 +33,14 @@ const ACCEPT_PAUSE: u64 = 1;
 struct Greeted {
     name: Recipient,
     fed: Fed,
+}
+
+/// What became of a link's name at the link's end: it was left, or it stays, since the life ends,
+/// for what is still to be sent.
+#[derive(Clone, Copy)]
+enum Farewell {
+    Left(LeftName),
+    Kept(Ending),
 }
 
 /// A worker of a life whose links come and go.
@@ -94,21 +105,33 @@ impl<'x, B: Books, R: Threads + Wait + Sync, G: Gate, C: LifeClock> Host<'x, B, 
             return;
         };
         let name = greeted.name;
-        if self.worker.take_over(&name) {
+        if let Some(held) = self.worker.take_over(&name) {
             self.worker.refusals = refused;
-            self.converse(stream, greeted, refusals);
+            let _ = self.converse(stream, greeted, refusals, held);
             self.drop_rest(name);
         }
     }
 
-    fn converse(&mut self, stream: TcpStream, greeted: Greeted, refusals: Consumer<Refusal>) {
+    fn converse(
+        &mut self,
+        stream: TcpStream,
+        greeted: Greeted,
+        refusals: Consumer<Refusal>,
+        held: HeldName,
+    ) -> Farewell
+        ensures { IsFarewell held result }
+    {
         let Greeted { name, fed } = greeted;
         let context = self.worker.context;
         let call = Call { stream, name };
         let worker = &mut self.worker;
-        thread::scope(thread::scope_env(), context.rt, |scope| {
-            hold(scope, worker, &call, fed, refusals);
-        });
+        thread::scope(
+            thread::scope_env(),
+            context.rt,
+            |scope|
+                ensures { IsFarewell held result }
+            { hold(scope, worker, &call, fed, refusals, held) },
+        )
     }
 
     // What was for the link that has ended is of no use to the next one.
@@ -132,7 +155,10 @@ fn hold<'s, 'x: 's, E, B: Books, R: Threads + Wait + Sync, G: Gate, C: LifeClock
     call: &'s Call,
     fed: Fed,
     refusals: Consumer<Refusal>,
-) {
+    held: HeldName,
+) -> Farewell
+    ensures { IsFarewell held result }
+{
     let context = worker.context;
     let sender = HostSender {
         rt: context.rt,
@@ -148,7 +174,7 @@ fn hold<'s, 'x: 's, E, B: Books, R: Threads + Wait + Sync, G: Gate, C: LifeClock
     if sender.is_some() && worker.hear_all(fed) {
         worker.read(&call.stream);
     }
-    worker.end_link(&call.name);
+    worker.end_link(held)
 }
 
 // Starts the sender of one link of a place; `None` where that can't be.
@@ -225,44 +251,44 @@ impl<'x, B: Books, R: Wait, G: Gate, C: LifeClock> Worker<'x, B, R, G, C> {
     // Gives the link its name, and closes the link that had it. The directory stays locked
     // meanwhile: the older link's worker leaves it before its place goes to the next link, which so
     // isn't closed in place of the older one. One gateway too many is a fault of whoever greets.
-    fn take_over(&self, name: &Recipient) -> bool {
+    fn take_over(&self, name: &Recipient) -> Option<HeldName>
+        ensures held { IfSome result (IsHeld name.now self.now.number) }
+    {
         let rt = self.context.rt;
         let mut directory = self.server.directory.lock(rt);
-        match directory.take_over(name, self.number) {
-            Ok(None) => {}
-            Ok(Some(older)) => {
-                if let Some(link) = self.server.links.get(older) {
-                    link.take(rt);
-                }
-                self.server.signals.count_taken_over();
-                self.server.tell(rt, Sight::TakenOver(*name));
+        let Ok((held, was)) = directory.take_over(name, self.number) else {
+            self.count_fault();
+            return None;
+        };
+        if let Some(older) = was {
+            if let Some(link) = self.server.links.get(older) {
+                link.take(rt);
             }
-            Err(Full) => {
-                self.count_fault();
-                return false;
-            }
+            self.server.signals.count_taken_over();
+            self.server.tell(rt, Sight::TakenOver(*name));
         }
         self.server.tell(rt, Sight::Linked(*name));
-        true
+        Some(held)
     }
 
-    // The link is read no further. Its name is free, unless the life ends: then it stays, for what
-    // is still to be sent.
-    fn end_link(&mut self, name: &Recipient)
+    // The link is read no further.
+    fn end_link(&mut self, held: HeldName) -> Farewell
+        ensures farewell { IsFarewell held result }
         ensures ended { IsTrue self.old.has_ended → IsTrue self.new.has_ended }
         ensures same { self.new ≡ record self.old { has_ended = self.new.has_ended } }
     {
-        if self.server.signals.is_ending() {
+        if let Some(ending) = self.server.signals.ending() {
             self.end_input();
-        } else {
-            let rt = self.context.rt;
-            let mut directory = self.server.directory.lock(rt);
-            let had_it = directory.leave(name, self.number);
-            drop(directory);
-            self.link.set_over();
-            if had_it {
-                self.server.tell(rt, Sight::Ended(*name));
-            }
+            return Farewell::Kept(ending);
         }
+        let rt = self.context.rt;
+        let mut directory = self.server.directory.lock(rt);
+        let left = directory.leave(held);
+        drop(directory);
+        self.link.set_over();
+        if left.is_free() {
+            self.server.tell(rt, Sight::Ended(left.name()));
+        }
+        Farewell::Left(left)
     }
 }

@@ -1,12 +1,14 @@
 //! `lns-speed`: how long it takes on one processor here to decide a command and to put its record
-//! into the table, in tables of 8 to 4,096 devices; and how many decisions a second become durable
-//! on a file with real syncs, each batch alone and in chains. The word `chains` asks for that last
-//! one alone. What was measured goes to standard error, since it is never the same twice; standard
-//! output stays empty. The status is 2 for other words, and 1 where a write failed.
+//! into the table, in tables of 8 to 4,096 devices; how many decisions a second become durable on a
+//! file with real syncs, each batch alone and in chains, for which alone the word `chains` asks; and
+//! by the word `cryptography` alone, how fast that of frames is. What was measured goes to standard
+//! error, since it is never the same twice; standard output stays empty. The status is 2 for other
+//! words, and 1 where a write failed.
 #![tactic(auto)]
 
 mod chains;
 mod counted;
+mod cryptography;
 mod decided;
 mod network;
 mod senders;
@@ -71,22 +73,26 @@ fn compare(
 
 /// What the words of a run ask for.
 enum Asked {
-    All,
+    Server,
     Chains,
+    Cryptography,
     Unknown,
 }
 
 fn read_words<R: Env + AllocGlobal>(rt: &R) -> io::Result<Asked> {
     let mut words = env::args(rt)?.skip(1);
-    match words.next() {
-        None => Ok(Asked::All),
-        Some(word) if word.as_str() == "chains" && words.next().is_none() => Ok(Asked::Chains),
-        Some(_) => Ok(Asked::Unknown),
-    }
+    let first = words.next();
+    Ok(match first.as_ref().map(|word| word.as_str()) {
+        _ if words.next().is_some() => Asked::Unknown,
+        None => Asked::Server,
+        Some("chains") => Asked::Chains,
+        Some("cryptography") => Asked::Cryptography,
+        Some(_) => Asked::Unknown,
+    })
 }
 
-/// Measures and tells all.
-fn tell_all<R: Clock + Eprint + Files<File = File>>(rt: &R, alloc: Global) -> io::Result<()> {
+/// Measures and tells all but the cryptography.
+fn tell_server<R: Clock + Eprint + Files<File = File>>(rt: &R, alloc: Global) -> io::Result<()> {
     for (name, workload) in MEASURED {
         compare(rt, alloc, name, workload)?;
     }
@@ -95,10 +101,11 @@ fn tell_all<R: Clock + Eprint + Files<File = File>>(rt: &R, alloc: Global) -> io
 
 fn main(rt: HostRuntime) -> io::Result<ExitCode> {
     match read_words(&rt)? {
-        Asked::All => tell_all(&rt, rt.alloc())?,
+        Asked::Server => tell_server(&rt, rt.alloc())?,
         Asked::Chains => chains::tell_chains(&rt, rt.alloc())?,
+        Asked::Cryptography => cryptography::tell_cryptography(&rt)?,
         Asked::Unknown => {
-            eprintln!(rt; "lns-speed: it takes no word, or the word chains")?;
+            eprintln!(rt; "lns-speed: it takes no word, or one of chains and cryptography")?;
             return Ok(ExitCode::from(2));
         }
     }

@@ -1,3 +1,4 @@
+pub mod Counted
 pub mod Faults
 pub mod Orders
 pub mod Routing

@@ -33,6 +33,6 @@ pub use orders::Order;
 pub use outgoing::Outgoing;
 pub use rings::{PLACES, WaitingLines};
 pub use routing::route;
-pub use signals::Signals;
+pub use signals::{Ending, Signals};
 pub use watching::{Waiting, Watch};
 pub use writing::{Call, HostSender, Sender, Spare, is_passing};

@@ -35,6 +35,10 @@ pub struct Signals {
     pub opened: Parker,
 }
 
+/// The life was told to end, or is stopped. Only [`Signals::ending`] makes it.
+#[derive(Clone, Copy)]
+pub struct Ending(());
+
 impl Signals {
     pub fn new(inputs: u64) -> Self {
         Signals {
@@ -139,6 +143,15 @@ impl Signals {
     /// Whether the life was told to end, or is stopped.
     pub fn is_ending(&self) -> bool {
         self.ending.load(SeqCst) || self.is_stopped()
+    }
+
+    /// That the life ends, where it does.
+    pub fn ending(&self) -> Option<Ending> {
+        if self.is_ending() {
+            Some(Ending(()))
+        } else {
+            None
+        }
     }
 
     /// Whether no link says anything more, or the life is stopped.

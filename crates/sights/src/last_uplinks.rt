@@ -1,5 +1,5 @@
 // How each device was heard last.
-ghost use Rattle.std.specs.Prelude.{◌≡◌, IfErr, MatchResult};
+ghost use Rattle.std.specs.Prelude.{◌≡◌, IfErr, IfOk, length};
 ghost use Rattle.lw_types.specs.declared.refusal.Refusal.TheVariants.{OutOfMemory};
 
 use crate::FrameName;
@@ -26,7 +26,8 @@ pub struct LastUplinks {
 impl LastUplinks {
     /// No device was heard yet. All the memory that it ever takes is taken here, 40 bytes a slot.
     pub fn new(alloc: Global, slots: Slots) -> Result<Self, Refusal>
-        ensures { IfErr result (λ e. e ≡ OutOfMemory) }
+        ensures slots { IfOk result (λ last. length last.by_slot.items ≡ slots) }
+        ensures refused { IfErr result (λ e. e ≡ OutOfMemory) }
     {
         let mut by_slot = Vec::new(alloc);
         by_slot.resize(slots.get() as usize, None)?;
@@ -34,7 +35,8 @@ impl LastUplinks {
     }
 
     /// A frame's window was closed at this moment. Where it was an uplink that was accepted, its
-    /// device is the one at the slot of its address.
+    /// device is the one at the slot of its address. What was noted of a later moment stays, since
+    /// threads note one beside another.
     pub fn note(&mut self, closed: &ClosedFrame, moment: Moment) {
         if closed.refused.is_some() {
             return;
@@ -43,7 +45,9 @@ impl LastUplinks {
         let FrameName::Data { dev_addr, .. } = FrameName::of(heard.phy_payload.as_slice()) else {
             return;
         };
-        if let Some(last) = self.by_slot.get_mut(slot_at(dev_addr) as usize) {
+        if let Some(last) = self.by_slot.get_mut(slot_at(dev_addr) as usize)
+            && last.is_none_or(|it| it.moment.get() <= moment.get())
+        {
             *last = Some(LastUplink {
                 moment,
                 reception: heard.hearings.best().reception,

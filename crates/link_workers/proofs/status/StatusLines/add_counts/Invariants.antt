@@ -4,7 +4,7 @@ use denote.Ref.{Bor}
 use Rattle.std.specs.List.{flat_map}
 use Rattle.std.specs.Prelude.{IsErr, IsOk}
 use Rattle.std.specs.String.{string_bytes}
-use Rattle.link_workers.specs.Status.{count_line}
+use Rattle.server_links.specs.Counted.{count_line}
 use Rattle.link_workers.proofs.status.StatusLines.add_counts.Given as goal
 
 abbrev pub invariant-loop-name : goal.invariant-loop-name

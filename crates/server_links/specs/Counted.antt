@@ -1,4 +1,4 @@
--- How a life goes, as an operator reads it.
+-- Counts, as an operator reads them.
 use Rattle.std.specs.Prelude.{◌++◌, ◌∷◌, ℕ, List, []}
 use Rattle.std.specs.Fmt.{decimal}
 

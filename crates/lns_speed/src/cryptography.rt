@@ -1,7 +1,4 @@
-//! `crypt-speed`: how fast the cryptography of frames is on one processor here. What was measured
-//! goes to standard error, since it is never the same twice; standard output stays empty.
-#![tactic(auto)]
-
+// How fast the cryptography of frames is.
 use aes128::KeySchedule;
 use frame_crypt::{crypt_payload, data_mic};
 use lw_types::{DevAddr, Direction, Key};
@@ -103,9 +100,10 @@ fn make_mics(times: u32) -> u8 {
     message[0]
 }
 
-fn main(rt: HostRuntime) -> io::Result<()> {
+/// Tells how many of each are done in a second.
+pub fn tell_cryptography(rt: &(impl Clock + Eprint)) -> io::Result<()> {
     for work in [Work::Blocks, Work::Payloads, Work::Mics] {
-        work.measure(&rt)?;
+        work.measure(rt)?;
     }
     Ok(())
 }
