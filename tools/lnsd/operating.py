@@ -225,10 +225,10 @@ WHOLE_ANSWER = b"devices 0 seq 0\n\n"
 
 
 def answer_once(listener, answer):
-    """Says this to whoever asks next, and ends."""
+    """Says this to whoever asks next, once the order is whole, and ends."""
     connection, _ = listener.accept()
-    with connection:
-        connection.recv(64)
+    with connection, connection.makefile("rb") as order:
+        order.readline()
         connection.sendall(answer)
 
 
