@@ -1,9 +1,9 @@
 //! `lns-speed`: how long it takes on one processor here to decide a command and to put its record
-//! into the table, in tables of 8 to 4,096 devices; how many decisions a second become durable on a
-//! file with real syncs, each batch alone and in chains, for which alone the word `chains` asks; and
-//! by the word `cryptography` alone, how fast that of frames is. What was measured goes to standard
-//! error, since it is never the same twice; standard output stays empty. The status is 2 for other
-//! words, and 1 where a write failed.
+//! into the table, in tables of 8 to 4,096 devices; and how many decisions a second become durable
+//! on a file with real syncs, each batch alone and in chains, for which alone the word `chains`
+//! asks. The word `cryptography` asks how fast that of frames is. What was measured goes to
+//! standard error, since it is never the same twice; standard output stays empty. The status is 2
+//! for other words, and 1 where a write failed.
 #![tactic(auto)]
 
 mod chains;
