@@ -50,7 +50,7 @@ impl Activation {
     ghost use Rattle.std.specs.Prelude.{◌≡◌, ◌^◌, Some, SomeIff, true};
     ghost use Rattle.devices.specs.Activation.{with_last_up, with_current, grants_of, no_grants};
     ghost use Rattle.devices.specs.Activation.{with_down_used, with_grant, AreInOrder};
-    ghost use Rattle.devices.specs.Restored.{has_grants_left, restored_grants};
+    ghost use Rattle.devices.specs.Restored.{has_grants_left, raised_grants, restored_grants};
 
     /// Nothing granted yet.
     pub fn none() -> Self
@@ -148,8 +148,18 @@ impl Activation {
         });
     }
 
-    /// The grants of an older copy, as if so many more had been made behind it: no session is left.
-    /// `None` exactly where there are no so many JoinNonces above the last one granted.
+    /// Counts this JoinNonce as granted: the last granted one is raised to it unless it is higher
+    /// already. The sessions stay.
+    pub fn raise(&mut self, to: JoinNonce)
+        ensures { self.new ≡ raised_grants to self.old }
+    {
+        if granted_nonce(&self.granted) < to.get() {
+            self.granted = Some(to);
+        }
+    }
+
+    /// The grants of an older copy that is restored: the last granted JoinNonce is `since` higher,
+    /// and no session is left. `None` exactly if fewer than `since` JoinNonces are left above it.
     pub fn restored(&self, since: GrantsSince) -> Option<Self>
         ensures { SomeIff result (has_grants_left since self.now ≡ true)
             (restored_grants since self.now) }

@@ -6,7 +6,7 @@ use crate::{
     Activation, Application, GrantsSince, ItemQueue, LAST_HEARD, MacQueue, Provisioning, Rx1Offset,
     RxDelay, Tag, UplinkCount,
 };
-use lw_types::{Eui, Key, Refusal};
+use lw_types::{Eui, JoinNonce, Key, Refusal};
 use std::alloc::Global;
 
 /// What the network knows of a device. Its queues outlive a join.
@@ -33,7 +33,7 @@ pub struct Device {
 impl Device {
     ghost use Rattle.std.specs.Prelude.{true, false};
     ghost use Rattle.devices.specs.Device.{new_device, one_more_heard};
-    ghost use Rattle.devices.specs.Restored.{has_grants_left, restored_device};
+    ghost use Rattle.devices.specs.Restored.{has_grants_left, raised_device, restored_device};
 
     /// The record of a device that was just provisioned. Takes no memory.
     pub fn provisioned(alloc: Global, provisioning: &Provisioning) -> Self
@@ -65,16 +65,24 @@ impl Device {
         }
     }
 
-    /// Whether there are so many JoinNonces above the last one granted.
+    /// Counts this JoinNonce as granted to the device: the last granted one is raised to it unless
+    /// it is higher already. All else stays.
+    pub fn raise(&mut self, to: JoinNonce)
+        ensures { self.new ≡ raised_device to self.old }
+    {
+        self.activation.raise(to);
+    }
+
+    /// Whether `since` JoinNonces are left above the last granted one.
     pub fn has_grants_left(&self, since: GrantsSince) -> bool
         ensures { result ≡ has_grants_left since self.now.activation }
     {
         self.activation.restored(since).is_some()
     }
 
-    /// Takes the record of an older copy back, as if the device had been granted so many joins more
-    /// behind it: no session is left, and all else stays. Whether there were so many JoinNonces:
-    /// where not, nothing changes.
+    /// Restores the record of an older copy: the last granted JoinNonce is raised by `since`, no
+    /// session is left, and all else stays. Returns whether `since` JoinNonces were left; if not,
+    /// nothing changes.
     pub fn restore(&mut self, since: GrantsSince) -> bool
         ensures left { result ≡ has_grants_left since self.old.activation }
         ensures restored { result ≡ true → self.new ≡ restored_device since self.old }

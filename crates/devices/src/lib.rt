@@ -52,7 +52,7 @@ pub const LAST_HEARD: u64 = (1 << 63) - 1;
 /// The bytes that an application hands in, of any number.
 pub type AskedBytes = Bytes<{ usize::MAX }>;
 
-/// How many grants of a device count as made behind an older copy of a store, from 1 to 65,536.
+/// How far the JoinNonces of a restored copy are raised, from 1 to 65,536.
 pub type GrantsSince = Ranged<1, 65_536>;
 
 /// How many gateways heard an uplink, from 1 to 32.

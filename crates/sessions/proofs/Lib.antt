@@ -16,3 +16,4 @@ pub mod Becoming
 pub mod Exact
 pub mod Wholes
 pub mod Restoring
+pub mod Raising

@@ -1,4 +1,4 @@
--- A table of an older copy that is taken back rules out what was used up before.
+-- A restored table rules out what was used up before.
 use Rattle.std.proofs.Common.{◌≡◌, ◌≤◌, ◌+◌, ◌∙◌, ℕ, List, [], ◌∷◌, ◌++◌, length, map, set, take, drop, zero, suc, Option, Some, None, cond, nat_eq, sym, ap, refl, arith}
 use Rattle.std.specs.Prelude.{All, Bool, true, false, not, option_map, slice_get, slice_index_or, unwrap_or}
 use Rattle.std.specs.List.{find, position_from}
@@ -17,11 +17,25 @@ use Rattle.sessions.specs.Restored.{restored_table, IsSince}
 use Rattle.sessions.specs.Table.{TableState, slot_of}
 use Rattle.sessions.proofs.Slots.{split}
 
--- a device keeps its name
-pub same_place : (since dev_eui i : ℕ) (devices : List Device)
-    → position_from (λ d. nat_eq d.dev_eui.0 dev_eui) i (map (restored_device since) devices) ≡ position_from (λ d. nat_eq d.dev_eui.0 dev_eui) i devices
-same_place since dev_eui i [] = refl
-same_place since dev_eui i (d ∷ devices) = ap (cond (nat_eq d.dev_eui.0 dev_eui) (Some i)) (same_place since dev_eui (i + 1) devices)
+-- where each device keeps its name, each name keeps its place
+module _ (f : Device → Device) (keeps : (d : Device) → (f d).dev_eui.0 ≡ d.dev_eui.0) where
+  pub same_place : (dev_eui i : ℕ) (devices : List Device)
+      → position_from (λ d. nat_eq d.dev_eui.0 dev_eui) i (map f devices) ≡ position_from (λ d. nat_eq d.dev_eui.0 dev_eui) i devices
+  same_place dev_eui i [] = refl
+  same_place dev_eui i (d ∷ devices) =
+      ap (λ n. cond (nat_eq n dev_eui) (Some i) (position_from (λ d. nat_eq d.dev_eui.0 dev_eui) (i + 1) (map f devices))) (keeps d)
+      ∙ ap (cond (nat_eq d.dev_eui.0 dev_eui) (Some i)) (same_place dev_eui (i + 1) devices)
+
+  -- what stands at a slot was there
+  was_there : (o : Option Device) (d : Device) → option_map f o ≡ Some d → (old : Device) × ((o ≡ Some old) × (f old ≡ d))
+  was_there None d e = absurd (none-some d e)
+  was_there (Some old) d e = (old, (refl, same_Some (f old) d e))
+
+  pub own_slots : (devices : List Device) → HaveOwnSlots devices → HaveOwnSlots (map f devices)
+  own_slots devices own slot d at =
+      let old = was_there (slice_get devices slot) d (sym (slice_get-map f devices slot) ∙ at) in
+      let name : old.0.dev_eui.0 ≡ d.dev_eui.0 = sym (keeps old.0) ∙ ap (λ (x : Device). x.dev_eui.0) old.1.1 in
+      ap (λ e. slot_of e (map f devices)) (sym name) ∙ (same_place old.0.dev_eui.0 0 devices ∙ own slot old.0 old.1.0)
 
 covered : (since : ℕ) (g : Grants) (m : Mark) → (session_in m).join_nonce ≤ unwrap_or g.granted 0 + since → GrantsCover (restored_grants since g) m
 covered since g (Forwarded session counter) within = record { granted = within; begun = tt; past = tt }
@@ -33,7 +47,7 @@ covers_one since t m is =
     record {
       slot = is.slot;
       device = restored_device since is.device;
-      own = same_place since (session_in m).dev_eui.0 0 t.devices ∙ is.own;
+      own = same_place (restored_device since) (λ d. refl) (session_in m).dev_eui.0 0 t.devices ∙ is.own;
       at = slice_get-map (restored_device since) t.devices is.slot ∙ ap (option_map (restored_device since)) is.at;
       grants = covered since is.device.activation m is.within;
     }
@@ -41,24 +55,13 @@ covers_one since t m is =
 pub covers_all : (since : ℕ) (t : TableState) (marks : List Mark) → All (λ m. IsSince since t m) marks → All (λ m. Covers (restored_table since t) m) marks
 covers_all since t marks all = λ k d within. covers_one since t _ (all k d within)
 
--- what stands at a slot was there
-was_there : (since : ℕ) (o : Option Device) (d : Device) → option_map (restored_device since) o ≡ Some d → (old : Device) × ((o ≡ Some old) × (restored_device since old ≡ d))
-was_there since None d e = absurd (none-some d e)
-was_there since (Some old) d e = (old, (refl, same_Some (restored_device since old) d e))
-
-pub own_slots : (since : ℕ) (devices : List Device) → HaveOwnSlots devices → HaveOwnSlots (map (restored_device since) devices)
-own_slots since devices own slot d at =
-    let old = was_there since (slice_get devices slot) d (sym (slice_get-map (restored_device since) devices slot) ∙ at) in
-    let name : old.0.dev_eui.0 ≡ d.dev_eui.0 = ap (λ (x : Device). x.dev_eui.0) old.1.1 in
-    ap (λ e. slot_of e (map (restored_device since) devices)) (sym name) ∙ (same_place since old.0.dev_eui.0 0 devices ∙ own slot old.0 old.1.0)
-
 in_order : (since : ℕ) (g : Grants) → AreInOrder (restored_grants since g)
 in_order since g = record { current = omega arith; pending = tt; later = tt }
 
 pub sound : (since : ℕ) (t : TableState) → HaveOwnSlots t.devices → IsSound (restored_table since t)
 sound since t own =
     record {
-      own = own_slots since t.devices own;
+      own = own_slots (restored_device since) (λ d. refl) t.devices own;
       in_order = All-map (λ (d : Device). AreInOrder d.activation) (restored_device since) t.devices (λ k d within. in_order since (slice_index_or t.devices k d).activation);
     }
 

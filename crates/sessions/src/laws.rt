@@ -6,10 +6,11 @@ ghost use Rattle.devices.specs.Becoming.{MayBecome};
 ghost use Rattle.devices.specs.declared.command.Command.{Command};
 ghost use Rattle.devices.specs.declared.effect.Effect.{Effect};
 ghost use Rattle.devices.specs.declared.mark.Mark.{Mark};
+ghost use Rattle.devices.specs.declared.mark.SessionName.{SessionName};
 ghost use Rattle.sessions.specs.Index.{HaveOwnSlots};
 ghost use Rattle.sessions.specs.Marks.{AreOnce, Covers, HasUsedUp, IsSound, IsSubsequence};
 ghost use Rattle.sessions.specs.Marks.{marks_of};
-ghost use Rattle.sessions.specs.Restored.{restored_table, IsSince};
+ghost use Rattle.sessions.specs.Restored.{raised_by_all, restored_table, IsSince, IsSinceRecord};
 ghost use Rattle.sessions.specs.Table.{TableState, CanPut, IsSlots, empty_table, fold_of};
 ghost use Rattle.sessions.specs.Table.{effects_of};
 ghost use Rattle.sessions.specs.Decision.{FitsTable, FitAll, ContinueAll, with_decisions};
@@ -95,14 +96,27 @@ pub fn no_mark_stands_twice()
     uplinks::laws::a_fit_is_of_its_device();
 }
 
-/// A table that is taken back of an older copy rules out each mark of a device that the copy has,
-/// of before it, and of behind it where no such device was granted more sessions than were counted:
-/// so a network that has used up these marks, none of them twice, goes on with it.
+/// A restored table covers each mark of a device that the copy has, if the mark's JoinNonce is at
+/// most `since` above the last one that the copy says was granted. So a network that has used up
+/// such marks, none of them twice, goes on with it.
 pub fn a_restored_table_covers()
     ensures covered { (since : ℕ) (t : TableState) (marks : List Mark) →
         All (λ m. IsSince since t m) marks → All (λ m. Covers (restored_table since t) m) marks }
     ensures sound { (since : ℕ) (t : TableState) → HaveOwnSlots t.devices
         → IsSound (restored_table since t) }
+{}
+
+/// A record of sessions beside a copy may stand for what the copy lacks. If these sessions are
+/// counted as granted before the copy is restored, the restored table covers each mark whose
+/// JoinNonce is at most `since` above the copy's last one or above the highest one on record, of
+/// its device. So earlier restores of the network don't count against `since` if they are on
+/// record.
+pub fn a_record_raises_a_copy()
+    ensures within { (since : ℕ) (sessions : List SessionName) (t : TableState) (marks : List Mark)
+        → All (λ m. IsSinceRecord since sessions t m) marks
+        → All (λ m. IsSince since (raised_by_all sessions t) m) marks }
+    ensures own { (sessions : List SessionName) (t : TableState) → HaveOwnSlots t.devices
+        → HaveOwnSlots (raised_by_all sessions t).devices }
 {}
 
 /// A table has from 1 to 4,096 slots.

@@ -1,22 +1,25 @@
-// A table that is taken back of an older copy.
-ghost use Rattle.std.specs.Prelude.{◌≡◌, ◌∷◌, MatchResult, None, Some, option_map};
+// The table of an older copy is restored.
+ghost use Rattle.std.specs.Prelude.{◌≡◌, ◌∷◌, ◌↔◌, IsSome, IsTrue, MatchResult, None, Some};
+ghost use Rattle.std.specs.Prelude.{option_map};
 
 use crate::Table;
-use devices::GrantsSince;
+use devices::{GrantsSince, SessionName};
 use lw_types::Eui;
 
 impl Table {
-    ghost use Rattle.sessions.specs.Restored.{restored_table, spent_device};
+    ghost use Rattle.sessions.specs.Restored.{raised_table, restored_table, spent_device};
+    ghost use Rattle.sessions.specs.Table.{slot_of};
 
-    /// Takes the table of an older copy back, as if each device had been granted so many joins more
-    /// behind it: no session is left, and all else stays, so that devices join again, under
-    /// JoinNonces that nobody was granted. Refused with the DevEUI of the first device that hasn't
-    /// so many JoinNonces left, exactly where there is one; then nothing changes. Takes no memory.
-    /// Its cost grows with the number of devices.
+    /// Restores the table of an older copy: the last granted JoinNonce of each device is raised by
+    /// `since`, no device has a session, and all else stays. So devices join again. Refused with the
+    /// DevEUI of the first device that has fewer than `since` JoinNonces left, exactly if there is
+    /// one; then nothing changes. Takes no memory. Its cost grows with the number of devices.
     ///
-    /// What the network used up before the copy, and behind it among so many grants of each device,
-    /// is ruled out by the table from then on:
-    /// [`a_restored_table_covers`](crate::laws::a_restored_table_covers).
+    /// From then on the table rules out what the network used up before the copy, and after it under
+    /// JoinNonces that are at most `since` above the copy's last one of their device:
+    /// [`a_restored_table_covers`](crate::laws::a_restored_table_covers). Each join counts as one
+    /// JoinNonce, and each earlier restore of the same network as its `since`, unless
+    /// [`raise`](Table::raise) was called for the JoinNonces from which it went on.
     pub fn restore(&mut self, since: GrantsSince) -> Result<(), Eui>
         ensures { MatchResult result
             (λ _. (spent_device since self.old ≡ None)
@@ -33,7 +36,23 @@ impl Table {
         Ok(())
     }
 
-    // The first device that hasn't so many JoinNonces left.
+    /// Counts this session as granted: the last granted JoinNonce of its device is raised to the
+    /// session's unless it is higher already. All else stays. Returns whether the table has the
+    /// device; if not, nothing changes. Takes no memory. Its cost doesn't grow with the devices.
+    pub fn raise(&mut self, session: &SessionName) -> bool
+        ensures known { IsTrue result ↔ IsSome (slot_of session.now.dev_eui.0 self.old.devices) }
+        ensures raised { self.new ≡ raised_table session.now self.old }
+    {
+        match self.slot_of(session.dev_eui) {
+            Some(slot) => {
+                self.devices[slot as usize].raise(session.join_nonce);
+                true
+            }
+            None => false,
+        }
+    }
+
+    // The first device that has fewer than `since` JoinNonces left.
     fn spent_device(&self, since: GrantsSince) -> Option<Eui>
         ensures { result ≡ option_map (λ d. d.dev_eui) (spent_device since self.now) }
     {

@@ -1,5 +1,5 @@
-use Rattle.std.proofs.Common.{rules, ◌+◌, suc, ◌≡◌, ◌<◌, ◌≤◌, ◌∙◌, ℕ, List, length, Some, None, Option, get_or, map, set, sym, ap, subst, refl, arith}
-use Rattle.std.specs.Prelude.{◌-◌, nat_eq, option_map, slice_get}
+use Rattle.std.proofs.Common.{◌+◌, suc, ◌≡◌, ◌<◌, ◌≤◌, ◌∙◌, length, Some, None, map, set, sym, ap, subst, refl, arith}
+use Rattle.std.specs.Prelude.{◌-◌, nat_eq, slice_get}
 use Rattle.std.specs.HashMap.{get, spare}
 use Rattle.std.specs.Vec.{vec_capacity}
 use Rattle.sessions.specs.declared.table.TheConstants.{MOST_SLOTS}
@@ -9,7 +9,7 @@ use Rattle.devices.specs.Restored.{restored_device}
 use Rattle.devices.specs.declared.device.Device.{Device}
 use Rattle.sessions.specs.Index.{HaveOwnSlots, table_of}
 use Rattle.sessions.specs.Restored.{spent_device}
-use Rattle.sessions.specs.Table.{TableState, slot_of}
+use Rattle.sessions.specs.Table.{slot_of}
 use Rattle.sessions.proofs.Restoring.{all_restored, has_left, next_restored, own_slots, restored_up_to, same_place, still_long, still_there, unfound}
 use Rattle.sessions.proofs.table.Table.restore.Goals as goal
 
@@ -44,8 +44,8 @@ invariant_of-self c =
     record {
       few = subst (λ n. length c.loop-slot.self-inside.devices.items ≤ n) (sym rest.1.1.0) (omega (arith, long, c.self.invariant.few));
       slots = subst (λ n. n ≤ MOST_SLOTS) (sym rest.1.1.0) c.self.invariant.slots;
-      finds = λ e. ap (λ i. get nat_eq i e) rest.1.1.1 ∙ (c.self.invariant.finds e ∙ (sym (same_place since e 0 devices) ∙ ap (slot_of e) (sym items)));
-      own = subst HaveOwnSlots (sym items) (own_slots since devices c.self.invariant.own);
+      finds = λ e. ap (λ i. get nat_eq i e) rest.1.1.1 ∙ (c.self.invariant.finds e ∙ (sym (same_place (restored_device since) (λ d. refl) e 0 devices) ∙ ap (slot_of e) (sym items)));
+      own = subst HaveOwnSlots (sym items) (own_slots (restored_device since) (λ d. refl) devices c.self.invariant.own);
       room = subst (λ n. n ≤ vec_capacity c.loop-slot.self-inside.devices) (sym rest.1.1.0) (omega (arith, rest.0, c.self.invariant.room));
       spare =
           subst (λ n. n - length c.loop-slot.self-inside.devices.items ≤ spare c.loop-slot.self-inside.index) (sym rest.1.1.0)
