@@ -35,6 +35,10 @@ command_met m name command rows is = go (out-ArgMatches m).subcommand
 pub text_met : (f : Found) (id text : Text) → Some text ≡ first_value f id → first_of id (rows_of f) ≡ Some text
 text_met f id text e = sym (first_value-rows f id) ∙ sym e
 
+-- the text of an option, if it was given
+pub text_asked : (f : Found) (id : Text) (text : Option Text) → text ≡ first_value f id → first_of id (rows_of f) ≡ text
+text_asked f id text e = sym (first_value-rows f id) ∙ sym e
+
 -- the number of an option
 pub number_met : (E : Type 0) (G : List ℕ → Result ℕ E → Type 0) → ((t : List ℕ) (x : Result ℕ E) → G t x → ParsesUnsigned 32 10 t x)
     → (f : Found) (id : Text) (r : Option ℕ) (n : ℕ) → (one_text f id ≡ None → r ≡ None)
@@ -92,7 +96,7 @@ no_format asked rows e never = no_mode asked (codes "format") rows e go
     go (mode.Devices file) fits is at h = apart (codes "format") (codes "devices") (λ b. omega (arith, b)) is
     go (mode.Watch file) fits is at h = apart (codes "format") (codes "watch") (λ b. omega (arith, b)) is
     go (mode.Status file wait) fits is at h = apart (codes "format") (codes "status") (λ b. omega (arith, b)) is
-    go (mode.Restore file new_file grants) fits is at h = apart (codes "format") (codes "restore") (λ b. omega (arith, b)) is
+    go (mode.Restore file new_file grants above) fits is at h = apart (codes "format") (codes "restore") (λ b. omega (arith, b)) is
 
 -- a `serve` without an address or a number of links
 pub no_serve : (asked : Option (Text × List Row)) (rows : List Row) → asked ≡ Some (codes "serve", rows)
@@ -109,7 +113,7 @@ no_serve asked rows e never = no_mode asked (codes "serve") rows e go
     go (mode.Devices file) fits is at h = apart (codes "serve") (codes "devices") (λ b. omega (arith, b)) is
     go (mode.Watch file) fits is at h = apart (codes "serve") (codes "watch") (λ b. omega (arith, b)) is
     go (mode.Status file wait) fits is at h = apart (codes "serve") (codes "status") (λ b. omega (arith, b)) is
-    go (mode.Restore file new_file grants) fits is at h = apart (codes "serve") (codes "restore") (λ b. omega (arith, b)) is
+    go (mode.Restore file new_file grants above) fits is at h = apart (codes "serve") (codes "restore") (λ b. omega (arith, b)) is
 
 -- the same of a `run`
 pub no_run : (asked : Option (Text × List Row)) (rows : List Row) → asked ≡ Some (codes "run", rows)
@@ -126,7 +130,7 @@ no_run asked rows e never = no_mode asked (codes "run") rows e go
     go (mode.Devices file) fits is at h = apart (codes "run") (codes "devices") (λ b. omega (arith, b)) is
     go (mode.Watch file) fits is at h = apart (codes "run") (codes "watch") (λ b. omega (arith, b)) is
     go (mode.Status file wait) fits is at h = apart (codes "run") (codes "status") (λ b. omega (arith, b)) is
-    go (mode.Restore file new_file grants) fits is at h = apart (codes "run") (codes "restore") (λ b. omega (arith, b)) is
+    go (mode.Restore file new_file grants above) fits is at h = apart (codes "run") (codes "restore") (λ b. omega (arith, b)) is
 
 -- a `status` without a number of seconds
 pub no_status : (asked : Option (Text × List Row)) (rows : List Row) → asked ≡ Some (codes "status", rows)
@@ -143,7 +147,7 @@ no_status asked rows e never = no_mode asked (codes "status") rows e go
     go (mode.Stop file) fits is at h = apart (codes "status") (codes "stop") (λ b. omega (arith, b)) is
     go (mode.Devices file) fits is at h = apart (codes "status") (codes "devices") (λ b. omega (arith, b)) is
     go (mode.Watch file) fits is at h = apart (codes "status") (codes "watch") (λ b. omega (arith, b)) is
-    go (mode.Restore file new_file grants) fits is at h = apart (codes "status") (codes "restore") (λ b. omega (arith, b)) is
+    go (mode.Restore file new_file grants above) fits is at h = apart (codes "status") (codes "restore") (λ b. omega (arith, b)) is
 
 -- a `restore` without a new file or a number of grants
 pub no_restore : (asked : Option (Text × List Row)) (rows : List Row) → asked ≡ Some (codes "restore", rows)
@@ -152,7 +156,7 @@ pub no_restore : (asked : Option (Text × List Row)) (rows : List Row) → asked
 no_restore asked rows e never = no_mode asked (codes "restore") rows e go
   where
     go : (m : Mode) → IsInRange m → codes "restore" ≡ command_word m → first_of (codes "file") rows ≡ Some (mode_file m) → HasOptions rows m → ⊥
-    go (mode.Restore file new_file grants) fits is at h = never new_file.now grants fits.0 fits.1 h.0 h.1
+    go (mode.Restore file new_file grants above) fits is at h = never new_file.now grants fits.0 fits.1 h.0 h.1
     go (mode.Format file net_id slots) fits is at h = apart (codes "restore") (codes "format") (λ b. omega (arith, b)) is
     go (mode.List file) fits is at h = apart (codes "restore") (codes "list") (λ b. omega (arith, b)) is
     go (mode.Serve file listen links) fits is at h = apart (codes "restore") (codes "serve") (λ b. omega (arith, b)) is

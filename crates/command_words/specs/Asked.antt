@@ -1,5 +1,6 @@
 -- What words ask for.
 use Rattle.std.specs.Prelude.{◌≡◌, ◌≢◌, ◌<◌, ◌≤◌, ◌⊎◌, ℕ, List, [], Option, Some, codes}
+use Rattle.std.specs.Prelude.{option_map}
 use Rattle.std.specs.Str.Parse.{IsNumeral, digits_value, without_leading_plus}
 use Rattle.clap.specs.Words.{IsAmong, Row, Text, fault_of, first_of, one_of, subcommand_of}
 use Rattle.clap.specs.declared.error.kind.ErrorKind.{ErrorKind}
@@ -33,7 +34,7 @@ command_word (mode.Stop file) = codes "stop"
 command_word (mode.Devices file) = codes "devices"
 command_word (mode.Watch file) = codes "watch"
 command_word (mode.Status file wait) = codes "status"
-command_word (mode.Restore file new_file grants) = codes "restore"
+command_word (mode.Restore file new_file grants above) = codes "restore"
 
 -- the file that it is about
 abbrev pub mode_file : Mode → Text
@@ -45,7 +46,7 @@ mode_file (mode.Stop file) = file.now
 mode_file (mode.Devices file) = file.now
 mode_file (mode.Watch file) = file.now
 mode_file (mode.Status file wait) = file.now
-mode_file (mode.Restore file new_file grants) = file.now
+mode_file (mode.Restore file new_file grants above) = file.now
 
 -- its options have these values
 abbrev pub HasOptions : List Row → Mode → Type 0
@@ -59,8 +60,9 @@ HasOptions rows (mode.Stop file) = Unit
 HasOptions rows (mode.Devices file) = Unit
 HasOptions rows (mode.Watch file) = Unit
 HasOptions rows (mode.Status file wait) = IsNumberOf (codes "wait") rows wait
-HasOptions rows (mode.Restore file new_file grants) =
+HasOptions rows (mode.Restore file new_file grants above) =
     (first_of (codes "new") rows ≡ Some new_file.now) × IsNumberOf (codes "grants") rows grants
+    × (first_of (codes "above") rows ≡ option_map (λ file. file.now) above)
 
 -- this is what a command asks for, with the values of its words and options
 abbrev pub IsModeOf : Option (Text × List Row) → Mode → Type 0
@@ -77,7 +79,7 @@ IsInRange (mode.Stop file) = Unit
 IsInRange (mode.Devices file) = Unit
 IsInRange (mode.Watch file) = Unit
 IsInRange (mode.Status file wait) = wait ≤ 3600
-IsInRange (mode.Restore file new_file grants) = (1 ≤ grants) × (grants ≤ 65536)
+IsInRange (mode.Restore file new_file grants above) = (1 ≤ grants) × (grants ≤ 65536)
 
 -- a command asks for nothing that is in its ranges
 abbrev pub HasNoMode : Option (Text × List Row) → Type 0

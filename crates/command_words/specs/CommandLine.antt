@@ -26,6 +26,10 @@ count_option id most = range_option id (pos 1) most
 abbrev pub or_else : Rule → Text → Rule
 or_else option value = record option { required = false; defaults = value ∷ [] }
 
+-- an option that may be left out
+abbrev pub optional : Rule → Rule
+optional option = record option { required = false }
+
 abbrev pub format_line : App
 format_line = with_rule (with_rule (with_rule (new_app (codes "format")) (word (codes "file")))
     (option (codes "netid"))) (count_option (codes "slots") (pos 4096))
@@ -55,8 +59,10 @@ status_line = with_rule (with_rule (new_app (codes "status")) (word (codes "file
     (or_else (range_option (codes "wait") (pos 0) (pos 3600)) (codes "0"))
 
 abbrev pub restore_line : App
-restore_line = with_rule (with_rule (with_rule (new_app (codes "restore")) (word (codes "file")))
-    (word (codes "new"))) (or_else (count_option (codes "grants") (pos 65536)) (codes "1024"))
+restore_line = with_rule (with_rule (with_rule (with_rule (new_app (codes "restore"))
+    (word (codes "file"))) (word (codes "new")))
+    (or_else (count_option (codes "grants") (pos 65536)) (codes "1024")))
+    (optional (option (codes "above")))
 
 -- `lnsd` without the name of the program, before its commands
 abbrev pub top_line : App

@@ -3,7 +3,7 @@ ghost use Rattle.std.specs.Prelude.{◌≡◌, ◌≤ℤ◌, codes, false, pos};
 ghost use Rattle.clap.specs.Words.{App, Rule, new_app, rule_of, with_rule, with_subcommand};
 ghost use Rattle.clap.specs.declared.builder.value_parser.ValueParser.TheVariants as parsers;
 ghost use Rattle.command_words.specs.CommandLine.{HasLine, IsCommand, devices_line, format_line};
-ghost use Rattle.command_words.specs.CommandLine.{list_line, lnsd_line, option, or_else};
+ghost use Rattle.command_words.specs.CommandLine.{list_line, lnsd_line, option, optional, or_else};
 ghost use Rattle.command_words.specs.CommandLine.{range_option, restore_line, run_line};
 ghost use Rattle.command_words.specs.CommandLine.{serve_line, status_line, stop_line, top_line};
 ghost use Rattle.command_words.specs.CommandLine.{watch_line, word};
@@ -41,7 +41,10 @@ Example: for whoever connects on this machine
   lnsd run store --listen 127.0.0.1:5600";
 
 const RESTORE_EXAMPLE: &str = "\
-Example: behind the copy no device was granted more than 100 joins
+Each restore adds to the file lnsd-restored.csv, beside OLD and beside NEW, from which JoinNonce \
+each device goes on. The next restore goes on above what it finds there.
+
+Example: no device joined more than 100 times since the copy
   lnsd restore copy store --grants 100";
 
 const STOP_EXAMPLE: &str = "\
@@ -240,7 +243,7 @@ fn status<'a>(alloc: Global) -> Result<Command<'a>, AllocError>
 fn restore<'a>(alloc: Global) -> Result<Command<'a>, AllocError>
     ensures { IsCommand restore_line result }
 {
-    let about = "Makes a new store of an older copy, so that nothing is used up twice";
+    let about = "Restores an older copy of a lost store in a new file";
     let copy = word(
         alloc,
         "file",
@@ -253,16 +256,37 @@ fn restore<'a>(alloc: Global) -> Result<Command<'a>, AllocError>
         "NEW",
         "The file of the new store, which isn't there yet",
     );
-    let grants = number_option(
+    let restore = file_command(alloc, "restore", about, RESTORE_EXAMPLE, copy);
+    let restore = with_arg(with_arg(restore, new), or_else(grants(alloc), "1024"));
+    with_arg(restore, optional(above(alloc)))
+}
+
+fn grants<'a>(alloc: Global) -> Arg<'a>
+    ensures rule { rule_of result ≡ range_option (codes "grants") (pos 1) (pos 65536) }
+    ensures local { result.global ≡ false }
+{
+    number_option(
         alloc,
         "grants",
         "N",
-        "How many joins of each device count as granted behind the copy: from 1 to 65536",
+        "How far to raise the JoinNonces: more than the joins of a device since the copy or \
+            since the last restore on record, from 1 to 65536",
         1,
         65_536,
-    );
-    let restore = file_command(alloc, "restore", about, RESTORE_EXAMPLE, copy);
-    with_arg(with_arg(restore, new), or_else(grants, "1024"))
+    )
+}
+
+fn above<'a>(alloc: Global) -> Arg<'a>
+    ensures rule { rule_of result ≡ option (codes "above") }
+    ensures local { result.global ≡ false }
+{
+    option(
+        alloc,
+        "above",
+        "FILE",
+        "A CSV file of JoinNonces that were granted (DevEUI,JoinNonce), as readings prints it; \
+            the devices go on above them, too",
+    )
 }
 
 fn store_file<'a>(alloc: Global) -> Arg<'a>
@@ -290,6 +314,14 @@ fn or_else<'a>(option: Arg<'a>, value: &'a str) -> Arg<'a>
     ensures local { result.global ≡ option.entry.global }
 {
     option.required(false).default_value(value)
+}
+
+// An option that may be left out.
+fn optional<'a>(option: Arg<'a>) -> Arg<'a>
+    ensures rule { rule_of result ≡ optional (rule_of option.entry) }
+    ensures local { result.global ≡ option.entry.global }
+{
+    option.required(false)
 }
 
 // A word that has to be there.

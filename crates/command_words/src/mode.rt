@@ -40,12 +40,14 @@ pub enum Mode<'a> {
     Watch {
         file: &'a str,
     },
-    /// To make the store of a copy that is older than what was lost, in a new file, as if so many
-    /// joins of each device had been granted behind it.
+    /// To restore the older copy in a file in a new file. The JoinNonces of each device go on
+    /// `grants` above the highest one that is known, and the file `above`, if there is one, has
+    /// JoinNonces that count as known.
     Restore {
         file: &'a str,
         new: &'a str,
         grants: Ranged<1, 65_536>,
+        above: Option<&'a str>,
     },
     /// To print how it goes with the server that runs on the store in a file, which may still begin
     /// within so many seconds.

@@ -110,7 +110,13 @@ fn mode_of<'a>(matches: &ArgMatches<'a>) -> Option<Mode<'a>>
         "restore" => {
             let new = matches.get_str("new")?;
             let grants = Ranged::new(option_number(matches, "grants")?)?;
-            Some(Mode::Restore { file, new, grants })
+            let above = matches.get_str("above");
+            Some(Mode::Restore {
+                file,
+                new,
+                grants,
+                above,
+            })
         }
         _ => None,
     }

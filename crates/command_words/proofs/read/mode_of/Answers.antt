@@ -3,7 +3,7 @@ use Rattle.std.proofs.lemmas.Option.{none-some}
 use Rattle.clap.specs.Words.{found_of, rows_of, subcommand_rows_of}
 use Rattle.lw_types.specs.Hex.{net_id_text}
 use Rattle.command_words.specs.Asked.{HasLinkOptions, IsNumberOf}
-use Rattle.command_words.proofs.Rows.{command_met, no_file, no_format, no_restore, no_run, no_serve, no_status, same, text_met, text_missed}
+use Rattle.command_words.proofs.Rows.{command_met, no_file, no_format, no_restore, no_run, no_serve, no_status, same, text_asked, text_met, text_missed}
 use Rattle.command_words.proofs.read.mode_of.Goals as goal
 
 pub returns-in_ok-slots-in-format-clause-some : goal.returns-in_ok-slots-in-format-clause-some
@@ -142,6 +142,7 @@ returns-in_ok-grants-in-restore-clause-some c =
       (
         text_met found (codes "new") c.in_ok-new-in-restore.new.now c.in_ok-new-in-restore.ensures,
         subst (λ n. IsNumberOf (codes "grants") (rows_of found) n) (search rules) c.in_ok-option_number-in-restore.ensures.some,
+        text_asked found (codes "above") _ c.get_str-above.ensures,
       ),
     )
 

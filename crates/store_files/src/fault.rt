@@ -1,0 +1,30 @@
+// Why a store's file can't be made or restored.
+use lw_types::{Eui, Refusal};
+
+/// Why a store's file can't be made or restored.
+#[derive(Drop)]
+pub enum FileFault {
+    /// There is such a file already.
+    Exists,
+    /// A file can't be made or opened, or another process has it.
+    File,
+    /// The record of restores of this path can't be read or written.
+    Record(String),
+    /// This line of the record of this path isn't a DevEUI, a comma and a JoinNonce.
+    Line(String, u64),
+    /// This device of the copy has too few JoinNonces left.
+    Spent(Eui),
+    /// The store refused, its disk failed, or there was no memory.
+    Refused(Refusal),
+}
+
+impl From<Refusal> for FileFault {
+    ghost use Rattle.std.specs.Prelude.{◌≡◌};
+    ghost use Rattle.store_files.specs.declared.fault.FileFault.TheVariants.{Refused};
+
+    ghost from_gives = { λ refusal fault. fault ≡ Refused refusal };
+
+    fn from(refusal: Refusal) -> Self {
+        FileFault::Refused(refusal)
+    }
+}

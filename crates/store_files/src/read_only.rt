@@ -1,0 +1,44 @@
+// A disk that is read and never written.
+use disk::{DeviceFailed, Disk};
+
+/// Reads another disk, and lets go what is written. So the store of a copy can be opened, even one
+/// of an older version, which an opening takes over by writing; and the copy stays as it is.
+#[derive(Drop)]
+pub(crate) struct ReadOnly<D> {
+    disk: D,
+}
+
+impl<D> ReadOnly<D> {
+    pub(crate) fn new(disk: D) -> Self {
+        ReadOnly { disk }
+    }
+}
+
+impl<D: Disk> Disk for ReadOnly<D> {
+    ghost use Rattle.disk.specs.Outlook.Outlook.{Unknown};
+
+    ghost state = { λ disk. D.state disk.disk };
+
+    ghost failures = { λ disk. D.failures disk.disk };
+
+    ghost outlook = { λ _. Unknown };
+
+    // What is read isn't what was written.
+    ghost honest = { ⊥ };
+
+    fn len(&self) -> u64 {
+        self.disk.len()
+    }
+
+    fn read_at(&mut self, at: u64, buffer: &mut [u8]) -> Result<(), DeviceFailed> {
+        self.disk.read_at(at, buffer)
+    }
+
+    fn write_at(&mut self, _at: u64, _bytes: &[u8]) -> Result<(), DeviceFailed> {
+        Ok(())
+    }
+
+    fn sync(&mut self) -> Result<(), DeviceFailed> {
+        Ok(())
+    }
+}

@@ -1,0 +1,185 @@
+// An older copy of a lost store is restored.
+ghost use Rattle.std.specs.Prelude.{◌≡◌, ◌⊎◌, ℕ, IfOk, List, MatchResult, None, Some, option_map};
+ghost use Rattle.std.specs.Prelude.{string_bytes};
+ghost use Rattle.devices.specs.declared.mark.SessionName.{SessionName};
+ghost use Rattle.sessions.specs.Restored.{raised_by_all, restored_table, spent_device};
+ghost use Rattle.sessions.specs.Table.{TableState};
+ghost use Rattle.store_files.specs.Report.{IsRestoredAs, restored_text};
+
+use crate::FileFault;
+use crate::new_file::{create, remove};
+use crate::read_only::ReadOnly;
+use crate::record::Record;
+use crate::report::report_of;
+use devices::{Device, GrantsSince, SessionName};
+use disk::{Disk, FileDisk};
+use lw_types::Refusal;
+use sessions::Table;
+use std::alloc::Global;
+use std::fs::File;
+use std::rt::Files;
+use store::{Store, establish_back, open};
+
+/// What is to be restored.
+#[derive(Clone, Copy)]
+pub struct RestoreRequest<'a> {
+    /// The file of the copy.
+    pub old: &'a str,
+    /// The file of the new store, which isn't there yet.
+    pub new: &'a str,
+    /// How far the JoinNonces are raised above those of the copy and of the records.
+    pub since: GrantsSince,
+    /// A file of JoinNonces that count as granted, beside the records of restores.
+    pub above: Option<&'a str>,
+}
+
+/// The store that was restored, and what is printed of it.
+#[derive(Drop)]
+pub struct RestoredStore {
+    pub store: Store<FileDisk>,
+    pub text: String,
+}
+
+/// Restores an older copy of a lost store in a new file. The JoinNonces of each device go on
+/// `since` above the highest of these: the copy's last one, those of the records of earlier
+/// restores in the folders of both files, and those of the file `above`. No device has a session.
+/// Before the new store is there, both records say from where the devices go on, durably. The copy
+/// stays as it is. If it fails, the new file isn't there, and the records are as they were or say
+/// so already, which raises the next restore and no more.
+pub fn restore<R: Files<File = File>>(
+    rt: &R,
+    alloc: Global,
+    request: &RestoreRequest<'_>,
+) -> Result<RestoredStore, FileFault>
+    ensures { IfOk result
+        (λ made. IsRestoredAs request.now.since made.store.table (string_bytes made.text)) }
+{
+    let copy = open_copy(rt, alloc, request.old)?;
+    let records = read_records(rt, alloc, request)?;
+    let seq = copy.seq();
+    let (table, text) = table_since(alloc, copy.table(), &records.sessions, request.since)?;
+    let (disk, made) = create(rt, request.new, table.slots())?;
+    if let Err(fault) = records.add(rt, alloc, table.devices()) {
+        return Err(remove(rt, made, disk, fault));
+    }
+    match establish_back(alloc, disk, table, seq) {
+        Ok(store) => Ok(RestoredStore { store, text }),
+        Err((disk, refusal)) => Err(remove(rt, made, disk, FileFault::Refused(refusal))),
+    }
+}
+
+// What is on record of earlier restores.
+#[derive(Drop)]
+struct Records {
+    beside_old: Record,
+    beside_new: Record,
+    sessions: Vec<SessionName>,
+}
+
+impl Records {
+    // Adds to both records from where the devices go on.
+    fn add<R: Files<File = File>>(
+        self,
+        rt: &R,
+        alloc: Global,
+        devices: &[Device],
+    ) -> Result<(), FileFault> {
+        let Records {
+            beside_old,
+            beside_new,
+            sessions: _,
+        } = self;
+        if !beside_old.is_same(&beside_new) {
+            beside_new.add(rt, alloc, devices)?;
+        }
+        beside_old.add(rt, alloc, devices)
+    }
+}
+
+// The records in the folders of both files, and the sessions that they and the file `above` name.
+fn read_records<R: Files<File = File>>(
+    rt: &R,
+    alloc: Global,
+    request: &RestoreRequest<'_>,
+) -> Result<Records, FileFault> {
+    let mut sessions = Vec::new(alloc);
+    let beside_old = Record::beside(rt, alloc, request.old)?;
+    let beside_new = Record::beside(rt, alloc, request.new)?;
+    beside_old.read_into(alloc, &mut sessions)?;
+    beside_new.read_into(alloc, &mut sessions)?;
+    if let Some(above) = request.above {
+        Record::open(rt, alloc, above)?.read_into(alloc, &mut sessions)?;
+    }
+    Ok(Records {
+        beside_old,
+        beside_new,
+        sessions,
+    })
+}
+
+// The table of a copy as it is restored, and what is printed of it.
+fn table_since(
+    alloc: Global,
+    copy: &Table,
+    sessions: &[SessionName],
+    since: GrantsSince,
+) -> Result<(Table, String), FileFault>
+    ensures { IfOk result
+        (λ made. (spent_device since (raised_by_all sessions.now copy.now) ≡ None)
+        × (made.0 ≡ restored_table since (raised_by_all sessions.now copy.now))
+        × ((recorded : ℕ) × (string_bytes made.1 ≡ restored_text recorded made.0.devices))) }
+{
+    let raised = raised_by(copy, sessions)?;
+    let recorded = changed(copy.devices(), raised.devices());
+    let table = restored(raised, since)?;
+    match report_of(alloc, recorded, table.devices()) {
+        Ok(text) => Ok((table, text)),
+        Err(_) => Err(FileFault::Refused(Refusal::OutOfMemory)),
+    }
+}
+
+// The table of a copy, in which these sessions count as granted.
+fn raised_by(copy: &Table, sessions: &[SessionName]) -> Result<Table, Refusal>
+    ensures { IfOk result (λ table. table ≡ raised_by_all sessions.now copy.now) }
+{
+    let mut table = copy.copy()?;
+    for session in sessions {
+        let _known = table.raise(session);
+    }
+    Ok(table)
+}
+
+// How many devices have another last granted JoinNonce than in the copy.
+fn changed(copy: &[Device], raised: &[Device]) -> usize {
+    copy.iter()
+        .zip(raised)
+        .filter(|(old, new)| old.activation.granted() != new.activation.granted())
+        .count()
+}
+
+// A table as it is restored.
+fn restored(raised: Table, since: GrantsSince) -> Result<Table, FileFault>
+    ensures { MatchResult result
+        (λ table. (spent_device since raised ≡ None) × (table ≡ restored_table since raised))
+        (λ fault. option_map (λ d. FileFault.Spent d.dev_eui) (spent_device since raised)
+        ≡ Some fault) }
+{
+    let mut table = raised;
+    match table.restore(since) {
+        Ok(()) => Ok(table),
+        Err(dev_eui) => Err(FileFault::Spent(dev_eui)),
+    }
+}
+
+// The store of a copy. What an opening reads is read of its file, and nothing is written there. So
+// the superblock and the length are looked at first, and memory holds the table alone.
+fn open_copy<R: Files<File = File>>(
+    rt: &R,
+    alloc: Global,
+    file: &str,
+) -> Result<Store<ReadOnly<FileDisk>>, FileFault> {
+    match FileDisk::open(rt, file) {
+        Ok(disk) => Ok(open(alloc, ReadOnly::new(disk))?),
+        Err(_) => Err(FileFault::File),
+    }
+}
