@@ -92,6 +92,8 @@ class Seen:
         # how many links there were, over all lives
         self.links = 0
         self.queued, self.keys, self.meters = {}, {}, {}
+        # the blocks of keystream under which payloads of downlinks left
+        self.blocks = set()
         # the uplinks of each device that came out before its store counted them
         self.uncounted = Counter()
         # the greatest marks: all, those of earlier lives, and those of each link of this life
@@ -176,12 +178,21 @@ class Seen:
         meter, end = self.meters[name[0]], 8 + (frame[5] & 15)
         meter.owes_ack = frame[0] == 0xA0
         if len(frame) - 4 > end:
+            self.keystream(name, keys[1], address, counter, len(frame) - 4 - (end + 1))
             clear = crypted(keys[1], DOWN, address, counter, frame[end + 1 : -4])
             tag = int.from_bytes(clear[:4], "big")
             # what was asked on an older link may be read behind what is asked on the newer one
             asked = (meter.dev_eui, meter.asked_on.get(tag))
             self.mark(self.items, asked, tag, "item", gateway)
         return name[0]
+
+    def keystream(self, name, key, address, counter, length):
+        """The blocks of keystream of a downlink's payload: each is used once, over all stores."""
+        stream = crypted(key, DOWN, address, counter, bytes(-(-length // 16) * 16))
+        for at in range(0, len(stream), 16):
+            block = stream[at : at + 16]
+            self.holds(block not in self.blocks, f"keystream of {name} {counter} was used before")
+            self.blocks.add(block)
 
     def accept(self, gateway, frame):
         """A Join-Accept: only the device that it is for can open it."""

@@ -1,10 +1,22 @@
--- What came of a life that was served.
+-- Why a command failed, by what a life or a store's file failed of.
 use Rattle.server_links.specs.declared.fault.ServeFault.{ServeFault}
 use Rattle.server_links.specs.declared.fault.ServeFault.TheVariants as served
+use Rattle.store_files.specs.declared.fault.FileFault.{FileFault}
+use Rattle.store_files.specs.declared.fault.FileFault.TheVariants as file
 use Rattle.gateway_server.specs.declared.fault.Fault.{Fault}
-use Rattle.gateway_server.specs.declared.fault.Fault.TheVariants.{Listen, Refused}
+use Rattle.gateway_server.specs.declared.fault.Fault.TheVariants.{Exists, File, Listen, Record}
+use Rattle.gateway_server.specs.declared.fault.Fault.TheVariants.{RecordLine, Refused, Spent}
 
 -- the fault of a command whose life ended by this one
 abbrev pub fault_of_life : ServeFault → Fault
 fault_of_life served.Listen = Listen
 fault_of_life (served.Refused refusal) = Refused refusal
+
+-- the fault of a command whose store's file couldn't be made or restored for this one
+abbrev pub fault_of_file : FileFault → Fault
+fault_of_file file.Exists = Exists
+fault_of_file file.File = File
+fault_of_file (file.Record path) = Record path
+fault_of_file (file.Line path line) = RecordLine path line
+fault_of_file (file.Spent dev_eui) = Spent dev_eui
+fault_of_file (file.Refused refusal) = Refused refusal

@@ -20,7 +20,7 @@ TellsEarly (mode.Serve file listen links) = ⊥
 TellsEarly (mode.Stop file) = ⊥
 TellsEarly (mode.Devices file) = ⊥
 TellsEarly (mode.Status file wait) = ⊥
-TellsEarly (mode.Restore file new_file grants) = ⊥
+TellsEarly (mode.Restore file new_file grants above) = ⊥
 
 -- it tells something, early or once it is done
 abbrev pub SaysSomething : Mode → Type 0
@@ -32,7 +32,7 @@ SaysSomething (mode.List file) = Unit
 SaysSomething (mode.Serve file listen links) = Unit
 SaysSomething (mode.Devices file) = Unit
 SaysSomething (mode.Status file wait) = Unit
-SaysSomething (mode.Restore file new_file grants) = Unit
+SaysSomething (mode.Restore file new_file grants above) = Unit
 
 -- it is to serve links that come and go, and may fail once it has told where it listens
 abbrev pub AsksToRun : Mode → Type 0
@@ -44,7 +44,7 @@ AsksToRun (mode.Serve file listen links) = ⊥
 AsksToRun (mode.Stop file) = ⊥
 AsksToRun (mode.Devices file) = ⊥
 AsksToRun (mode.Status file wait) = ⊥
-AsksToRun (mode.Restore file new_file grants) = ⊥
+AsksToRun (mode.Restore file new_file grants above) = ⊥
 
 -- what came of a command that gives such a value: the text to tell of it, or the fault
 abbrev pub outcome_with : {A : Type 0} → (A → List ℕ) → Result A Fault → Result (List ℕ) Fault

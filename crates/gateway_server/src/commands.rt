@@ -1,5 +1,5 @@
 // What modes ask for, and what does it.
-use crate::{Fault, FinishedLife, control, restoring, stores};
+use crate::{Fault, FinishedLife, control, stores};
 use command_words::Mode;
 use devices::GrantsSince;
 use lw_types::{NetId, Ranged};
@@ -10,6 +10,7 @@ use std::io;
 use std::io::Write;
 use std::net::Net;
 use std::rt::{Clock, Files};
+use store_files::{RestoreRequest, restore};
 
 /// What does what a mode asks for. That it was done, or failed, is known by these calls alone: so
 /// whoever is lent commands can claim no more than they answered.
@@ -80,7 +81,8 @@ pub trait Commands {
         ensures { ends self.old (mode.Status file.entry wait)
             (outcome_with string_bytes result) self.new };
 
-    /// Makes the store of an older copy in a new file. What it says of the new store.
+    /// Restores an older copy of a lost store in a new file. Returns what is printed of the new
+    /// store.
     fn restore<R: Files<File = File>>(
         &mut self,
         rt: &R,
@@ -88,8 +90,9 @@ pub trait Commands {
         file: &str,
         new: &str,
         grants: GrantsSince,
+        above: Option<&str>,
     ) -> Result<String, Fault>
-        ensures { ends self.old (mode.Restore file.entry new.entry grants)
+        ensures { ends self.old (mode.Restore file.entry new.entry grants above.entry)
             (outcome_with string_bytes result) self.new };
 
     /// Takes note of how the life of a server has ended that the mode asks for. It isn't served by
@@ -167,9 +170,16 @@ impl Commands for ServerCommands {
         file: &str,
         new: &str,
         grants: GrantsSince,
+        above: Option<&str>,
     ) -> Result<String, Fault> {
-        let told = restoring::restore(rt, alloc, file, new, grants)?;
-        Ok(told.text)
+        let request = RestoreRequest {
+            old: file,
+            new,
+            since: grants,
+            above,
+        };
+        let restored = restore(rt, alloc, &request)?;
+        Ok(restored.text)
     }
 
     fn life_ended(&mut self, _mode: &Mode<'_>, _life: &Result<FinishedLife<'_>, Fault>) {}

@@ -1,6 +1,7 @@
 // Why a command failed.
 use link_server::ServeFault;
 use lw_types::{Eui, Refusal};
+use store_files::FileFault;
 use thiserror::Error;
 
 /// Why a command failed. Its text is what standard error has behind `lnsd: `.
@@ -30,7 +31,13 @@ pub enum Fault {
     /// As many operators watch as may.
     #[error("busy")]
     Busy,
-    /// A device of an older copy hasn't so many JoinNonces left.
+    /// The record of restores of this path can't be read or written.
+    #[error("record {0}")]
+    Record(String),
+    /// This line of the record of this path isn't a DevEUI, a comma and a JoinNonce.
+    #[error("record {0} line {1}")]
+    RecordLine(String, u64),
+    /// This device of an older copy has too few JoinNonces left.
     #[error("refused 10 {0}")]
     Spent(Eui),
     /// The system's clock can't be read.
@@ -62,6 +69,24 @@ impl From<ServeFault> for Fault {
         match fault {
             ServeFault::Listen => Fault::Listen,
             ServeFault::Refused(refusal) => Fault::Refused(refusal),
+        }
+    }
+}
+
+impl From<FileFault> for Fault {
+    ghost use Rattle.std.specs.Prelude.{◌≡◌};
+    ghost use Rattle.gateway_server.specs.Lives.{fault_of_file};
+
+    ghost from_gives = { λ file fault. fault ≡ fault_of_file file };
+
+    fn from(fault: FileFault) -> Self {
+        match fault {
+            FileFault::Exists => Fault::Exists,
+            FileFault::File => Fault::File,
+            FileFault::Record(path) => Fault::Record(path),
+            FileFault::Line(path, line) => Fault::RecordLine(path, line),
+            FileFault::Spent(dev_eui) => Fault::Spent(dev_eui),
+            FileFault::Refused(refusal) => Fault::Refused(refusal),
         }
     }
 }

@@ -5,8 +5,6 @@
 mod commands;
 mod control;
 mod fault;
-mod new_file;
-mod restoring;
 mod running;
 mod serving;
 mod stores;

@@ -164,9 +164,12 @@ where
         Mode::Stop { file } => tell_nothing(commands.stop(rt, alloc, file)),
         Mode::Devices { file } => tell_outcome(out, commands.devices(rt, alloc, file)),
         Mode::Watch { file } => commands.watch(rt, alloc, file, out),
-        Mode::Restore { file, new, grants } => {
-            tell_outcome(out, commands.restore(rt, alloc, file, new, grants))
-        }
+        Mode::Restore {
+            file,
+            new,
+            grants,
+            above,
+        } => tell_outcome(out, commands.restore(rt, alloc, file, new, grants, above)),
         Mode::Status { file, wait } => tell_outcome(out, commands.status(rt, alloc, file, wait)),
     }
 }

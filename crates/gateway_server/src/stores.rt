@@ -5,7 +5,6 @@ ghost use Rattle.sessions.specs.Table.{empty_table};
 ghost use Rattle.store.specs.State.{store_state};
 
 use crate::Fault;
-use crate::new_file::{create, remove};
 use disk::{Disk, FileDisk};
 use gateway_wire::list_text;
 use lw_types::{NetId, Refusal};
@@ -14,6 +13,7 @@ use std::alloc::Global;
 use std::fs::File;
 use std::rt::{Clock, Files};
 use store::{Store, format_back, open};
+use store_files::{FileFault, create, remove};
 use timed_disk::{DiskTimes, TimedDisk};
 
 /// The store of a file, and what is told of it.
@@ -37,7 +37,7 @@ pub(crate) fn format<R: Files<File = File>>(
     let (disk, made) = create(rt, file, slots)?;
     match format_back(alloc, disk, net_id, slots.get()) {
         Ok(store) => Ok(store),
-        Err((disk, refusal)) => Err(remove(rt, made, disk, refusal)),
+        Err((disk, refusal)) => { Err(remove(rt, made, disk, FileFault::Refused(refusal)).into()) }
     }
 }
 
