@@ -99,6 +99,16 @@ class Doors:
         self.stunnel = self.pilot.part("stunnel-server", command("stunnel"), conf)
         self.stunnel.start("Configuration successful")
 
+    def open_broker(self) -> int:
+        """The broker; the port on which it listens to what comes from outside."""
+        port = free_port()
+        change = ("listener 8883", f"listener {port} {HOST}")
+        acl = ("/etc/mosquitto/bozintar.acl", str(PILOT / "secure/mosquitto.acl"))
+        conf = self.conf("mosquitto-door.conf", change, acl, (BROKER_TLS, self.own.folder))
+        with open(conf, encoding="utf-8") as more:
+            self.broker = self.pilot.broker(more.read()).start("running")
+        return port
+
     def connect(self, context: ssl.SSLContext, said: bytes) -> bytes | None:
         """Connects and says something; what comes within a second, or None for the end."""
         try:
@@ -241,13 +251,7 @@ def refused_by_broker(port: int, context: ssl.SSLContext) -> bool:
 
 def at_the_broker(trials, it: Doors):
     """The same at the broker: and who has a certificate has topics of its own alone."""
-    pilot, port = it.pilot, free_port()
-    change = ("listener 8883", f"listener {port} {HOST}")
-    acl = ("/etc/mosquitto/bozintar.acl", str(PILOT / "secure/mosquitto.acl"))
-    files = (BROKER_TLS, it.own.folder)
-    with open(it.conf("mosquitto-door.conf", change, acl, files), encoding="utf-8") as more:
-        pilot.broker(more.read()).start("running")
-    place = GATEWAYS[0].lower()
+    port, place = it.open_broker(), GATEWAYS[0].lower()
     for name, context, due in (
         ("its own certificate", it.own.context(place), False),
         ("no certificate", it.own.context(None), True),
