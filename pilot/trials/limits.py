@@ -18,7 +18,7 @@ from .parts import Pilot, await_that
 from .secured import Doors, application, gateway, refused_by_broker
 
 OF_A_UNIT, OF_A_TRIAL = 1024, 4096
-# silent connections: more than stunnel has places for, some 500; and more than a unit has descriptors
+# silent connections: more than the 500 that stunnel has places for, and than a unit has descriptors
 AT_THE_DOOR, AT_THE_BROKER = 600, 1100
 # how long a client may be kept out by them, in seconds: the ten of a handshake, and a few more
 SOON = 20.0
