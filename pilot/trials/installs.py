@@ -1,13 +1,17 @@
 """What install --services copies, into a folder of the trial's own: files of the pilot alone, with
-the modes that they have in the repository."""
+the modes that they have in the repository. And the stores that are made at first."""
 
 import os
+import re
+import shlex
 import shutil
 import stat
 import subprocess
 import sys
 import tempfile
 from pathlib import Path
+
+from server.program import Program
 
 from .parts import PILOT
 
@@ -26,6 +30,8 @@ STRAYS = {
 LINKS = ("shadow", "secure/shadow", "bridges/shadow.py", "systemd/shadow.service")
 # what needs the whole repository
 OF_THE_REPOSITORY = ("trial", "trials", "play", "speed", "__pycache__")
+# the most slots of a store, and its length then, by docs/OPERATING.md
+MOST_SLOTS, MOST_BYTES = 4096, 37_363_804
 # how the names of the pilot's own texts end: a clone may have an operator's files already
 TEXTS = (".acl", ".conf", ".md", ".py", ".service", ".timer", ".yml")
 RUN = ("applications-mqtt", "gateways-mqtt", "gateways-udp", "install", "metrics", "readings")
@@ -162,10 +168,47 @@ def without_root(trials):
     trials.holds("it makes no folder", not os.path.exists("/nowhere"))
 
 
+def of_the_unit(store: str, program: str) -> list[str]:
+    """The command by which the unit of lnsd makes a store."""
+    text = (PILOT.parent / "contrib/lnsd.service").read_text(encoding="utf-8")
+    line = re.search(r"^ExecStartPre=((?:.*\\\n)*.*)", text, re.MULTILINE)[1]
+    line = line.replace("\\\n", "").replace("/usr/local/bin/lnsd", program)
+    return shlex.split(line.replace("%S/lnsd/store", store))
+
+
+def of_the_hour(store: str, program: str) -> list[str]:
+    """The command by which the hour of the README makes a store."""
+    text = (PILOT / "README.md").read_text(encoding="utf-8")
+    line = re.search(r"^ +bin/lnsd (format .*)", text, re.MULTILINE)[1]
+    return [program, *line.replace("~/pilot/store", store).split()]
+
+
+def stores(trials):
+    """The unit and the hour make a store with 4,096 slots, and the unit leaves one that is there."""
+    for command_of in (of_the_unit, of_the_hour):
+        with Program(trials.path) as it:
+            words = command_of(it.store, it.path)
+            for _ in range(1 + (command_of is of_the_unit)):
+                ended = subprocess.run(words, capture_output=True, text=True, check=False)
+                came = (ended.returncode, ended.stdout, ended.stderr)
+                trials.compare(f"the end of {' '.join(words)}", came, (0, "", ""))
+            size = os.stat(it.store).st_size
+            trials.compare("slots and bytes", (slots(it), size), (MOST_SLOTS, MOST_BYTES))
+
+
+def slots(it: Program) -> int:
+    """The slots of a store, as the server says."""
+    it.run_on()
+    return int(it.status()["slots"])
+
+
 def installs(trials):
     """All that is tried of install."""
     copied(trials)
     without_root(trials)
 
 
-TOPICS = {"what install --services copies, and what it leaves": installs}
+TOPICS = {
+    "what install --services copies, and what it leaves": installs,
+    "stores that the unit and the hour make": stores,
+}
