@@ -15,7 +15,7 @@ from .field import APPLICATION, GATEWAYS
 from .library import client
 from .mqtt import Dashboard
 from .parts import Pilot, await_that
-from .secured import Doors, application, gateway, refused_by_broker
+from .secured import Doors, application, ended, gateway, refused_by_broker
 
 OF_A_UNIT, OF_A_TRIAL = 1024, 4096
 # silent connections: more than the 500 that stunnel has places for, and than a unit has descriptors
@@ -52,6 +52,17 @@ def silent(port: int, count: int):
         for _ in range(count):
             those.enter_context(socket.create_connection((HOST, port), 10))
         yield
+
+
+def beside_a_gateway(trials, it: Doors):
+    """A gateway's end of the door gives up a server that says nothing, while the door is tried."""
+    with socket.create_server((HOST, 0)) as server:
+        port = it.open_client(server.getsockname()[1])
+        with socket.create_connection((HOST, port), 10) as link:
+            link.sendall(gateway(GATEWAYS[0]))
+            at_the_door(trials, it)
+            link.settimeout(5)
+            trials.holds("a server that says nothing is given up", ended(link))
 
 
 def at_the_door(trials, it: Doors):
@@ -166,7 +177,7 @@ def limits(trials):
         trials.holds("the broker doesn't write each second", not os.path.exists(file))
         at_the_broker(trials, it, port)
         long_messages(trials, it)
-        at_the_door(trials, it)
+        beside_a_gateway(trials, it)
         await_that("the broker writes", lambda: os.path.exists(file))
         age = time.time() - os.stat(file).st_mtime
         trials.holds(f"what it wrote last is {age:.0f} s old", age < EVERY + 5)

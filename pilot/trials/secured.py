@@ -99,6 +99,21 @@ class Doors:
         self.stunnel = self.pilot.part("stunnel-server", command("stunnel"), conf)
         self.stunnel.start("Configuration successful")
 
+    def open_client(self, to: int) -> int:
+        """stunnel beside a gateway, for a server at that port; the port on which it listens."""
+        port = free_port()
+        conf = self.conf(
+            "stunnel-client.conf",
+            (TLS, self.own.folder),
+            (f"{HOST}:5600", f"{HOST}:{port}"),
+            ("server.example:5601", f"{HOST}:{to}"),
+            ("server.example", "localhost"),
+            ("NAME", GATEWAYS[0].lower()),
+        )
+        it = self.pilot.part("stunnel-client", command("stunnel"), conf)
+        it.start("Configuration successful")
+        return port
+
     def open_broker(self) -> int:
         """The broker; the port on which it listens to what comes from outside."""
         port = free_port()
@@ -179,16 +194,7 @@ def ended(it: socket.socket) -> bool:
 
 def whole_way(trials, it: Doors):
     """A gateway's bridge reaches the server through two stunnels; one that isn't named doesn't."""
-    pilot, port = it.pilot, free_port()
-    conf = it.conf(
-        "stunnel-client.conf",
-        (TLS, it.own.folder),
-        (f"{HOST}:5600", f"{HOST}:{port}"),
-        ("server.example:5601", f"{HOST}:{it.port}"),
-        ("server.example", "localhost"),
-        ("NAME", GATEWAYS[0].lower()),
-    )
-    pilot.part("stunnel-client", command("stunnel"), conf).start("Configuration successful")
+    pilot, port = it.pilot, it.open_client(it.port)
     named = [word for eui in (*GATEWAYS[:2], OTHERS) for word in ("--gateway", eui)]
     udp = ("--udp", f"{HOST}:{pilot.udp_port}", *named)
     bridge = pilot.own("gateways-udp", "--network", f"{HOST}:{port}", *udp).start("listens on")
