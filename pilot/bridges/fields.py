@@ -4,6 +4,10 @@ import base64
 import binascii
 import json
 
+# a LoRa demodulator measures an SNR of this range, in dB. The best SNR decides which gateway sends,
+# so one that claims more than there can be would take all downlinks
+SNR = (-32, 20)
+
 
 class Wrong(ValueError):
     """A field isn't what its format says."""
@@ -44,6 +48,11 @@ def whole(of: dict, name: str, least: int, most: int) -> int:
     if not isinstance(value, int):
         raise Wrong(f"{name} is no whole number")
     return value
+
+
+def snr(of: dict, name: str) -> int:
+    """A field that is an SNR in dB, as quarters of one."""
+    return round(4 * number(of, name, *SNR))
 
 
 def text(of: dict, name: str) -> str:

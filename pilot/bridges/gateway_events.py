@@ -58,7 +58,7 @@ def heard(gateway: bytes, stamp: int, body: bytes) -> Heard:
         hz=fields.whole(tx, "frequency", 0, 2**32 - 1),
         data_rate=12 - spreading,
         # a field of the value 0 may be left out
-        snr=round(4 * fields.number({"snr": 0, **rx}, "snr", -8000, 8000)),
+        snr=fields.snr({"snr": 0, **rx}, "snr"),
         rssi=round(fields.number({"rssi": 0, **rx}, "rssi", -32768, 32767)),
         stamp=stamp,
         payload=fields.payload(said, "phyPayload", MOST_PAYLOAD),

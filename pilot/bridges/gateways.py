@@ -2,9 +2,10 @@
 words of their commands."""
 
 import asyncio
-from dataclasses import dataclass
+from dataclasses import dataclass, field
 
 from . import wire, words
+from .buckets import Bucket
 from .counts import Counts
 from .links import Link
 from .words import tell
@@ -13,6 +14,7 @@ COUNTED = {
     "copies": "frames that were handed to the network",
     "unlinked": "frames that were heard while no link took them",
     "caught_up": "of these, frames that were handed in soon behind that",
+    "too_many": "frames beyond 200 a second of a gateway, which weren't handed in",
     "without_crc": "frames whose CRC was wrong, or that had none",
     "other_modulations": "frames that aren't LoRa of 125 kHz",
     "downlinks": "downlinks that gateways were told to send",
@@ -27,6 +29,13 @@ MOST_TOLD = 16
 # links of gateways that the network has at a time
 MOST_LINKED = 64
 LOOK = 1.0
+# frames of a gateway that are handed in: so many a second, and so many at once after a pause. The
+# network gathers the copies of 1,024 frames at a time, in windows of 200 ms, so one gateway without
+# a limit takes the room of all others. A gateway with eight demodulators hears some 140 frames a
+# second at most, of 20 bytes with SF7
+RATE, BURST = 200, 400
+# after so many seconds without too many of them, those of a gateway are told again
+QUIET = 60.0
 
 
 @dataclass
@@ -38,10 +47,20 @@ class Gateway:
     # when something came of it, and what listens to its link from then on
     last: float = 0.0
     work: asyncio.Task | None = None
+    bucket: Bucket = field(default_factory=lambda: Bucket(RATE, BURST))
+    # when it said too much last
+    over: float = -QUIET
 
-    def hand_in(self, copy: wire.Copy, counts: Counts):
-        """Gives the network a copy, now or soon."""
+    def hand_in(self, copy: wire.Copy, counts: Counts) -> bool:
+        """Gives the network a copy, now or soon; not if the gateway says too many."""
+        if not self.bucket.lets(self.last):
+            counts.add("too_many")
+            if self.last >= self.over + QUIET:
+                tell(f"{self.link.name} says more than {RATE} frames a second; the rest is dropped")
+            self.over = self.last
+            return False
         counts.add("copies" if self.link.say_soon(copy.content()) else "unlinked")
+        return True
 
 
 class Gateways:

@@ -107,7 +107,7 @@ def signal_of(rxpk: dict) -> tuple[int, int]:
         antennas = [{**fields.table(it), "rssi": it.get("rssic")} for it in rxpk["rsig"]]
     return max(
         (
-            round(4 * fields.number(it, "lsnr", -8000, 8000)),
+            fields.snr(it, "lsnr"),
             round(fields.number(it, "rssi", -32768, 32767)),
         )
         for it in antennas

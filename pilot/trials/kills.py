@@ -2,6 +2,7 @@
 
 import random
 import resource
+import signal
 import subprocess
 import sys
 import time
@@ -18,7 +19,7 @@ METERS, TIMES, RATE = 200, 10, 60
 # how long a meter waits for its acknowledgement before it sends on, in seconds
 PATIENCE = 3.0
 AWAY = 60.0
-# how long the meters send before a part is killed: a broker writes what it keeps each second
+# how long the meters send before a part is killed
 BETWEEN = {"server": (0.2, 0.6), "broker": (1.0, 2.0), "applications": (0.2, 0.6)}
 
 
@@ -130,6 +131,8 @@ def kills(trials):
         it.air.go_on(30, lambda: it.gateways.said().count("linked") >= 3)
         trials.holds("all are acknowledged", load.rest())
         trials.holds("none is lost", it.await_stored(it.acknowledged()))
+        # it writes who its clients are, as one has that runs for longer
+        it.broker.process.send_signal(signal.SIGUSR1)
         for _ in range(TIMES):
             for name in ("server", "broker", "applications"):
                 load.go_on(load.chance.uniform(*BETWEEN[name]))

@@ -4,6 +4,8 @@ import base64
 import json
 import signal
 import sqlite3
+import subprocess
+import sys
 from contextlib import contextmanager
 
 from server.program import HOST, Failed
@@ -11,10 +13,20 @@ from server.program import HOST, Failed
 from .field import APPLICATION, GATEWAYS, Field
 from .library import client
 from .meters import Meter, Reading
-from .parts import Pilot, await_that
+from .parts import PILOT, Parts, Pilot, await_that
 
 EVENTS = f"application/{APPLICATION}/device/+/event/+"
 TAG = 41
+# readings: the device as an event has it, JoinNonce, counter; and what is printed of them
+SESSIONS = (
+    ("70b3d57ed0000002", 9, 7),
+    ("70b3d57ed0000002", 10, 0),
+    ("70b3d57ed0000002", 2, 900),
+    ("00000000000000fe", 16_777_215, 1),
+    ("70b3d57ed0000001", 1, 0),
+)
+HEAD = "DevEUI,JoinNonce"
+HIGHEST = ("00000000000000FE,16777215", "70B3D57ED0000001,1", "70B3D57ED0000002,10")
 
 
 class Dashboard:
@@ -187,7 +199,7 @@ def twice(trials, it: Whole, dashboard: Dashboard):
     topic = f"application/{APPLICATION}/device/{device.lower()}/event/up"
     again = dashboard.of(device, "up")[0]
     wrong = [{**again, "fCnt": it} for it in (-1, 2**64, "7", 1.5)]
-    wrong += [{**again, "joinNonce": it} for it in (-1, 2**64, "7", True)]
+    wrong += [{**again, "joinNonce": it} for it in (-1, 2**24, 2**64, "7", True)]
     wrong += [{**again, "deviceInfo": {"devEui": it}} for it in (7, "\ud800", "B1", None)]
     wrong += [{**again, "data": it} for it in (7, "*", "\u00e4", "A")]
     wrong += [{**again, "time": "\ud800"}, {"deviceInfo": 7}, {}, [], again]
@@ -227,4 +239,35 @@ def devices_again(trials, it: Whole):
     trials.holds("the count is told", told[-1].endswith("5 devices are there, 1 aren't"))
 
 
-TOPICS = {"applications by MQTT: readings, items, devices": readings_and_items}
+def highest_of(database: str) -> tuple[int, str, str]:
+    """What readings --join-nonces prints."""
+    words = [sys.executable, PILOT / "readings", "--db", database, "--join-nonces"]
+    it = subprocess.run(words, capture_output=True, text=True, check=False)
+    return it.returncode, it.stdout, it.stderr
+
+
+def join_nonces(trials):
+    """The highest JoinNonce of each device that is stored, also while readings are stored."""
+    with Parts() as parts:
+        parts.broker().start("running")
+        database, at = parts.file("readings.db"), f"{HOST}:{parts.broker_port}"
+        words = ("--db", database, "--broker", at, "--application", APPLICATION)
+        readings = parts.own("readings", *words).start("connected")
+        dashboard = Dashboard(parts.broker_port)
+        trials.compare("before a reading", highest_of(database), (0, f"{HEAD}\n", ""))
+        for device, session, counter in SESSIONS:
+            body = {"time": "now", "deviceInfo": {"devEui": device}, "joinNonce": session}
+            body |= {"fCnt": counter, "fPort": 7, "data": "AA=="}
+            topic = f"application/{APPLICATION}/device/{device}/event/up"
+            dashboard.say(topic, json.dumps(body).encode())
+        due = (0, "\n".join([HEAD, *HIGHEST]) + "\n", "")
+        await_that("all are stored", lambda: highest_of(database) == due)
+        dashboard.end()
+        trials.compare("the end of readings", readings.end(), 0)
+        trials.compare("of a database that nobody has open", highest_of(database), due)
+
+
+TOPICS = {
+    "applications by MQTT: readings, items, devices": readings_and_items,
+    "the highest JoinNonce of each device": join_nonces,
+}

@@ -99,6 +99,31 @@ class Doors:
         self.stunnel = self.pilot.part("stunnel-server", command("stunnel"), conf)
         self.stunnel.start("Configuration successful")
 
+    def open_client(self, to: int) -> int:
+        """stunnel beside a gateway, for a server at that port; the port on which it listens."""
+        port = free_port()
+        conf = self.conf(
+            "stunnel-client.conf",
+            (TLS, self.own.folder),
+            (f"{HOST}:5600", f"{HOST}:{port}"),
+            ("server.example:5601", f"{HOST}:{to}"),
+            ("server.example", "localhost"),
+            ("NAME", GATEWAYS[0].lower()),
+        )
+        it = self.pilot.part("stunnel-client", command("stunnel"), conf)
+        it.start("Configuration successful")
+        return port
+
+    def open_broker(self) -> int:
+        """The broker; the port on which it listens to what comes from outside."""
+        port = free_port()
+        change = ("listener 8883", f"listener {port} {HOST}")
+        acl = ("/etc/mosquitto/bozintar.acl", str(PILOT / "secure/mosquitto.acl"))
+        conf = self.conf("mosquitto-door.conf", change, acl, (BROKER_TLS, self.own.folder))
+        with open(conf, encoding="utf-8") as more:
+            self.broker = self.pilot.broker(more.read()).start("running")
+        return port
+
     def connect(self, context: ssl.SSLContext, said: bytes) -> bytes | None:
         """Connects and says something; what comes within a second, or None for the end."""
         try:
@@ -169,16 +194,7 @@ def ended(it: socket.socket) -> bool:
 
 def whole_way(trials, it: Doors):
     """A gateway's bridge reaches the server through two stunnels; one that isn't named doesn't."""
-    pilot, port = it.pilot, free_port()
-    conf = it.conf(
-        "stunnel-client.conf",
-        (TLS, it.own.folder),
-        (f"{HOST}:5600", f"{HOST}:{port}"),
-        ("server.example:5601", f"{HOST}:{it.port}"),
-        ("server.example", "localhost"),
-        ("NAME", GATEWAYS[0].lower()),
-    )
-    pilot.part("stunnel-client", command("stunnel"), conf).start("Configuration successful")
+    pilot, port = it.pilot, it.open_client(it.port)
     named = [word for eui in (*GATEWAYS[:2], OTHERS) for word in ("--gateway", eui)]
     udp = ("--udp", f"{HOST}:{pilot.udp_port}", *named)
     bridge = pilot.own("gateways-udp", "--network", f"{HOST}:{port}", *udp).start("listens on")
@@ -241,13 +257,7 @@ def refused_by_broker(port: int, context: ssl.SSLContext) -> bool:
 
 def at_the_broker(trials, it: Doors):
     """The same at the broker: and who has a certificate has topics of its own alone."""
-    pilot, port = it.pilot, free_port()
-    change = ("listener 8883", f"listener {port} {HOST}")
-    acl = ("/etc/mosquitto/bozintar.acl", str(PILOT / "secure/mosquitto.acl"))
-    files = (BROKER_TLS, it.own.folder)
-    with open(it.conf("mosquitto-door.conf", change, acl, files), encoding="utf-8") as more:
-        pilot.broker(more.read()).start("running")
-    place = GATEWAYS[0].lower()
+    port, place = it.open_broker(), GATEWAYS[0].lower()
     for name, context, due in (
         ("its own certificate", it.own.context(place), False),
         ("no certificate", it.own.context(None), True),
