@@ -51,8 +51,9 @@ pub fn lives_go_on()
 /// No mark leaves twice, over any chains, crashes and openings: what has left is part of the
 /// effects of the commands that the store has, from its beginning on.
 ///
-/// These lives are those that [`crate::chain`] moves on (`lives`), by an event for each of its
-/// batches, and [`lives_go_on`] an opening: [`crate::flush_over_lives`] says it of both.
+/// [`crate::chain`] moves these lives on (`lives`), by an event for each of its batches, and
+/// [`lives_go_on`] by an event for each opening. `flusher_lives::flush_over_lives`, a function of
+/// the crate above, has both in one theorem.
 pub fn no_mark_leaves_twice()
     ensures part { (t : TableState) (events : List LifeEvent)
         → IsSubsequence (lives_of t events).left (effects_of t (lives_of t events).durable) }

@@ -1,5 +1,5 @@
 -- Chains of a core one after another, and the crash behind them.
-use Rattle.std.proofs.Common.{◌≡◌, ◌∙◌, ◌+◌, inl, inr, ℕ, zero, suc, List, [], ◌++◌, length, flat_map, sym, ap, subst, refl, arith, append_assoc, length-append}
+use Rattle.std.proofs.Common.{◌≡◌, ◌∙◌, ◌+◌, inl, inr, ℕ, List, [], ◌∷◌, ◌++◌, length, flat_map, Vec, Global, sym, ap, subst, refl, arith, append_assoc, length-append}
 use Rattle.std.specs.List.{FoldsTo}
 use Rattle.std.proofs.lemmas.Grind.{flat_map-append}
 use Rattle.std.proofs.lemmas.List.{append-nil, length-map, map-append}
@@ -11,23 +11,35 @@ use Rattle.sessions.specs.Decision.{ContinueAll, with_decisions, commands_of}
 use Rattle.sessions.specs.Marks.{HasUsedUp, IsSubsequence, marks_of}
 use Rattle.sessions.specs.Table.{TableState, effects_of, fold_of}
 use Rattle.sessions.specs.declared.decision.Decision.{Decision}
+use Rattle.session_core.specs.Core.{CoreState, new_core}
 use Rattle.session_core.specs.State.{DecisionsState, new_decisions}
 use Rattle.store.specs.Image.{HoldsTable}
 use Rattle.store.specs.State.{StoreState, IsSettled}
 use Rattle.flusher.specs.Cycle.{HoldsWithOrWithout}
-use Rattle.flusher_lives.specs.Deciding.{CommitsDecided, EachHolds, HaveDecided, IsInStep, KeepsDecided, LeaveInAll, NumberedTable, StaysInStep}
-use Rattle.flusher_lives.proofs.Decided.{TakingLaws, folds_then}
+use Rattle.flusher_lives.specs.Coming.{DecidesBehindComing}
+use Rattle.flusher_lives.specs.Deciding.{CommitsDecided, CommitsInLife, EachHolds, HaveDecided, IsInStep, KeepsDecided, LeaveInAll, NumberedTable, StaysInStep}
+use Rattle.flusher_lives.specs.declared.core_feed.CoreEvent.{CoreEvent}
+use Rattle.flusher_lives.specs.declared.core_feed.CoreFeed.{CoreFeed}
+use Rattle.flusher_lives.specs.declared.core_lives.CoreLife.{CoreLife}
+use Rattle.flusher_lives.proofs.Decided.{TakingLaws, folds_then, in_both}
+
+-- a core that begins with what a store has goes on from it
+pub begins_in_step : (s : StoreState) (core : CoreState) → core ≡ new_core s.table s.seq → IsInStep s core.decisions
+begins_in_step s core begun =
+    let none : s.seq + 0 ≡ s.seq = omega arith in
+    subst (λ (core : CoreState). IsInStep s core.decisions) (sym begun) (record { table = refl; seq = none })
 
 module _ {C V : Type 0} (honest : Type 0) (effects : V → List Effect) (call : C → V → C → Type 0) where
   -- at the beginning of a life
-  pub at_first : ((s : StoreState) → IsSettled s → EveryImage s.log.disk (HoldsTable s.table s.seq)) → (s : StoreState) (o : C)
-      → StaysInStep honest effects call s s (new_decisions s.table s.seq) (new_decisions s.table s.seq) o o
-  at_first on_disk s o = (
+  pub at_first : ((s : StoreState) → IsSettled s → EveryImage s.log.disk (HoldsTable s.table s.seq)) → (s : StoreState) (feed : CoreFeed) (o : C)
+      → let begun : CoreFeed = record feed { core = new_core s.table s.seq } in StaysInStep honest effects call s s begun begun o o
+  at_first on_disk s feed o = (
     record {
       decided = [];
       committed = [];
       torn = [];
       waiting = [];
+      meanwhile = ([], (refl, refl));
       beginning = refl;
       continues = record { fit = tt; numbered = tt };
       table = refl;
@@ -43,10 +55,16 @@ module _ {C V : Type 0} (honest : Type 0) (effects : V → List Effect) (call : 
       none : (n : ℕ) → n ≡ n + 0
       none n = omega arith
 
-  module _ (laws : TakingLaws) (s0 s1 s2 : StoreState) (c0 c1 : DecisionsState) (p q r : C) (from : IsInStep s0 c0)
-      (first : StaysInStep honest effects call s0 s1 c0 c1 p q) (y : CommitsDecided honest effects call s1 s2 c1 q r) where
-    abbrev x : CommitsDecided honest effects call s0 s1 c0 p q
+  module _ (laws : TakingLaws) (s0 s1 s2 : StoreState) (f0 f1 f2 : CoreFeed) (p q r : C) (from : IsInStep s0 f0.core.decisions)
+      (first : StaysInStep honest effects call s0 s1 f0 f1 p q) (y : CommitsDecided honest effects call s1 s2 f1 f2 q r) where
+    abbrev x : CommitsDecided honest effects call s0 s1 f0 f1 p q
     x = first.0
+
+    abbrev c0 : DecisionsState
+    c0 = f0.core.decisions
+
+    abbrev c1 : DecisionsState
+    c1 = f1.core.decisions
 
     lists : x.committed ++ c1.log ≡ c0.log ++ x.decided
     lists =
@@ -84,13 +102,14 @@ module _ {C V : Type 0} (honest : Type 0) (effects : V → List Effect) (call : 
     commands : commands_of (x.committed ++ y.committed) ≡ commands_of x.committed ++ commands_of y.committed
     commands = map-append (λ (d : Decision). d.command) x.committed y.committed
 
-    pub both : CommitsDecided honest effects call s0 s2 c0 p r
+    pub both : CommitsDecided honest effects call s0 s2 f0 f2 p r
     both =
         record {
           decided = x.decided ++ y.decided;
           committed = x.committed ++ y.committed;
           torn = y.torn;
           waiting = y.waiting;
+          meanwhile = in_both DecidesBehindComing f0 f1 f2 x.decided y.decided x.meanwhile y.meanwhile;
           beginning =
               append_assoc x.committed y.committed (y.torn ++ y.waiting)
               ∙ (ap (λ l. x.committed ++ l) y.beginning ∙ more);
@@ -112,11 +131,11 @@ module _ {C V : Type 0} (honest : Type 0) (effects : V → List Effect) (call : 
           images = λ is settled. y.images is (first.1.1.1.1 is settled);
         }
 
-  pub both_in_step : (laws : TakingLaws) (s0 s1 s2 : StoreState) (c0 c1 c2 : DecisionsState) (p q r : C) → IsInStep s0 c0
-      → StaysInStep honest effects call s0 s1 c0 c1 p q → StaysInStep honest effects call s1 s2 c1 c2 q r → StaysInStep honest effects call s0 s2 c0 c2 p r
+  pub both_in_step : (laws : TakingLaws) (s0 s1 s2 : StoreState) (f0 f1 f2 : CoreFeed) (p q r : C) → IsInStep s0 f0.core.decisions
+      → StaysInStep honest effects call s0 s1 f0 f1 p q → StaysInStep honest effects call s1 s2 f1 f2 q r → StaysInStep honest effects call s0 s2 f0 f2 p r
   unfolding both
-  both_in_step laws s0 s1 s2 c0 c1 c2 p q r from first second = (
-    both laws s0 s1 s2 c0 c1 p q r from first second.0,
+  both_in_step laws s0 s1 s2 f0 f1 f2 p q r from first second = (
+    both laws s0 s1 s2 f0 f1 f2 p q r from first second.0,
     (second.1.0, (second.1.1.0, (second.1.1.1.0, λ is settled. second.1.1.1.1 is (first.1.1.1.1 is settled)))),
   )
 
@@ -124,21 +143,29 @@ module _ {C V : Type 0} (honest : Type 0) (effects : V → List Effect) (call : 
   same_table x t n table seq = ap (λ t. record { table = t; seq = x.seq }) table ∙ ap (λ n. record { table = t; seq = n }) seq
 
   -- what a crash leaves of a store that was opened with this table
-  pub kept : (laws : TakingLaws) (s0 s1 : StoreState) (p q : C) → honest → IsSettled s0
-      → CommitsDecided honest effects call s0 s1 (new_decisions s0.table s0.seq) p q → (first : NumberedTable) → first.table ≡ s0.table → first.seq ≡ s0.seq
-      → EachHolds s1.log.disk (λ last. KeepsDecided effects call first last p q)
-  kept laws s0 s1 p q is settled x first table seq image permitted =
-      subst (λ first. (found : NumberedTable) × (HoldsTable found.table found.seq image × KeepsDecided effects call first found p q))
+  pub kept : (laws : TakingLaws) (coming : List (Vec (ℕ × CoreEvent) Global)) (s0 s1 : StoreState) (p q : C) → honest → IsSettled s0
+      → CommitsInLife honest effects call coming s0 s1 p q → (first : NumberedTable) → first.table ≡ s0.table → first.seq ≡ s0.seq
+      → EachHolds s1.log.disk (λ last. KeepsDecided effects call coming first last p q)
+  kept laws coming s0 s1 p q is settled (f, (g, (begun, (comes, x)))) first table seq image permitted =
+      subst (λ first. (found : NumberedTable) × (HoldsTable found.table found.seq image × KeepsDecided effects call coming first found p q))
       (sym (same_table first s0.table s0.seq table seq)) (by (x.images is settled image permitted))
     where
       all : (n : ℕ) → n + 0 ≡ n
       all n = omega arith
 
+      at_first : f.core.decisions ≡ new_decisions s0.table s0.seq
+      at_first = ap (λ (core : CoreState). core.decisions) begun
+
+      begins : x.committed ++ (x.torn ++ x.waiting) ≡ x.decided
+      begins = x.beginning ∙ ap (λ (s : DecisionsState). s.log ++ x.decided) at_first
+
       continues : ContinueAll s0.table s0.seq x.decided
-      continues = subst (λ n. ContinueAll s0.table n x.decided) (all s0.seq) x.continues
+      continues =
+          subst (λ n. ContinueAll s0.table n x.decided) (all s0.seq)
+          (subst (λ (s : DecisionsState). ContinueAll s.base (s.opening + s.taken) (s.log ++ x.decided)) at_first x.continues)
 
       by : HoldsWithOrWithout s1 x.torn image
-          → (found : NumberedTable) × (HoldsTable found.table found.seq image × KeepsDecided effects call (record { table = s0.table; seq = s0.seq }) found p q)
+          → (found : NumberedTable) × (HoldsTable found.table found.seq image × KeepsDecided effects call coming (record { table = s0.table; seq = s0.seq }) found p q)
       by (inl without) = (
         record { table = s1.table; seq = s1.seq },
         (
@@ -148,7 +175,8 @@ module _ {C V : Type 0} (honest : Type 0) (effects : V → List Effect) (call : 
             committed = x.committed;
             found = [];
             lost = x.torn ++ x.waiting;
-            beginning = x.beginning;
+            core = record { first = f; last = g; core = begun; comes = comes; meanwhile = x.meanwhile };
+            beginning = begins;
             continues = continues;
             table = x.table ∙ ap (λ l. fold_of s0.table (commands_of l)) (sym (append-nil x.committed));
             seq = x.seq ∙ ap (λ (l : List Decision). s0.seq + length l) (sym (append-nil x.committed));
@@ -167,7 +195,8 @@ module _ {C V : Type 0} (honest : Type 0) (effects : V → List Effect) (call : 
             committed = x.committed;
             found = x.torn;
             lost = x.waiting;
-            beginning = x.beginning;
+            core = record { first = f; last = g; core = begun; comes = comes; meanwhile = x.meanwhile };
+            beginning = begins;
             continues = continues;
             table =
                 ap (λ t. fold_of t (commands_of x.torn)) x.table
@@ -183,9 +212,11 @@ module _ {C V : Type 0} (honest : Type 0) (effects : V → List Effect) (call : 
       )
 
   -- nothing happened
-  pub keeps_all : (x : NumberedTable) (p : C) → KeepsDecided effects call x x p p
-  keeps_all x p =
+  pub keeps_all : (life : CoreLife) (x : NumberedTable) (p : C) → KeepsDecided effects call life.coming.items x x p p
+  keeps_all life x p =
+      let begun : CoreFeed = record { core = new_core x.table x.seq; coming = life.coming } in
       record {
+        core = record { first = begun; last = begun; core = refl; comes = refl; meanwhile = ([], (refl, refl)) };
         decided = [];
         committed = [];
         found = [];
@@ -212,8 +243,9 @@ module _ {C V : Type 0} (honest : Type 0) (effects : V → List Effect) (call : 
   module _ (laws : TakingLaws)
       (longer : (left whole more : List Effect) → IsSubsequence left whole → IsSubsequence left (whole ++ more))
       (extended : (left whole more : List Effect) → IsSubsequence left whole → IsSubsequence (left ++ more) (whole ++ more)) where
-    one_life_more : (old between new : NumberedTable) (p o q : C) → Part old between p o → KeepsDecided effects call between new o q → Part old new p q
-    one_life_more old between new p o q x k =
+    one_life_more : (coming : List (Vec (ℕ × CoreEvent) Global)) (old between new : NumberedTable) (p o q : C) → Part old between p o
+        → KeepsDecided effects call coming between new o q → Part old new p q
+    one_life_more coming old between new p o q x k =
         record {
           commands = x.commands ++ commands_of (k.committed ++ k.found);
           table =
@@ -245,23 +277,19 @@ module _ {C V : Type 0} (honest : Type 0) (effects : V → List Effect) (call : 
             ∙ (ap (λ l. effects_of old.table x.commands ++ l) (laws.effects between.table (commands_of k.committed) (commands_of k.found))
             ∙ sym (append_assoc (effects_of old.table x.commands) (effects_of between.table (commands_of k.committed)) (effects_of (fold_of between.table (commands_of k.committed)) (commands_of k.found))))))
 
-    all_parts : (n : ℕ) (old new : NumberedTable) (p q : C) → HaveDecided effects call n old new p q → Part old new p q
-    all_parts zero old new p q (same, same_out) =
-        record {
-          commands = [];
-          table = ap (λ (s : NumberedTable). s.table) same;
-          seq = let is = ap (λ (s : NumberedTable). s.seq) same in omega (arith, is);
-          calls = [];
-          given = sym same_out;
-          part = refl;
-        }
-    all_parts (suc n) old new p q (between, (out, (before, k))) = one_life_more old between new p out q (all_parts n old between p out before) k
+    no_part : (old : NumberedTable) (p : C) → Part old old p p
+    no_part old p = record { commands = []; table = refl; seq = omega arith; calls = []; given = refl; part = refl }
+
+    all_parts : (lives : List CoreLife) (first old new : NumberedTable) (p o q : C) → Part first old p o → HaveDecided effects call lives old new o q → Part first new p q
+    all_parts [] first old new p o q x same = subst (λ (s : NumberedTable × C). Part first s.0 p s.1) same x
+    all_parts (life ∷ lives) first old new p o q x (next, k, rest) =
+        all_parts lives first next.0 new p next.1 q (one_life_more life.coming.items first old next.0 p o next.1 x k) rest
 
     pub in_all : ((t : TableState) (marks : List Mark) (commands : List Command) → HasUsedUp t marks → HasUsedUp (fold_of t commands) (marks ++ marks_of (effects_of t commands)))
         → ((t : TableState) (marks : List Mark) (all left : List Effect) → IsSubsequence left all → HasUsedUp t (marks ++ marks_of all) → HasUsedUp t (marks ++ marks_of left))
-        → (n : ℕ) (old new : NumberedTable) (p q : C) → HaveDecided effects call n old new p q → LeaveInAll effects call old new p q
-    in_all after what_left n old new p q lives =
-        let x = all_parts n old new p q lives in
+        → (lives : List CoreLife) (old new : NumberedTable) (p q : C) → HaveDecided effects call lives old new p q → LeaveInAll effects call old new p q
+    in_all after what_left lives old new p q decided =
+        let x = all_parts lives old old new p p q (no_part old p) decided in
         record {
           commands = x.commands;
           table = x.table;

@@ -21,7 +21,7 @@ use Rattle.flusher.specs.Calls.{IsUntouched, LastFailed, NoneFailed}
 use Rattle.flusher_lives.specs.declared.core_feed.CoreFeed.{CoreFeed}
 use Rattle.flusher.specs.Chain.HasBroken.{FeedRefused, HadNoRoom, WasUncommitted, WasUnready}
 use Rattle.flusher.specs.Chain.{FeedGives, GivesAll, HasBroken, HasEnded, IsChain, LeaveInOrder, batched_decisions, store_behind}
-use Rattle.flusher_lives.specs.Coming.{GivesBehindComing}
+use Rattle.flusher_lives.specs.Coming.{DecidesBehindComing, DecidesMeanwhile, GivesBehindComing}
 use Rattle.flusher.specs.Cycle.{HoldsWithOrWithout}
 use Rattle.flusher_lives.specs.Deciding.{CommitsDecided, IsInStep, StaysInStep}
 use Rattle.flusher_lives.proofs.Turned.{TakesBehind, gives_decided}
@@ -115,16 +115,40 @@ folds_then step p q r (x ∷ xs) ys (mid, first, rest) more = (mid, first, folds
 one_more : (batches : List (List Decision)) (b : List Decision) → batched_decisions (batches ++ b ∷ []) ≡ batched_decisions batches ++ b
 one_more batches b = flat_map-append (λ batch. batch) batches (b ∷ []) ∙ ap (λ l. batched_decisions batches ++ l) (append-nil b)
 
-module _ (laws : TakingLaws) {F : Type 0} (gives : FeedGives F) (core : F → DecisionsState)
-    (tells : (f g : F) (answer : Result (List Decision) Refusal) → gives f MOST answer g → (decided : List Decision) × TakesBehind (core f) decided MOST answer (core g)) where
+-- takes of a feed one after another, by which it makes these decisions in all
+abbrev InTakes : {F : Type 0} → (F → List Decision → F → Type 0) → F → List Decision → F → Type 0
+InTakes step old decided new =
+    (parts : List (List Decision)) × (FoldsTo step old parts new × (flat_map (λ (part : List Decision). part) parts ≡ decided))
+
+in_none : {F : Type 0} (step : F → List Decision → F → Type 0) (f : F) → InTakes step f [] f
+in_none step f = ([], (refl, refl))
+
+in_one : {F : Type 0} (step : F → List Decision → F → Type 0) (f g : F) (x : List Decision) → step f x g → InTakes step f x g
+in_one step f g x first = (x ∷ [], ((g, first, refl), append-nil x))
+
+pub in_both : {F : Type 0} (step : F → List Decision → F → Type 0) (f g h : F) (x y : List Decision) → InTakes step f x g → InTakes step g y h
+    → InTakes step f (x ++ y) h
+in_both step f g h x y (parts, (first, is)) (others, (second, are)) = (
+  parts ++ others,
+  (
+    folds_then step f g h parts others first second,
+    flat_map-append (λ (part : List Decision). part) parts others
+        ∙ (ap (λ l. l ++ batched_decisions others) is ∙ ap (λ l. x ++ l) are),
+  ),
+)
+
+module _ (laws : TakingLaws) {F : Type 0} (gives : FeedGives F) (core : F → DecisionsState) (step : F → List Decision → F → Type 0)
+    (tells : (f g : F) (answer : Result (List Decision) Refusal) → gives f MOST answer g
+    → (decided : List Decision) × (TakesBehind (core f) decided MOST answer (core g) × step f decided g)) where
   -- what several batches that were given leave
-  pub record Came (s : StoreState) (old new : DecisionsState) (batches : List (List Decision)) : Type 0 where
+  pub record Came (s : StoreState) (first last : F) (batches : List (List Decision)) : Type 0 where
     pub decided : List Decision
-    pub parts : batched_decisions batches ++ new.log ≡ old.log ++ decided
-    pub continues : ContinueAll old.base (old.opening + old.taken) (old.log ++ decided)
-    pub goes_on : IsInStep (store_behind s batches) new
-    pub later : (more : List Decision) → ContinueAll new.base (new.opening + new.taken) (new.log ++ more)
-        → ContinueAll old.base (old.opening + old.taken) (old.log ++ (decided ++ more))
+    pub takes : InTakes step first decided last
+    pub parts : batched_decisions batches ++ (core last).log ≡ (core first).log ++ decided
+    pub continues : ContinueAll (core first).base ((core first).opening + (core first).taken) ((core first).log ++ decided)
+    pub goes_on : IsInStep (store_behind s batches) (core last)
+    pub later : (more : List Decision) → ContinueAll (core last).base ((core last).opening + (core last).taken) ((core last).log ++ more)
+        → ContinueAll (core first).base ((core first).opening + (core first).taken) ((core first).log ++ (decided ++ more))
 
   same_store : (s : StoreState) (batches : List (List Decision)) (b : List Decision)
       → fold_of (store_behind s (b ∷ [])).table (commands_of (batched_decisions batches)) ≡ (store_behind s (b ∷ batches)).table
@@ -141,11 +165,12 @@ module _ (laws : TakingLaws) {F : Type 0} (gives : FeedGives F) (core : F → De
       omega (arith, one, all)
 
   pub came : (s : StoreState) (f : F) (batches : List (List Decision)) (g : F) → GivesAll gives f batches g → IsInStep s (core f)
-      → ContinueAll (core f).base ((core f).opening + (core f).taken) (core f).log → Came s (core f) (core g) batches
+      → ContinueAll (core f).base ((core f).opening + (core f).taken) (core f).log → Came s f g batches
   came s f [] g is from on =
-      subst (λ g. Came s (core f) (core g) []) is
+      subst (λ g. Came s f g []) is
       (record {
         decided = [];
+        takes = in_none step f;
         parts = sym (append-nil (core f).log);
         continues = subst (λ l. ContinueAll (core f).base ((core f).opening + (core f).taken) l) (sym (append-nil (core f).log)) on;
         goes_on = record { table = from.table; seq = let at = from.seq in omega (arith, at) };
@@ -153,20 +178,21 @@ module _ (laws : TakingLaws) {F : Type 0} (gives : FeedGives F) (core : F → De
       })
   came s f (b ∷ batches) g (mid, (some, given), rest) from on =
       let told = tells f mid (Ok b) given in
-      let next = came (store_behind s (b ∷ [])) mid batches g rest (goes_on laws s (core f) (core mid) told.0 b from told.1)
-      (rest_continues laws s (core f) (core mid) told.0 b from told.1) in
+      let next = came (store_behind s (b ∷ [])) mid batches g rest (goes_on laws s (core f) (core mid) told.0 b from told.1.0)
+      (rest_continues laws s (core f) (core mid) told.0 b from told.1.0) in
       record {
         decided = told.0 ++ next.decided;
+        takes = in_both step f mid g told.0 next.decided (in_one step f mid told.0 told.1.1) next.takes;
         parts =
             append_assoc b (batched_decisions batches) (core g).log
             ∙ (ap (λ l. b ++ l) next.parts
             ∙ (sym (append_assoc b (core mid).log next.decided)
-            ∙ (ap (λ l. l ++ next.decided) (parts laws s (core f) (core mid) told.0 b from told.1)
+            ∙ (ap (λ l. l ++ next.decided) (parts laws s (core f) (core mid) told.0 b from told.1.0)
             ∙ append_assoc (core f).log told.0 next.decided)));
-        continues = later laws s (core f) (core mid) told.0 b from told.1 next.decided next.continues;
+        continues = later laws s (core f) (core mid) told.0 b from told.1.0 next.decided next.continues;
         later = λ more h.
             subst (λ l. ContinueAll (core f).base ((core f).opening + (core f).taken) ((core f).log ++ l)) (sym (append_assoc told.0 next.decided more))
-            (later laws s (core f) (core mid) told.0 b from told.1 (next.decided ++ more) (next.later more h));
+            (later laws s (core f) (core mid) told.0 b from told.1.0 (next.decided ++ more) (next.later more h));
         goes_on =
             record {
               table = next.goes_on.table ∙ same_store s batches b;
@@ -175,11 +201,11 @@ module _ (laws : TakingLaws) {F : Type 0} (gives : FeedGives F) (core : F → De
       }
 
   -- a batch that was given behind these may be committed behind them
-  pub may_follow : (s : StoreState) (old : DecisionsState) (f g : F) (batches : List (List Decision)) (b : List Decision) → Came s old (core f) batches
+  pub may_follow : (s : StoreState) (origin f g : F) (batches : List (List Decision)) (b : List Decision) → Came s origin f batches
       → GivesAll gives f (b ∷ []) g → IsLegalContinuation (store_behind s batches).table (store_behind s batches).seq b
-  may_follow s old f g batches b so (mid, (some, given), rest) =
+  may_follow s origin f g batches b so (mid, (some, given), rest) =
       let told = tells f mid (Ok b) given in
-      record { some = some; continues = continues laws (store_behind s batches) (core f) (core mid) told.0 b so.goes_on told.1 }
+      record { some = some; continues = continues laws (store_behind s batches) (core f) (core mid) told.0 b so.goes_on told.1.0 }
 
   not_unchecked : (failed : Bool) (a b c : Type 0) (e : Refusal) → MatchBool failed (e ≡ Failed) (((e ≡ Damaged) × a) ⊎ (b × ((e ≡ OutOfMemory) ⊎ ((e ≡ DeviceFailed) × c)))) → e ≢ OutOfStep
   not_unchecked true a b c e h = λ is. absurd cc
@@ -195,29 +221,29 @@ module _ (laws : TakingLaws) {F : Type 0} (gives : FeedGives F) (core : F → De
   not_uncommitted false legal c e is (inr (h, inr failed)) = let device = failed.0 in λ step. absurd cc
 
   -- so none is out of step
-  pub in_step : (most : ℕ) (untouched failure : Type 0) (s : StoreState) (old : DecisionsState) (batches : List (List Decision)) (torn : List Decision) (f g : F) (e : Refusal)
-      → Came s old (core f) batches → HasBroken gives most untouched failure s batches torn f g e → e ≢ OutOfStep
-  in_step most untouched failure s old batches torn f g e so (WasUnready same none empty (why, inl memory)) = λ is. absurd cc
-  in_step most untouched failure s old batches torn f g e so (WasUnready same none empty (why, inr (full, unchecked))) =
+  pub in_step : (most : ℕ) (untouched failure : Type 0) (s : StoreState) (origin : F) (batches : List (List Decision)) (torn : List Decision) (f g : F) (e : Refusal)
+      → Came s origin f batches → HasBroken gives most untouched failure s batches torn f g e → e ≢ OutOfStep
+  in_step most untouched failure s origin batches torn f g e so (WasUnready same none empty (why, inl memory)) = λ is. absurd cc
+  in_step most untouched failure s origin batches torn f g e so (WasUnready same none empty (why, inr (full, unchecked))) =
       not_unchecked s.failed _ _ failure e unchecked
-  in_step most untouched failure s old batches torn f g e so (HadNoRoom same none some memory) = λ is. absurd cc
-  in_step most untouched failure s old batches torn f g e so (FeedRefused ready none refused) =
-      let memory = (tells f g (Err e) refused).1.took.0 in λ is. absurd cc
-  in_step most untouched failure s old batches torn f g e so (WasUncommitted ready next given uncommitted behind) =
-      not_uncommitted s.failed _ failure e (may_follow s old f next batches torn so given) uncommitted
+  in_step most untouched failure s origin batches torn f g e so (HadNoRoom same none some memory) = λ is. absurd cc
+  in_step most untouched failure s origin batches torn f g e so (FeedRefused ready none refused) =
+      let memory = (tells f g (Err e) refused).1.0.took.0 in λ is. absurd cc
+  in_step most untouched failure s origin batches torn f g e so (WasUncommitted ready next given uncommitted behind) =
+      not_uncommitted s.failed _ failure e (may_follow s origin f next batches torn so given) uncommitted
 
   -- the core goes on from a store that has these batches
   on_from : (s : StoreState) (t : StoreState) (core : DecisionsState) → t.table ≡ s.table → t.seq ≡ s.seq → IsInStep s core → IsInStep t core
   on_from s t core table seq from = record { table = from.table ∙ sym table; seq = from.seq ∙ sym seq }
 
-  pub ended : (most : ℕ) (s new : StoreState) (old : DecisionsState) (batches : List (List Decision)) (f g : F) → Came s old (core f) batches
+  pub ended : (most : ℕ) (s new : StoreState) (origin : F) (batches : List (List Decision)) (f g : F) → Came s origin f batches
       → new.table ≡ fold_of s.table (commands_of (batched_decisions batches)) → new.seq ≡ s.seq + length (batched_decisions batches)
       → HasEnded gives most new batches f g → IsInStep new (core g)
-  ended most s new old batches f g so table seq (inl (same, why)) =
+  ended most s new origin batches f g so table seq (inl (same, why)) =
       subst (λ f. IsInStep new (core f)) (sym same) (on_from (store_behind s batches) new (core f) table seq so.goes_on)
-  ended most s new old batches f g so table seq (inr (few, given)) =
+  ended most s new origin batches f g so table seq (inr (few, given)) =
       let told = tells f g (Ok []) given in
-      let behind = goes_on laws (store_behind s batches) (core f) (core g) told.0 [] so.goes_on told.1 in
+      let behind = goes_on laws (store_behind s batches) (core f) (core g) told.0 [] so.goes_on told.1.0 in
       record { table = behind.table ∙ sym table; seq = let at = behind.seq in omega (arith, at, seq) }
 
 -- ---- what leaves
@@ -246,16 +272,16 @@ abbrev core_gives : CoreFeed → ℕ → Result (List Decision) Refusal → Core
 core_gives = GivesBehindComing
 
 core_tells : (f g : CoreFeed) (answer : Result (List Decision) Refusal) → core_gives f MOST answer g
-    → (decided : List Decision) × TakesBehind f.core.decisions decided MOST answer g.core.decisions
-core_tells f g answer given = gives_decided f g MOST answer given
+    → (decided : List Decision) × (TakesBehind f.core.decisions decided MOST answer g.core.decisions × DecidesBehindComing f decided g)
+core_tells f g answer given = gives_decided f g answer given
 
 module _ (laws : TakingLaws) {D C V : Type 0} (disk : Ghosts D) (effects : V → List Effect) (call : C → V → C → Type 0) (most : ℕ)
     (old new : Store D disk) (f g : CoreFeed) (p q : C) (result : Result ℕ Refusal)
     (is : IsChain disk core_gives effects call most old new f g p q result)
     (from : IsInStep (store_state disk.state old) f.core.decisions)
     (on : ContinueAll f.core.decisions.base (f.core.decisions.opening + f.core.decisions.taken) f.core.decisions.log) where
-  so : Came laws core_gives (λ f. f.core.decisions) core_tells (store_state disk.state old) f.core.decisions is.feed.core.decisions is.batches
-  so = came laws core_gives (λ f. f.core.decisions) core_tells (store_state disk.state old) f is.batches is.feed is.given from on
+  so : Came laws core_gives (λ f. f.core.decisions) DecidesBehindComing core_tells (store_state disk.state old) f is.feed is.batches
+  so = came laws core_gives (λ f. f.core.decisions) DecidesBehindComing core_tells (store_state disk.state old) f is.batches is.feed is.given from on
 
   abbrev EndsSo : Result ℕ Refusal → Type 0
   EndsSo r =
@@ -278,22 +304,23 @@ module _ (laws : TakingLaws) {D C V : Type 0} (disk : Ghosts D) (effects : V →
       on_err : (r : Result ℕ Refusal) → EndsSo r → IfErr r (λ e. e ≢ OutOfStep)
       on_err (Ok count) h = tt
       on_err (Err e) (few, broken) =
-          in_step laws core_gives (λ f. f.core.decisions) core_tells most (IsUntouched disk.state old new) (LastFailed disk.failures disk.outlook old new)
-          (store_state disk.state old) f.core.decisions is.batches is.torn is.feed g e so broken
+          in_step laws core_gives (λ f. f.core.decisions) DecidesBehindComing core_tells most (IsUntouched disk.state old new) (LastFailed disk.failures disk.outlook old new)
+          (store_state disk.state old) f is.batches is.torn is.feed g e so broken
 
   given_away : (calls : List V) × ((flat_map effects calls ≡ effects_of (store_state disk.state old).table (commands_of (batched_decisions is.batches))) × FoldsTo call p calls q)
   given_away = left_in_calls laws effects call (store_state disk.state old).table is.batches p q is.leave
 
   -- what was decided, where so much is torn
-  commits : (decided torn waiting : List Decision) → is.torn ≡ torn → batched_decisions is.batches ++ (torn ++ waiting) ≡ f.core.decisions.log ++ decided
+  commits : (decided torn waiting : List Decision) → DecidesMeanwhile f decided g → is.torn ≡ torn → batched_decisions is.batches ++ (torn ++ waiting) ≡ f.core.decisions.log ++ decided
       → ContinueAll f.core.decisions.base (f.core.decisions.opening + f.core.decisions.taken) (f.core.decisions.log ++ decided)
-      → CommitsDecided disk.honest effects call (store_state disk.state old) (store_state disk.state new) f.core.decisions p q
-  commits decided torn waiting torn_is lists continue =
+      → CommitsDecided disk.honest effects call (store_state disk.state old) (store_state disk.state new) f g p q
+  commits decided torn waiting meanwhile torn_is lists continue =
       record {
         decided = decided;
         committed = batched_decisions is.batches;
         torn = torn;
         waiting = waiting;
+        meanwhile = meanwhile;
         beginning = lists;
         continues = continue;
         table = is.commits.table;
@@ -304,44 +331,76 @@ module _ (laws : TakingLaws) {D C V : Type 0} (disk : Ghosts D) (effects : V →
         images = λ honest settled. subst (λ t. EveryImage (disk.state (disk_of new)) (HoldsWithOrWithout (store_state disk.state new) t)) torn_is (is.images honest settled);
       }
 
-  -- behind the batches nothing is torn
-  untorn : is.torn ≡ [] → CommitsDecided disk.honest effects call (store_state disk.state old) (store_state disk.state new) f.core.decisions p q
-  untorn none = commits so.decided [] is.feed.core.decisions.log none so.parts so.continues
+  abbrev Commits : Type 0
+  Commits = CommitsDecided disk.honest effects call (store_state disk.state old) (store_state disk.state new) f g p q
 
-  with_torn : (next : CoreFeed) → GivesAll core_gives is.feed (is.torn ∷ []) next
-      → CommitsDecided disk.honest effects call (store_state disk.state old) (store_state disk.state new) f.core.decisions p q
-  with_torn next given =
-      let all = came laws core_gives (λ f. f.core.decisions) core_tells (store_state disk.state old) f (is.batches ++ is.torn ∷ []) next
-      (folds_then (λ (feed : CoreFeed) (batch : List Decision) (next : CoreFeed). (batch ≢ []) × core_gives feed MOST (Ok batch) next) f is.feed next is.batches (is.torn ∷ []) is.given given) from on in
-      commits all.decided is.torn next.core.decisions.log refl
-      (sym (append_assoc (batched_decisions is.batches) is.torn next.core.decisions.log)
-      ∙ (ap (λ l. l ++ next.core.decisions.log) (sym (one_more is.batches is.torn)) ∙ all.parts)) all.continues
+  -- behind the batches nothing is torn, and no other was asked for
+  untorn : is.torn ≡ [] → g ≡ is.feed → Commits
+  untorn none same =
+      commits so.decided [] is.feed.core.decisions.log (subst (λ last. DecidesMeanwhile f so.decided last) (sym same) so.takes) none so.parts so.continues
+
+  -- nothing is torn, and another was asked for, behind what came before that
+  untorn_asked : (answer : Result (List Decision) Refusal) → is.torn ≡ [] → core_gives is.feed MOST answer g → Commits
+  untorn_asked answer none given =
+      let told = core_tells is.feed g answer given in
+      commits (so.decided ++ told.0) [] (is.feed.core.decisions.log ++ told.0)
+      (in_both DecidesBehindComing f is.feed g so.decided told.0 so.takes (in_one DecidesBehindComing is.feed g told.0 told.1.1)) none
+      (sym (append_assoc (batched_decisions is.batches) is.feed.core.decisions.log told.0)
+      ∙ (ap (λ l. l ++ told.0) so.parts ∙ append_assoc f.core.decisions.log so.decided told.0))
+      (so.later told.0 told.1.0.lawful.continues)
+
+  module _ (next : CoreFeed) (given : GivesAll core_gives is.feed (is.torn ∷ []) next) where
+    -- the torn one was given, too
+    came_with_torn : Came laws core_gives (λ f. f.core.decisions) DecidesBehindComing core_tells (store_state disk.state old) f next (is.batches ++ is.torn ∷ [])
+    came_with_torn =
+        came laws core_gives (λ f. f.core.decisions) DecidesBehindComing core_tells (store_state disk.state old) f (is.batches ++ is.torn ∷ []) next
+        (folds_then (λ (feed : CoreFeed) (batch : List Decision) (next : CoreFeed). (batch ≢ []) × core_gives feed MOST (Ok batch) next) f is.feed next is.batches (is.torn ∷ []) is.given given) from on
+
+    lists_with_torn : batched_decisions is.batches ++ (is.torn ++ next.core.decisions.log) ≡ f.core.decisions.log ++ came_with_torn.decided
+    lists_with_torn =
+        sym (append_assoc (batched_decisions is.batches) is.torn next.core.decisions.log)
+        ∙ (ap (λ l. l ++ next.core.decisions.log) (sym (one_more is.batches is.torn)) ∙ came_with_torn.parts)
+
+    with_torn : g ≡ next → Commits
+    with_torn same =
+        commits came_with_torn.decided is.torn next.core.decisions.log (subst (λ last. DecidesMeanwhile f came_with_torn.decided last) (sym same) came_with_torn.takes) refl lists_with_torn came_with_torn.continues
+
+    -- and one more was asked for
+    with_torn_asked : (answer : Result (List Decision) Refusal) → core_gives next MOST answer g → Commits
+    with_torn_asked answer more =
+        let told = core_tells next g answer more in
+        commits (came_with_torn.decided ++ told.0) is.torn (next.core.decisions.log ++ told.0)
+        (in_both DecidesBehindComing f next g came_with_torn.decided told.0 came_with_torn.takes (in_one DecidesBehindComing next g told.0 told.1.1)) refl
+        (ap (λ l. batched_decisions is.batches ++ l) (sym (append_assoc is.torn next.core.decisions.log told.0))
+        ∙ (sym (append_assoc (batched_decisions is.batches) (is.torn ++ next.core.decisions.log) told.0)
+        ∙ (ap (λ l. l ++ told.0) lists_with_torn ∙ append_assoc f.core.decisions.log came_with_torn.decided told.0)))
+        (came_with_torn.later told.0 told.1.0.lawful.continues)
 
   by_break : (e : Refusal) → HasBroken core_gives most (IsUntouched disk.state old new) (LastFailed disk.failures disk.outlook old new)
-      (store_state disk.state old) is.batches is.torn is.feed g e
-      → CommitsDecided disk.honest effects call (store_state disk.state old) (store_state disk.state new) f.core.decisions p q
-  by_break e (WasUnready same none empty why) = untorn none
-  by_break e (HadNoRoom same none some memory) = untorn none
-  by_break e (FeedRefused ready none refused) = untorn none
-  by_break e (WasUncommitted ready next given uncommitted behind) = with_torn next given
+      (store_state disk.state old) is.batches is.torn is.feed g e → Commits
+  by_break e (WasUnready same none empty why) = untorn none same
+  by_break e (HadNoRoom same none some memory) = untorn none same
+  by_break e (FeedRefused ready none refused) = untorn_asked (Err e) none refused
+  by_break e (WasUncommitted ready next given uncommitted (inl same)) = with_torn next given same
+  by_break e (WasUncommitted ready next given uncommitted (inr (device, (fewer, (answer, more))))) = with_torn_asked next given answer more
 
   abbrev InStep : Type 0
   InStep =
-      StaysInStep disk.honest effects call (store_state disk.state old) (store_state disk.state new) f.core.decisions g.core.decisions p q
+      StaysInStep disk.honest effects call (store_state disk.state old) (store_state disk.state new) f g p q
 
   settles : NoneFailed disk.failures disk.outlook old new → disk.honest → IsSettled (store_state disk.state old) → IsSettled (store_state disk.state new)
   settles none honest settled = is.settled honest settled none
 
   by_end : is.torn ≡ [] → NoneFailed disk.failures disk.outlook old new → HasEnded core_gives most (store_state disk.state new) is.batches is.feed g → InStep
-  unfolding untorn commits
+  unfolding untorn untorn_asked commits
   by_end none calls (inl (same, why)) = (
-    untorn none,
+    untorn none same,
     (
       refl,
       (
         sym (ap (λ (f : CoreFeed). f.core.decisions.log) same),
         (
-          ended laws core_gives (λ f. f.core.decisions) core_tells most (store_state disk.state old) (store_state disk.state new) f.core.decisions is.batches is.feed g so
+          ended laws core_gives (λ f. f.core.decisions) DecidesBehindComing core_tells most (store_state disk.state old) (store_state disk.state new) f is.batches is.feed g so
               is.commits.table is.commits.seq (inl (same, why)),
           settles calls,
         ),
@@ -350,20 +409,14 @@ module _ (laws : TakingLaws) {D C V : Type 0} (disk : Ghosts D) (effects : V →
   )
   by_end none calls (inr (few, given)) =
       let told = core_tells is.feed g (Ok []) given in
-      let behind = store_behind (store_state disk.state old) is.batches in
-      let more : is.feed.core.decisions.log ++ told.0 ≡ g.core.decisions.log =
-      sym (parts laws behind is.feed.core.decisions g.core.decisions told.0 [] so.goes_on told.1) in (
-        commits (so.decided ++ told.0) [] g.core.decisions.log none
-            (ap (λ l. batched_decisions is.batches ++ l) (sym more)
-            ∙ (sym (append_assoc (batched_decisions is.batches) is.feed.core.decisions.log told.0)
-            ∙ (ap (λ l. l ++ told.0) so.parts ∙ append_assoc f.core.decisions.log so.decided told.0)))
-            (so.later told.0 told.1.lawful.continues),
+      let behind = store_behind (store_state disk.state old) is.batches in (
+        untorn_asked (Ok []) none given,
         (
           refl,
           (
-            refl,
+            sym (parts laws behind is.feed.core.decisions g.core.decisions told.0 [] so.goes_on told.1.0),
             (
-              ended laws core_gives (λ f. f.core.decisions) core_tells most (store_state disk.state old) (store_state disk.state new) f.core.decisions is.batches is.feed g so
+              ended laws core_gives (λ f. f.core.decisions) DecidesBehindComing core_tells most (store_state disk.state old) (store_state disk.state new) f is.batches is.feed g so
                   is.commits.table is.commits.seq (inr (few, given)),
               settles calls,
             ),
@@ -378,10 +431,10 @@ module _ (laws : TakingLaws) {D C V : Type 0} (disk : Ghosts D) (effects : V →
       by_result (Ok count) (many, (none, ends)) calls = by_end none calls ends
       by_result (Err e) h calls = tt
 
-  pub commits_decided : CommitsDecided disk.honest effects call (store_state disk.state old) (store_state disk.state new) f.core.decisions p q
+  pub commits_decided : CommitsDecided disk.honest effects call (store_state disk.state old) (store_state disk.state new) f g p q
   commits_decided = by_result result is.ends is.calls
     where
       by_result : (r : Result ℕ Refusal) → EndsSo r → CallsSo r
-          → CommitsDecided disk.honest effects call (store_state disk.state old) (store_state disk.state new) f.core.decisions p q
+          → CommitsDecided disk.honest effects call (store_state disk.state old) (store_state disk.state new) f g p q
       by_result (Ok count) (many, (none, ends)) calls = (by_end none calls ends).0
       by_result (Err e) (few, broken) calls = by_break e broken

@@ -18,7 +18,8 @@ use Rattle.session_core.specs.Core.{CoreState, with_outcome}
 use Rattle.session_core.specs.Deciding.{after_taking, Keeps, Makes, step_if_room, verdict_of}
 use Rattle.session_core.specs.Events.{Asks, Closes, Handles, Hears, IsTurn, Starves, Ticks, has_due, core_at_moment}
 use Rattle.session_core.specs.declared.turn.Turn.{Turn}
-use Rattle.flusher_lives.specs.Coming.{Comes, GivesBehindComing, coming_first}
+use Rattle.sessions.specs.declared.batch.TheConstants.Batch.{MOST}
+use Rattle.flusher_lives.specs.Coming.{Comes, DecidesBehindComing, GivesBehindComing, coming_first}
 use Rattle.flusher_lives.specs.declared.core_feed.CoreEvent.{CoreEvent}
 use Rattle.flusher_lives.specs.declared.core_feed.CoreEvent.TheVariants.{Copy, Provision, Queue, QueueMac, Tick}
 use Rattle.flusher_lives.specs.declared.core_feed.CoreFeed.{CoreFeed}
@@ -154,16 +155,19 @@ taken : (between new : CoreState) (most : ℕ) (answer : Result (List Decision) 
 taken between new most (Ok batch) (is, new_is) = (is, ap (λ (s : CoreState). s.decisions) new_is)
 taken between new most (Err e) (is, same) = (is, ap (λ (s : CoreState). s.decisions) same)
 
--- what a core gives behind what came to it
-pub gives_decided : (old new : CoreFeed) (most : ℕ) (answer : Result (List Decision) Refusal) → GivesBehindComing old most answer new
-    → (decided : List Decision) × TakesBehind old.core.decisions decided most answer new.core.decisions
-gives_decided old new most answer is =
+-- what a core gives behind what came to it, and what it decided of that
+pub gives_decided : (old new : CoreFeed) (answer : Result (List Decision) Refusal) → GivesBehindComing old MOST answer new
+    → (decided : List Decision) × (TakesBehind old.core.decisions decided MOST answer new.core.decisions × DecidesBehindComing old decided new)
+gives_decided old new answer is =
     let made = all_come (coming_first old.coming.items) old.core is.between is.came in (
       made.0,
-      subst (λ (s : DecisionsState).
-          IsLawful s
-          → MatchResult answer (λ batch. (batch ≡ take most s.log) × (new.core.decisions ≡ after_taking s most))
-          (λ e. (e ≡ OutOfMemory) × (new.core.decisions ≡ s))
-          → TakesBehind old.core.decisions made.0 most answer new.core.decisions) (sym made.1)
-          (λ lawful took. record { lawful = lawful; took = took }) is.lawful.decisions (taken is.between new.core most answer is.took),
+      (
+        subst (λ (s : DecisionsState).
+            IsLawful s
+            → MatchResult answer (λ batch. (batch ≡ take MOST s.log) × (new.core.decisions ≡ after_taking s MOST))
+            (λ e. (e ≡ OutOfMemory) × (new.core.decisions ≡ s))
+            → TakesBehind old.core.decisions made.0 MOST answer new.core.decisions) (sym made.1)
+            (λ lawful took. record { lawful = lawful; took = took }) is.lawful.decisions (taken is.between new.core MOST answer is.took),
+        record { answer = answer; asked = is; logged = ap (λ (s : DecisionsState). s.log) made.1 },
+      ),
     )

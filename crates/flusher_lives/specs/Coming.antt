@@ -1,10 +1,12 @@
 -- What comes to a core between the takes of a flusher, and what it makes of that.
-use Rattle.std.specs.Prelude.{◌≡◌, ℕ, List, [], ◌∷◌, take, drop, Option, Result, MatchResult, Vec}
+use Rattle.std.specs.Prelude.{◌≡◌, ◌++◌, ℕ, List, [], ◌∷◌, take, drop, flat_map, Option, Result}
+use Rattle.std.specs.Prelude.{MatchResult, Vec}
 use Rattle.std.specs.Global.{Global}
 use Rattle.std.specs.List.{FoldsTo}
 use Rattle.devices.specs.declared.command.Command.TheVariants as commands
 use Rattle.lw_types.specs.declared.refusal.Refusal.{Refusal}
 use Rattle.lw_types.specs.declared.refusal.Refusal.TheVariants.{OutOfMemory}
+use Rattle.sessions.specs.declared.batch.TheConstants.Batch.{MOST}
 use Rattle.sessions.specs.declared.decision.Decision.{Decision}
 use Rattle.session_core.specs.Core.{CoreState, IsLawfulCore}
 use Rattle.session_core.specs.Deciding.{after_taking}
@@ -44,3 +46,17 @@ pub record GivesBehindComing (old : CoreFeed) (most : ℕ) (answer : Result (Lis
       (λ batch. (batch ≡ take most between.decisions.log)
       × (new.core ≡ record between { decisions = after_taking between.decisions most }))
       (λ e. (e ≡ OutOfMemory) × (new.core ≡ between))
+
+-- A core was asked for a batch, and gave one or refused. Of what came to it before that, it had
+-- made these decisions.
+pub record DecidesBehindComing (old : CoreFeed) (decided : List Decision) (new : CoreFeed)
+    : Type 0 where
+  pub answer : Result (List Decision) Refusal
+  pub asked : GivesBehindComing old MOST answer new
+  pub logged : asked.between.decisions.log ≡ old.core.decisions.log ++ decided
+
+-- it was asked again and again, and these are all the decisions that it made meanwhile, in order
+abbrev pub DecidesMeanwhile : CoreFeed → List Decision → CoreFeed → Type 0
+DecidesMeanwhile old decided new =
+    (parts : List (List Decision)) × (FoldsTo DecidesBehindComing old parts new
+    × (flat_map (λ part. part) parts ≡ decided))

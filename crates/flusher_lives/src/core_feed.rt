@@ -91,10 +91,10 @@ fn take_event(core: &mut Core, moment: Moment, event: CoreEvent)
 }
 
 /// A [`chain`] of what a core decides, on the store that its decisions go on from. What the store
-/// has then is a beginning of what was decided: of the decisions that waited and those that were
-/// made while the chain took, in order. So is what a crash leaves, at any moment: where the chain
-/// is refused the batch in doubt is the next one. It is never refused with `OutOfStep`, since a
-/// batch of a core continues what it gave before.
+/// has then is the first of them, in order: of those that waited, and of those that the core made
+/// of what came to it before each take. A crash at any moment leaves these, or these and the batch
+/// in doubt, if the chain is refused: that batch has the next ones. The chain is never refused with
+/// `OutOfStep`, since a batch of a core continues what it gave before.
 pub fn chain_of_core<D: Disk, C: FnMut(Vec<Released>)>(
     store: &mut Store<D>,
     feed: &mut CoreFeed,
@@ -113,12 +113,12 @@ pub fn chain_of_core<D: Disk, C: FnMut(Vec<Released>)>(
         (λ (released : Vec Released Global). effects_of_all released.items)
         (λ before released after. C.step before released tt after)
         (store_state D.state store.old) (store_state D.state store.new)
-        feed.old.core.decisions out.old out.new }
+        feed.old feed.new out.old out.new }
     ensures whole { OnOk result (StaysInStep D.honest
         (λ (released : Vec Released Global). effects_of_all released.items)
         (λ before released after. C.step before released tt after)
         (store_state D.state store.old) (store_state D.state store.new)
-        feed.old.core.decisions feed.new.core.decisions out.old out.new) }
+        feed.old feed.new out.old out.new) }
     ensures in_step { IfErr result (λ e. e ≢ OutOfStep) }
 
     // Whatever lives led the store here go on, and what left besides was given to `out`, in order.

@@ -1,12 +1,11 @@
 // A flusher over several lives of its store, each with a core of its own, on a simulated disk.
 ghost use Rattle.std.specs.Global.{Global};
-ghost use Rattle.std.specs.Prelude.{List, Vec, ℕ, length};
+ghost use Rattle.std.specs.Prelude.{List, Vec, ℕ};
 ghost use Rattle.disk.specs.State.{EveryImage, IsPermitted};
 ghost use Rattle.flusher.specs.Released.{effects_of_all};
 ghost use Rattle.flusher_lives.specs.CoreLives.{AreCoreLives, DecidesUpTo, IsCoreLife};
-ghost use Rattle.flusher_lives.specs.Deciding.{CommitsDecided, EachHolds, HaveDecided};
+ghost use Rattle.flusher_lives.specs.Deciding.{CommitsInLife, EachHolds, HaveDecided};
 ghost use Rattle.flusher_lives.specs.Deciding.{KeepsDecided, LeaveInAll, NumberedTable};
-ghost use Rattle.session_core.specs.State.{new_decisions};
 ghost use Rattle.store.specs.Image.{HoldsTable};
 ghost use Rattle.store.specs.State.{store_state};
 
@@ -42,12 +41,13 @@ pub struct CoreLife {
 /// chain, and where the opening is refused, it has no core. The next life begins with the disk that
 /// it leaves, which comes back at the end.
 ///
-/// Where the disk holds a table and a number, whatever a crash leaves of it: what a crash leaves at
-/// the end is that table and, of each life, the first of the commands that were decided in it:
-/// those that were committed, whose effects were given to `out`, complete and in order, and where
-/// the power failed perhaps the next ones. So over all lives no mark is used up twice by what was
-/// given to `out`, nor one of those that were used up before, where the first table covers these:
-/// and the last table covers them all.
+/// The premise: each image that a crash may leave of the disk holds one table and number. Then each
+/// image that a crash may leave at the end holds that table after some commands: of each life, in
+/// order, the first ones that its core decided. That core began with the table and number that the
+/// life found, and decided what came to it. Among these commands are all that were committed, whose
+/// effects were given to `out`, complete and in order; if the power failed, the next ones may be
+/// among them too. So over all lives `out` got no mark twice, and none that was used up before, if
+/// the first table covers those: and the last table covers them all.
 pub fn decide_over_lives<D: Sim, C: FnMut(Vec<Released>)>(
     alloc: Global,
     disk: D,
@@ -66,7 +66,7 @@ pub fn decide_over_lives<D: Sim, C: FnMut(Vec<Released>)>(
         → EveryImage (D.state disk) (HoldsTable first.table first.seq)
         → EachHolds (D.state result) (λ last. HaveDecided
         (λ (released : Vec Released Global). effects_of_all released.items)
-        (λ before released after. C.step before released tt after) (length lives.items)
+        (λ before released after. C.step before released tt after) lives.items
         first last out.old out.new) }
     ensures left { (first : NumberedTable)
         → EveryImage (D.state disk) (HoldsTable first.table first.seq)
@@ -100,7 +100,7 @@ fn live<D: Sim, C: FnMut(Vec<Released>)>(alloc: Global, disk: D, life: CoreLife,
         × ((found : NumberedTable) → HoldsTable found.table found.seq left
         → (last : NumberedTable) × (HoldsTable last.table last.seq image × KeepsDecided
         (λ (released : Vec Released Global). effects_of_all released.items)
-        (λ before released after. C.step before released tt after)
+        (λ before released after. C.step before released tt after) life.coming.items
         found last out.old out.new)))) }
 {
     let CoreLife {
@@ -138,12 +138,10 @@ fn decide<D: Disk, C: FnMut(Vec<Released>)>(
         (λ (released : Vec Released Global). effects_of_all released.items)
         (λ before released after. C.step before released tt after)
         coming.items most chains store.old store.new out.old out.new result }
-    ensures decided { CommitsDecided D.honest
+    ensures decided { CommitsInLife D.honest
         (λ (released : Vec Released Global). effects_of_all released.items)
-        (λ before released after. C.step before released tt after)
-        (store_state D.state store.old) (store_state D.state store.new)
-        (new_decisions (store_state D.state store.old).table (store_state D.state store.old).seq)
-        out.old out.new }
+        (λ before released after. C.step before released tt after) coming.items
+        (store_state D.state store.old) (store_state D.state store.new) out.old out.new }
 {
     sessions::laws::folding();
     sessions::laws::joining();

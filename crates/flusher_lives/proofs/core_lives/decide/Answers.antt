@@ -3,13 +3,13 @@ use Rattle.std.proofs.Common.{◌≡◌, ◌∙◌, ◌∷◌, ◌++◌, [], Vec
 use Rattle.std.proofs.lemmas.List.{length_push}
 use Rattle.std.proofs.lemmas.Result.{err_from_is_err_and}
 use Rattle.session_core.specs.Core.{CoreState, new_core}
-use Rattle.session_core.specs.State.{new_decisions}
 use Rattle.store.specs.State.{store_state}
 use Rattle.flusher_lives.specs.Coming.{GivesBehindComing}
 use Rattle.flusher_lives.specs.Deciding.{StaysInStep}
+use Rattle.flusher_lives.specs.declared.core_feed.CoreFeed.{CoreFeed}
 use Rattle.flusher.specs.Released.{effects_of_all}
 use Rattle.flusher.specs.declared.released.Released.{Released}
-use Rattle.flusher_lives.proofs.CoreLives.{at_first, both, both_in_step}
+use Rattle.flusher_lives.proofs.CoreLives.{at_first, begins_in_step, both, both_in_step}
 use Rattle.flusher.proofs.Leading.{counts_then}
 use Rattle.flusher_lives.proofs.MoreLives.{refused_then}
 use Rattle.flusher_lives.proofs.core_lives.decide.Goals as goal
@@ -21,7 +21,20 @@ returns-in_err-core-clause-course g c =
 
 pub returns-in_err-core-clause-decided : goal.returns-in_err-core-clause-decided
 returns-in_err-core-clause-decided g c =
-    (at_first g.D.Disk.honest (λ (released : Vec Released Global). effects_of_all released.items) (λ before released after. Called g.C.FnMut before (released, tt) tt after) c.a_settled_store_is_on_its_disk.ensures (store_state g.D.Disk.state c.args.store.now) c.args.out.now).0
+    let s = store_state g.D.Disk.state c.args.store.now in
+    let begun : CoreFeed = record { core = new_core s.table s.seq; coming = c.args.coming } in (
+      begun,
+      (
+        begun,
+        (
+          refl,
+          (
+            refl,
+            (at_first g.D.Disk.honest (λ (released : Vec Released Global). effects_of_all released.items) (λ before released after. Called g.C.FnMut before (released, tt) tt after) c.a_settled_store_is_on_its_disk.ensures s begun c.args.out.now).0,
+          ),
+        ),
+      ),
+    )
 
 pub loop-init : goal.loop-init
 loop-init g c =
@@ -29,30 +42,35 @@ loop-init g c =
     let same : new_core s.table s.seq ≡ c.new-feed.result.core = search rules in (
       c.requires.out,
       (
-        subst (λ (core : CoreState). StaysInStep g.D.Disk.honest (λ (released : Vec Released Global). effects_of_all released.items) (λ before released after. Called g.C.FnMut before (released, tt) tt after) s s (new_decisions s.table s.seq) core.decisions c.args.out.now c.args.out.now) same
-            (at_first g.D.Disk.honest (λ (released : Vec Released Global). effects_of_all released.items) (λ before released after. Called g.C.FnMut before (released, tt) tt after) c.a_settled_store_is_on_its_disk.ensures s c.args.out.now),
-        (c.new-feed.result, (sym same, (c.new-feed.ensures.coming, ([], (refl, (omega arith, (refl, (refl, refl)))))))),
+        c.new-feed.result,
+        (
+          subst (λ (core : CoreState). let feed : CoreFeed = record c.new-feed.result { core = core } in
+              StaysInStep g.D.Disk.honest (λ (released : Vec Released Global). effects_of_all released.items) (λ before released after. Called g.C.FnMut before (released, tt) tt after) s s feed feed c.args.out.now c.args.out.now) same
+              (at_first g.D.Disk.honest (λ (released : Vec Released Global). effects_of_all released.items) (λ before released after. Called g.C.FnMut before (released, tt) tt after) c.a_settled_store_is_on_its_disk.ensures s c.new-feed.result c.args.out.now),
+          (sym same, (c.new-feed.ensures.coming, ([], (refl, (omega arith, (refl, (refl, refl))))))),
+        ),
       ),
     )
 
 pub returns-in_err-chain_of_core-clause-course : goal.returns-in_err-chain_of_core-clause-course
 returns-in_err-chain_of_core-clause-course g c =
     let r = c.from_residual-in_err-chain_of_core in
-    let so = c.loop.invariant.1.1 in
-    let counts = so.1.1.1.0 in
-    let many = so.1.1.1.1.0 in
+    let first = c.loop.invariant.1.0 in
+    let so = c.loop.invariant.1.1.1 in
+    let counts = so.1.1.0 in
+    let many = so.1.1.1.0 in
     let few = c.loop-test.true in
     inl (
-      so.0,
+      first,
       (
         c.chain_of_core.new.feed,
         (
-          so.1.0,
+          so.0,
           (
-            so.1.1.0,
+            so.1.0,
             refused_then g.D.Disk GivesBehindComing (λ (released : Vec Released Global). effects_of_all released.items) (λ before released after. Called g.C.FnMut before (released, tt) tt after) c.args.most c.args.chains c.args.store.now c.loop.store c.chain_of_core.new.store
-                so.0 c.loop.feed c.chain_of_core.new.feed c.args.out.now c.loop.out c.chain_of_core.new.out counts r.result c.in_err-chain_of_core.field-0.0 r.ensures.1
-                (omega (arith, many, few)) so.1.1.1.1.1.1 c.in_err-chain_of_core.ensures.chain,
+                first c.loop.feed c.chain_of_core.new.feed c.args.out.now c.loop.out c.chain_of_core.new.out counts r.result c.in_err-chain_of_core.field-0.0 r.ensures.1
+                (omega (arith, many, few)) so.1.1.1.1.1 c.in_err-chain_of_core.ensures.chain,
           ),
         ),
       ),
@@ -61,38 +79,48 @@ returns-in_err-chain_of_core-clause-course g c =
 pub returns-in_err-chain_of_core-clause-decided : goal.returns-in_err-chain_of_core-clause-decided
 returns-in_err-chain_of_core-clause-decided g c =
     let s = store_state g.D.Disk.state c.args.store.now in
-    let first =
-    at_first g.D.Disk.honest (λ (released : Vec Released Global). effects_of_all released.items) (λ before released after. Called g.C.FnMut before (released, tt) tt after) c.a_settled_store_is_on_its_disk.ensures s c.args.out.now in
-    both g.D.Disk.honest (λ (released : Vec Released Global). effects_of_all released.items) (λ before released after. Called g.C.FnMut before (released, tt) tt after)
-    (record { folding = c.folding.ensures.table; joins = c.joining.ensures.continues; composing = c.composing.ensures.table; effects = c.composing.ensures.effects })
-    s (store_state g.D.Disk.state c.loop.store) (store_state g.D.Disk.state c.chain_of_core.new.store)
-    (new_decisions s.table s.seq) c.loop.feed.core.decisions c.args.out.now c.loop.out c.chain_of_core.new.out first.1.1.1.0 c.loop.invariant.1.0
-    c.in_err-chain_of_core.ensures.decided
+    let first = c.loop.invariant.1.0 in
+    let so = c.loop.invariant.1.1.1 in (
+      first,
+      (
+        c.chain_of_core.new.feed,
+        (
+          so.0,
+          (
+            so.1.0,
+            both g.D.Disk.honest (λ (released : Vec Released Global). effects_of_all released.items) (λ before released after. Called g.C.FnMut before (released, tt) tt after)
+                (record { folding = c.folding.ensures.table; joins = c.joining.ensures.continues; composing = c.composing.ensures.table; effects = c.composing.ensures.effects })
+                s (store_state g.D.Disk.state c.loop.store) (store_state g.D.Disk.state c.chain_of_core.new.store)
+                first c.loop.feed c.chain_of_core.new.feed c.args.out.now c.loop.out c.chain_of_core.new.out (begins_in_step s first.core c.loop.invariant.1.1.1.0) c.loop.invariant.1.1.0
+                c.in_err-chain_of_core.ensures.decided,
+          ),
+        ),
+      ),
+    )
 
 pub loop-preserved : goal.loop-preserved
 loop-preserved g c =
     let s = store_state g.D.Disk.state c.args.store.now in
-    let first =
-    at_first g.D.Disk.honest (λ (released : Vec Released Global). effects_of_all released.items) (λ before released after. Called g.C.FnMut before (released, tt) tt after) c.a_settled_store_is_on_its_disk.ensures s c.args.out.now in
-    let so = c.loop.invariant.1.1 in
-    let counts = so.1.1.1.0 in
-    let many = so.1.1.1.1.0 in
+    let first = c.loop.invariant.1.0 in
+    let so = c.loop.invariant.1.1.1 in
+    let counts = so.1.1.0 in
+    let many = so.1.1.1.0 in
     let few = c.loop-test.true in
     let count = c.in_ok-chain_of_core.field-0 in
     let longer = length_push counts count in (
       c.in_ok-chain_of_core.ensures.callable,
       (
-        both_in_step g.D.Disk.honest (λ (released : Vec Released Global). effects_of_all released.items) (λ before released after. Called g.C.FnMut before (released, tt) tt after)
-            (record { folding = c.folding.ensures.table; joins = c.joining.ensures.continues; composing = c.composing.ensures.table; effects = c.composing.ensures.effects })
-            s (store_state g.D.Disk.state c.loop.store) (store_state g.D.Disk.state c.chain_of_core.new.store)
-            (new_decisions s.table s.seq) c.loop.feed.core.decisions c.chain_of_core.new.feed.core.decisions c.args.out.now c.loop.out c.chain_of_core.new.out
-            first.1.1.1.0 c.loop.invariant.1.0 c.in_ok-chain_of_core.ensures.whole,
+        first,
         (
-          so.0,
+          both_in_step g.D.Disk.honest (λ (released : Vec Released Global). effects_of_all released.items) (λ before released after. Called g.C.FnMut before (released, tt) tt after)
+              (record { folding = c.folding.ensures.table; joins = c.joining.ensures.continues; composing = c.composing.ensures.table; effects = c.composing.ensures.effects })
+              s (store_state g.D.Disk.state c.loop.store) (store_state g.D.Disk.state c.chain_of_core.new.store)
+              first c.loop.feed c.chain_of_core.new.feed c.args.out.now c.loop.out c.chain_of_core.new.out
+              (begins_in_step s first.core c.loop.invariant.1.1.1.0) c.loop.invariant.1.1.0 c.in_ok-chain_of_core.ensures.whole,
           (
-            so.1.0,
+            so.0,
             (
-              so.1.1.0,
+              so.1.0,
               (
                 counts ++ count ∷ [],
                 (
@@ -100,7 +128,7 @@ loop-preserved g c =
                   (
                     omega (arith, few),
                     counts_then g.D.Disk GivesBehindComing (λ (released : Vec Released Global). effects_of_all released.items) (λ before released after. Called g.C.FnMut before (released, tt) tt after) c.args.most c.args.store.now c.loop.store c.chain_of_core.new.store
-                        so.0 c.loop.feed c.chain_of_core.new.feed c.args.out.now c.loop.out c.chain_of_core.new.out counts count so.1.1.1.1.1.1 c.in_ok-chain_of_core.ensures.chain,
+                        first c.loop.feed c.chain_of_core.new.feed c.args.out.now c.loop.out c.chain_of_core.new.out counts count so.1.1.1.1.1 c.in_ok-chain_of_core.ensures.chain,
                   ),
                 ),
               ),
@@ -112,11 +140,13 @@ loop-preserved g c =
 
 pub returns-clause-course : goal.returns-clause-course
 returns-clause-course g c =
-    let so = c.loop.invariant.1.1 in
-    let many = so.1.1.1.1.0 in
-    let few = so.1.1.1.1.1.0 in
+    let so = c.loop.invariant.1.1.1 in
+    let many = so.1.1.1.0 in
+    let few = so.1.1.1.1.0 in
     let all = c.loop-test.false in
-    inl (so.0, (c.loop.feed, (so.1.0, (so.1.1.0, record { counts = so.1.1.1.0; many = omega (arith, many, few, all); made = so.1.1.1.1.1.1 }))))
+    inl (c.loop.invariant.1.0, (c.loop.feed, (so.0, (so.1.0, record { counts = so.1.1.0; many = omega (arith, many, few, all); made = so.1.1.1.1.1 }))))
 
 pub returns-clause-decided : goal.returns-clause-decided
-returns-clause-decided g c = c.loop.invariant.1.0.0
+returns-clause-decided g c =
+    let so = c.loop.invariant.1.1.1 in
+    (c.loop.invariant.1.0, (c.loop.feed, (so.0, (so.1.0, c.loop.invariant.1.1.0.0))))

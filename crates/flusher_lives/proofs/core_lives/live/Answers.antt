@@ -24,10 +24,10 @@ returns-in-Ok-clause-kept g c image permitted =
         reopened.permitted,
         λ found held.
             let only = opened.only found.table found.seq held in
-            (subst (λ d. EachHolds (state d) (λ last. KeepsDecided (λ (released : Vec Released Global). effects_of_all released.items) (λ before released after. Called g.C.FnMut before (released, tt) tt after) found last c.args.out.now c.decide.new.out)) (sym c.close.ensures)
+            (subst (λ d. EachHolds (state d) (λ last. KeepsDecided (λ (released : Vec Released Global). effects_of_all released.items) (λ before released after. Called g.C.FnMut before (released, tt) tt after) c.args.life.coming.items found last c.args.out.now c.decide.new.out)) (sym c.close.ensures)
             (kept g.D.Disk.honest (λ (released : Vec Released Global). effects_of_all released.items) (λ before released after. Called g.C.FnMut before (released, tt) tt after)
             (record { folding = c.folding.ensures.table; joins = c.joining.ensures.continues; composing = c.composing.ensures.table; effects = c.composing.ensures.effects })
-            (store_state state c.in-Ok.store) (store_state state c.decide.new.store) c.args.out.now c.decide.new.out g.met.D.Sim.is_honest opened.settled
+            c.args.life.coming.items (store_state state c.in-Ok.store) (store_state state c.decide.new.store) c.args.out.now c.decide.new.out g.met.D.Sim.is_honest opened.settled
             c.decide.ensures.decided found only.0 only.1)) image permitted,
       ),
     )
@@ -38,6 +38,6 @@ returns-clause-kept g c image permitted =
       was.0,
       (
         was.1.0,
-        λ found held. (found, (was.1.1 found.table found.seq held, keeps_all g.D.Disk.honest (λ (released : Vec Released Global). effects_of_all released.items) (λ before released after. Called g.C.FnMut before (released, tt) tt after) found c.args.out.now)),
+        λ found held. (found, (was.1.1 found.table found.seq held, keeps_all g.D.Disk.honest (λ (released : Vec Released Global). effects_of_all released.items) (λ before released after. Called g.C.FnMut before (released, tt) tt after) c.args.life found c.args.out.now)),
       ),
     )
