@@ -3,6 +3,7 @@ strangers, links that come anew, and applications that are away."""
 import os
 import re
 import select
+import signal
 import socket
 import subprocess
 import threading
@@ -27,6 +28,8 @@ QUEUES, ROUNDS = 20, 60
 WATCHING = b"watching\n"
 # how long a link may take to greet, and an operator to give an order, in seconds
 GREETING, ORDER = 10, 2
+# how many may watch, and how long the place of one who has gone may be taken, in seconds
+WATCHERS, FREE = 4, 2
 PATIENCE = 60
 COUNTS = ("dropped", "faulted", "taken_over", "silent")
 # the lines of `lnsd watch`
@@ -219,6 +222,42 @@ def operators(trials):
             trials.compare(f"{word} of nobody", program.run(word, program.store), due)
 
 
+def gone(trials):
+    """The place of an operator who watched and has gone is free within two seconds, also if nothing
+    happens. Until then the server looks now and then, and not all the time."""
+    with running(trials) as program:
+        for how in (signal.SIGINT, signal.SIGKILL):
+            watchers = [Watcher(program) for _ in range(WATCHERS)]
+            before = switches(program)
+            time.sleep(FREE)
+            looks = switches(program) - before
+            trials.holds(f"{looks} looks while nothing happens", looks <= 4 * WATCHERS * FREE)
+            for it in watchers:
+                it.process.send_signal(how)
+                it.process.communicate(timeout=PATIENCE)
+            time.sleep(FREE)
+            again = [Watcher(program) for _ in range(WATCHERS)]
+            with Gateway(program.address, EUI):
+                for it in again:
+                    trials.compare("what happens then", it.line(), f"linked gateway {EUI}")
+            for it in again:
+                trials.compare("what happens then", it.line(), f"ended gateway {EUI}")
+                it.process.kill()
+                it.process.communicate(timeout=PATIENCE)
+            time.sleep(FREE)
+        stopped(trials, program)
+
+
+def switches(program):
+    """How often the threads of the server have gone to sleep."""
+    count, folder = 0, f"/proc/{program.server.pid}/task"
+    for thread in os.listdir(folder):
+        with open(f"{folder}/{thread}/status", encoding="ascii") as file:
+            words = dict(line.split(":", 1) for line in file)
+        count += int(words["voluntary_ctxt_switches"])
+    return count
+
+
 # What a server may have said of its devices when it was broken off, and all of it.
 CUT_ANSWERS = (b"", b"\n", b"devices 0", b"devices 0 seq 0\n")
 WHOLE_ANSWER = b"devices 0 seq 0\n\n"
@@ -265,6 +304,25 @@ def strangers(trials):
             it.close()
         gateway.close()
         stopped(trials, program, silent=PLACES)
+
+
+def paused(trials):
+    """A link whose greeting comes while the process stands still isn't taken for a silent one, however
+    long that lasts; one that says nothing is. Nor is one whose greeting had begun before."""
+    with running(trials, made=records(1, OWNER)) as program:
+        silent, application, gateway = (Link(program.address) for _ in range(3))
+        gateway.say(wire.gateway_greeting(EUI)[:5])
+        await_status(program, links=3)
+        program.server.send_signal(signal.SIGSTOP)
+        application.say(wire.application_greeting(OWNER))
+        gateway.say(wire.gateway_greeting(EUI)[5:])
+        time.sleep(GREETING + 1)
+        program.server.send_signal(signal.SIGCONT)
+        await_status(program, links=2, gateways=1, applications=1, silent=1)
+        for it in (silent, application, gateway):
+            it.close()
+        await_status(program, links=0)
+        stopped(trials, program, silent=1)
 
 
 def used(program):
@@ -344,8 +402,10 @@ def away(trials):
 TRIALS = {
     "an operator who doesn't read": too_many_lines,
     "operators who say nothing, or nonsense, and too many": operators,
+    "operators who watched and have gone": gone,
     "answers to operators that are cut off": answers,
     "96 strangers who say nothing": strangers,
+    "greetings that come while the process stands still": paused,
     f"{ANEW:,} links that come anew": anew,
     "an application that is away": away,
 }

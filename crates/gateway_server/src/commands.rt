@@ -48,17 +48,22 @@ pub trait Commands {
             (outcome_with string_bytes result) self.new };
 
     /// Ends the server that runs on the store in a file.
-    fn stop<R: Net>(&mut self, rt: &R, alloc: Global, file: &str) -> Result<(), Fault>
+    fn stop<R: Files + Net>(&mut self, rt: &R, alloc: Global, file: &str) -> Result<(), Fault>
         ensures { ends self.old (mode.Stop file.entry) (outcome_with (λ _. []) result) self.new };
 
     /// The devices of the store in a file, by the server that runs on it.
-    fn devices<R: Net>(&mut self, rt: &R, alloc: Global, file: &str) -> Result<String, Fault>
+    fn devices<R: Files + Net>(
+        &mut self,
+        rt: &R,
+        alloc: Global,
+        file: &str,
+    ) -> Result<String, Fault>
         ensures { ends self.old (mode.Devices file.entry)
             (outcome_with string_bytes result) self.new };
 
     /// Tells on `out` what happens at the server that runs on the store in a file, until it ends,
     /// and gives what came of writing it. Where it fails, nothing was told.
-    fn watch<R: Net, O: Write>(
+    fn watch<R: Files + Net, O: Write>(
         &mut self,
         rt: &R,
         alloc: Global,
@@ -71,7 +76,7 @@ pub trait Commands {
 
     /// How it goes with the server that runs on the store in a file, or begins within so many
     /// seconds.
-    fn status<R: Net + Clock>(
+    fn status<R: Files + Net + Clock>(
         &mut self,
         rt: &R,
         alloc: Global,
@@ -135,15 +140,20 @@ impl Commands for ServerCommands {
         Ok(told.text)
     }
 
-    fn stop<R: Net>(&mut self, rt: &R, alloc: Global, file: &str) -> Result<(), Fault> {
+    fn stop<R: Files + Net>(&mut self, rt: &R, alloc: Global, file: &str) -> Result<(), Fault> {
         control::stop(rt, alloc, file)
     }
 
-    fn devices<R: Net>(&mut self, rt: &R, alloc: Global, file: &str) -> Result<String, Fault> {
+    fn devices<R: Files + Net>(
+        &mut self,
+        rt: &R,
+        alloc: Global,
+        file: &str,
+    ) -> Result<String, Fault> {
         control::devices(rt, alloc, file)
     }
 
-    fn watch<R: Net, O: Write>(
+    fn watch<R: Files + Net, O: Write>(
         &mut self,
         rt: &R,
         alloc: Global,
@@ -153,7 +163,7 @@ impl Commands for ServerCommands {
         control::watch(rt, alloc, file, out)
     }
 
-    fn status<R: Net + Clock>(
+    fn status<R: Files + Net + Clock>(
         &mut self,
         rt: &R,
         alloc: Global,

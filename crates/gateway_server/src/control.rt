@@ -1,6 +1,6 @@
-// The control socket beside a store's file: who serves listens there, and who asks connects.
-ghost use Rattle.std.specs.Prelude.{◌≡◌, ◌≢◌, ◌++◌, ◌∷◌, [], IfOk, MatchResult, OnErr, codes};
-ghost use Rattle.std.specs.Prelude.{string_bytes};
+// The control socket beside a store's file: the server listens there, and whoever asks connects.
+ghost use Rattle.std.specs.Prelude.{◌≡◌, ◌≢◌, ◌++◌, ◌∷◌, [], IfErr, IfOk, MatchResult, OnErr};
+ghost use Rattle.std.specs.Prelude.{codes, string_bytes};
 
 use crate::Fault;
 use link_server::{BUSY, Order, WATCHING};
@@ -27,18 +27,53 @@ const PIECE: usize = 4096;
 // How many tries those are a second.
 const TRIES: u64 = 20;
 
+/// The name of a store's file behind all symbolic links. Only [`real_file`] makes one.
+#[derive(Drop)]
+pub(crate) struct RealFile(String);
+
 /// Where the control socket of a store is. Only [`path_of`] makes one, so what is removed as a
 /// socket is never the store's own file.
 #[derive(Drop)]
 pub(crate) struct ControlPath(String);
 
-/// Where the control socket of the store in a file is.
-pub(crate) fn path_of(alloc: Global, file: &str) -> Result<ControlPath, Fault>
-    ensures { MatchResult result
-        (λ path. string_bytes path.0 ≡ file.now ++ codes ".control")
+/// The file that a name leads to, so that each name of a store leads to one control socket. A name
+/// that is no symbolic link stays as it is, and so does one that leads nowhere. Refused with
+/// `OutOfMemory` alone.
+pub(crate) fn real_file<R: Files>(rt: &R, alloc: Global, file: &str) -> Result<RealFile, Fault>
+    ensures { IfErr result (λ fault. fault ≡ Fault.Refused Refusal.OutOfMemory) }
+{
+    let is_link = fs::symlink_metadata(rt, file).is_ok_and(|there| there.is_symlink());
+    if is_link {
+        match rt.canonicalize(alloc, file) {
+            Ok(real) => return named(alloc, real.as_str()),
+            Err(error) if error.kind() == ErrorKind::OutOfMemory => {
+                return Err(Fault::Refused(Refusal::OutOfMemory));
+            }
+            Err(_) => {}
+        }
+    }
+    named(alloc, file)
+}
+
+// The file of this name.
+fn named(alloc: Global, name: &str) -> Result<RealFile, Fault>
+    ensures { MatchResult result (λ file. string_bytes file.0 ≡ name.now)
         (λ fault. fault ≡ Fault.Refused Refusal.OutOfMemory) }
 {
-    match format!(in alloc; "{file}.control") {
+    match String::from_str(alloc, name) {
+        Ok(name) => Ok(RealFile(name)),
+        Err(_) => Err(Fault::Refused(Refusal::OutOfMemory)),
+    }
+}
+
+/// Where the control socket of the store in a file is.
+pub(crate) fn path_of(alloc: Global, file: &RealFile) -> Result<ControlPath, Fault>
+    ensures { MatchResult result
+        (λ path. string_bytes path.0 ≡ string_bytes file.now.0 ++ codes ".control")
+        (λ fault. fault ≡ Fault.Refused Refusal.OutOfMemory) }
+{
+    let name = file.0.as_str();
+    match format!(in alloc; "{name}.control") {
         Ok(path) => Ok(ControlPath(path)),
         Err(_) => Err(Fault::Refused(Refusal::OutOfMemory)),
     }
@@ -64,9 +99,15 @@ pub(crate) fn remove<R: Files<File = File>>(rt: &R, path: &ControlPath) {
     let _ = fs::remove_file(rt, path.0.as_str());
 }
 
-// A connection to whoever serves.
+// A connection to the server at a control socket.
 fn connect<R: Net>(rt: &R, path: &ControlPath) -> Result<UnixStream, Fault> {
     UnixStream::connect(rt, path.0.as_str()).map_err(|error| fault_of_connecting(error.kind()))
+}
+
+// A connection to the server that runs on the store in a file.
+fn connect_to<R: Files + Net>(rt: &R, alloc: Global, file: &str) -> Result<UnixStream, Fault> {
+    let path = path_of(alloc, &real_file(rt, alloc, file)?)?;
+    connect(rt, &path)
 }
 
 // Why nobody could be connected to.
@@ -100,9 +141,8 @@ fn ask(alloc: Global, stream: UnixStream, order: Order) -> Result<String, Fault>
 
 /// Stops the server that runs on the store in a file, and waits until it has ended. What it answers
 /// where it ended by a fault is that fault.
-pub(crate) fn stop<R: Net>(rt: &R, alloc: Global, file: &str) -> Result<(), Fault> {
-    let path = path_of(alloc, file)?;
-    let answer = ask(alloc, connect(rt, &path)?, Order::Stop)?;
+pub(crate) fn stop<R: Files + Net>(rt: &R, alloc: Global, file: &str) -> Result<(), Fault> {
+    let answer = ask(alloc, connect_to(rt, alloc, file)?, Order::Stop)?;
     if answer.as_str().trim_end() == ENDED {
         Ok(())
     } else {
@@ -112,7 +152,7 @@ pub(crate) fn stop<R: Net>(rt: &R, alloc: Global, file: &str) -> Result<(), Faul
 
 /// How it goes with the server that runs on the store in a file. Where none runs, it is tried again
 /// for so many seconds.
-pub(crate) fn status<R: Net + Clock>(
+pub(crate) fn status<R: Files + Net + Clock>(
     rt: &R,
     alloc: Global,
     file: &str,
@@ -120,25 +160,23 @@ pub(crate) fn status<R: Net + Clock>(
 ) -> Result<String, Fault>
     ensures { IfOk result (λ text. string_bytes text ≢ []) }
 {
-    let path = path_of(alloc, file)?;
-    let mut stream = connect(rt, &path);
+    let mut stream = connect_to(rt, alloc, file);
     for _ in 0..wait.saturating_mul(TRIES) {
         match &stream {
             Err(Fault::NotRunning | Fault::LeftOver) => {}
             _ => break,
         }
         thread::sleep(rt, Duration::from_millis(PAUSE));
-        stream = connect(rt, &path);
+        stream = connect_to(rt, alloc, file);
     }
     unbroken(ask(alloc, stream?, Order::Status)?)
 }
 
 /// The devices of the store in a file, by the server that runs on it.
-pub(crate) fn devices<R: Net>(rt: &R, alloc: Global, file: &str) -> Result<String, Fault>
+pub(crate) fn devices<R: Files + Net>(rt: &R, alloc: Global, file: &str) -> Result<String, Fault>
     ensures { IfOk result (λ text. string_bytes text ≢ []) }
 {
-    let path = path_of(alloc, file)?;
-    unbroken(ask(alloc, connect(rt, &path)?, Order::Devices)?)
+    unbroken(ask(alloc, connect_to(rt, alloc, file)?, Order::Devices)?)
 }
 
 // The lines of an answer, without the empty one behind them: where that lacks it was broken off.
@@ -157,7 +195,7 @@ fn unbroken(answer: String) -> Result<String, Fault>
 
 /// Tells on `out` what happens at the server that runs on the store in a file, until it ends, and
 /// gives what came of writing it. `Busy` where as many are told already as there may be.
-pub(crate) fn watch<R: Net, O: Write>(
+pub(crate) fn watch<R: Files + Net, O: Write>(
     rt: &R,
     alloc: Global,
     file: &str,
@@ -165,8 +203,7 @@ pub(crate) fn watch<R: Net, O: Write>(
 ) -> Result<io::Result<()>, Fault>
     ensures { OnErr result (out.new ≡ out.old) }
 {
-    let path = path_of(alloc, file)?;
-    let mut stream = connect(rt, &path)?;
+    let mut stream = connect_to(rt, alloc, file)?;
     let word = Order::Watch.word();
     writeln!(stream, "{word}").map_err(|_| Fault::BrokenOff)?;
     let mut first = [0u8; WATCHING.len()];

@@ -16,6 +16,9 @@ pub enum Fault {
     /// An address can't be listened on, or no link could be accepted there.
     #[error("listen")]
     Listen,
+    /// The process may not open as many descriptors as serving takes, which is this number.
+    #[error("descriptors {0}")]
+    Descriptors(u64),
     /// The control socket can't be made, or isn't one.
     #[error("control")]
     Control,

@@ -4,6 +4,7 @@
 
 mod commands;
 mod control;
+mod descriptors;
 mod fault;
 mod running;
 mod serving;
@@ -13,8 +14,8 @@ pub use command_words::{Mode, Usage, words};
 pub use commands::{Commands, ServerCommands};
 pub use fault::Fault;
 pub use link_server::{
-    Gate, LifeClock, LifeReport, LinkCount, Monotonic, OpenGate, Order, PlaceCount, ServeFault,
-    ServedLife, serve_links, serve_on,
+    Gate, LifeClock, LifeReport, LinkCount, Monotonic, NobodyTold, OnBegun, OpenGate, Order,
+    PlaceCount, ServeFault, ServedLife, serve_links, serve_on,
 };
 pub use running::{command, fail};
 pub use serving::FinishedLife;

@@ -1,12 +1,15 @@
 // A store in a file, served.
-ghost use Rattle.std.specs.Prelude.{◌≡◌, IfOk};
+ghost use Rattle.std.specs.Prelude.{◌≡◌, Err, IfOk, IsOkAnd, MatchResult};
+ghost use Rattle.gateway_server.specs.Lives.{fault_of_life};
 
 use crate::Fault;
-use crate::control::{ControlPath, ENDED, bind_control, path_of, remove};
+use crate::control::{ControlPath, ENDED, bind_control, path_of, real_file, remove};
+use crate::descriptors::hold_descriptors;
 use crate::stores::{open_store, open_timed};
 use command_words::Mode;
 use link_server::{
-    LifeReport, LinkCount, Monotonic, OpenGate, PlaceCount, ServedLife, serve_links, serve_on,
+    LifeReport, LinkCount, Monotonic, OnBegun, OpenGate, PlaceCount, ServeFault, ServedLife,
+    serve_links, serve_on,
 };
 use std::alloc::Global;
 use std::fs::File;
@@ -62,15 +65,12 @@ where
         listen,
         links,
     };
-    match result {
-        Ok(report) => Ok(FinishedLife { mode, report }),
-        Err(fault) => Err(Fault::from(fault)),
-    }
+    finished(mode, result)
 }
 
 /// Serves links that come and go, so many at a time, from the store in a file, until the server is
-/// stopped over its control socket. Tells on `out` where it listens, once whoever connects is
-/// served. Whoever stopped it is told of the end once the file is free.
+/// stopped over its control socket. Prints on `out` where it listens, once the life has begun.
+/// Whoever stopped it is told of the end once the file is free.
 pub(crate) fn run_server<'a, R, O: Write>(
     rt: &R,
     alloc: Global,
@@ -84,20 +84,32 @@ where
     R: Clock + Threads + Wait + Sync,
     ensures { IfOk result (λ life. life.mode ≡ Mode.Run file.entry listen.entry links) }
 {
+    drop(hold_descriptors(rt, alloc, links)?);
     let times = DiskTimes::new();
     let store = open_timed(rt, alloc, file, &times)?;
     let Entrance {
         listener,
+        address,
         clock,
         path,
         control,
-    } = open_up(rt, alloc, file, listen, out)?;
+    } = open_up(rt, alloc, file, listen)?;
+    let mut notice = ListeningNotice { out, address };
     let ServedLife {
         store,
         result,
         waiting,
     } = serve_on(
-        rt, alloc, store, listener, control, links, &OpenGate, &clock, &times,
+        rt,
+        alloc,
+        store,
+        listener,
+        control,
+        links,
+        &OpenGate,
+        &clock,
+        &times,
+        &mut notice,
     );
     drop(store);
     remove(rt, &path);
@@ -106,12 +118,24 @@ where
         listen,
         links,
     };
-    let ended = match result {
-        Ok(report) => Ok(FinishedLife { mode, report }),
-        Err(fault) => Err(Fault::from(fault)),
-    };
+    let ended = finished(mode, result);
     tell_end(waiting, &ended);
     ended
+}
+
+// What came of a life that was asked for so.
+fn finished<'a>(
+    mode: Mode<'a>,
+    served: Result<LifeReport, ServeFault>,
+) -> Result<FinishedLife<'a>, Fault>
+    ensures { MatchResult served
+        (λ report. IsOkAnd result (λ life. (life.mode ≡ mode.entry) × (life.report ≡ report)))
+        (λ fault. result ≡ Err (fault_of_life fault)) }
+{
+    match served {
+        Ok(report) => Ok(FinishedLife { mode, report }),
+        Err(fault) => Err(Fault::from(fault)),
+    }
 }
 
 // Where links come in, and the clock of the life.
@@ -146,18 +170,18 @@ where
 #[derive(Drop)]
 struct Entrance<C: Clock> {
     listener: TcpListener,
+    address: SocketAddr,
     clock: Monotonic<C>,
     path: ControlPath,
     control: UnixListener,
 }
 
-// Whoever connects is served from here on, which is told on `out`.
-fn open_up<'x, R, O: Write>(
+// Whoever connects from here on is served once the life has begun.
+fn open_up<'x, R>(
     rt: &'x R,
     alloc: Global,
     file: &str,
     listen: &str,
-    out: &mut O,
 ) -> Result<Entrance<&'x R>, Fault>
 where
     R: Files<File = File> + Net<Listener = TcpListener, Stream = TcpStream> + Clock,
@@ -167,16 +191,31 @@ where
         address,
         clock,
     } = listen_at(rt, listen)?;
-    let path = path_of(alloc, file)?;
+    let path = path_of(alloc, &real_file(rt, alloc, file)?)?;
     let control = bind_control(rt, &path)?;
-    let _ = writeln!(out, "listening {address}");
-    let _ = out.flush();
     Ok(Entrance {
         listener,
+        address,
         clock,
         path,
         control,
     })
+}
+
+// Prints where the server listens once its life has begun. The server goes on if that can't be
+// printed.
+#[derive(Drop)]
+struct ListeningNotice<'a, O: Write> {
+    out: &'a mut O,
+    address: SocketAddr,
+}
+
+impl<'a, O: Write> OnBegun for ListeningNotice<'a, O> {
+    fn begun(&mut self) {
+        let address = self.address;
+        let _ = writeln!(self.out, "listening {address}");
+        let _ = self.out.flush();
+    }
 }
 
 // Whoever waits is told that it is done, or why not.

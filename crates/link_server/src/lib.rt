@@ -14,6 +14,7 @@ mod threads;
 pub use link_workers::{BUSY, WATCHING};
 pub use report::{LifeReport, ServedLife};
 pub use server_links::{
-    Gate, LifeClock, LinkCount, Monotonic, OpenGate, Order, PlaceCount, ServeFault,
+    Gate, LifeClock, LinkCount, Monotonic, NobodyTold, OnBegun, OpenGate, Order, PlaceCount,
+    ServeFault,
 };
 pub use serving::{serve_links, serve_on};

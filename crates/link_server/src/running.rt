@@ -11,7 +11,7 @@ use crate::threads::{start_attendant, start_closer, start_host, start_sender, st
 use disk::Disk;
 use link_workers::{Attendant, Closer, Context, Host, LiveServer, Worker};
 use lw_types::Refusal;
-use server_links::{ATTENDANTS, Gate, LifeClock, Outgoing, Sender, Socket, Spare};
+use server_links::{ATTENDANTS, Gate, LifeClock, OnBegun, Outgoing, Sender, Socket, Spare};
 use session_core::{Books, Seat, Taker};
 use std::alloc::Global;
 use std::sync::Wait;
@@ -28,7 +28,8 @@ pub(crate) struct LifeEnd<D: Disk, B: Books> {
     pub(crate) seats: Vec<Seat<B>>,
 }
 
-/// Starts the threads of a life, flushes until it ends, and joins them.
+/// Starts the threads of a life, tells that it has begun once all run, flushes until it ends, and
+/// joins them.
 pub(crate) fn run<
     'x,
     B: Books + Send + Sync,
@@ -36,12 +37,14 @@ pub(crate) fn run<
     D: Disk + Drop,
     G: Gate + Sync,
     C: LifeClock + Sync,
+    N: OnBegun,
 >(
     context: &'x Context<'x, R, G, C>,
     server: &'x LiveServer<B>,
     store: Store<D>,
     taker: Taker<B>,
     parts: Parts<B>,
+    on_begun: &mut N,
 ) -> LifeEnd<D, B>
     ensures healthy { OnOk result.result (NoneFailed D.failures D.outlook store result.store) }
     ensures committed { IfOk result.result (λ taken. (store_state D.state result.store).seq + taker
@@ -62,7 +65,7 @@ pub(crate) fn run<
             ensures refused { IfErr result.result (IsRefused D.Disk store result.store) }
             ensures lives { D.honest
                 → IsLedOn (store_state D.state store) (store_state D.state result.store) }
-        { run_in(scope, context, server, store, taker, parts) },
+        { run_in(scope, context, server, store, taker, parts, on_begun) },
     )
 }
 
@@ -74,6 +77,7 @@ fn run_in<
     D: Disk + Drop,
     G: Gate + Sync,
     C: LifeClock + Sync,
+    N: OnBegun,
 >(
     scope: &Scope<'s, E>,
     context: &'s Context<'s, R, G, C>,
@@ -81,6 +85,7 @@ fn run_in<
     store: Store<D>,
     taker: Taker<B>,
     parts: Parts<B>,
+    on_begun: &mut N,
 ) -> LifeEnd<D, B>
     ensures healthy { OnOk result.result (NoneFailed D.failures D.outlook store result.store) }
     ensures committed { IfOk result.result (λ taken. (store_state D.state result.store).seq + taker
@@ -107,6 +112,7 @@ fn run_in<
     started.start_attendants(scope, context, server);
     let mut store = store;
     let result = if started.is_whole {
+        on_begun.begun();
         flush(
             context.rt,
             context.alloc,

@@ -18,8 +18,8 @@ use link_workers::{Context, LiveServer};
 use lw_types::Refusal;
 use outbox::Inlet;
 use server_links::{
-    ControlSocket, Door, Gate, LifeClock, Link, LinkCount, PlaceCount, ServeFault, Signals,
-    WaitingLines, accept, empty_places,
+    ControlSocket, Door, Gate, LifeClock, Link, LinkCount, NobodyTold, OnBegun, PlaceCount,
+    ServeFault, Signals, WaitingLines, accept, empty_places,
 };
 use session_core::{Books, Core, Seat, Shared};
 use std::alloc::Global;
@@ -94,7 +94,7 @@ pub fn serve_links<
         clock,
         times: None,
     };
-    begin(&context, store, links, None, None)
+    begin(&context, store, links, None, None, &mut NobodyTold)
 }
 
 /// Serves links that come in by a listener, as many at a time as there are places, until the life
@@ -116,7 +116,17 @@ pub fn serve_links<
 /// Operators come in by a listener of their own, eight at a time, and say an [`Order`] each.
 /// One who says nothing for two seconds is given up. What they are told of the disk stands in
 /// `times`.
-pub fn serve_on<'x, R: Threads + Wait + Sync, D: Disk + Drop, G: Gate + Sync, C: LifeClock + Sync>(
+///
+/// `on_begun` is told once every thread of the life runs; if one can't be started it never is, and
+/// the life is refused with `OutOfMemory`.
+pub fn serve_on<
+    'x,
+    R: Threads + Wait + Sync,
+    D: Disk + Drop,
+    G: Gate + Sync,
+    C: LifeClock + Sync,
+    N: OnBegun,
+>(
     rt: &'x R,
     alloc: Global,
     store: Store<D>,
@@ -126,6 +136,7 @@ pub fn serve_on<'x, R: Threads + Wait + Sync, D: Disk + Drop, G: Gate + Sync, C:
     gate: &'x G,
     clock: &'x C,
     times: &'x DiskTimes,
+    on_begun: &mut N,
 ) -> ServedLife<D>
     ensures shares { IfOk result.result (λ report. sum report.shares.items ≡ report.made) }
     ensures healthy { OnOk result.result (NoneFailed D.failures D.outlook store result.store) }
@@ -153,16 +164,17 @@ pub fn serve_on<'x, R: Threads + Wait + Sync, D: Disk + Drop, G: Gate + Sync, C:
         clock,
         times: Some(times),
     };
-    begin(&context, store, links, Some(door), Some(control))
+    begin(&context, store, links, Some(door), Some(control), on_begun)
 }
 
 // Begins a life with these links.
-fn begin<R: Threads + Wait + Sync, D: Disk + Drop, G: Gate + Sync, C: LifeClock + Sync>(
+fn begin<R: Threads + Wait + Sync, D: Disk + Drop, G: Gate + Sync, C: LifeClock + Sync, N: OnBegun>(
     context: &Context<'_, R, G, C>,
     store: Store<D>,
     links: Vec<Link>,
     door: Option<Door>,
     control: Option<ControlSocket>,
+    on_begun: &mut N,
 ) -> ServedLife<D>
     requires { length links.items ≤ 96 }
     ensures shares { IfOk result.result (λ report. sum report.shares.items ≡ report.made) }
@@ -184,7 +196,7 @@ fn begin<R: Threads + Wait + Sync, D: Disk + Drop, G: Gate + Sync, C: LifeClock 
         control,
     };
     let (made, taken) = (Blank::new(seats), Blank::new(1));
-    serve_life::<Brand, R, D, G, C>(context, store, places, core, made, taken)
+    serve_life::<Brand, R, D, G, C, N>(context, store, places, core, made, taken, on_begun)
 }
 
 // A life that isn't begun.
@@ -216,6 +228,7 @@ fn serve_life<
     D: Disk + Drop,
     G: Gate + Sync,
     C: LifeClock + Sync,
+    N: OnBegun,
 >(
     context: &Context<'_, R, G, C>,
     store: Store<D>,
@@ -223,6 +236,7 @@ fn serve_life<
     core: Core,
     made: Blank,
     taken: Blank,
+    on_begun: &mut N,
 ) -> ServedLife<D>
     requires made { (made.name ≡ B.made_name) × (made.parts ≡ B.made_parts)
         × (made.parts ≡ length places.links.items + 1) }
@@ -264,7 +278,7 @@ fn serve_life<
         directory: Mutex::new(directory),
         lines,
     };
-    let end = run(&*context, &server, store, taker, parts);
+    let end = run(&*context, &server, store, taker, parts, on_begun);
     served_life(context.alloc, server, all, end)
 }
 

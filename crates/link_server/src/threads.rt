@@ -1,6 +1,6 @@
 // The threads of a life, each with its name.
 use link_workers::{Attendant, Closer, Host, Worker};
-use server_links::{Gate, LifeClock, Sender};
+use server_links::{Gate, LifeClock, STACK, Sender};
 use session_core::{Books, Seat};
 use std::alloc::Global;
 use std::sync::Wait;
@@ -23,6 +23,7 @@ pub(crate) fn start_worker<
     let name = format!(in alloc; "link-{number}-in").ok()?;
     Builder::new()
         .name(name)
+        .stack_size(STACK)
         .spawn_scoped(scope, move || worker.run())
         .ok()
 }
@@ -37,6 +38,7 @@ pub(crate) fn start_sender<'x, E, R: Wait + Sync>(
     let name = format!(in alloc; "link-{number}-out").ok()?;
     Builder::new()
         .name(name)
+        .stack_size(STACK)
         .spawn_scoped(scope, move || {
             let _ = sender.run();
         })
@@ -56,6 +58,7 @@ pub(crate) fn start_host<
     let name = format!(in alloc; "link-{number}-in").ok()?;
     Builder::new()
         .name(name)
+        .stack_size(STACK)
         .spawn_scoped(scope, move || host.run())
         .ok()
 }
@@ -76,6 +79,7 @@ pub(crate) fn start_closer<
     let name = String::from_str(alloc, "closer").ok()?;
     Builder::new()
         .name(name)
+        .stack_size(STACK)
         .spawn_scoped(scope, move || closer.run())
         .ok()
 }
@@ -97,6 +101,7 @@ pub(crate) fn start_attendant<
     let name = format!(in alloc; "control-{number}").ok()?;
     Builder::new()
         .name(name)
+        .stack_size(STACK)
         .spawn_scoped(scope, move || attendant.run())
         .ok()
 }

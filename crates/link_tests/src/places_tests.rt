@@ -1,7 +1,9 @@
 // Links that come and go while a server goes on.
 use crate::lives::{new_store, of_socket, refusal_of};
 use crate::wire::wire;
-use link_server::{Monotonic, OpenGate, Order, PlaceCount, ServedLife, WATCHING, serve_on};
+use link_server::{
+    Monotonic, OnBegun, OpenGate, Order, PlaceCount, ServedLife, WATCHING, serve_on,
+};
 use lw_types::Refusal;
 use std::alloc::Global;
 use std::io::{Read, Write};
@@ -180,8 +182,21 @@ fn lacks<'a>(text: &str, wanted: &[&'a str]) -> Option<&'a str> {
     wanted.iter().copied().find(|it| !text.contains(*it))
 }
 
-// What a life of four places comes to: what was heard wrong, and the counts of its report.
-fn live<R>(rt: &R, alloc: Global) -> Result<(Option<&'static str>, (u64, u64, u64, u64)), Refusal>
+// How often it was told that a life has begun.
+#[derive(Drop)]
+struct Begun(u64);
+
+impl OnBegun for Begun {
+    fn begun(&mut self) {
+        self.0 = self.0.saturating_add(1);
+    }
+}
+
+// How often a life had begun, and the counts of its report.
+type Counts = (u64, (u64, u64, u64, u64));
+
+// What a life of four places comes to: what was heard wrong, and its counts.
+fn live<R>(rt: &R, alloc: Global) -> Result<(Option<&'static str>, Counts), Refusal>
 where
     R: Net<Listener = TcpListener, Stream = TcpStream> + Files + Clock + Threads + Wait + Sync,
 {
@@ -194,10 +209,11 @@ where
     let places = PlaceCount::new(4).ok_or(Refusal::Damaged)?;
     let times = DiskTimes::new();
     let store = new_store(alloc)?;
+    let mut begun = Begun(0);
     let (served, said) = join(
         rt,
         || serve_on(
-            rt, alloc, store, listener, control, places, &OpenGate, &clock, &times,
+            rt, alloc, store, listener, control, places, &OpenGate, &clock, &times, &mut begun,
         ),
         || clients(rt, alloc, address, &at),
     );
@@ -214,7 +230,7 @@ where
         report.taken_over,
         report.made,
     );
-    Ok((wrong(alloc, said?)?, counts))
+    Ok((wrong(alloc, said?)?, (begun.0, counts)))
 }
 
 // The first thing that was heard wrong in a life, which is over.
@@ -242,5 +258,5 @@ fn wrong(alloc: Global, said: Said) -> Result<Option<&'static str>, Refusal> {
 #[test]
 fn links_come_again(rt: HostRuntime) {
     let lived = live(&rt, rt.alloc());
-    assert!(rt; lived == Ok((None, (0, 0, 1, 4))), "{lived:?}");
+    assert!(rt; lived == Ok((None, (1, (0, 0, 1, 4)))), "{lived:?}");
 }

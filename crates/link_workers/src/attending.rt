@@ -6,7 +6,7 @@ use crate::context::Context;
 use crate::server::LiveServer;
 use crate::status::{devices_text, status_text};
 use lw_types::Refusal;
-use server_links::{ControlSocket, Gate, LifeClock, Order, Waiting, Watch, is_passing};
+use server_links::{ControlSocket, Gate, LifeClock, Order, Signals, Waiting, Watch, is_passing};
 use session_core::Books;
 use std::io::{Read, Write};
 use std::os::unix::net::UnixStream;
@@ -29,6 +29,10 @@ const PATIENCE: u64 = 2;
 
 // How long one write to an operator who watches waits for room, in seconds.
 const WATCHER_WAIT: u64 = 1;
+
+// How long a look whether an operator who watches is still there waits, in milliseconds: as short
+// as a read may.
+const LOOK_WAIT: u64 = 1;
 
 // How long until accepting is tried again where it failed, in seconds.
 const ACCEPT_PAUSE: u64 = 1;
@@ -113,10 +117,10 @@ impl<'x, B: Books, R: Wait, G: Gate, C: LifeClock> Attendant<'x, B, R, G, C> {
     }
 
     // Tells what happens until the operator has gone or the life is over. What happened before the
-    // end is told then.
+    // end is told then. While nothing happens the attendant looks each second whether the operator
+    // is still there, so that his window doesn't stay taken.
     fn show_all(&self, stream: &UnixStream, watch: &Watch, window: usize) {
-        let wait = Duration::from_secs(WATCHER_WAIT);
-        if stream.set_write_timeout(Some(wait)).is_err() {
+        if limit_waits(stream).is_err() {
             return;
         }
         for _ in self.context.rt.forever() {
@@ -128,7 +132,7 @@ impl<'x, B: Books, R: Wait, G: Gate, C: LifeClock> Attendant<'x, B, R, G, C> {
                 if !self.show(stream, waiting) {
                     return;
                 }
-            } else if is_last {
+            } else if is_last || has_gone(stream, &self.server.signals) {
                 return;
             } else {
                 watch.wait(self.context.rt, window);
@@ -157,6 +161,23 @@ impl<'x, B: Books, R: Wait, G: Gate, C: LifeClock> Attendant<'x, B, R, G, C> {
         }
         false
     }
+}
+
+// Limits how long the writes and the looks of an operator who watches wait.
+fn limit_waits(stream: &UnixStream) -> io::Result<()> {
+    stream.set_write_timeout(Some(Duration::from_secs(WATCHER_WAIT)))?;
+    stream.set_read_timeout(Some(Duration::from_millis(LOOK_WAIT)))
+}
+
+// Whether an operator who watches has ended the connection, or says something more. At the end of
+// the life his input is ended from here: then he hasn't gone, and is told what is left.
+fn has_gone(stream: &UnixStream, signals: &Signals) -> bool {
+    let mut stream = stream;
+    let is_silent = match stream.read(&mut [0u8; 1]) {
+        Ok(_) => false,
+        Err(error) => is_passing(error.kind()),
+    };
+    !is_silent && !signals.is_closed()
 }
 
 // What an operator says, up to a newline.

@@ -1,5 +1,5 @@
 // A worker of a life whose links come and go takes one link after another.
-ghost use Rattle.std.specs.Prelude.{◌≡◌, IfSome, IsTrue, Some, option_map};
+ghost use Rattle.std.specs.Prelude.{◌≡◌, ◌-◌, IfSome, IsTrue, Some, max, option_map};
 ghost use Rattle.directory.specs.Linked.{IsHeld};
 ghost use Rattle.link_workers.specs.Named.{IsFarewell, peer_name};
 
@@ -10,7 +10,7 @@ use link_messages::{Fed, Feeder};
 use lw_types::Refusal;
 use rtrb::{Consumer, RingBuffer};
 use server_links::{
-    Call, Ending, Gate, HostSender, LifeClock, PLACES, drop_all, moved_on, set_options,
+    Call, Ending, Gate, HostSender, LifeClock, PLACES, STACK, drop_all, moved_on, set_options,
 };
 use session_core::{Books, Moment, Seat};
 use sights::Sight;
@@ -23,6 +23,9 @@ use std::time::Duration;
 
 // How long a link may take until it has greeted, in milliseconds.
 const GREETING_WAIT: u64 = 10_000;
+
+// How long a read waits once that time is over, in milliseconds: as short as a read may.
+const SHORTEST_WAIT: u64 = 1;
 
 // How long until accepting is tried again where it failed, in seconds: the process has no
 // descriptors left, or no memory.
@@ -188,13 +191,22 @@ fn start_host_sender<'x, E, R: Wait + Sync>(
     let name = format!(in alloc; "link-{number}-out").ok()?;
     Builder::new()
         .name(name)
+        .stack_size(STACK)
         .spawn_scoped(scope, move || sender.run(refusals))
         .ok()
 }
 
+// How long a read waits until then, in milliseconds. After that moment it still takes what has come:
+// the process may have been stopped while a link greeted in time.
+fn wait_until(now: Moment, until: Moment) -> u64
+    ensures { result ≡ max (until - now) 1 }
+{
+    until.get().saturating_sub(now.get()).max(SHORTEST_WAIT)
+}
+
 impl<'x, B: Books, R: Wait, G: Gate, C: LifeClock> Worker<'x, B, R, G, C> {
-    // Reads until the peer has greeted. `None` where it doesn't in time, says something else, or
-    // has gone.
+    // Reads until the peer has greeted. `None` if nothing more has come when its time is over, or if
+    // it says something else, or has gone.
     fn hear_greeting(&mut self, stream: &TcpStream) -> Option<Greeted>
         ensures named { IfSome result
             (λ greeted. option_map peer_name self.new.feeder.peer ≡ Some greeted.name) }
@@ -239,13 +251,12 @@ impl<'x, B: Books, R: Wait, G: Gate, C: LifeClock> Worker<'x, B, R, G, C> {
         None
     }
 
-    // Lets reads wait until then. Whether there is time left, and they can be so limited.
+    // Lets reads wait until then. Whether they can be so limited.
     fn limit_wait(&self, stream: &TcpStream, until: Moment) -> bool {
-        let left = until.get().saturating_sub(self.context.clock.now().get());
-        left > 0
-            && stream
-                .set_read_timeout(Some(Duration::from_millis(left)))
-                .is_ok()
+        let wait = wait_until(self.context.clock.now(), until);
+        stream
+            .set_read_timeout(Some(Duration::from_millis(wait)))
+            .is_ok()
     }
 
     // Gives the link its name, and closes the link that had it. The directory stays locked

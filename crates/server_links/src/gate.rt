@@ -1,4 +1,4 @@
-// Where workers can be held.
+// What a life calls outside of itself: before each call of a worker, and once it has begun.
 
 /// Passed by each worker before each of its calls of the sessions, so that a test can hold one
 /// there.
@@ -14,4 +14,19 @@ pub struct OpenGate;
 
 impl Gate for OpenGate {
     fn pass(&self, _worker: usize, _call: u64) {}
+}
+
+/// Is told when a life has begun.
+pub trait OnBegun {
+    /// Every thread of the life runs. It is called once at most, by the thread that began the life,
+    /// and before anything is committed.
+    fn begun(&mut self);
+}
+
+/// Nobody is told.
+#[derive(Clone, Copy)]
+pub struct NobodyTold;
+
+impl OnBegun for NobodyTold {
+    fn begun(&mut self) {}
 }

@@ -17,13 +17,14 @@ mod outgoing;
 mod rings;
 mod routing;
 mod signals;
+mod stacks;
 mod watching;
 mod writing;
 
 pub use control::{ATTENDANTS, ControlSocket};
 pub use door::Door;
 pub use fault::ServeFault;
-pub use gate::{Gate, OpenGate};
+pub use gate::{Gate, NobodyTold, OnBegun, OpenGate};
 pub use gathering::drop_all;
 pub use link::{
     Link, LinkCount, MOST_PLACES, PlaceCount, Socket, accept, empty_places, set_options,
@@ -34,5 +35,6 @@ pub use outgoing::Outgoing;
 pub use rings::{PLACES, WaitingLines};
 pub use routing::route;
 pub use signals::{Ending, Signals};
+pub use stacks::STACK;
 pub use watching::{Waiting, Watch};
 pub use writing::{Call, HostSender, Sender, Spare, is_passing};

@@ -10,12 +10,16 @@ use std::sync::atomic::AtomicU64;
 use std::sync::atomic::Ordering::SeqCst;
 use std::sync::{Mutex, Wait};
 use std::thread::Parker;
+use std::time::Duration;
 
 /// How many operators may watch at a time.
 pub const MOST_WATCHERS: usize = 4;
 
 // How many lines wait for an operator at most; others are left out.
 const MOST_WAITING: u64 = 1024;
+
+// The longest wait at a window, in seconds. Its attendant looks then whether the operator is there.
+const LONGEST_WAIT: u64 = 1;
 
 /// The lines that wait for an operator, how many these are, and how many are left out behind them.
 #[derive(Drop)]
@@ -101,10 +105,11 @@ impl Watch {
         Some(mem::replace(waiting.as_mut()?, Waiting::new(self.alloc)))
     }
 
-    /// Waits at a window until something may have come.
+    /// Waits at a window until something may have come, for a second at most.
     pub fn wait<R: Wait>(&self, rt: &R, number: usize) {
         if let Some(lookout) = self.lookouts.get(number) {
-            lookout.bell.park(rt);
+            let longest = Duration::from_secs(LONGEST_WAIT);
+            lookout.bell.park_timeout(rt, longest);
         }
     }
 
