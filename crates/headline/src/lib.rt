@@ -137,16 +137,22 @@ pub fn crash_after_adoption<D: Sim + Drop>(
     }
 }
 
-/// The same of a network whose disk was lost, and that goes on with an older copy of its store: the
-/// copy's table is taken back as if each device had been granted so many joins more behind it, and
-/// a store of it and of the copy's number is made on this disk, which a world adopts. A refusal is
-/// `OutOfMemory`, `DeviceFailed`, `JoinNonceSpent` where a device hasn't so many JoinNonces left,
-/// or `WrongSize` where the disk hasn't the length of such a store.
+/// The same of a network that lost its disk and goes on with an older copy of its store. The copy's
+/// table is restored: each device goes on as if N more of its JoinNonces had been used, where
+/// `since` is N. A store of that table and of the copy's number is made on this disk, and a world
+/// adopts it. A refusal is `OutOfMemory`, `DeviceFailed`, `JoinNonceSpent` if a device has fewer
+/// than N JoinNonces left, or `WrongSize` if the disk hasn't the length of such a store.
+/// `DeviceFailed` never comes if all calls of the disk were to succeed and no step arms a failure.
 ///
-/// Of all marks of devices that the copy has, used up before it and behind it, where they are
-/// distinct and none of these devices was granted more sessions behind the copy than were counted,
-/// and of those of what has left since, none stands twice, whatever the lost disk had; and the
-/// table that is recovered covers them all. Of a device that the copy hasn't nothing is said.
+/// If it isn't refused, the clauses `answers`, `calls`, `crash` and `recovers` of
+/// [`crash_after_adoption`] hold of a course that begins with the restored table and the copy's
+/// number.
+///
+/// The marks that were used up before are those of devices that the copy has, and they are
+/// distinct. The JoinNonce of each one's session is at most N above the last one that the copy has
+/// for the device. Then no mark stands twice among these and those of what has left since, and the
+/// table that is recovered covers them all. So N counts JoinNonces, and not joins: an earlier
+/// restore of the same copy used up its own N, too. Nothing is said of other devices.
 pub fn crash_after_restoring<D: Sim + Drop>(
     alloc: Global,
     older: Table,
@@ -156,11 +162,23 @@ pub fn crash_after_restoring<D: Sim + Drop>(
     steps: &[Step],
     image: &Image,
 ) -> Result<(Vec<Answer>, Store<D>), Refusal>
+    ensures answers { IfOk result (λ found. (marks : List Mark) →
+        AreRight (adopted_store (restored_table since older) seq marks)
+        (beginning (adopted_store (restored_table since older) seq marks)) steps.now
+        found.0.items) }
+    ensures calls { IfOk result (λ found. AreForetold
+        (record { failed = D.failures disk; coming = outlook_after_opening (D.outlook disk) })
+        steps.now found.0.items) }
+    ensures crash { IfOk result (λ found. (marks : List Mark) →
+        IsOpenedAfterCrash D.Disk (adopted_store (restored_table since older) seq marks) steps.now
+        found.0.items image.now (store_state D.state found.1)) }
     ensures recovers { IfOk result (λ found. (marks : List Mark) →
         Recovers (adopted_store (restored_table since older) seq marks)
         (course_of (adopted_store (restored_table since older) seq marks)
         (beginning (adopted_store (restored_table since older) seq marks)) steps.now found.0.items)
         (store_state D.state found.1).table (store_state D.state found.1).seq) }
+    ensures unarmed { D.outlook disk ≡ AllSucceed → ArmsNothing steps.now
+        → IfErr result (λ e. e ≢ DeviceFailed) }
     ensures once { IfOk result (λ found. (marks : List Mark)
         → All (λ m. IsSince since older m) marks → AreDistinct marks
         → NoMarkTwice (adopted_store (restored_table since older) seq marks)
@@ -194,11 +212,22 @@ fn crash_from_table<D: Sim + Drop>(
     steps: &[Step],
     image: &Image,
 ) -> Result<(Vec<Answer>, Store<D>), Refusal>
+    ensures answers { IfOk result (λ found. (marks : List Mark) →
+        AreRight (adopted_store table seq marks) (beginning (adopted_store table seq marks))
+        steps.now found.0.items) }
+    ensures calls { IfOk result (λ found. AreForetold
+        (record { failed = D.failures disk; coming = outlook_after_opening (D.outlook disk) })
+        steps.now found.0.items) }
+    ensures crash { IfOk result (λ found. (marks : List Mark) →
+        IsOpenedAfterCrash D.Disk (adopted_store table seq marks) steps.now found.0.items image.now
+        (store_state D.state found.1)) }
     ensures recovers { IfOk result (λ found. (marks : List Mark) →
         Recovers (adopted_store table seq marks)
         (course_of (adopted_store table seq marks) (beginning (adopted_store table seq marks))
         steps.now found.0.items)
         (store_state D.state found.1).table (store_state D.state found.1).seq) }
+    ensures unarmed { D.outlook disk ≡ AllSucceed → ArmsNothing steps.now
+        → IfErr result (λ e. e ≢ DeviceFailed) }
     ensures once { IfOk result (λ found. (marks : List Mark)
         → All (λ m. Covers table m) marks → AreDistinct marks
         → NoMarkTwice (adopted_store table seq marks)

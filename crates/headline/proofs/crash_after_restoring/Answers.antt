@@ -7,12 +7,36 @@ use Rattle.sessions.specs.Restored.{restored_table}
 use Rattle.sessions.specs.Table.{TableState}
 use Rattle.store.specs.State.{store_state}
 use Rattle.world.specs.Course.{adopted_store, beginning, course_of}
+use Rattle.world.specs.Answers.{AreRight}
+use Rattle.headline.specs.Crash.{IsOpenedAfterCrash}
 use Rattle.headline.specs.Recovers.{NoMarkTwice, Recovers}
 use Rattle.headline.proofs.crash_after_restoring.Goals as goal
 
 -- what covers these marks covers them under its other name
 all_covered : (t restored : TableState) (marks : List Mark) → t ≡ restored → All (λ m. Covers restored m) marks → All (λ m. Covers t m) marks
 all_covered t restored marks is covered = subst (λ (table : TableState). All (λ (m : Mark). Covers table m) marks) (sym is) covered
+
+pub returns-in-Ok-clause-answers : goal.returns-in-Ok-clause-answers
+returns-in-Ok-clause-answers g c =
+    let seq = c.args.seq in
+    IfOk-weaker c.crash_from_table.result _ _
+    (λ found answers marks.
+    subst (λ (t : TableState). AreRight (adopted_store t seq marks) (beginning (adopted_store t seq marks)) c.args.steps.now found.0.items)
+    c.in-Ok.ensures.1 (answers marks))
+    c.crash_from_table.ensures.answers
+
+pub returns-in-Ok-clause-calls : goal.returns-in-Ok-clause-calls
+returns-in-Ok-clause-calls g c = c.crash_from_table.ensures.calls
+
+pub returns-in-Ok-clause-crash : goal.returns-in-Ok-clause-crash
+returns-in-Ok-clause-crash g c =
+    let seq = c.args.seq in
+    IfOk-weaker c.crash_from_table.result _ _
+    (λ found opened marks.
+    subst
+    (λ (t : TableState). IsOpenedAfterCrash g.D.Disk (adopted_store t seq marks) c.args.steps.now found.0.items c.args.image.now (store_state g.D.Disk.state found.1))
+    c.in-Ok.ensures.1 (opened marks))
+    c.crash_from_table.ensures.crash
 
 pub returns-in-Ok-clause-recovers : goal.returns-in-Ok-clause-recovers
 returns-in-Ok-clause-recovers g c =
