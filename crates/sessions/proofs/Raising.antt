@@ -1,9 +1,10 @@
 -- Sessions on record count as granted.
-use Rattle.std.proofs.Common.{◌≡◌, ◌≤◌, ◌<◌, ◌+◌, ◌∙◌, ℕ, List, [], ◌∷◌, map, set, drop, zero, suc, Option, Some, None, cond, nat_eq, nat_lt, max, slice_get, sym, ap, subst, refl, arith}
+use Rattle.std.proofs.Common.{◌≡◌, ◌≤◌, ◌<◌, ◌+◌, ◌∙◌, ℕ, List, [], ◌∷◌, map, set, drop, zero, suc, Option, Some, None, cond, nat_eq, nat_lt, max, slice_get, take, get_or, length, ◌++◌, sym, ap, subst, refl, arith}
 use Rattle.std.specs.Prelude.{All, option_map, unwrap_or}
 use Rattle.std.specs.List.{position_from}
 use Rattle.std.proofs.Math.Nat.{le-max_left, le-max_right, max-eq_left, max-eq_right, max-le}
 use Rattle.std.proofs.lemmas.Bool.{eqb-true, eq-eqb, ltb-true, ltb-false}
+use Rattle.std.proofs.lemmas.List.{take_more}
 use Rattle.std.proofs.lemmas.Option.{none-some, same_Some, slice_get-map}
 use Rattle.devices.specs.Activation.{Grants, grants_of}
 use Rattle.devices.specs.Restored.{raised_device, raised_grants}
@@ -154,3 +155,15 @@ within_all since sessions t marks all = λ k d within. within_one since sessions
 pub own_all : (sessions : List SessionName) (t : TableState) → HaveOwnSlots t.devices → HaveOwnSlots (raised_by_all sessions t).devices
 own_all [] t own = own
 own_all (s ∷ sessions) t own = own_all sessions (raised_table s t) (own_slots (raised_by s) (keeps s) t.devices own)
+
+-- ---- one session after another
+
+raised_by_all-push : (sessions : List SessionName) (s : SessionName) (t : TableState) → raised_by_all (sessions ++ s ∷ []) t ≡ raised_table s (raised_by_all sessions t)
+raised_by_all-push [] s t = refl
+raised_by_all-push (first ∷ sessions) s t = raised_by_all-push sessions s (raised_table first t)
+
+pub raised_by_all-take_more : (sessions : List SessionName) (t : TableState) (i : ℕ) (s : SessionName) → i < length sessions → s ≡ get_or sessions i s
+    → raised_by_all (take (i + 1) sessions) t ≡ raised_table s (raised_by_all (take i sessions) t)
+raised_by_all-take_more sessions t i s lt is =
+    ap (λ l. raised_by_all l t) (take_more sessions i s lt ∙ ap (λ (x : SessionName). take i sessions ++ x ∷ []) (sym is))
+    ∙ raised_by_all-push (take i sessions) s t

@@ -1,2 +1,1 @@
 pub mod OneMore
-pub mod Records

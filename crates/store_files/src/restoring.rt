@@ -129,24 +129,14 @@ fn table_since(
         × (made.0 ≡ restored_table since (raised_by_all sessions.now copy.now))
         × ((recorded : ℕ) × (string_bytes made.1 ≡ restored_text recorded made.0.devices))) }
 {
-    let raised = raised_by(copy, sessions)?;
+    let mut raised = copy.copy()?;
+    raised.raise_all(sessions);
     let recorded = changed(copy.devices(), raised.devices());
     let table = restored(raised, since)?;
     match report_of(alloc, recorded, table.devices()) {
         Ok(text) => Ok((table, text)),
         Err(_) => Err(FileFault::Refused(Refusal::OutOfMemory)),
     }
-}
-
-// The table of a copy, in which these sessions count as granted.
-fn raised_by(copy: &Table, sessions: &[SessionName]) -> Result<Table, Refusal>
-    ensures { IfOk result (λ table. table ≡ raised_by_all sessions.now copy.now) }
-{
-    let mut table = copy.copy()?;
-    for session in sessions {
-        let _known = table.raise(session);
-    }
-    Ok(table)
 }
 
 // How many devices have another last granted JoinNonce than in the copy.

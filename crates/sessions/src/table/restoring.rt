@@ -7,7 +7,8 @@ use devices::{GrantsSince, SessionName};
 use lw_types::Eui;
 
 impl Table {
-    ghost use Rattle.sessions.specs.Restored.{raised_table, restored_table, spent_device};
+    ghost use Rattle.sessions.specs.Restored.{raised_by_all, raised_table, restored_table};
+    ghost use Rattle.sessions.specs.Restored.{spent_device};
     ghost use Rattle.sessions.specs.Table.{slot_of};
 
     /// Restores the table of an older copy: the last granted JoinNonce of each device is raised by
@@ -49,6 +50,15 @@ impl Table {
                 true
             }
             None => false,
+        }
+    }
+
+    /// Counts these sessions as granted, one after another, as [`raise`](Table::raise) does.
+    pub fn raise_all(&mut self, sessions: &[SessionName])
+        ensures { self.new ≡ raised_by_all sessions.now self.old }
+    {
+        for session in sessions {
+            let _known = self.raise(session);
         }
     }
 
