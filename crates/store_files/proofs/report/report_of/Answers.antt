@@ -1,4 +1,4 @@
-use Rattle.std.proofs.Common.{◌≡◌, append_assoc, take}
+use Rattle.std.proofs.Common.{append_assoc, take}
 use Rattle.store_files.specs.Report.{above_line, above_lines, head_text}
 use Rattle.store_files.proofs.OneMore.{above_lines-take_more}
 use Rattle.store_files.proofs.report.report_of.Goals as goal

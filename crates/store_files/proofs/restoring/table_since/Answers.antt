@@ -1,4 +1,4 @@
-use Rattle.std.proofs.Common.{◌≡◌, ◌∙◌, ap, sym}
+use Rattle.std.proofs.Common.{◌∙◌, ap, sym}
 use Rattle.sessions.specs.Restored.{raised_by_all, restored_table, spent_device}
 use Rattle.store_files.specs.Report.{restored_text}
 use Rattle.store_files.proofs.restoring.table_since.Goals as goal

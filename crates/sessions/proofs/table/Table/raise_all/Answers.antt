@@ -1,4 +1,4 @@
-use Rattle.std.proofs.Common.{◌≡◌, ◌∙◌, ap, sym}
+use Rattle.std.proofs.Common.{◌∙◌, ap, sym}
 use Rattle.sessions.specs.Restored.{raised_table}
 use Rattle.sessions.proofs.Raising.{raised_by_all-take_more}
 use Rattle.sessions.proofs.table.Table.raise_all.Goals as goal
