@@ -9,7 +9,8 @@ ghost use Rattle.flusher.specs.Released.{effects_of_all};
 ghost use Rattle.lw_types.specs.declared.refusal.Refusal.TheVariants.{DeviceFailed, OutOfMemory};
 ghost use Rattle.lw_types.specs.declared.refusal.Refusal.TheVariants.{JoinNonceSpent, WrongSize};
 ghost use Rattle.sessions.specs.Marks.{AreDistinct, Covers, HasUsedUp, marks_of};
-ghost use Rattle.sessions.specs.Restored.{restored_table, spent_device, IsSince};
+ghost use Rattle.sessions.specs.Restored.{raised_by_all, restored_table, spent_device};
+ghost use Rattle.sessions.specs.Restored.{IsSinceRecord};
 ghost use Rattle.sessions.specs.Table.{TableState};
 ghost use Rattle.store_layout.specs.Superblock.{disk_len};
 ghost use Rattle.store.specs.Faults.{IsFault, IsFormatRefusal};
@@ -25,7 +26,7 @@ ghost use Rattle.headline.specs.Crash.{IsOpenedAfterCrash, IsOpenedOf};
 ghost use Rattle.headline.specs.Failing.{ArmsNothing};
 ghost use Rattle.headline.specs.Recovers.{NoMarkTwice, Recovers};
 
-use devices::GrantsSince;
+use devices::{GrantsSince, SessionName};
 use disk::{Image, Sim};
 use flusher::Released;
 use lw_types::{NetId, Refusal};
@@ -138,11 +139,12 @@ pub fn crash_after_adoption<D: Sim + Drop>(
 }
 
 /// The same of a network that lost its disk and goes on with an older copy of its store. The copy's
-/// table is restored: each device goes on as if N more of its JoinNonces had been used, where
-/// `since` is N. A store of that table and of the copy's number is made on this disk, and a world
-/// adopts it. A refusal is `OutOfMemory`, `DeviceFailed`, `JoinNonceSpent` if a device has fewer
-/// than N JoinNonces left, or `WrongSize` if the disk hasn't the length of such a store.
-/// `DeviceFailed` never comes if all calls of the disk were to succeed and no step arms a failure.
+/// table is restored: the sessions on record count as granted, and each device goes on as if N more
+/// of its JoinNonces had been used, where `since` is N. A store of that table and of the copy's
+/// number is made on this disk, and a world adopts it. A refusal is `OutOfMemory`, `DeviceFailed`,
+/// `JoinNonceSpent` if a device has fewer than N JoinNonces left, or `WrongSize` if the disk hasn't
+/// the length of such a store. `DeviceFailed` never comes if all calls of the disk were to succeed
+/// and no step arms a failure.
 ///
 /// If it isn't refused, the clauses `answers`, `calls`, `crash` and `recovers` of
 /// [`crash_after_adoption`] hold of a course that begins with the restored table and the copy's
@@ -150,53 +152,57 @@ pub fn crash_after_adoption<D: Sim + Drop>(
 ///
 /// The marks that were used up before are those of devices that the copy has, and they are
 /// distinct. The JoinNonce of each one's session is at most N above the last one that the copy has
-/// for the device. Then no mark stands twice among these and those of what has left since, and the
-/// table that is recovered covers them all. So N counts JoinNonces, and not joins: an earlier
-/// restore of the same copy used up its own N, too. Nothing is said of other devices.
+/// for the device, or above one on record. Then no mark stands twice among these and those of what
+/// has left since, and the table that is recovered covers them all. So N counts JoinNonces, and not
+/// joins: an earlier restore used up its own N, too, unless it is on record from where it went on.
+/// Nothing is said of other devices.
 pub fn crash_after_restoring<D: Sim + Drop>(
     alloc: Global,
     older: Table,
     seq: u64,
+    recorded: &[SessionName],
     since: GrantsSince,
     disk: D,
     steps: &[Step],
     image: &Image,
 ) -> Result<(Vec<Answer>, Store<D>), Refusal>
     ensures answers { IfOk result (λ found. (marks : List Mark) →
-        AreRight (adopted_store (restored_table since older) seq marks)
-        (beginning (adopted_store (restored_table since older) seq marks)) steps.now
+        AreRight (adopted_store (restored_table since (raised_by_all recorded.now older)) seq marks)
+        (beginning (adopted_store (restored_table since (raised_by_all recorded.now older)) seq marks)) steps.now
         found.0.items) }
     ensures calls { IfOk result (λ found. AreForetold
         (record { failed = D.failures disk; coming = outlook_after_opening (D.outlook disk) })
         steps.now found.0.items) }
     ensures crash { IfOk result (λ found. (marks : List Mark) →
-        IsOpenedAfterCrash D.Disk (adopted_store (restored_table since older) seq marks) steps.now
+        IsOpenedAfterCrash D.Disk (adopted_store (restored_table since (raised_by_all recorded.now older)) seq marks) steps.now
         found.0.items image.now (store_state D.state found.1)) }
     ensures recovers { IfOk result (λ found. (marks : List Mark) →
-        Recovers (adopted_store (restored_table since older) seq marks)
-        (course_of (adopted_store (restored_table since older) seq marks)
-        (beginning (adopted_store (restored_table since older) seq marks)) steps.now found.0.items)
+        Recovers (adopted_store (restored_table since (raised_by_all recorded.now older)) seq marks)
+        (course_of (adopted_store (restored_table since (raised_by_all recorded.now older)) seq marks)
+        (beginning (adopted_store (restored_table since (raised_by_all recorded.now older)) seq marks)) steps.now found.0.items)
         (store_state D.state found.1).table (store_state D.state found.1).seq) }
     ensures unarmed { D.outlook disk ≡ AllSucceed → ArmsNothing steps.now
         → IfErr result (λ e. e ≢ DeviceFailed) }
     ensures once { IfOk result (λ found. (marks : List Mark)
-        → All (λ m. IsSince since older m) marks → AreDistinct marks
-        → NoMarkTwice (adopted_store (restored_table since older) seq marks)
-        (course_of (adopted_store (restored_table since older) seq marks)
-        (beginning (adopted_store (restored_table since older) seq marks)) steps.now
+        → All (λ m. IsSinceRecord since recorded.now older m) marks → AreDistinct marks
+        → NoMarkTwice (adopted_store (restored_table since (raised_by_all recorded.now older)) seq marks)
+        (course_of (adopted_store (restored_table since (raised_by_all recorded.now older)) seq marks)
+        (beginning (adopted_store (restored_table since (raised_by_all recorded.now older)) seq marks)) steps.now
         found.0.items)) }
     ensures covered { IfOk result (λ found. (marks : List Mark)
-        → All (λ m. IsSince since older m) marks → AreDistinct marks
+        → All (λ m. IsSinceRecord since recorded.now older m) marks → AreDistinct marks
         → HasUsedUp (store_state D.state found.1).table (marks ++ marks_of
-        (course_of (adopted_store (restored_table since older) seq marks)
-        (beginning (adopted_store (restored_table since older) seq marks)) steps.now
+        (course_of (adopted_store (restored_table since (raised_by_all recorded.now older)) seq marks)
+        (beginning (adopted_store (restored_table since (raised_by_all recorded.now older)) seq marks)) steps.now
         found.0.items).left)) }
     ensures refused { IfErr result (λ e. e ≢ DeviceFailed → e ≢ OutOfMemory
-        → ((e ≡ JoinNonceSpent) × (spent_device since older ≢ None))
+        → ((e ≡ JoinNonceSpent) × (spent_device since (raised_by_all recorded.now older) ≢ None))
         ⊎ ((e ≡ WrongSize) × (length (D.state disk).content ≢ disk_len older.slots))) }
 {
+    sessions::laws::a_record_raises_a_copy();
     sessions::laws::a_restored_table_covers();
     let mut table = older;
+    table.raise_all(recorded);
     match table.restore(since) {
         Ok(()) => crash_from_table(alloc, table, seq, disk, steps, image),
         Err(_) => Err(Refusal::JoinNonceSpent),
