@@ -27,7 +27,7 @@ const PIECE: usize = 4096;
 // How many tries those are a second.
 const TRIES: u64 = 20;
 
-/// The name of a store's file behind all symbolic links. Only [`real_file`] makes one.
+/// The name of a store's file once symbolic links are followed. Only [`real_file`] makes one.
 #[derive(Drop)]
 pub(crate) struct RealFile(String);
 

@@ -21,9 +21,9 @@ const OF_THE_SERVER: u64 = 32;
 // How many of these are open when the process begins: standard input, output and error.
 const STANDARD: u64 = 3;
 
-/// Opens, at once, as many descriptors as a server with so many places takes besides the standard
-/// ones, so that a server that has begun never lacks one. Whoever drops them closes them. Refused
-/// with the whole number if the system gives fewer.
+/// Opens, at once, as many descriptors as a server with N places takes besides the standard ones, so
+/// that a server that has begun never lacks one. Dropping them closes them. Refused with the whole
+/// number, 2 * N + 32, if the system gives fewer.
 pub(crate) fn hold_descriptors<R: Net>(
     rt: &R,
     alloc: Global,
@@ -43,7 +43,7 @@ pub(crate) fn hold_descriptors<R: Net>(
     }
 }
 
-// So many descriptors, which are open at once.
+// This number of descriptors, all open at once.
 fn open_all<R: Net>(rt: &R, alloc: Global, count: u64) -> io::Result<Vec<UnixStream>>
     requires { 0 < count }
     ensures { IfOk result (λ held. length held.items ≡ count) }

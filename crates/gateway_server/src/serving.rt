@@ -1,6 +1,5 @@
 // A store in a file, served.
-ghost use Rattle.std.specs.Prelude.{◌≡◌, Err, IfOk, IsOkAnd, MatchResult};
-ghost use Rattle.gateway_server.specs.Lives.{fault_of_life};
+ghost use Rattle.std.specs.Prelude.{◌≡◌, IfOk};
 
 use crate::Fault;
 use crate::control::{ControlPath, ENDED, bind_control, path_of, real_file, remove};
@@ -8,8 +7,8 @@ use crate::descriptors::hold_descriptors;
 use crate::stores::{open_store, open_timed};
 use command_words::Mode;
 use link_server::{
-    LifeReport, LinkCount, Monotonic, OnBegun, OpenGate, PlaceCount, ServeFault, ServedLife,
-    serve_links, serve_on,
+    LifeReport, LinkCount, Monotonic, OnBegun, OpenGate, PlaceCount, ServedLife, serve_links,
+    serve_on,
 };
 use std::alloc::Global;
 use std::fs::File;
@@ -65,7 +64,10 @@ where
         listen,
         links,
     };
-    finished(mode, result)
+    match result {
+        Ok(report) => Ok(FinishedLife { mode, report }),
+        Err(fault) => Err(Fault::from(fault)),
+    }
 }
 
 /// Serves links that come and go, so many at a time, from the store in a file, until the server is
@@ -118,24 +120,12 @@ where
         listen,
         links,
     };
-    let ended = finished(mode, result);
-    tell_end(waiting, &ended);
-    ended
-}
-
-// What came of a life that was asked for so.
-fn finished<'a>(
-    mode: Mode<'a>,
-    served: Result<LifeReport, ServeFault>,
-) -> Result<FinishedLife<'a>, Fault>
-    ensures { MatchResult served
-        (λ report. IsOkAnd result (λ life. (life.mode ≡ mode.entry) × (life.report ≡ report)))
-        (λ fault. result ≡ Err (fault_of_life fault)) }
-{
-    match served {
+    let ended = match result {
         Ok(report) => Ok(FinishedLife { mode, report }),
         Err(fault) => Err(Fault::from(fault)),
-    }
+    };
+    tell_end(waiting, &ended);
+    ended
 }
 
 // Where links come in, and the clock of the life.

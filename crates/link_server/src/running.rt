@@ -28,7 +28,7 @@ pub(crate) struct LifeEnd<D: Disk, B: Books> {
     pub(crate) seats: Vec<Seat<B>>,
 }
 
-/// Starts the threads of a life, tells that it has begun once all run, flushes until it ends, and
+/// Starts the threads of a life, calls `on_begun` once all run, flushes until the life ends, and
 /// joins them.
 pub(crate) fn run<
     'x,

@@ -117,8 +117,8 @@ pub fn serve_links<
 /// One who says nothing for two seconds is given up. What they are told of the disk stands in
 /// `times`.
 ///
-/// `on_begun` is told once every thread of the life runs; if one can't be started it never is, and
-/// the life is refused with `OutOfMemory`.
+/// `on_begun` is called once every thread of the life runs. If a thread can't be started it isn't
+/// called, and the life is refused with `OutOfMemory`.
 pub fn serve_on<
     'x,
     R: Threads + Wait + Sync,

@@ -16,14 +16,14 @@ impl Gate for OpenGate {
     fn pass(&self, _worker: usize, _call: u64) {}
 }
 
-/// Is told when a life has begun.
+/// What is called when a life has begun.
 pub trait OnBegun {
     /// Every thread of the life runs. It is called once at most, by the thread that began the life,
     /// and before anything is committed.
     fn begun(&mut self);
 }
 
-/// Nobody is told.
+/// Does nothing when a life has begun.
 #[derive(Clone, Copy)]
 pub struct NobodyTold;
 
