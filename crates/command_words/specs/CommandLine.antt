@@ -27,8 +27,8 @@ abbrev pub or_else : Rule → Text → Rule
 or_else option value = record option { required = false; defaults = value ∷ [] }
 
 -- an option that may be left out
-abbrev pub optional : Rule → Rule
-optional option = record option { required = false }
+abbrev pub left_out : Rule → Rule
+left_out option = record option { required = false }
 
 abbrev pub format_line : App
 format_line = with_rule (with_rule (with_rule (new_app (codes "format")) (word (codes "file")))
@@ -62,7 +62,7 @@ abbrev pub restore_line : App
 restore_line = with_rule (with_rule (with_rule (with_rule (new_app (codes "restore"))
     (word (codes "file"))) (word (codes "new")))
     (or_else (count_option (codes "grants") (pos 65536)) (codes "1024")))
-    (optional (option (codes "above")))
+    (left_out (option (codes "above")))
 
 -- `lnsd` without the name of the program, before its commands
 abbrev pub top_line : App

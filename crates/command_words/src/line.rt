@@ -3,7 +3,7 @@ ghost use Rattle.std.specs.Prelude.{◌≡◌, ◌≤ℤ◌, codes, false, pos};
 ghost use Rattle.clap.specs.Words.{App, Rule, new_app, rule_of, with_rule, with_subcommand};
 ghost use Rattle.clap.specs.declared.builder.value_parser.ValueParser.TheVariants as parsers;
 ghost use Rattle.command_words.specs.CommandLine.{HasLine, IsCommand, devices_line, format_line};
-ghost use Rattle.command_words.specs.CommandLine.{list_line, lnsd_line, option, optional, or_else};
+ghost use Rattle.command_words.specs.CommandLine.{left_out, list_line, lnsd_line, option, or_else};
 ghost use Rattle.command_words.specs.CommandLine.{range_option, restore_line, run_line};
 ghost use Rattle.command_words.specs.CommandLine.{serve_line, status_line, stop_line, top_line};
 ghost use Rattle.command_words.specs.CommandLine.{watch_line, word};
@@ -258,7 +258,7 @@ fn restore<'a>(alloc: Global) -> Result<Command<'a>, AllocError>
     );
     let restore = file_command(alloc, "restore", about, RESTORE_EXAMPLE, copy);
     let restore = with_arg(with_arg(restore, new), or_else(grants(alloc), "1024"));
-    with_arg(restore, optional(above(alloc)))
+    with_arg(restore, left_out(above(alloc)))
 }
 
 fn grants<'a>(alloc: Global) -> Arg<'a>
@@ -317,8 +317,8 @@ fn or_else<'a>(option: Arg<'a>, value: &'a str) -> Arg<'a>
 }
 
 // An option that may be left out.
-fn optional<'a>(option: Arg<'a>) -> Arg<'a>
-    ensures rule { rule_of result ≡ optional (rule_of option.entry) }
+fn left_out<'a>(option: Arg<'a>) -> Arg<'a>
+    ensures rule { rule_of result ≡ left_out (rule_of option.entry) }
     ensures local { result.global ≡ option.entry.global }
 {
     option.required(false)

@@ -13,7 +13,7 @@ use std::alloc::Global;
 use std::fs::File;
 use std::rt::{Clock, Files};
 use store::{Store, format_back, open};
-use store_files::{FileFault, create, remove};
+use store_files::{FileFault, create, remove_new};
 use timed_disk::{DiskTimes, TimedDisk};
 
 /// The store of a file, and what is told of it.
@@ -37,7 +37,9 @@ pub(crate) fn format<R: Files<File = File>>(
     let (disk, made) = create(rt, file, slots)?;
     match format_back(alloc, disk, net_id, slots.get()) {
         Ok(store) => Ok(store),
-        Err((disk, refusal)) => { Err(remove(rt, made, disk, FileFault::Refused(refusal)).into()) }
+        Err((disk, refusal)) => {
+            Err(remove_new(rt, made, disk, FileFault::Refused(refusal)).into())
+        }
     }
 }
 

@@ -10,6 +10,6 @@ mod report;
 mod restoring;
 
 pub use fault::FileFault;
-pub use new_file::{NewFile, create, remove};
-pub use record::{RECORD_NAME, session_of};
+pub use new_file::{NewFile, create, remove_new};
+pub use record::{RECORD_NAME, session_in_line};
 pub use restoring::{RestoreRequest, RestoredStore, restore};

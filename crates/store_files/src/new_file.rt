@@ -10,7 +10,7 @@ use std::io::ErrorKind;
 use std::rt::Files;
 use store::disk_len;
 
-/// A file that wasn't there before. Only [`create`] makes one, and [`remove`] takes it: so a store
+/// A file that wasn't there before. Only [`create`] makes one, and [`remove_new`] takes it: so a store
 /// that was there is never removed.
 #[derive(Drop)]
 pub struct NewFile<'a> {
@@ -34,7 +34,7 @@ pub fn create<'a, R: Files<File = File>>(
 
 /// Removes the file of a store that couldn't be made, and returns why. A removal that fails is
 /// ignored.
-pub fn remove<R: Files<File = File>>(
+pub fn remove_new<R: Files<File = File>>(
     rt: &R,
     made: NewFile<'_>,
     disk: FileDisk,

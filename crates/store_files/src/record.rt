@@ -74,7 +74,7 @@ impl Record {
     ) -> Result<(), FileFault> {
         for (number, line) in self.text.as_str().lines().enumerate() {
             if line != HEADER {
-                match session_of(line) {
+                match session_in_line(line) {
                     Some(session) => sessions.push(session).map_err(no_memory)?,
                     None => return Err(self.bad_line(alloc, number)),
                 }
@@ -110,7 +110,7 @@ impl Record {
 
 /// The session that a line of a record names: a DevEUI of 16 upper-case hexadecimal digits, a
 /// comma, and a JoinNonce from 1 to 16,777,215 in decimal. `None` for any other line.
-pub fn session_of(line: &str) -> Option<SessionName>
+pub fn session_in_line(line: &str) -> Option<SessionName>
     ensures found { IfSome result (λ s. line.now ≡ session_text s) }
 {
     let (dev_eui, join_nonce) = line.split_once(',')?;
@@ -132,14 +132,14 @@ fn with_devices(alloc: Global, before: String, devices: &[Device]) -> Result<Str
         text.push_str("\n").map_err(no_memory)?;
     }
     for device in devices {
-        let line = line_of(alloc, device).map_err(no_memory)?;
+        let line = record_line(alloc, device).map_err(no_memory)?;
         text.push_str(line.as_str()).map_err(no_memory)?;
     }
     Ok(text)
 }
 
 // The line of a device; none of one that was granted nothing.
-fn line_of(alloc: Global, device: &Device) -> Result<String, AllocError> {
+fn record_line(alloc: Global, device: &Device) -> Result<String, AllocError> {
     let dev_eui = device.dev_eui;
     match device.activation.granted() {
         Some(join_nonce) => {

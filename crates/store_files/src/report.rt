@@ -20,7 +20,7 @@ pub(crate) fn report_of(
 ) -> Result<String, AllocError>
     ensures { IfOk result (λ text. string_bytes text ≡ restored_text recorded devices.now) }
 {
-    let mut text = head_of(alloc, recorded, devices)?;
+    let mut text = report_head(alloc, recorded, devices)?;
     for device in devices {
         let line = above_line(alloc, device)?;
         text.push_str(line.as_str())?;
@@ -29,7 +29,7 @@ pub(crate) fn report_of(
 }
 
 #[tactic(auto, unfolding(lw_types::specs::Words::line_of))]
-fn head_of(alloc: Global, recorded: usize, devices: &[Device]) -> Result<String, AllocError>
+fn report_head(alloc: Global, recorded: usize, devices: &[Device]) -> Result<String, AllocError>
     ensures { IfOk result (λ text. string_bytes text ≡ head_text recorded devices.now) }
 {
     let (count, left) = (devices.len(), fewest_left(devices));

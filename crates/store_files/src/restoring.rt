@@ -7,7 +7,7 @@ ghost use Rattle.sessions.specs.Table.{TableState};
 ghost use Rattle.store_files.specs.Report.{IsRestoredAs, restored_text};
 
 use crate::FileFault;
-use crate::new_file::{create, remove};
+use crate::new_file::{create, remove_new};
 use crate::read_only::ReadOnly;
 use crate::record::Record;
 use crate::report::report_of;
@@ -60,11 +60,11 @@ pub fn restore<R: Files<File = File>>(
     let (table, text) = table_since(alloc, copy.table(), &records.sessions, request.since)?;
     let (disk, made) = create(rt, request.new, table.slots())?;
     if let Err(fault) = records.add(rt, alloc, table.devices()) {
-        return Err(remove(rt, made, disk, fault));
+        return Err(remove_new(rt, made, disk, fault));
     }
     match establish_back(alloc, disk, table, seq) {
         Ok(store) => Ok(RestoredStore { store, text }),
-        Err((disk, refusal)) => Err(remove(rt, made, disk, FileFault::Refused(refusal))),
+        Err((disk, refusal)) => Err(remove_new(rt, made, disk, FileFault::Refused(refusal))),
     }
 }
 

@@ -1,5 +1,5 @@
 use Rattle.std.proofs.Common.{◌∙◌, ap, codes}
-use Rattle.command_words.specs.CommandLine.{optional, or_else}
+use Rattle.command_words.specs.CommandLine.{left_out, or_else}
 use Rattle.command_words.proofs.line.restore.Goals as goal
 
 pub returns : goal.returns
@@ -7,4 +7,4 @@ returns c =
     let one = c.file_command-restore.ensures _ c.word-copy.ensures.rule in
     let two = c.with_arg.ensures _ _ one c.word-new.ensures.rule in
     let three = c.with_arg-restore.ensures _ _ two (c.or_else.ensures.rule ∙ ap (λ r. or_else r (codes "1024")) c.grants.ensures.rule) in
-    c.with_arg-2.ensures _ _ three (c.optional.ensures.rule ∙ ap optional c.above.ensures.rule)
+    c.with_arg-2.ensures _ _ three (c.left_out.ensures.rule ∙ ap left_out c.above.ensures.rule)

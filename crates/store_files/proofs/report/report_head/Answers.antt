@@ -1,7 +1,7 @@
 use Rattle.std.proofs.Common.{◌≡◌, subst, length, [], ◌∷◌, ◌++◌}
 use Rattle.std.specs.Prelude.{codes, string_bytes}
 use Rattle.std.specs.Fmt.{decimal}
-use Rattle.store_files.proofs.report.head_of.Goals as goal
+use Rattle.store_files.proofs.report.report_head.Goals as goal
 
 pub returns : goal.returns
 returns c =
