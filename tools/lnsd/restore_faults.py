@@ -83,12 +83,9 @@ def files(seen, program, copy):
         ("no UTF-8", written(case, "latin", f"{HEADER}\n".encode() + b"\xe9,7\n")),
     ):
         case.is_refused(seen, f"--above of {what}", f"record {file}", "--above", file)
-    for more, said in ((1, ""), (0, " line 1")):
-        file = written(case, "long", "")
-        os.truncate(file, LONGEST + more)
-        what = f"--above of {LONGEST + more} zeros"
-        case.is_refused(seen, what, f"record {file}{said}", "--above", file)
-        os.remove(file)
+    file = written(case, "long", "")
+    os.truncate(file, LONGEST + 1)
+    case.is_refused(seen, "--above of a long file", f"record {file}", "--above", file)
     case.old, was = missing, case.old
     due = (1, "", "lnsd: file\n")
     seen.expect("a missing copy", case.restore(), due)
