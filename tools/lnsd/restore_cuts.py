@@ -126,8 +126,8 @@ def memory(seen, path):
             how = {"env": preloads.environment(library, REFUSED_REQUEST=number)}
             cut = Cut(seen, program, copy, f"request {number}", **how)
             said = COUNTED.sub("", cut.said)
-            is_told = (cut.status, said) == (0, "") or (cut.status, cut.out, said) == NO_MEMORY
-            cut.holds(is_told, f"it ended with {cut.status, cut.out, cut.said}")
+            is_expected = (cut.status, said) == (0, "") or (cut.status, cut.out, said) == NO_MEMORY
+            cut.holds(is_expected, f"it ended with {cut.status, cut.out, cut.said}")
             ends += cut.status == 1
             cut.next(greatest(cut.look(), printed_in(cut.out)))
     print(f"{len(spread(count))} of {count} requests for memory refused: {ends} ends with 30")
@@ -161,8 +161,8 @@ def calls(seen, path):
         for number in spread(count):
             how = {"env": preloads.environment(library, FAILING_CALL=number, ALL_CALLS=1)}
             cut = Cut(seen, program, copy, f"failing {number}", **how)
-            is_told = cut.status == 1 and not cut.out and cut.said in faults_of(cut.case)
-            cut.holds(is_told, f"it ended with {cut.status, cut.out, cut.said}")
+            is_expected = cut.status == 1 and not cut.out and cut.said in faults_of(cut.case)
+            cut.holds(is_expected, f"it ended with {cut.status, cut.out, cut.said}")
             cut.next(cut.look())
             how = {"env": preloads.environment(library, KILLING_CALL=number, ALL_CALLS=1)}
             cut = Cut(seen, program, copy, f"killing {number}", **how)

@@ -61,7 +61,7 @@ def lines(seen, program, copy):
     head = f"{HEADER}\n{STRANGER},5\n"
     texts = {what: f"{head}{it}\n{STRANGER},6\n" for what, it in bad_lines(STRANGER).items()}
     for length in (1, 8, 16, 17):
-        texts[f"a line cut off behind {length} characters"] = head + f"{name},7"[:length]
+        texts[f"a line cut off after {length} characters"] = head + f"{name},7"[:length]
     case = Case(program, copy, "lines", (f"{HEADER}\n{name},9\n", f"{HEADER}\n"))
     for what, text in texts.items():
         file = written(case, "lines.csv", text)
@@ -168,7 +168,7 @@ def spent(seen, program, copy):
 
 
 def accepted(seen, program, copy):
-    """Lines that end with CRLF, no newline behind the last line, and a first line that isn't there
+    """Lines that end with CRLF, no newline after the last line, and a first line that isn't there
     or stands elsewhere."""
     first, *_, last = copy.granted
     known = {first: 2000, last: 3000}
