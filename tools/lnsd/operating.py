@@ -307,8 +307,8 @@ def strangers(trials):
 
 
 def paused(trials):
-    """A link whose greeting comes while the process stands still isn't taken for a silent one, however
-    long that lasts; one that says nothing is. Nor is one whose greeting had begun before."""
+    """A link whose greeting comes while the process stands still isn't taken for a silent one,
+    however long that lasts, also if it had begun before. One that says nothing is."""
     with running(trials, made=records(1, OWNER)) as program:
         silent, application, gateway = (Link(program.address) for _ in range(3))
         gateway.say(wire.gateway_greeting(EUI)[:5])

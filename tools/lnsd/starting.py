@@ -1,5 +1,5 @@
-"""Trials of how `lnsd run` begins: the names of a store that is served, how many descriptors it needs,
-and threads that can't be started. A C compiler makes what refuses these."""
+"""Trials of how `lnsd run` begins: the names of a store that is served, how many descriptors it
+needs, and threads that can't be started. A C compiler makes what refuses these."""
 import os
 import resource
 import tempfile
