@@ -55,33 +55,67 @@ fn grants_go_on_above_those_that_count(rt: HostRuntime) {
     }
 }
 
-// What is opened after a crash that leaves open gates, where a store of one device and the number 1
-// is made by so many calls.
-fn cut(alloc: Global, calls: u8) -> Result<(usize, u64), Refusal> {
+// What is opened after a crash to this image, if a store of one device and the number 1 is made by
+// so many calls, and the next one fails.
+fn cut(alloc: Global, calls: u64, image: &Image) -> Result<(usize, u64), Refusal> {
     let mut disk = blank(alloc, LEN)?;
-    disk.arm(u64::from(calls) + 1);
-    match establish_back(alloc, disk, older(alloc, 1)?, 1) {
-        Ok(store) => crashed(alloc, store.close(), &Image::Fill(0xA5)),
-        Err((disk, Refusal::DeviceFailed)) => crashed(alloc, disk, &Image::Fill(0xA5)),
-        Err((_, refusal)) => Err(refusal),
+    disk.arm(calls.saturating_add(1));
+    let mut disk = match establish_back(alloc, disk, older(alloc, 1)?, 1) {
+        Ok(store) => store.close(),
+        Err((disk, Refusal::DeviceFailed)) => disk,
+        Err((_, refusal)) => return Err(refusal),
+    };
+    disk.arm(u64::MAX);
+    crashed(alloc, disk, image)
+}
+
+// The image that has the low 8 bits of each position.
+fn positions(alloc: Global) -> Result<Image, Refusal> {
+    let mut bytes = Vec::new(alloc);
+    for position in 0..LEN {
+        bytes.push((position % 256) as u8)?;
+    }
+    Ok(Image::Bytes(bytes))
+}
+
+// Whether the store is found whole after so many calls, of the old bytes, of the new ones, of open
+// gates and of the low 8 bits of the positions; else there is none.
+const CUTS: &[(u64, [bool; 4])] = &[
+    (0, [false, false, false, false]),
+    (1, [false, false, false, false]),
+    (2, [false, false, false, false]),
+    (3, [false, false, false, false]),
+    (4, [false, false, false, false]),
+    (5, [false, false, false, false]),
+    (6, [false, false, false, false]),
+    (7, [false, false, false, false]),
+    (8, [false, false, false, false]),
+    (9, [false, false, false, false]),
+    // The gate of the superblock is written: the failed write leaves its old byte. Then it is
+    // synced.
+    (10, [false, false, true, false]),
+    (11, [false, true, true, false]),
+    (12, [true, true, true, true]),
+];
+
+fn wanted(is_whole: bool) -> Result<(usize, u64), Refusal> {
+    if is_whole {
+        Ok((1, 1))
+    } else {
+        Err(Refusal::NotFormatted)
     }
 }
 
-const CUTS: &[(u8, Result<(usize, u64), Refusal>)] = &[
-    (0, Err(Refusal::NotFormatted)),
-    (1, Err(Refusal::NotFormatted)),
-    (4, Err(Refusal::NotFormatted)),
-    (6, Err(Refusal::NotFormatted)),
-    (8, Err(Refusal::NotFormatted)),
-    (9, Err(Refusal::NotFormatted)),
-    (10, Ok((1, 1))),
-    (11, Ok((1, 1))),
-];
-
 #[test]
 fn a_store_of_a_table_that_is_cut_is_none_or_whole(rt: HostRuntime) {
-    for (calls, wanted) in CUTS {
-        assert!(rt; cut(rt.alloc(), *calls) == *wanted, "{calls} calls");
+    let alloc = rt.alloc();
+    let positions = positions(alloc).unwrap_or(Image::Old);
+    let images = [&Image::Old, &Image::New, &Image::Fill(0xA5), &positions];
+    for (calls, are_whole) in CUTS {
+        for (image, is_whole) in images.iter().zip(are_whole) {
+            let found = cut(alloc, *calls, image);
+            assert!(rt; found == wanted(*is_whole), "{calls} calls");
+        }
     }
 }
 

@@ -11,14 +11,15 @@ use world::{Answer, Step, World, run};
 
 const SLOTS: u64 = 3;
 
-fn steps_of(alloc: Global, letters: &str) -> Result<Vec<Step>, Refusal> {
+/// The steps of these letters.
+pub(crate) fn steps_of(alloc: Global, letters: &str) -> Result<Vec<Step>, Refusal> {
     let mut steps = Vec::new(alloc);
     add_letters(alloc, &mut steps, 0, letters)?;
     Ok(steps)
 }
 
-// The disk that a new world leaves behind these letters.
-fn left(alloc: Global, letters: &str) -> Result<MemDisk, Refusal> {
+/// The disk that a new world leaves behind these letters.
+pub(crate) fn left(alloc: Global, letters: &str) -> Result<MemDisk, Refusal> {
     let steps = steps_of(alloc, letters)?;
     let mut world = World::format(alloc, new_disk(alloc, SLOTS)?, net_id()?, SLOTS)?;
     let answers = run(&mut world, alloc, &steps);
@@ -81,15 +82,15 @@ fn a_world_goes_on_with_the_store_of_another(rt: HostRuntime) {
     }
 }
 
-// The entry of a new device in version 1.
-const OLD_ENTRY: &str = concat!(
+/// The entry of a new device in version 1.
+pub(crate) const OLD_ENTRY: &str = concat!(
     "0100000032",
     "000000000000000101020304050607082B7E151628AED2A6ABF7158809CF4F3C",
     "030001000000000000000000000000000000",
 );
 
-// The disk of an older program, which has that device.
-fn old_disk(alloc: Global) -> Result<MemDisk, Refusal> {
+/// The disk of an older program, which has that device.
+pub(crate) fn old_disk(alloc: Global) -> Result<MemDisk, Refusal> {
     let mut bytes = OLD_FRONT.to_vec(alloc)?;
     add_batch_of(&mut bytes, (1, 1), &read_hex(alloc, OLD_ENTRY)?)?;
     disk_of(alloc, bytes)

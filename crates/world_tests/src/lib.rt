@@ -1,4 +1,4 @@
-//! Tests of worlds, beside a plain model, and of the public call of `headline`. They stand above
+//! Tests of worlds, beside a plain model, and of the public calls of `headline`. They stand above
 //! those crates, so that each of these is proved once.
 #![tactic(auto)]
 
@@ -15,6 +15,10 @@ mod links;
 #[cfg(test)]
 mod many_tests;
 #[cfg(test)]
+mod migration_tests;
+#[cfg(test)]
+mod restoring_tests;
+#[cfg(test)]
 mod row_tests;
 #[cfg(test)]
 mod rows;
@@ -22,3 +26,5 @@ mod rows;
 mod stage_tests;
 #[cfg(test)]
 mod windows;
+#[cfg(test)]
+mod writes_tests;

@@ -1,4 +1,5 @@
 // Many devices, whose decisions wait and are taken in more than one batch.
+use crate::rows::ends_so;
 use lw_types::Refusal;
 use plain_world::letters::add_letters;
 use plain_world::steps::provision;
@@ -90,4 +91,26 @@ fn openings(alloc: Global) -> Result<usize, Refusal> {
 #[test]
 fn a_store_of_4096_devices_is_opened(rt: HostRuntime) {
     assert_eq!(rt; openings(rt.alloc()), Ok(1));
+}
+
+// As many decisions wait as may, 4,096: an item is refused as Backlog (23), and goes through after
+// 64 of them were taken.
+const ONCE_4096_WAIT: &str = "\
+turn 4096 4096 23 0
+another answer
+turn 4096 4097 0 0
+";
+
+fn queues_after_a_take(alloc: Global) -> Result<bool, Refusal> {
+    let mut steps = Vec::new(alloc);
+    for dev_eui in 0..MOST.devices {
+        steps.push(provision(alloc, dev_eui)?)?;
+    }
+    add_letters(alloc, &mut steps, 0, "qTq")?;
+    ends_so(alloc, MOST.devices, &steps, 4096, ONCE_4096_WAIT.as_bytes())
+}
+
+#[test]
+fn a_full_backlog_refuses_an_item_until_a_batch_is_taken(rt: HostRuntime) {
+    assert_eq!(rt; queues_after_a_take(rt.alloc()), Ok(true));
 }
