@@ -156,6 +156,25 @@ def folders(seen, program, copy):
         program.path = was
 
 
+def options(seen, program, copy):
+    """Words that it doesn't take: status 2, a text on standard error alone, and nothing is made.
+    The least and the greatest number that it takes."""
+    case = Case(program, copy, "options")
+    wrong = [("--grants", it) for it in ("0", "65537", "-1", "1.0", "x", "", "99999999999")]
+    wrong += [("--grants",), ("--above",), ("--beside", "x"), ("more",)]
+    wrong += [("--grants", "1", "--grants", "2"), ("--above", "x", "--above", "y")]
+    for words in wrong:
+        status, out, said = case.restore(*words)
+        seen.expect(f"status and output of {words}", (status, out), (2, ""))
+        seen.holds(said.startswith("error: "), f"{words}: {said!r} on standard error")
+    seen.holds(not os.path.lexists(case.new), "wrong words made a store")
+    seen.expect("the records after wrong words", case.records(), [None, None])
+    for since in (1, 65536):
+        known, case = {}, Case(program, copy, f"grants-{since}")
+        due = (0, copy.printed(known, since), "")
+        seen.expect(f"--grants {since}", case.restore("--grants", str(since)), due)
+
+
 def spent(seen, program, copy):
     """A device that has fewer JoinNonces left than N; one that has N is restored."""
     name = list(copy.granted)[-1]
@@ -206,7 +225,7 @@ def large(seen, program, copy):
     os.remove(case.old)
 
 
-TOPICS = (lines, files, records, folders, spent, accepted, large)
+TOPICS = (lines, files, records, folders, options, spent, accepted, large)
 
 
 def refused(seen, path):
