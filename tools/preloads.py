@@ -7,17 +7,19 @@ import subprocess
 
 # Only one thread of the program reads, writes and syncs at places of a file. Of all such calls the
 # one of the number FAILING_CALL fails, a write when half of it is written, and in that of the
-# number KILLING_CALL the program is killed, in the middle of a write, too. The first SLOW_SYNCS
-# syncs take SLOW_MS and SLOW_MICROS longer. Each write and sync that succeeds is added to the file
-# CALL_LOG: its kind, its place (8 bytes) and length (4) in the machine's order, its bytes. The kind
-# is w for a write, s for a sync of what a file holds, and where all of it is synced f for a file
-# and d for a folder.
+# number KILLING_CALL the program is killed, in the middle of a write, too. If ALL_CALLS is 1, these
+# count too: reads and writes of a file with no place given, syncs of all of a file or a folder, and
+# renamings. The first SLOW_SYNCS syncs take SLOW_MS and SLOW_MICROS longer. Each write at a place
+# and each sync that succeeds is added to the file CALL_LOG: its kind, its place (8 bytes) and
+# length (4) in the machine's order, its bytes. The kind is w for a write, s for a sync of what a
+# file holds, and where all of it is synced f for a file and d for a folder.
 CALLS = r"""
 #define _GNU_SOURCE
 #include <errno.h>
 #include <fcntl.h>
 #include <signal.h>
 #include <stdint.h>
+#include <stdio.h>
 #include <stdlib.h>
 #include <string.h>
 #include <sys/stat.h>
@@ -41,9 +43,18 @@ static int failed(void) {
     return -1;
 }
 
+static int is_file(int file) {
+    struct stat it;
+    return !fstat(file, &it) && S_ISREG(it.st_mode);
+}
+
+static int also_fails(void) { return number("ALL_CALLS") && fails(); }
+
+static int transfer_fails(int file) { return number("ALL_CALLS") && is_file(file) && fails(); }
+
 static void put(int log, const void *bytes, size_t length) {
     while (length) {
-        ssize_t written = write(log, bytes, length);
+        ssize_t written = syscall(SYS_write, log, bytes, length);
         if (written <= 0) abort();
         bytes = (const char *)bytes + written;
         length -= written;
@@ -87,9 +98,28 @@ int fdatasync(int file) {
 
 int fsync(int file) {
     struct stat it;
+    if (also_fails()) return failed();
     int status = syscall(SYS_fsync, file);
     if (!status && !fstat(file, &it)) note(S_ISDIR(it.st_mode) ? 'd' : 'f', 0, "", 0);
     return status;
+}
+
+ssize_t read(int file, void *bytes, size_t length) {
+    if (transfer_fails(file)) return failed();
+    return syscall(SYS_read, file, bytes, length);
+}
+
+ssize_t write(int file, const void *bytes, size_t length) {
+    if (transfer_fails(file)) {
+        syscall(SYS_write, file, bytes, length / 2);
+        errno = EIO;
+        return failed();
+    }
+    return syscall(SYS_write, file, bytes, length);
+}
+
+int rename(const char *from, const char *to) {
+    return also_fails() ? failed() : syscall(SYS_rename, from, to);
 }
 
 ssize_t pread(int file, void *bytes, size_t length, off_t place) {
