@@ -9,46 +9,96 @@ use std::alloc::{AllocError, Global};
 use std::fs::{File, OpenOptions};
 use std::io;
 use std::io::{ErrorKind, Read, Write};
-use std::os::unix::fs::OpenOptionsExt;
+use std::os::unix::fs::{MetadataExt, OpenOptionsExt};
 use std::path::Path;
 use std::rt::Files;
 
 /// The name of a record in the folder of a store or of a copy.
 pub const RECORD_NAME: &str = "lnsd-restored.csv";
 
+// The name under which a record is written, before it replaces the last one.
+const UNFINISHED_NAME: &str = "lnsd-restored.csv.new";
+
 // The first line of a record, which may stand in front of any other line, too.
 const HEADER: &str = "DevEUI,JoinNonce";
 
-// The longest record that is read, in bytes: one of some 500 restores of 4,096 devices.
+// The longest record, in bytes: one of some 500 restores of 4,096 devices.
 const LONGEST: u64 = 64 << 20;
 
-/// The record in a file: its path, and its text as it was read.
+/// The text of a file of JoinNonces, and its path.
 #[derive(Drop)]
-pub(crate) struct Record {
+pub(crate) struct NonceFile {
     path: String,
     text: String,
 }
 
+/// The record of restores in a folder, which is locked, so that of two restores at once the second
+/// one is refused.
+#[derive(Drop)]
+pub(crate) struct Record {
+    file: NonceFile,
+    folder: File,
+}
+
+/// Whether a file has a name that records have. A store or a copy of such a name would be replaced
+/// by a record.
+pub(crate) fn is_record_name(file: &str) -> bool {
+    matches!(
+        Path::new(file).file_name(),
+        Some(RECORD_NAME | UNFINISHED_NAME)
+    )
+}
+
 impl Record {
-    /// The record beside this file. One that isn't there is empty.
-    pub(crate) fn beside<R: Files<File = File>>(
+    /// The record in the folder of a file. One that isn't there is empty.
+    pub(crate) fn in_folder_of<R: Files<File = File>>(
         rt: &R,
         alloc: Global,
         file: &str,
     ) -> Result<Self, FileFault> {
-        let folder = folder_of(file);
-        let path = format!(in alloc; "{folder}/{RECORD_NAME}").map_err(no_memory)?;
-        match text_of(rt, alloc, path.as_str()) {
-            Ok(text) => Ok(Record { path, text }),
-            Err(error) if error.kind() == ErrorKind::NotFound => Ok(Record {
-                path,
-                text: String::new(alloc),
+        let name = folder_of(file);
+        let path = format!(in alloc; "{name}/{RECORD_NAME}").map_err(no_memory)?;
+        match locked_text(rt, alloc, name, path.as_str()) {
+            Ok((folder, text)) => Ok(Record {
+                file: NonceFile { path, text },
+                folder,
             }),
             Err(error) => Err(fault_of(path, &error)),
         }
     }
 
-    /// The record in this file, which has to be there.
+    /// Adds the sessions that it names to others.
+    pub(crate) fn read_into(
+        &self,
+        alloc: Global,
+        sessions: &mut Vec<SessionName>,
+    ) -> Result<(), FileFault> {
+        self.file.read_into(alloc, sessions)
+    }
+
+    /// Writes the record anew, with a line more for each device: the last JoinNonce that counts as
+    /// granted to it. The file is replaced as a whole, and is durable when this succeeds. A crash
+    /// leaves the one record or the other.
+    pub(crate) fn add<R: Files<File = File>>(
+        self,
+        rt: &R,
+        alloc: Global,
+        devices: &[Device],
+    ) -> Result<(), FileFault> {
+        let Record {
+            file: NonceFile { path, text },
+            folder,
+        } = self;
+        let text = with_devices(alloc, text, devices)?;
+        match replace(rt, alloc, &folder, path.as_str(), text.as_str()) {
+            Ok(()) => Ok(()),
+            Err(error) => Err(fault_of(path, &error)),
+        }
+    }
+}
+
+impl NonceFile {
+    /// This file, which has to be there.
     pub(crate) fn open<R: Files<File = File>>(
         rt: &R,
         alloc: Global,
@@ -56,14 +106,9 @@ impl Record {
     ) -> Result<Self, FileFault> {
         let path = String::from_str(alloc, file).map_err(no_memory)?;
         match text_of(rt, alloc, file) {
-            Ok(text) => Ok(Record { path, text }),
+            Ok(text) => Ok(NonceFile { path, text }),
             Err(error) => Err(fault_of(path, &error)),
         }
-    }
-
-    /// Whether both are of one path.
-    pub(crate) fn is_same(&self, other: &Record) -> bool {
-        self.path.as_str() == other.path.as_str()
     }
 
     /// Adds the sessions of its lines to others.
@@ -80,7 +125,16 @@ impl Record {
                 }
             }
         }
-        Ok(())
+        self.ends_whole(alloc)
+    }
+
+    // The last line ends with a newline, since a line that was cut off may look like another one.
+    fn ends_whole(&self, alloc: Global) -> Result<(), FileFault> {
+        let text = self.text.as_str();
+        if text.is_empty() || text.ends_with('\n') {
+            return Ok(());
+        }
+        Err(self.bad_line(alloc, text.lines().count().saturating_sub(1)))
     }
 
     fn bad_line(&self, alloc: Global, before: usize) -> FileFault {
@@ -89,23 +143,20 @@ impl Record {
             Err(error) => no_memory(error),
         }
     }
+}
 
-    /// Writes the record anew, with a line more for each device: the last JoinNonce that counts as
-    /// granted to it. The file is replaced as a whole, and is durable when this succeeds; a crash
-    /// leaves the one record or the other.
-    pub(crate) fn add<R: Files<File = File>>(
-        self,
-        rt: &R,
-        alloc: Global,
-        devices: &[Device],
-    ) -> Result<(), FileFault> {
-        let Record { path, text } = self;
-        let text = with_devices(alloc, text, devices)?;
-        match replace(rt, alloc, path.as_str(), text.as_str()) {
-            Ok(()) => Ok(()),
-            Err(error) => Err(fault_of(path, &error)),
-        }
+/// Whether the files are in one folder, under whatever names.
+pub(crate) fn are_beside<R: Files<File = File>>(rt: &R, file: &str, other: &str) -> bool {
+    match (folder_number(rt, file), folder_number(rt, other)) {
+        (Ok(number), Ok(other)) => number == other,
+        _ => false,
     }
+}
+
+// The system's numbers of the folder of a file.
+fn folder_number<R: Files<File = File>>(rt: &R, file: &str) -> io::Result<(u64, u64)> {
+    let folder = File::open(rt, folder_of(file))?.metadata()?;
+    Ok((folder.dev(), folder.ino()))
 }
 
 /// The session that a line of a record names: a DevEUI of 16 upper-case hexadecimal digits, a
@@ -126,10 +177,8 @@ pub fn session_in_line(line: &str) -> Option<SessionName>
 fn with_devices(alloc: Global, before: String, devices: &[Device]) -> Result<String, FileFault> {
     let mut text = before;
     if text.as_str().is_empty() {
-        text.push_str(HEADER).map_err(no_memory)?;
-    }
-    if !text.as_str().ends_with('\n') {
-        text.push_str("\n").map_err(no_memory)?;
+        let header = format!(in alloc; "{HEADER}\n").map_err(no_memory)?;
+        text.push_str(header.as_str()).map_err(no_memory)?;
     }
     for device in devices {
         let line = record_line(alloc, device).map_err(no_memory)?;
@@ -161,9 +210,35 @@ fn text_of<R: Files<File = File>>(rt: &R, alloc: Global, path: &str) -> io::Resu
     Ok(text)
 }
 
-// Replaces a file by one with this text, which its owner alone may read.
-fn replace<R: Files<File = File>>(rt: &R, alloc: Global, path: &str, text: &str) -> io::Result<()> {
-    let Ok(new) = format!(in alloc; "{path}.new") else {
+// Locks a folder, and reads the record of this path in it, which is empty if it isn't there.
+fn locked_text<R: Files<File = File>>(
+    rt: &R,
+    alloc: Global,
+    folder: &str,
+    path: &str,
+) -> io::Result<(File, String)> {
+    let folder = File::open(rt, folder)?;
+    folder.try_lock()?;
+    match text_of(rt, alloc, path) {
+        Ok(text) => Ok((folder, text)),
+        Err(error) if error.kind() == ErrorKind::NotFound => Ok((folder, String::new(alloc))),
+        Err(error) => Err(error),
+    }
+}
+
+// Replaces a record by one with this text, which its owner alone may read.
+fn replace<R: Files<File = File>>(
+    rt: &R,
+    alloc: Global,
+    folder: &File,
+    path: &str,
+    text: &str,
+) -> io::Result<()> {
+    if text.len() as u64 > LONGEST {
+        return Err(io::Error::from(ErrorKind::FileTooLarge));
+    }
+    let name = folder_of(path);
+    let Ok(unfinished) = format!(in alloc; "{name}/{UNFINISHED_NAME}") else {
         return Err(io::Error::from(ErrorKind::OutOfMemory));
     };
     let mut file = OpenOptions::new()
@@ -171,11 +246,11 @@ fn replace<R: Files<File = File>>(rt: &R, alloc: Global, path: &str, text: &str)
         .create(true)
         .truncate(true)
         .mode(0o600)
-        .open(rt, new.as_str())?;
+        .open(rt, unfinished.as_str())?;
     file.write_all(text.as_bytes())?;
     file.sync_all()?;
-    rt.rename(new.as_str(), path)?;
-    File::open(rt, folder_of(path))?.sync_all()
+    rt.rename(unfinished.as_str(), path)?;
+    folder.sync_all()
 }
 
 // The folder of a file.

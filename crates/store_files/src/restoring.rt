@@ -9,7 +9,7 @@ ghost use Rattle.store_files.specs.Report.{IsRestoredAs, restored_text};
 use crate::FileFault;
 use crate::new_file::{create, remove_new};
 use crate::read_only::ReadOnly;
-use crate::record::Record;
+use crate::record::{NonceFile, Record, are_beside, is_record_name};
 use crate::report::report_of;
 use devices::{Device, GrantsSince, SessionName};
 use disk::{Disk, FileDisk};
@@ -54,6 +54,11 @@ pub fn restore<R: Files<File = File>>(
     ensures { IfOk result
         (λ made. IsRestoredAs request.now.since made.store.table (string_bytes made.text)) }
 {
+    for file in [request.old, request.new] {
+        if is_record_name(file) {
+            return Err(record_fault(alloc, file));
+        }
+    }
     let copy = open_copy(rt, alloc, request.old)?;
     let records = read_records(rt, alloc, request)?;
     let seq = copy.seq();
@@ -68,16 +73,25 @@ pub fn restore<R: Files<File = File>>(
     }
 }
 
+// This file has the name of a record.
+fn record_fault(alloc: Global, file: &str) -> FileFault {
+    match String::from_str(alloc, file) {
+        Ok(path) => FileFault::Record(path),
+        Err(_) => FileFault::Refused(Refusal::OutOfMemory),
+    }
+}
+
 // What is on record of earlier restores.
 #[derive(Drop)]
 struct Records {
-    beside_old: Record,
-    beside_new: Record,
+    of_old: Record,
+    // none if both files are in one folder
+    of_new: Option<Record>,
     sessions: Vec<SessionName>,
 }
 
 impl Records {
-    // Adds to both records from where the devices go on.
+    // Adds to the records from where the devices go on.
     fn add<R: Files<File = File>>(
         self,
         rt: &R,
@@ -85,14 +99,14 @@ impl Records {
         devices: &[Device],
     ) -> Result<(), FileFault> {
         let Records {
-            beside_old,
-            beside_new,
+            of_old,
+            of_new,
             sessions: _,
         } = self;
-        if !beside_old.is_same(&beside_new) {
-            beside_new.add(rt, alloc, devices)?;
+        if let Some(of_new) = of_new {
+            of_new.add(rt, alloc, devices)?;
         }
-        beside_old.add(rt, alloc, devices)
+        of_old.add(rt, alloc, devices)
     }
 }
 
@@ -103,16 +117,22 @@ fn read_records<R: Files<File = File>>(
     request: &RestoreRequest<'_>,
 ) -> Result<Records, FileFault> {
     let mut sessions = Vec::new(alloc);
-    let beside_old = Record::beside(rt, alloc, request.old)?;
-    let beside_new = Record::beside(rt, alloc, request.new)?;
-    beside_old.read_into(alloc, &mut sessions)?;
-    beside_new.read_into(alloc, &mut sessions)?;
+    let of_old = Record::in_folder_of(rt, alloc, request.old)?;
+    of_old.read_into(alloc, &mut sessions)?;
+    let of_new = if are_beside(rt, request.old, request.new) {
+        None
+    } else {
+        Some(Record::in_folder_of(rt, alloc, request.new)?)
+    };
+    if let Some(of_new) = &of_new {
+        of_new.read_into(alloc, &mut sessions)?;
+    }
     if let Some(above) = request.above {
-        Record::open(rt, alloc, above)?.read_into(alloc, &mut sessions)?;
+        NonceFile::open(rt, alloc, above)?.read_into(alloc, &mut sessions)?;
     }
     Ok(Records {
-        beside_old,
-        beside_new,
+        of_old,
+        of_new,
         sessions,
     })
 }
