@@ -9,6 +9,7 @@ mod attempt;
 mod codecs;
 mod decisions;
 mod feeding;
+mod restoring;
 mod stores;
 
 use attempt::Attempt;
@@ -18,7 +19,7 @@ use std::io;
 use std::process::ExitCode;
 
 // A line for each call, in the order of `told_of`.
-const NAMES: [&str; 15] = [
+const NAMES: [&str; 17] = [
     "a question of a join, granted,",
     "a question of a join, refused,",
     "the longest frame, written,",
@@ -34,10 +35,12 @@ const NAMES: [&str; 15] = [
     "a batch behind one of 64, begun,",
     "a checkpoint of 64 records, begun,",
     "a store of 64 records, opened,",
+    "a store of an older program, taken over,",
+    "a store of a copy of 64 records, restored,",
 ];
 
 // What came of each call, or that there was no memory for what they are made of.
-fn told_of(alloc: Global) -> Result<[Attempt; 15], Refusal> {
+fn told_of(alloc: Global) -> Result<[Attempt; 17], Refusal> {
     let [piece, rest] = feeding::pieces(alloc)?;
     let [checkpoint, opening] = stores::checkpoint_and_opening(alloc)?;
     Ok([
@@ -56,11 +59,13 @@ fn told_of(alloc: Global) -> Result<[Attempt; 15], Refusal> {
         stores::begun_next(alloc)?,
         checkpoint,
         opening,
+        restoring::taken_over(alloc)?,
+        restoring::restored(alloc)?,
     ])
 }
 
 // Writes the lines.
-fn tell(rt: &impl Print, told: &[Attempt; 15]) -> io::Result<()> {
+fn tell(rt: &impl Print, told: &[Attempt; 17]) -> io::Result<()> {
     for (name, told) in NAMES.iter().zip(told) {
         let words = told.words();
         println!(rt; "{name} {words}")?;

@@ -17,8 +17,8 @@ use test_stores::stores_under_test::{ALL, begin_checkpoint, begin_commit};
 /// The slots of these stores: more than the devices of a batch.
 pub const SLOTS: u64 = 80;
 
-// As many decisions as a batch may have.
-const MOST: u64 = 64;
+/// As many decisions as a batch may have.
+pub const MOST: u64 = 64;
 
 /// A disk for such a store, which isn't empty.
 pub fn new_disk(alloc: Global) -> Result<MemDisk, Refusal> {
@@ -26,13 +26,13 @@ pub fn new_disk(alloc: Global) -> Result<MemDisk, Refusal> {
     Ok(MemDisk::new(alloc, vec![in alloc; 0xA5; len]?)?)
 }
 
-// How many devices a store has, and the number of its last decision.
-fn state(store: &Store<MemDisk>) -> (u64, u64) {
+/// How many devices a store has, and the number of its last decision.
+pub fn state(store: &Store<MemDisk>) -> (u64, u64) {
     (store.table().devices().len() as u64, store.seq())
 }
 
-// Whether a disk is as it was before a store was made on it.
-fn is_untouched(disk: &MemDisk) -> bool {
+/// Whether a disk is as it was before a store was made on it.
+pub fn is_untouched(disk: &MemDisk) -> bool {
     disk.content().iter().all(|byte| *byte == 0xA5)
 }
 
@@ -137,8 +137,8 @@ fn begun_behind(
     })
 }
 
-// The table behind a batch of a table without devices.
-fn behind(table: &Table, batch: &Batch) -> Result<Table, Refusal> {
+/// The table behind a batch of a table without devices.
+pub fn behind(table: &Table, batch: &Batch) -> Result<Table, Refusal> {
     let mut now = table.copy()?;
     for (seq, decision) in (0..u64::MAX).zip(batch.as_slice()) {
         apply(&mut now, seq, decision)?;
