@@ -196,8 +196,8 @@ fn start_host_sender<'x, E, R: Wait + Sync>(
         .ok()
 }
 
-// How long a read waits until then, in milliseconds. After that moment it still takes what has come:
-// the process may have been stopped while a link greeted in time.
+// How long a read waits until then, in milliseconds. After that moment it still takes what has
+// come: the process may have been stopped while a link greeted in time.
 fn wait_until(now: Moment, until: Moment) -> u64
     ensures { result ≡ max (until - now) 1 }
 {
@@ -205,8 +205,8 @@ fn wait_until(now: Moment, until: Moment) -> u64
 }
 
 impl<'x, B: Books, R: Wait, G: Gate, C: LifeClock> Worker<'x, B, R, G, C> {
-    // Reads until the peer has greeted. `None` if nothing more has come when its time is over, or if
-    // it says something else, or has gone.
+    // Reads until the peer has greeted. `None` if nothing more has come when its time is over, or
+    // if it says something else, or has gone.
     fn hear_greeting(&mut self, stream: &TcpStream) -> Option<Greeted>
         ensures named { IfSome result
             (λ greeted. option_map peer_name self.new.feeder.peer ≡ Some greeted.name) }
