@@ -60,9 +60,10 @@ class Copy:
         return head + "".join(f"above {it} {due[it]} {self.heard[it]}\n" for it in due)
 
 
-def made_copy(path):
-    """A copy that is written by docs/FORMATS.md: three devices with other JoinNonces and HEARDs."""
-    made = [load.record(it, 1) for it in range(3)]
+def made_copy(path, first=0):
+    """A copy that is written by docs/FORMATS.md: three devices with other JoinNonces and HEARDs,
+    of this number and the next ones."""
+    made = [load.record(it, 1) for it in range(first, first + 3)]
     for number, it in enumerate(made):
         it.granted, it.heard = 1 + 5 * number, 40 + number
     with Program(path) as program:
@@ -76,15 +77,16 @@ def made_copy(path):
 
 class Case:
     """A copy in a folder, and another folder where it is to be restored. Texts of the records that
-    are there before may be given: the one beside the copy, and the one beside the new store."""
+    are there before may be given: the one beside the copy, and the one beside the new store. Cases
+    of one name and several rooms share both folders."""
 
-    def __init__(self, program, copy, name, records=(None, None)):
+    def __init__(self, program, copy, name, records=(None, None), room=""):
         self.program, self.copy = program, copy
         folders = [os.path.join(program.folder, f"{name}-{it}") for it in ("old", "new")]
-        self.old, self.new = f"{folders[0]}/copy", f"{folders[1]}/store"
+        self.old, self.new = f"{folders[0]}/copy{room}", f"{folders[1]}/store{room}"
         self.paths = [f"{it}/{RECORD}" for it in folders]
         for folder, path, text in zip(folders, self.paths, records):
-            os.makedirs(folder)
+            os.makedirs(folder, exist_ok=True)
             if text is not None:
                 Path(path).write_text(text, encoding="utf-8", newline="")
         Path(self.old).write_bytes(copy.content)
