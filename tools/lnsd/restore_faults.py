@@ -5,7 +5,7 @@ import subprocess
 import sys
 from pathlib import Path
 
-from .restores import HEADER, LAST, PLAIN, STRANGER, Case, Copy, made_copy, written
+from .restores import HEADER, LAST, PLAIN, RECORD, STRANGER, Case, Copy, made_copy, written
 from .trials import as_nobody
 from server.program import Failed, Program
 
@@ -60,7 +60,7 @@ def lines(seen, program, copy):
     name = next(iter(copy.granted))
     head = f"{HEADER}\n{STRANGER},5\n"
     texts = {what: f"{head}{it}\n{STRANGER},6\n" for what, it in bad_lines(STRANGER).items()}
-    for length in (1, 8, 16, 17):
+    for length in (1, 8, 16, 17, 18):
         texts[f"a line cut off after {length} characters"] = head + f"{name},7"[:length]
     case = Case(program, copy, "lines", (f"{HEADER}\n{name},9\n", f"{HEADER}\n"))
     for what, text in texts.items():
@@ -106,6 +106,20 @@ def files(seen, program, copy):
     ):
         case = Case(program, Copy(content, {}), what.replace(" ", "-"))
         case.is_refused(seen, f"a copy of {what}", f"refused {number}")
+
+
+def names(seen, program, copy):
+    """A copy, or a new store, that has a name of the record's."""
+    for number, name in enumerate((RECORD, f"{RECORD}.new")):
+        case = Case(program, copy, f"names-{number}")
+        old, new = case.old, case.new
+        case.new = f"{os.path.dirname(new)}/{name}"
+        case.is_refused(seen, f"a new store named {name}", f"record {case.new}")
+        case.old, case.new = f"{os.path.dirname(old)}/{name}", new
+        Path(case.old).write_bytes(copy.content)
+        seen.expect(f"a copy named {name}", case.restore(), (1, "", f"lnsd: record {case.old}\n"))
+        seen.holds(Path(case.old).read_bytes() == copy.content, "the copy isn't as it was")
+        seen.holds(not os.path.lexists(case.new), "the new store is there")
 
 
 def records(seen, program, copy):
@@ -187,13 +201,11 @@ def spent(seen, program, copy):
 
 
 def accepted(seen, program, copy):
-    """Lines that end with CRLF, no newline after the last line, and a first line that isn't there
-    or stands elsewhere."""
+    """Lines that end with CRLF, and a first line that isn't there or stands elsewhere."""
     first, *_, last = copy.granted
     known = {first: 2000, last: 3000}
     for number, text in enumerate((
         f"{HEADER}\r\n{first},2000\r\n{last},3000\r\n",
-        f"{HEADER}\n{first},2000\n{last},3000",
         f"{first},2000\n{last},3000\n",
         f"{first},2000\n{HEADER}\n{last},3000\n{HEADER}\n",
         f"{first},2000\n{last},3000\n{first},1999\n",
@@ -201,7 +213,7 @@ def accepted(seen, program, copy):
         case = Case(program, copy, f"accepted-{number}")
         file = written(case, "accepted.csv", text)
         case.goes_well(seen, repr(text), known, "--above", file)
-    texts = f"{HEADER}\r\n{first},2000\r\n", f"{last},3000"
+    texts = f"{HEADER}\r\n{first},2000\r\n", f"{last},3000\n"
     case = Case(program, copy, "records", texts)
     case.goes_well(seen, "records that were written by hand", known)
     case = Case(program, copy, "empty")
@@ -225,7 +237,7 @@ def large(seen, program, copy):
     os.remove(case.old)
 
 
-TOPICS = (lines, files, records, folders, options, spent, accepted, large)
+TOPICS = (lines, files, names, records, folders, options, spent, accepted, large)
 
 
 def refused(seen, path):
