@@ -1,5 +1,5 @@
-"""Cases of `lnsd restore`: a copy in one folder, a new store in another one, and a record of restores
-in each. What has to be printed and recorded is computed here, by docs/OPERATING.md and
+"""Cases of `lnsd restore`: a copy in one folder, a new store in another one, and a record of
+restores in each. What has to be printed and recorded is computed here, by docs/OPERATING.md and
 docs/FORMATS.md."""
 import os
 from pathlib import Path

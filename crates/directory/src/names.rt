@@ -74,7 +74,8 @@ impl Directory {
     ghost use Rattle.gateway_wire.specs.declared.recipient.Recipient.TheVariants as names;
     ghost use Rattle.lw_types.specs.declared.identifiers.Eui.{Eui};
     ghost use Rattle.directory.specs.Linked.{gateway_link, link_of, ring_of};
-    ghost use Rattle.directory.specs.Linked.{may_greet, may_take_over, IsHeld, IsUnlinked, IsLinked};
+    ghost use Rattle.directory.specs.Linked.{may_greet, may_take_over, IsHeld, IsLinked};
+    ghost use Rattle.directory.specs.Linked.{IsUnlinked};
 
     /// Nobody is linked, and applications have rings of their own from this one on, if there is
     /// one. All the memory that it ever takes is taken here.

@@ -22,8 +22,8 @@ const OF_THE_SERVER: u64 = 32;
 const STANDARD: u64 = 3;
 
 /// Opens, at once, as many descriptors as a server with N places takes besides the standard ones,
-/// so that a server that has begun never lacks one. Dropping them closes them. Refused with the whole
-/// number, 2 * N + 32, if the system gives fewer.
+/// so that a server that has begun never lacks one. Dropping them closes them. Refused with the
+/// whole number, 2 * N + 32, if the system gives fewer.
 pub(crate) fn hold_descriptors<R: Net>(
     rt: &R,
     alloc: Global,

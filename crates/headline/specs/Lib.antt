@@ -1,3 +1,4 @@
 pub mod Crash
 pub mod Failing
 pub mod Recovers
+pub mod Restoring

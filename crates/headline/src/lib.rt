@@ -25,6 +25,7 @@ ghost use Rattle.world.specs.Sound.{HasDisk, IsSoundWorld};
 ghost use Rattle.headline.specs.Crash.{IsOpenedAfterCrash, IsOpenedOf};
 ghost use Rattle.headline.specs.Failing.{ArmsNothing};
 ghost use Rattle.headline.specs.Recovers.{NoMarkTwice, Recovers};
+ghost use Rattle.headline.specs.Restoring.{restored_store};
 
 use devices::{GrantsSince, SessionName};
 use disk::{Image, Sim};
@@ -167,33 +168,32 @@ pub fn crash_after_restoring<D: Sim + Drop>(
     image: &Image,
 ) -> Result<(Vec<Answer>, Store<D>), Refusal>
     ensures answers { IfOk result (λ found. (marks : List Mark) →
-        AreRight (adopted_store (restored_table since (raised_by_all recorded.now older)) seq marks)
-        (beginning (adopted_store (restored_table since (raised_by_all recorded.now older)) seq marks)) steps.now
-        found.0.items) }
+        AreRight (restored_store since recorded.now older seq marks)
+        (beginning (restored_store since recorded.now older seq marks)) steps.now found.0.items) }
     ensures calls { IfOk result (λ found. AreForetold
         (record { failed = D.failures disk; coming = outlook_after_opening (D.outlook disk) })
         steps.now found.0.items) }
     ensures crash { IfOk result (λ found. (marks : List Mark) →
-        IsOpenedAfterCrash D.Disk (adopted_store (restored_table since (raised_by_all recorded.now older)) seq marks) steps.now
+        IsOpenedAfterCrash D.Disk (restored_store since recorded.now older seq marks) steps.now
         found.0.items image.now (store_state D.state found.1)) }
     ensures recovers { IfOk result (λ found. (marks : List Mark) →
-        Recovers (adopted_store (restored_table since (raised_by_all recorded.now older)) seq marks)
-        (course_of (adopted_store (restored_table since (raised_by_all recorded.now older)) seq marks)
-        (beginning (adopted_store (restored_table since (raised_by_all recorded.now older)) seq marks)) steps.now found.0.items)
+        Recovers (restored_store since recorded.now older seq marks)
+        (course_of (restored_store since recorded.now older seq marks)
+        (beginning (restored_store since recorded.now older seq marks)) steps.now found.0.items)
         (store_state D.state found.1).table (store_state D.state found.1).seq) }
     ensures unarmed { D.outlook disk ≡ AllSucceed → ArmsNothing steps.now
         → IfErr result (λ e. e ≢ DeviceFailed) }
     ensures once { IfOk result (λ found. (marks : List Mark)
         → All (λ m. IsSinceRecord since recorded.now older m) marks → AreDistinct marks
-        → NoMarkTwice (adopted_store (restored_table since (raised_by_all recorded.now older)) seq marks)
-        (course_of (adopted_store (restored_table since (raised_by_all recorded.now older)) seq marks)
-        (beginning (adopted_store (restored_table since (raised_by_all recorded.now older)) seq marks)) steps.now
+        → NoMarkTwice (restored_store since recorded.now older seq marks)
+        (course_of (restored_store since recorded.now older seq marks)
+        (beginning (restored_store since recorded.now older seq marks)) steps.now
         found.0.items)) }
     ensures covered { IfOk result (λ found. (marks : List Mark)
         → All (λ m. IsSinceRecord since recorded.now older m) marks → AreDistinct marks
         → HasUsedUp (store_state D.state found.1).table (marks ++ marks_of
-        (course_of (adopted_store (restored_table since (raised_by_all recorded.now older)) seq marks)
-        (beginning (adopted_store (restored_table since (raised_by_all recorded.now older)) seq marks)) steps.now
+        (course_of (restored_store since recorded.now older seq marks)
+        (beginning (restored_store since recorded.now older seq marks)) steps.now
         found.0.items).left)) }
     ensures refused { IfErr result (λ e. e ≢ DeviceFailed → e ≢ OutOfMemory
         → ((e ≡ JoinNonceSpent) × (spent_device since (raised_by_all recorded.now older) ≢ None))

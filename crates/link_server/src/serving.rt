@@ -58,8 +58,8 @@ use timed_disk::DiskTimes;
 ///
 /// Of all this the contract says that the shares sum to the decisions; that where there is a report
 /// the store's number grew by as many, and no call of the disk failed; why there is none; and that
-/// the store was led on from where it was. What it calls is proved for itself, and the rest is shown
-/// by tests on sockets.
+/// the store was led on from where it was. What it calls is proved for itself, and the rest is
+/// shown by tests on sockets.
 pub fn serve_links<
     'x,
     R: Threads + Wait + Sync,

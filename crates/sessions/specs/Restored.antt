@@ -30,8 +30,9 @@ abbrev pub raised_by_all : List SessionName → TableState → TableState
 raised_by_all [] t = t
 raised_by_all (s ∷ sessions) t = raised_by_all sessions (raised_table s t)
 
--- The mark is of a device that the copy has, and the JoinNonce of its session is at most N above the
--- last one that the copy says was granted. Whatever the mark's counter is, it may have been used.
+-- The mark is of a device that the copy has, and the JoinNonce of its session is at most N above
+-- the last one that the copy says was granted. Whatever the mark's counter is, it may have been
+-- used.
 pub record IsSince (since : ℕ) (t : TableState) (m : Mark) : Type 0 where
   pub slot : ℕ
   pub device : Device
@@ -47,7 +48,8 @@ highest dev_eui (s ∷ sessions) =
 
 -- The same with a record of sessions beside the copy: the JoinNonce is at most N above the last one
 -- that the copy says was granted, or above the highest one that the record has of the device.
-pub record IsSinceRecord (since : ℕ) (sessions : List SessionName) (t : TableState) (m : Mark) : Type 0 where
+pub record IsSinceRecord (since : ℕ) (sessions : List SessionName) (t : TableState) (m : Mark)
+    : Type 0 where
   pub slot : ℕ
   pub device : Device
   pub own : slot_of (session_in m).dev_eui.0 t.devices ≡ Some slot

@@ -10,8 +10,8 @@ use std::io::ErrorKind;
 use std::rt::Files;
 use store::disk_len;
 
-/// A file that wasn't there before. Only [`create`] makes one, and [`remove_new`] takes it: so a store
-/// that was there is never removed.
+/// A file that wasn't there before. Only [`create`] makes one, and [`remove_new`] takes it: so a
+/// store that was there is never removed.
 #[derive(Drop)]
 pub struct NewFile<'a> {
     path: &'a str,

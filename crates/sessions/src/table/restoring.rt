@@ -12,12 +12,12 @@ impl Table {
     ghost use Rattle.sessions.specs.Table.{slot_of};
 
     /// Restores the table of an older copy: the last granted JoinNonce of each device is raised by
-    /// `since`, no device has a session, and all else stays. So devices join again. Refused with the
-    /// DevEUI of the first device that has fewer than `since` JoinNonces left, exactly if there is
-    /// one; then nothing changes. Takes no memory. Its cost grows with the number of devices.
+    /// `since`, no device has a session, and all else stays. So devices join again. Refused with
+    /// the DevEUI of the first device that has fewer than `since` JoinNonces left, exactly if there
+    /// is one; then nothing changes. Takes no memory. Its cost grows with the number of devices.
     ///
-    /// From then on the table rules out what the network used up before the copy, and after it under
-    /// JoinNonces that are at most `since` above the copy's last one of their device:
+    /// From then on the table rules out what the network used up before the copy, and after it
+    /// under JoinNonces that are at most `since` above the copy's last one of their device:
     /// [`a_restored_table_covers`](crate::laws::a_restored_table_covers). Each join counts as one
     /// JoinNonce, and each earlier restore of the same network as its `since`, unless
     /// [`raise`](Table::raise) was called for the JoinNonces from which it went on.
