@@ -16,20 +16,36 @@ BESIDE, ATTENDANTS, FEW = 32, 8, 6
 # threads of a server besides one for each place: the flusher, the closer and the attendants
 THREADS = 2 + ATTENDANTS
 
-# The start of a thread of the number REFUSED_THREAD is refused, or none where that is 0.
+# the stack of each thread, in bytes, by docs/OPERATING.md
+STACK = 256 * 1024
+
+# The start of a thread of the number REFUSED_THREAD is refused, or none where that is 0. The size of
+# the stack that is asked for each thread is added to the file STACK_LOG.
 REFUSED = r"""
 #define _GNU_SOURCE
 #include <dlfcn.h>
 #include <errno.h>
 #include <pthread.h>
+#include <stdio.h>
 #include <stdlib.h>
 
 typedef int starts(pthread_t *, const pthread_attr_t *, void *(*)(void *), void *);
+
+static void note(const pthread_attr_t *how) {
+    size_t size = 0;
+    const char *name = getenv("STACK_LOG");
+    FILE *log = name ? fopen(name, "a") : NULL;
+    if (!log) return;
+    if (how) pthread_attr_getstacksize(how, &size);
+    fprintf(log, "%zu\n", size);
+    fclose(log);
+}
 
 int pthread_create(pthread_t *id, const pthread_attr_t *how, void *(*run)(void *), void *given) {
     static long threads;
     const char *it = getenv("REFUSED_THREAD");
     if (__sync_add_and_fetch(&threads, 1) == (it ? atol(it) : 0)) return EAGAIN;
+    note(how);
     return ((starts *)dlsym(RTLD_NEXT, "pthread_create"))(id, how, run, given);
 }
 """
@@ -42,7 +58,7 @@ def served(program, places):
 
 def threads(trials):
     """A server prints where it listens once all its threads run: one that can't start a thread
-    prints nothing, and ends with 30."""
+    prints nothing, and ends with 30. Each thread has a stack of 256 KiB."""
     places = 2
     with tempfile.TemporaryDirectory(prefix="lnsd-threads-") as room, trials.store() as program:
         library = preloads.made(REFUSED, room)
@@ -52,9 +68,13 @@ def threads(trials):
             trials.compare(f"without thread {number}", came, (1, "", "lnsd: refused 30\n"))
             left = os.path.lexists(f"{program.store}.control")
             trials.holds(f"without thread {number}: a socket is left", not left)
-        program.run_on(places, env=preloads.environment(library, REFUSED_THREAD=places + THREADS))
-        trials.compare("the threads that run then", used(program)[2], places + THREADS)
+        last, log = places + THREADS, f"{room}/stacks"
+        how = preloads.environment(library, REFUSED_THREAD=last, STACK_LOG=log)
+        program.run_on(places, env=how)
+        trials.compare("the threads that run then", used(program)[2], last)
         stopped(trials, program)
+        with open(log, encoding="utf-8") as file:
+            trials.compare("their stacks", file.read(), f"{STACK}\n" * (last - 1))
 
 
 def limited(count):
