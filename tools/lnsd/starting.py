@@ -19,8 +19,8 @@ THREADS = 2 + ATTENDANTS
 # the stack of each thread, in bytes, by docs/OPERATING.md
 STACK = 256 * 1024
 
-# The start of a thread of the number REFUSED_THREAD is refused, or none if that is 0. The size of the
-# stack that is asked for each thread is added to the file STACK_LOG.
+# The start of a thread of the number REFUSED_THREAD is refused, or none if that is 0. The size of
+# the stack that is asked for each thread is added to the file STACK_LOG.
 REFUSED = r"""
 #define _GNU_SOURCE
 #include <dlfcn.h>
