@@ -83,8 +83,13 @@ const ROWS: &[(&str, &str)] = &[
     ("status store --wait soon", "wrong"),
     ("status", "wrong"),
     ("status --help", "help"),
-    ("restore old new", "restore old new 1024"),
-    ("restore --grants 65536 old new", "restore old new 65536"),
+    ("restore old new", "restore old new 1024 -"),
+    ("restore --grants 65536 old new", "restore old new 65536 -"),
+    (
+        "restore old new --above nonces.csv",
+        "restore old new 1024 nonces.csv",
+    ),
+    ("restore old new --above", "wrong"),
     ("restore old new --grants 0", "wrong"),
     ("restore old new --grants 65537", "wrong"),
     ("restore old", "wrong"),
@@ -148,9 +153,14 @@ fn asked_of(alloc: Global, mode: &Mode<'_>) -> Result<String, AllocError> {
             let wait = wait.get();
             format!(in alloc; "status {file} {wait}")
         }
-        Mode::Restore { file, new, grants } => {
-            let grants = grants.get();
-            format!(in alloc; "restore {file} {new} {grants}")
+        Mode::Restore {
+            file,
+            new,
+            grants,
+            above,
+        } => {
+            let (grants, above) = (grants.get(), above.unwrap_or("-"));
+            format!(in alloc; "restore {file} {new} {grants} {above}")
         }
     }
 }
