@@ -1,17 +1,18 @@
-"""What the commands share: their words and help, how they end, the crates, whether a program is
-built of the sources as they are, and how much may run at once. bin/programs.sh asks it by a word:
-is_fresh, is_built or commit_of."""
-import argparse
+"""What the tools of this repository share: where the package bozintar is, the crates, whether a
+program is built of the sources as they are, and how much may run at once. bin/programs.sh asks it
+by a word: is_fresh, is_built or commit_of."""
 import importlib
 import os
 import re
 import shutil
-import signal
 import subprocess
 import sys
 
 ROOT = os.path.dirname(os.path.dirname(os.path.realpath(__file__)))
-NAME = os.path.basename(sys.argv[0])
+if __name__ == "__main__":
+    sys.path.insert(1, f"{ROOT}/python")
+from bozintar.words import Words, end_with, is_program, stop
+
 SOURCES = (".rt", ".antt")
 # What each crate costs, as tools/gate-costs found it.
 COSTS = f"{ROOT}/tools/costs.txt"
@@ -21,62 +22,9 @@ MEMORY = 4 << 30
 COUNTS = re.compile(r"^(?:test result: \w+\. )?(\d+) passed[,;] (\d+) failed", re.MULTILINE)
 
 
-class Words(argparse.ArgumentParser):
-    """A command's words. --help and -h print the text; a wrong word is one line and status 2."""
-
-    def __init__(self, text):
-        super().__init__(prog=NAME, allow_abbrev=False)
-        self.text = text
-
-    def format_help(self):
-        return self.text.strip() + "\n"
-
-    def error(self, message):
-        stop(f"{message}; {NAME} --help tells more")
-
-
-def stop(why, status=2):
-    print(f"{NAME}: {why}", file=sys.stderr)
-    sys.exit(status)
-
-
 def need_rt():
     if not shutil.which("rt"):
         stop("the Rattle toolchain's command rt isn't on the PATH, and this needs it", 127)
-
-
-def end_with(main):
-    """Ends with the status of `main`, with no traceback of an interrupt, a missing file, or output
-    that can't be written."""
-    for it in (signal.SIGTERM, signal.SIGHUP):
-        signal.signal(it, lambda number, _: sys.exit(128 + number))
-    try:
-        try:
-            status = main()
-        except SystemExit as end:  # also of --help, whose text isn't written yet
-            status = end.code
-        if sys.stdout:
-            sys.stdout.flush()
-        sys.exit(status)
-    except KeyboardInterrupt:
-        forget_unwritten()
-        stop("interrupted", 130)
-    except BrokenPipeError:
-        forget_unwritten()
-        sys.exit(141)
-    except OSError as error:
-        forget_unwritten()
-        stop(f"{error.filename or 'the system'}: {error.strerror or error}", 1)
-
-
-def forget_unwritten():
-    """Writes what waits for standard output. What can't be written is let go of: else Python tries
-    it at the very end, and tells of it by half a traceback and a status of its own."""
-    try:
-        if sys.stdout:
-            sys.stdout.flush()
-    except OSError:
-        os.dup2(os.open(os.devnull, os.O_WRONLY), sys.stdout.fileno())
 
 
 def lines():
@@ -95,7 +43,7 @@ def libraries(of):
 def crate(name):
     """A word that names a crate."""
     if name not in lines():
-        stop(f"no crate {name} is in crates.txt")
+        stop(f"no crate {name} is in crates.txt", 2)
     return name
 
 
@@ -148,12 +96,12 @@ def is_built(crate):
 def program_of(given, crate):
     """The program that was given, or the proved one of that crate."""
     if given:
-        if not (os.path.isfile(given) and os.access(given, os.X_OK)):
-            stop(f"{given} is no program")
+        if not is_program(given):
+            stop(f"{given} is no program", 2)
         return os.path.abspath(given)
     if not is_built(crate):
         name = crate.replace("_", "-")
-        stop(f"the proved {name} isn't built of these sources: run bin/build {name}")
+        stop(f"the proved {name} isn't built of these sources: run bin/build {name}", 2)
     return f"{ROOT}/crates/{crate}/out/{crate}"
 
 
@@ -173,12 +121,10 @@ def by_word(text, package):
     """Does what the first word names: a module of this package, with its own text and main."""
 
     def main():
-        global NAME
         words = Words(text)
         words.add_argument("word", metavar="WORD", choices=package.WORDS)
         name = words.parse_args(sys.argv[1:2]).word
-        NAME = f"{NAME} {name}"
-        sys.argv[:2] = [NAME]
+        sys.argv[:2] = [f"{sys.argv[0]} {name}"]
         return importlib.import_module(f"{package.__name__}.{name}").main()
 
     end_with(main)

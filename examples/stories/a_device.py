@@ -2,10 +2,11 @@
 
 from dataclasses import replace
 
-from outside.gateway import Copy
-from outside.story import Story
+from bozintar.wire import Copy
 
 from .people import B1, B2, B3, METER, listed, meter, provision, session, told, up
+from .story import Story
+
 
 LINK_CHECK = b"\x02"
 DEV_STATUS_REQ = b"\x06"

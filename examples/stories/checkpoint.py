@@ -1,8 +1,8 @@
 """A checkpoint, and power cuts in it."""
 
-from outside.story import Story
-
 from .people import APP_KEY, JOIN_EUI, told
+from .story import Story
+
 
 METERS = [f"{number:016X}" for number in (0xA1, 0xA2, 0xA3, 0xA4)]
 BUSY, QUIET = METERS[:3], METERS[3]

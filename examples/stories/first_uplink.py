@@ -1,9 +1,10 @@
 """The shortest story with a radio frame and a power cut in it."""
 
-from outside.gateway import Copy
-from outside.story import Story
+from bozintar.wire import Copy
 
 from .people import B1, METER, listed, meter, provision, session, told, up
+from .story import Story
+
 
 NEAR = Copy(B1)
 READING = bytes.fromhex("04D2")

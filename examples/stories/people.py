@@ -1,7 +1,7 @@
 """Who takes part in the stories."""
 
-from outside.device import Device
-from outside.network import Session
+from bozintar.devices import Device
+from bozintar.network import Session
 
 APPLICATION = 3
 METER = "1112131415161718"

@@ -1,9 +1,10 @@
 """Power cuts at each moment of a commit: what the device sees when it sends again."""
 
-from outside.gateway import Copy
-from outside.story import Story
+from bozintar.wire import Copy
 
 from .people import B1, METER, listed, meter, provision, session, told, up
+from .story import Story
+
 
 COPY = Copy(B1)
 

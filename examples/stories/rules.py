@@ -2,10 +2,11 @@
 
 from dataclasses import replace
 
-from outside.gateway import Copy
-from outside.story import Story
+from bozintar.wire import Copy
 
 from .people import APP_KEY, B1, JOIN_EUI, METER, meter, provision, session, told, up
+from .story import Story
+
 
 NEAR = Copy(B1)
 READING = bytes.fromhex("04D2")

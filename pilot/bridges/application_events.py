@@ -6,8 +6,10 @@ import re
 import uuid
 from dataclasses import dataclass
 
-from . import fields
-from .fields import Wrong
+from bozintar import fields
+from bozintar.fields import Wrong
+from bozintar.wire import byte_text, bytes_of
+
 
 # of identifiers that follow from what they name, so that what comes twice has the same one
 SPACE = uuid.UUID("6f7a0c0e-7d0b-5f0e-9d57-0a3c5e1f7b21")
@@ -72,16 +74,6 @@ class Item:
         """The request."""
         kind, shown = "c" if self.confirmed else "u", byte_text(self.payload)
         return f"queue {self.device} {tag} {self.port} {kind} {shown}"
-
-
-def byte_text(payload: bytes) -> str:
-    """Bytes as lines have them."""
-    return payload.hex().upper() or "-"
-
-
-def bytes_of(text: str) -> bytes:
-    """The bytes of a line's text."""
-    return b"" if text == "-" else bytes.fromhex(text)
 
 
 def identifier(*of) -> str:

@@ -1,6 +1,6 @@
 """A gateway's clock of microseconds in 32 bits, which wraps, and which begins anew with it."""
 
-from .wire import MICROSECONDS
+from bozintar.wire import MICROSECONDS
 
 WRAP = 2**32
 # by how much a stamp may be off: datagrams come late, and demodulators end out of order; in seconds

@@ -9,7 +9,7 @@ HEX = re.compile(r"[0-9A-Fa-f]*")
 
 
 @dataclass(frozen=True)
-class Device:
+class Row:
     """A device that is to be provisioned, and the line of the file that it stands in."""
 
     place: int
@@ -48,13 +48,13 @@ def number_of(name: str, text: str, least: int, most: int) -> int:
     return int(text)
 
 
-def device_of(place: int, row: list[str]) -> Device | Fault:
+def device_of(place: int, row: list[str]) -> Row | Fault:
     """A row's device: offset and delay may be left out, and are 0 and 1 then."""
     try:
         if not 3 <= len(row) <= 5:
             raise ValueError(f"{len(row)} fields, and not 3 to 5")
         offset, delay, *_ = [*row[3:], *("0", "1")[len(row) - 3 :]]
-        return Device(
+        return Row(
             place,
             hex_of("DevEUI", row[0], 16),
             hex_of("JoinEUI", row[1], 16),
@@ -66,7 +66,7 @@ def device_of(place: int, row: list[str]) -> Device | Fault:
         return Fault(place, str(why))
 
 
-def read(file: str) -> list[Device | Fault]:
+def read(file: str) -> list[Row | Fault]:
     """All lines of a file; the first may name the fields, and # begins a comment."""
     found = []
     with open(file, encoding="utf-8-sig", errors="replace") as text:

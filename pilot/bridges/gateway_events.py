@@ -3,10 +3,11 @@
 import re
 from dataclasses import dataclass
 
-from . import fields
-from .fields import Wrong
+from bozintar import fields
+from bozintar.fields import Wrong
+from bozintar.wire import MOST_PAYLOAD, Copy, Downlink, Heard, Window
 from .gwmp import OtherFrame
-from .wire import MOST_PAYLOAD, Copy, Downlink, Window
+
 
 BANDWIDTH = 125000
 MOST_CONTEXT = 64
@@ -14,10 +15,10 @@ EVENT = re.compile(r"(.+)/gateway/([0-9A-Fa-f]{16})/event/([a-z]+)")
 
 
 @dataclass(frozen=True)
-class Heard:
+class Up:
     """A frame that was heard, and what the gateway wants to see again with its downlink."""
 
-    copy: Copy
+    heard: Heard
     context: bytes
 
 
@@ -26,24 +27,24 @@ def event_topic(prefix: str, kind: str) -> str:
     return f"{prefix}/gateway/+/event/{kind}"
 
 
-def command_topic(prefix: str, gateway: bytes) -> str:
+def command_topic(prefix: str, gateway: str) -> str:
     """The topic of a gateway's downlinks."""
-    return f"{prefix}/gateway/{gateway.hex()}/command/down"
+    return f"{prefix}/gateway/{gateway.lower()}/command/down"
 
 
-def gateway_of(topic: str) -> tuple[bytes, str]:
+def gateway_of(topic: str) -> tuple[str, str]:
     """The gateway that an event's topic names, and the event's kind."""
     found = EVENT.fullmatch(topic)
     if not found:
         raise Wrong("no event of a gateway")
-    return bytes.fromhex(found[2]), found[3]
+    return found[2].upper(), found[3]
 
 
-def heard(gateway: bytes, stamp: int, body: bytes) -> Heard:
+def up(gateway: str, stamp: int, body: bytes) -> Up:
     """The frame of an event `up`. Its stamp is the bridge's own, by which it finds the context."""
     said = fields.table(fields.parsed(body))
     tx, rx = fields.inner(said, "txInfo"), fields.inner(said, "rxInfo")
-    if fields.text(rx, "gatewayId").lower() != gateway.hex():
+    if fields.text(rx, "gatewayId").upper() != gateway:
         raise Wrong("gatewayId isn't the topic's")
     if rx.get("crcStatus") not in ("CRC_OK", 2):
         raise OtherFrame("without_crc")
@@ -55,15 +56,16 @@ def heard(gateway: bytes, stamp: int, body: bytes) -> Heard:
         raise OtherFrame("other_modulations")
     copy = Copy(
         gateway=gateway,
-        hz=fields.whole(tx, "frequency", 0, 2**32 - 1),
+        frequency=fields.whole(tx, "frequency", 0, 2**32 - 1),
         data_rate=12 - spreading,
         # a field of the value 0 may be left out
         snr=fields.snr({"snr": 0, **rx}, "snr"),
         rssi=round(fields.number({"rssi": 0, **rx}, "rssi", -32768, 32767)),
         stamp=stamp,
-        payload=fields.payload(said, "phyPayload", MOST_PAYLOAD),
     )
-    return Heard(copy, fields.payload({"context": "", **rx}, "context", MOST_CONTEXT))
+    frame = fields.payload(said, "phyPayload", MOST_PAYLOAD)
+    context = fields.payload({"context": "", **rx}, "context", MOST_CONTEXT)
+    return Up(Heard(copy, frame), context)
 
 
 def item(downlink: Downlink, window: Window, context: bytes, power: int) -> dict:
@@ -75,9 +77,9 @@ def item(downlink: Downlink, window: Window, context: bytes, power: int) -> dict
         "polarizationInversion": True,
     }
     return {
-        "phyPayload": fields.shown(downlink.payload),
+        "phyPayload": fields.shown(downlink.frame),
         "txInfo": {
-            "frequency": window.hz,
+            "frequency": window.frequency,
             "power": power,
             "modulation": {"lora": lora},
             "timing": {"delay": {"delay": f"{window.delay}s"}},
@@ -90,7 +92,7 @@ def command(downlink: Downlink, number: int, context: bytes, powers: tuple[int, 
     """A command `down`: the gateway tries its items in turn, so that RX2 is behind RX1."""
     windows = zip((downlink.rx1, downlink.rx2), powers)
     items = [item(downlink, window, context, power) for window, power in windows if window]
-    it = {"downlinkId": number, "gatewayId": downlink.gateway.hex(), "items": items}
+    it = {"downlinkId": number, "gatewayId": downlink.gateway.lower(), "items": items}
     return fields.compact(it)
 
 

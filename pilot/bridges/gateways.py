@@ -4,11 +4,11 @@ words of their commands."""
 import asyncio
 from dataclasses import dataclass, field
 
-from . import wire, words
-from .buckets import Bucket
-from .counts import Counts
-from .links import Link
-from .words import tell
+from bozintar import wire, words
+from bozintar.buckets import Bucket
+from bozintar.counts import Counts
+from bozintar.lasting import Link
+from bozintar.words import log
 
 COUNTED = {
     "copies": "frames that were handed to the network",
@@ -42,7 +42,7 @@ QUIET = 60.0
 class Gateway:
     """A gateway that is named."""
 
-    eui: bytes
+    eui: str
     link: Link
     # when something came of it, and what listens to its link from then on
     last: float = 0.0
@@ -51,15 +51,15 @@ class Gateway:
     # when it said too much last
     over: float = -QUIET
 
-    def hand_in(self, copy: wire.Copy, counts: Counts) -> bool:
-        """Gives the network a copy, now or soon; not if the gateway says too many."""
+    def hand_in(self, heard: wire.Heard, counts: Counts) -> bool:
+        """Hands a frame to the network, now or soon; not if the gateway hears too many."""
         if not self.bucket.lets(self.last):
             counts.add("too_many")
             if self.last >= self.over + QUIET:
-                tell(f"{self.link.name} says more than {RATE} frames a second; the rest is dropped")
+                log(f"{self.link.name} says more than {RATE} frames a second; the rest is dropped")
             self.over = self.last
             return False
-        counts.add("copies" if self.link.say_soon(copy.content()) else "unlinked")
+        counts.add("copies" if self.link.say_soon(heard.message()) else "unlinked")
         return True
 
 
@@ -73,17 +73,17 @@ class Gateways:
         self.given, self.counts = given, counts
         self.gateways = {it: self.gateway(it) for it in given.euis}
         self.clock = asyncio.get_running_loop().time
-        self.told: set[bytes] = set()
+        self.told: set[str] = set()
         if len(self.gateways) > MOST_LINKED:
             named = f"{len(self.gateways)} gateways are named"
-            tell(f"{named}, and the network has links of {MOST_LINKED} at a time")
+            log(f"{named}, and the network has links of {MOST_LINKED} at a time")
 
-    def gateway(self, eui: bytes) -> Gateway:
-        """A gateway that hasn't said anything yet."""
-        name = f"gateway {eui.hex().upper()}"
-        return self.kind(eui, Link(name, self.given.network, wire.gateway_greeting(eui)))
+    def gateway(self, eui: str) -> Gateway:
+        """A gateway of which nothing came yet."""
+        link = Link(f"gateway {eui}", self.given.network, wire.gateway_greeting(eui))
+        return self.kind(eui, link)
 
-    def awake(self, eui: bytes) -> Gateway | None:
+    def awake(self, eui: str) -> Gateway | None:
         """The gateway of which something came, with its link; or None where it isn't named."""
         it = self.gateways.get(eui)
         if not it:
@@ -94,12 +94,12 @@ class Gateways:
             it.work = asyncio.ensure_future(self.listen(it))
         return it
 
-    def pass_over(self, eui: bytes):
+    def pass_over(self, eui: str):
         """A gateway that isn't named."""
         self.counts.add("unknown_gateways")
         if eui not in self.told and len(self.told) < MOST_TOLD:
             self.told.add(eui)
-            tell(f"gateway {eui.hex().upper()} isn't named, and is passed over")
+            log(f"gateway {eui} isn't named, and is passed over")
 
     async def listen(self, gateway: Gateway):
         """Has a gateway send what the network says."""
@@ -107,7 +107,7 @@ class Gateways:
             try:
                 self.order(gateway, wire.Downlink.read(content))
             except wire.NoMessage as why:
-                tell(f"{gateway.link.name}: {why}")
+                log(f"{gateway.link.name}: {why}")
 
     def order(self, gateway: Gateway, downlink: wire.Downlink):
         """Has a gateway send a downlink."""
@@ -129,7 +129,7 @@ class Gateways:
             self.counts.add("caught_up", it.link.caught_up)
             it.link.caught_up = 0
             if it.work and it.last < self.clock() - self.given.silent:
-                tell(f"{it.link.name} is silent: its link is closed")
+                log(f"{it.link.name} is silent: its link is closed")
                 self.counts.add("links_silent")
                 it.work.cancel()
                 it.work = None
@@ -141,9 +141,9 @@ def add_words(it: words.Words, power: int):
     it.add_argument("--network", type=words.Address.read, required=True, metavar="HOST:PORT")
     it.add_argument("--gateway", type=words.eui, action="append", default=[], metavar="EUI")
     it.add_argument("--gateways", metavar="FILE")
-    it.add_argument("--silent", type=words.number(1, 86400), default=120, metavar="SECONDS")
-    it.add_argument("--power", type=words.number(-10, 30), default=power, metavar="DBM")
-    it.add_argument("--rx2-power", type=words.number(-10, 30), metavar="DBM")
+    it.add_argument("--silent", type=words.between(1, 86400), default=120, metavar="SECONDS")
+    it.add_argument("--power", type=words.between(-10, 30), default=power, metavar="DBM")
+    it.add_argument("--rx2-power", type=words.between(-10, 30), metavar="DBM")
     it.add_argument("--counts", metavar="FILE")
 
 

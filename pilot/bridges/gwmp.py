@@ -4,10 +4,12 @@ says of a frame that was heard (`rxpk`), and what it is told to send (`txpk`).""
 import re
 from dataclasses import dataclass
 from enum import IntEnum
+from typing import Any
 
-from . import fields
-from .fields import Wrong
-from .wire import MOST_PAYLOAD, Copy, Downlink, Window
+from bozintar import fields
+from bozintar.fields import Wrong
+from bozintar.wire import MOST_PAYLOAD, Copy, Downlink, Heard, Window
+
 
 VERSIONS = (1, 2)
 HEAD = 12
@@ -39,7 +41,7 @@ class Datagram:
     version: int
     token: bytes
     kind: Kind
-    gateway: bytes
+    gateway: str
     body: bytes
 
     @classmethod
@@ -49,7 +51,8 @@ class Datagram:
             raise Wrong("no datagram of versions 1 and 2")
         if data[3] not in (Kind.PUSH_DATA, Kind.PULL_DATA, Kind.TX_ACK):
             raise Wrong(f"a datagram of kind {data[3]}")
-        return cls(data[0], data[1:3], Kind(data[3]), data[4:HEAD], data[HEAD:])
+        gateway = data[4:HEAD].hex().upper()
+        return cls(data[0], data[1:3], Kind(data[3]), gateway, data[HEAD:])
 
     def acknowledgement(self) -> bytes:
         """What is answered at once."""
@@ -76,7 +79,7 @@ def heard_in(body: bytes) -> list:
     return heard
 
 
-def copy_of(gateway: bytes, rxpk) -> Copy:
+def frame_in(gateway: str, rxpk: Any) -> Heard:
     """A frame that was heard. Of other frames than the network's, `OtherFrame` tells the kind."""
     rxpk = fields.table(rxpk)
     if rxpk.get("stat") != 1:
@@ -88,15 +91,15 @@ def copy_of(gateway: bytes, rxpk) -> Copy:
     if rxpk.get("size", len(payload)) != len(payload):
         raise Wrong("data isn't of its size")
     snr, rssi = signal_of(rxpk)
-    return Copy(
+    copy = Copy(
         gateway=gateway,
-        hz=round(fields.number(rxpk, "freq", 0, 4294) * 1e6),
+        frequency=round(fields.number(rxpk, "freq", 0, 4294) * 1e6),
         data_rate=12 - int(found[1]),
         snr=snr,
         rssi=rssi,
         stamp=fields.whole(rxpk, "tmst", 0, 2**32 - 1),
-        payload=payload,
     )
+    return Heard(copy, payload)
 
 
 def signal_of(rxpk: dict) -> tuple[int, int]:
@@ -119,7 +122,7 @@ def txpk_of(downlink: Downlink, window: Window, power: int) -> dict:
     return {
         "imme": False,
         "tmst": downlink.moment(window),
-        "freq": window.hz / 1e6,
+        "freq": window.frequency / 1e6,
         "rfch": 0,
         "powe": power,
         "modu": "LORA",
@@ -127,8 +130,8 @@ def txpk_of(downlink: Downlink, window: Window, power: int) -> dict:
         "codr": "4/5",
         "ipol": True,
         "ncrc": True,
-        "size": len(downlink.payload),
-        "data": fields.shown(downlink.payload),
+        "size": len(downlink.frame),
+        "data": fields.shown(downlink.frame),
     }
 
 

@@ -3,11 +3,11 @@ its format: ChirpStack's events and commands (version 4), docs/FORMATS.md."""
 
 import tempfile
 
+from bozintar.fields import Wrong
 from bridges import devices
 from bridges.application_events import Item, Translator, refusal, status
-from bridges.fields import Wrong
-
 from .gateway_rows import outcome
+
 
 DEVICE = "0101010101010101"
 INFO = {"applicationId": "3", "devEui": DEVICE}
@@ -120,7 +120,7 @@ def read(text: str):
         file.write(text.encode())
         file.flush()
         found = devices.read(file.name)
-    lines = [it for it in found if isinstance(it, devices.Device)]
+    lines = [it for it in found if isinstance(it, devices.Row)]
     faults = [f"line {it.place}: {it.why}" for it in found if isinstance(it, devices.Fault)]
     return [it.line().removeprefix("provision ") for it in lines] + faults
 

@@ -10,13 +10,14 @@ import sys
 import time
 from contextlib import contextmanager
 
-from server.program import HOST
+from bozintar.forwarders import Air, Forwarder
+from bozintar.processes import HOST, Process, await_that
 
 from .field import APPLICATION, GATEWAYS, counts_in
-from .forwarders import Air, Forwarder
 from .mqtt import Dashboard
 from .networks import End, Network
-from .parts import PILOT, Part, Parts, await_that
+from .parts import PILOT, Parts
+
 
 FIRST, SECOND = "1112131415161718", "2122232425262728"
 EUI = bytes.fromhex(GATEWAYS[0])
@@ -42,7 +43,7 @@ socket.getaddrinfo = slow
 """
 # as many wake-ups as a busy loop of events may find waiting, and then a signal
 BUSY = """import asyncio, os, signal, sys, time
-from bridges.running import until_told
+from bozintar.running import until_told
 async def busy():
     for _ in range(2000):
         asyncio.get_running_loop().call_soon_threadsafe(int)
@@ -68,7 +69,7 @@ class Bridge:
         said = ("--network", network.at, "--broker", f"{HOST}:{parts.broker_port}")
         said += ("--application", APPLICATION, "--counts", self.file, *words)
         program = [sys.executable, "-c", CHANGED, PILOT / "applications-mqtt", "", behind]
-        self.part = parts.part("applications-mqtt", *program, *said)
+        self.part = parts.process("applications-mqtt", *program, *said)
         self.network = network
         self.link = self.start()
 
@@ -235,7 +236,11 @@ def broker_hangs(trials):
 def a_busy_loop(trials):
     """A signal that comes while a loop of events has much to do is heard."""
     ended = subprocess.run(
-        [sys.executable, "-c", BUSY], cwd=PILOT, capture_output=True, text=True, check=False
+        [sys.executable, "-c", BUSY],
+        cwd=PILOT.parent / "python",
+        capture_output=True,
+        text=True,
+        check=False,
     )
     came = (ended.returncode, ended.stdout, ended.stderr)
     trials.compare("a busy program", came, (0, "", ""))
@@ -255,11 +260,11 @@ def rxpk(stamp: int, payload: bytes, snr: float) -> dict:
     return it | {"data": base64.b64encode(payload).decode()}
 
 
-def gateways(parts: Parts, network: str, *words, before: str = "", **how) -> Part:
+def gateways(parts: Parts, network: str, *words, before: str = "", **how) -> Process:
     """The bridge of gateways by UDP."""
     program = [sys.executable, "-c", CHANGED, PILOT / "gateways-udp", before, ""]
     said = ("--network", network, "--udp", f"{HOST}:{parts.udp_port}", *words)
-    return parts.part("gateways-udp", *program, *said).start(**how)
+    return parts.process("gateways-udp", *program, *said).start(**how)
 
 
 def frames(trials):

@@ -1,10 +1,11 @@
 """A field: meters, gateways that hear them, and the bridge that those gateways come by."""
 
-from server.program import HOST
+from bozintar.forwarders import Air, Forwarder
+from bozintar.meters import Meter
+from bozintar.processes import HOST, Process
 
-from .forwarders import Air, Forwarder
-from .meters import Meter
-from .parts import Part, Pilot
+from .parts import Pilot
+
 
 GATEWAYS = ("00000000000000B1", "00000000000000B2", "AA555A00000000B3")
 APPLICATION = 3
@@ -22,7 +23,7 @@ class Field:
         self.gateways = self.start_gateways()
         self.air = Air(self.make_gateways(), [Meter(it) for it in range(meters)])
 
-    def start_gateways(self) -> Part:
+    def start_gateways(self) -> Process:
         """The bridge of the gateways."""
         udp = ("--udp", f"{HOST}:{self.pilot.udp_port}")
         return self.pilot.own("gateways-udp", *udp, *self.named).start("listens on")

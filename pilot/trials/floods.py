@@ -4,15 +4,16 @@ the network gets what one gateway may say, and all of the other one."""
 import json
 import time
 
-from bridges.buckets import Bucket
-from server.program import HOST
+from bozintar.buckets import Bucket
+from bozintar.forwarders import Air, Forwarder
+from bozintar.processes import HOST, Process
 
 from .beside import gateways, rxpk
 from .field import GATEWAYS, counts_in
-from .forwarders import Air, Forwarder
 from .networks import End, Network
-from .parts import Part, Parts
+from .parts import Parts
 from .stations import Station
+
 
 # of each gateway: frames a second, and at once after a pause
 RATE, BURST = 200, 400
@@ -59,7 +60,7 @@ def counted(file: str, prefix: str) -> dict[str, int]:
     return {name.removeprefix(prefix): it for name, it in counts_in(file).items()}
 
 
-def compare(trials, part: Part, links: list[End], counts: dict, seconds: float, wrong: str):
+def compare(trials, part: Process, links: list[End], counts: dict, seconds: float, wrong: str):
     """Compares what came of both gateways, what was counted, and what was told."""
     told = [line.partition("  ")[2] for line in part.said().splitlines() if "dropped" in line]
     due = f"gateway {GATEWAYS[0]} says more than {RATE} frames a second; the rest is dropped"

@@ -3,11 +3,12 @@ format: Semtech's PROTOCOL.TXT, the events of ChirpStack's gateway bridge, docs/
 
 import json
 
-from bridges import clocks, gateway_events, gwmp, wire
-from bridges.fields import Wrong
+from bozintar import oracle, wire
+from bozintar.fields import Wrong
+from bozintar.lasting import Link
+from bozintar.words import Address
+from bridges import clocks, gateway_events, gwmp
 from bridges.gwmp import Datagram, OtherFrame
-from bridges.links import Link
-from bridges.words import Address
 
 EUI = bytes.fromhex("AA555A0000000101")
 # of PROTOCOL.TXT: a frame of 32 bytes, without padding
@@ -159,12 +160,11 @@ def outcome(of, *words):
 def copied(changes: dict):
     """What is counted, or the fields of a copy; its payload and its bytes are compared here."""
     said = {name: it for name, it in {**HEARD, **changes}.items() if it is not ...}
-    it = gwmp.copy_of(EUI, said)
-    how = (it.hz, it.data_rate, it.snr, it.rssi, it.stamp)
-    due = b"\x01" + EUI + it.hz.to_bytes(4, "big") + bytes([it.data_rate])
-    due += it.snr.to_bytes(2, "big", signed=True) + it.rssi.to_bytes(2, "big", signed=True)
-    due += it.stamp.to_bytes(4, "big") + PAYLOAD
-    return how if it.content() == due else it.content()
+    heard = gwmp.frame_in(EUI.hex().upper(), said)
+    copy = heard.copy
+    how = (copy.frequency, copy.data_rate, copy.snr, copy.rssi, copy.stamp)
+    due = oracle.copy_message(EUI.hex(), how, PAYLOAD)
+    return how if heard.message() == due else heard.message()
 
 
 def told(content: bytes):
@@ -201,11 +201,12 @@ class Slow:
 
 def slow_network(trials):
     """What is heard while the network doesn't read is handed in once it does, and before others."""
-    link = Link("one", Address("h", 1), b"")
+    link = Link("one", Address("h", 1), oracle.message(b""))
     slow = link.writer = Slow()
     for size, said in ((0, b"1"), (10**6, b"2"), (10**6, b"3"), (0, b"4")):
         slow.size = size
-        trials.compare(f"{said} is said now", link.say_soon(said), size == 0)
+        is_now = link.say_soon(wire.framed(said))
+        trials.compare(f"{said!r} is sent now", is_now, size == 0)
     trials.compare("all that was said", slow.said, b"\0\x011\0\x012\0\x013\0\x014")
     trials.compare("and how much of it later", link.caught_up, 2)
 
@@ -321,11 +322,11 @@ def heard(tx: dict, lora: dict, rx: dict):
     modulation = {"lora": {**EVENT["txInfo"]["modulation"]["lora"], **lora}}
     tx = {**EVENT["txInfo"], "modulation": modulation, **tx}
     body = {**EVENT, "txInfo": tx, "rxInfo": {**EVENT["rxInfo"], **rx}}
-    it = gateway_events.heard(STATION, 7, json.dumps(body).encode())
-    copy = it.copy
-    if (copy.gateway, copy.stamp, copy.payload) != (STATION, 7, JOIN):
-        return copy
-    return copy.hz, copy.data_rate, copy.snr, copy.rssi, it.context
+    up = gateway_events.up(STATION.hex().upper(), 7, json.dumps(body).encode())
+    copy = up.heard.copy
+    if (copy.gateway, copy.stamp, up.heard.frame) != (STATION.hex().upper(), 7, JOIN):
+        return up
+    return copy.frequency, copy.data_rate, copy.snr, copy.rssi, up.context
 
 
 def of_stations(trials):
@@ -339,7 +340,7 @@ def of_stations(trials):
         trials.compare(f"downlink {text}", json.loads(command), due)
     for text, due in STATUS_TEXTS:
         trials.compare(f"ack {text}", outcome(gateway_events.statuses, text), due)
-    topic = gateway_events.command_topic("eu868", STATION)
+    topic = gateway_events.command_topic("eu868", STATION.hex().upper())
     trials.compare("its topic", topic, "eu868/gateway/0016c001f153a14c/command/down")
 
 

@@ -4,7 +4,7 @@ import json
 import random
 import socket
 
-from server.program import HOST
+from bozintar.processes import HOST
 
 from .field import GATEWAYS
 

@@ -11,23 +11,28 @@ import sys
 import tempfile
 from pathlib import Path
 
-from server.program import Program
+from bozintar.server import Program
 
 from .parts import PILOT
 
-PROGRAMS, UNITS = Path("opt/bozintar/pilot"), Path("etc/systemd/system")
+
+PROGRAMS, UNITS = Path("opt/bozintar"), Path("etc/systemd/system")
 SETTINGS = Path("etc/mosquitto/conf.d/bozintar.conf")
-SECRET = "2B7E151628AED2A6ABF7158809CF4F3C"
+UNITS_OF = Path("pilot/systemd")
+SECRET = "8F3A90C1D2E4B5A697887766554433E1"
 # what an operator may leave in the folder, and with which mode
 STRAYS = {
-    "devices.csv": 0o644,
-    "authority/ca.key": 0o600,
-    "secure/ca.key": 0o600,
-    "bridges/keys.py": 0o644,
-    "systemd/stray.service": 0o644,
-    "systemd/stunnel@bozintar.service.d/stray.conf": 0o600,
+    "pilot/devices.csv": 0o644,
+    "pilot/authority/ca.key": 0o600,
+    "pilot/secure/ca.key": 0o600,
+    "pilot/bridges/keys.py": 0o644,
+    "pilot/systemd/stray.service": 0o644,
+    "pilot/systemd/stunnel@bozintar.service.d/stray.conf": 0o600,
+    "python/keys.py": 0o644,
+    "python/bozintar/keys.py": 0o600,
 }
 LINKS = ("shadow", "secure/shadow", "bridges/shadow.py", "systemd/shadow.service")
+LINKS = (*(f"pilot/{name}" for name in LINKS), "python/bozintar/shadow.py")
 # what needs the whole repository
 OF_THE_REPOSITORY = ("trial", "trials", "play", "speed", "__pycache__")
 # the most slots of a store, and its length then, by docs/OPERATING.md
@@ -39,34 +44,36 @@ RUN += ("secure/certificates", "secure/door")
 
 
 class Clone:
-    """A copy of pilot/ in which an operator has left files and links, and where it is installed."""
+    """A copy of pilot/ and of the package, in which an operator has left files and links, and where
+    it is installed."""
 
     def __init__(self, folder: Path, umask: int):
-        self.pilot, self.to = folder / "pilot", folder / "to"
+        self.top, self.to = folder / "clone", folder / "to"
         ignored = shutil.ignore_patterns(*OF_THE_REPOSITORY)
-        shutil.copytree(PILOT, self.pilot, ignore=ignored)
+        for name in ("pilot", "python"):
+            shutil.copytree(PILOT.parent / name, self.top / name, ignore=ignored)
         for it in self.files():
-            (self.pilot / it).chmod((0o777 if is_program(self.pilot / it) else 0o666) & ~umask)
+            (self.top / it).chmod((0o777 if is_program(self.top / it) else 0o666) & ~umask)
         self.own, secret = self.files(), folder / "secret"
         secret.write_text(SECRET, encoding="utf-8")
         for name, mode in STRAYS.items():
-            it = self.pilot / name
+            it = self.top / name
             it.parent.mkdir(exist_ok=True)
             it.write_text(SECRET, encoding="utf-8")
             it.chmod(mode)
         for name in LINKS:
-            (self.pilot / name).symlink_to(secret)
-        (self.pilot / "linked").symlink_to(self.pilot / "authority")
+            (self.top / name).symlink_to(secret)
+        (self.top / "pilot/linked").symlink_to(self.top / "pilot/authority")
 
     def files(self) -> set[Path]:
-        """The files of the pilot."""
-        found = (it for it in self.pilot.rglob("*") if it.is_file())
+        """The files of the pilot and of the package."""
+        found = (it for it in self.top.rglob("*") if it.is_file())
         found = (it for it in found if it.suffix in TEXTS or is_program(it))
-        return {it.relative_to(self.pilot) for it in found}
+        return {it.relative_to(self.top) for it in found}
 
     def install(self) -> subprocess.CompletedProcess:
         """Installs it, as an operator with a strict umask does."""
-        words = [sys.executable, self.pilot / "install", "--services", "--root", self.to]
+        words = [sys.executable, self.top / "pilot/install", "--services", "--root", self.to]
         how = {"capture_output": True, "text": True, "check": False, "umask": 0o077}
         return subprocess.run(words, **how)
 
@@ -95,7 +102,7 @@ def copied(trials):
             ended = it.install()
             trials.compare("its end", (ended.returncode, ended.stderr), (0, ""))
             trials.compare("what comes of the pilot", it.came(PROGRAMS), it.own)
-            units = {of.relative_to("systemd") for of in it.own if of.parts[0] == "systemd"}
+            units = {of.relative_to(UNITS_OF) for of in it.own if of.is_relative_to(UNITS_OF)}
             trials.compare("its units", it.came(UNITS), units)
             nothing_private(trials, it)
             modes(trials, it)
@@ -124,7 +131,7 @@ def modes(trials, it: Clone):
 def runs(trials, it: Clone):
     """Each program has all that it needs."""
     for name in RUN:
-        words = [it.to / PROGRAMS / name, "--help"]
+        words = [it.to / PROGRAMS / "pilot" / name, "--help"]
         ended = subprocess.run(words, capture_output=True, text=True, check=False)
         trials.compare(f"{name} --help", (ended.returncode, ended.stderr), (0, ""))
 
@@ -132,7 +139,7 @@ def runs(trials, it: Clone):
 def again(trials, it: Clone):
     """Installed again, programs are replaced, and what is in /etc stays and is named if it
     differs."""
-    settings, old = it.to / SETTINGS, it.to / PROGRAMS / "old"
+    settings, old = it.to / SETTINGS, it.to / PROGRAMS / "pilot/old"
     settings.write_text("# the operator's own\n", encoding="utf-8")
     old.write_text("of an earlier version", encoding="utf-8")
     ended = it.install()
@@ -141,13 +148,13 @@ def again(trials, it: Clone):
     trials.compare("settings", settings.read_text(encoding="utf-8"), "# the operator's own\n")
     named = [line for line in ended.stdout.splitlines() if ", and isn't " in line]
     stays = f"{settings} is there already, and stays as it is"
-    trials.compare("what it names", named, [f"{stays}, and isn't {it.pilot}/mosquitto.conf"])
+    trials.compare("what it names", named, [f"{stays}, and isn't {it.top}/pilot/mosquitto.conf"])
 
 
 def a_link_in_place(trials, it: Clone):
     """A link in the place of a file, or of a folder, isn't followed; what is installed stays."""
-    for name in ("alerts.yml", "bridges"):
-        place, aside = it.pilot / name, it.pilot.parent / "aside"
+    for name in ("pilot/alerts.yml", "pilot/bridges", "python/bozintar"):
+        place, aside = it.top / name, it.top.parent / "aside"
         place.rename(aside)
         place.symlink_to(aside)
         ended = it.install()

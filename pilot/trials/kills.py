@@ -8,9 +8,10 @@ import sys
 import time
 from collections import Counter
 
-from outside.frames import CHANNELS
+from bozintar.frames import CHANNELS
+from bozintar.meters import Meter
+
 from .hostile import flood
-from .meters import Meter
 from .mqtt import Whole, whole
 from .parts import PILOT
 from .stations import ByStations

@@ -9,13 +9,14 @@ import socket
 import time
 from contextlib import ExitStack, contextmanager
 
-from server.program import HOST
+from bozintar.mqtt import client
+from bozintar.processes import HOST, await_that
 
 from .field import APPLICATION, GATEWAYS
-from .library import client
 from .mqtt import Dashboard
-from .parts import Pilot, await_that
+from .parts import Pilot
 from .secured import Doors, application, ended, gateway, refused_by_broker
+
 
 OF_A_UNIT, OF_A_TRIAL = 1024, 4096
 # silent connections: more than the 500 that stunnel has places for, and than a unit has descriptors

@@ -9,12 +9,12 @@ import sqlite3
 import time
 from dataclasses import dataclass, field
 
+from bozintar.frames import CHANNELS
+from bozintar.mqtt import client
+from bozintar.processes import HOST, await_that
 from lnsd import load, store
-from outside.frames import CHANNELS
-from server.program import HOST
+from .parts import Pilot
 
-from .library import client
-from .parts import Part, Pilot, await_that
 
 GATEWAYS, DEVICES, APPLICATION = 64, 512, 0
 WINDOW = 0.2
@@ -170,9 +170,7 @@ class Loaded:
         readings = pilot.own("readings", "--db", self.database, *at).start("connected")
         applications.start("connected to")
         await_that("linked", lambda: "linked to" in applications.said())
-        server = Part("lnsd", pilot.folder)
-        server.process = pilot.program.server
-        self.parts = [server, bridge, broker, applications, readings]
+        self.parts = [pilot.program.running(), bridge, broker, applications, readings]
         await_that("all gateways are linked", self.are_linked)
 
     def are_linked(self) -> bool:

@@ -8,12 +8,13 @@ import subprocess
 import sys
 from contextlib import contextmanager
 
-from server.program import HOST, Failed
+from bozintar.meters import Meter, Reading
+from bozintar.mqtt import client
+from bozintar.processes import HOST, Failed, await_that
 
 from .field import APPLICATION, GATEWAYS, Field
-from .library import client
-from .meters import Meter, Reading
-from .parts import PILOT, Parts, Pilot, await_that
+from .parts import PILOT, Parts, Pilot
+
 
 EVENTS = f"application/{APPLICATION}/device/+/event/+"
 TAG = 41

@@ -1,29 +1,32 @@
-"""A network that is played, by docs/FORMATS.md: it says what a trial wants it to, and notes what
-bridges say."""
+"""A network that is played, by docs/FORMATS.md: it sends what a trial wants, and notes what bridges
+send. It speaks by `bozintar.oracle`, which shares no line with the codec of the bridges."""
 
 import socket
 import time
+from typing import Any
 
-from server import wire
-from server.program import HOST, Failed
+from bozintar import oracle
+from bozintar.processes import HOST, Failed
 
 
 class End:
     """The network's end of a link."""
 
-    def __init__(self, it: socket.socket):
-        self.socket, self.frames, self.contents = it, wire.Frames(), []
+    def __init__(self, connection: socket.socket):
+        self.socket, self.stream = connection, oracle.Stream()
+        self.contents: list[bytes] = []
+        self.greeting: bytes | None = None
 
-    def say(self, *contents: bytes):
-        """Says contents."""
-        self.socket.sendall(b"".join(map(wire.framed, contents)))
+    def say(self, *contents: bytes) -> None:
+        """Sends contents."""
+        self.socket.sendall(b"".join(map(oracle.message, contents)))
 
-    def tell(self, *lines: str):
-        """Says lines for an application."""
-        self.say(*(b"\x13" + it.encode() for it in lines))
+    def tell(self, *lines: str) -> None:
+        """Sends lines for an application."""
+        self.socket.sendall(b"".join(map(oracle.line_message, lines)))
 
     def hears(self, seconds: float = 10.0) -> bytes | None:
-        """The next content; None for the end of what is said, or "reset", or "nothing"."""
+        """The next content; None for the end of what is sent, or "reset", or "nothing"."""
         last = time.monotonic() + seconds
         while not self.contents:
             self.socket.settimeout(max(0.01, last - time.monotonic()))
@@ -35,7 +38,7 @@ class End:
                 return b"reset"
             if not piece:
                 return None
-            self.contents += self.frames.feed(piece)
+            self.contents += self.stream.contents(piece)
         return self.contents.pop(0)
 
     def asked(self, seconds: float = 10.0) -> list[str]:
@@ -45,26 +48,27 @@ class End:
             raise Failed(f"no request: {content.decode(errors='replace')}")
         return content[1:].decode().split(" ")
 
-    def close(self):
+    def close(self) -> None:
+        """Closes the link."""
         self.socket.close()
 
 
 class Network:
     """What listens, as a network does."""
 
-    def __init__(self):
+    def __init__(self) -> None:
         self.listener = socket.create_server((HOST, 0))
         self.at = f"{HOST}:{self.listener.getsockname()[1]}"
 
     def link(self, seconds: float = 10.0) -> End:
-        """The next link, behind its greeting."""
+        """The next link, after its greeting."""
         self.listener.settimeout(seconds)
-        it = End(self.listener.accept()[0])
-        it.greeting = it.hears()
-        return it
+        end = End(self.listener.accept()[0])
+        end.greeting = end.hears()
+        return end
 
-    def __enter__(self):
+    def __enter__(self) -> "Network":
         return self
 
-    def __exit__(self, *_):
+    def __exit__(self, *_: Any) -> None:
         self.listener.close()

@@ -8,10 +8,11 @@ import tempfile
 import time
 from pathlib import Path
 
-from server.program import HOST
+from bozintar.processes import HOST
 
 from .field import GATEWAYS
 from .parts import PILOT, Pilot
+
 
 # a line of Prometheus' text format that has a number
 SAMPLE = re.compile(r'([a-zA-Z_:][a-zA-Z0-9_:]*)(\{[a-z]+="(?:[^"\\\n]|\\["\\n])*"\})? (\S+)')

@@ -10,16 +10,17 @@ import subprocess
 import sys
 import time
 
-from server import wire
-from server.links import Application
-from server.program import HOST, Failed, free_port
+from bozintar import wire
+from bozintar.forwarders import Air, Forwarder
+from bozintar.links import Application
+from bozintar.meters import Meter
+from bozintar.processes import HOST, Failed, await_that, command, free_port
 
 from .field import APPLICATION, GATEWAYS
-from .forwarders import Air, Forwarder
-from .meters import Meter
 from .mqtt import Dashboard
-from .parts import PILOT, Pilot, await_that, command
+from .parts import PILOT, Pilot
 from .stations import Station
+
 
 TLS, BROKER_TLS = "/etc/bozintar/tls", "/etc/mosquitto/certs"
 OTHERS = "AA555A00000000B9"
@@ -96,7 +97,7 @@ class Doors:
             ("/opt/bozintar/pilot", str(PILOT)),
             (f"door {HOST}:5600", f"door {self.pilot.network} --log {self.log}"),
         )
-        self.stunnel = self.pilot.part("stunnel-server", command("stunnel"), conf)
+        self.stunnel = self.pilot.process("stunnel-server", command("stunnel"), conf)
         self.stunnel.start("Configuration successful")
 
     def open_client(self, to: int) -> int:
@@ -110,7 +111,7 @@ class Doors:
             ("server.example", "localhost"),
             ("NAME", GATEWAYS[0].lower()),
         )
-        it = self.pilot.part("stunnel-client", command("stunnel"), conf)
+        it = self.pilot.process("stunnel-client", command("stunnel"), conf)
         it.start("Configuration successful")
         return port
 

@@ -8,12 +8,13 @@ import socket
 import time
 from collections import deque
 
-from outside.frames import CHANNELS
-from server.program import HOST
+from bozintar.frames import CHANNELS
+from bozintar.mqtt import client
+from bozintar.processes import HOST
 
 from .field import GATEWAYS, counts_in
-from .library import client
 from .mqtt import Whole, whole
+
 
 STATS_EVERY = 1.0
 

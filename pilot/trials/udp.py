@@ -2,13 +2,14 @@
 
 from contextlib import contextmanager
 
-from outside.frames import CHANNELS
-from server.links import Application
-from server.wire import PROVISION
+from bozintar.frames import CHANNELS
+from bozintar.links import Application
+from bozintar.meters import JOIN_EUI
+from bozintar.wire import PROVISION
 
 from .field import APPLICATION, Field, counts_in
-from .meters import JOIN_EUI
 from .parts import Pilot
+
 
 RX2 = ("SF12BW125", 869.525)
 LATE = "TOO_LATE"

@@ -8,16 +8,16 @@ import sys
 import threading
 import time
 
+from bozintar import oracle
+from bozintar.fields import Wrong
+from bozintar.processes import HOST, await_that
+from bozintar.wire import Downlink, Frames, NoMessage, line_of
 from bridges.application_events import Translator
-from bridges.fields import Wrong
-from bridges.wire import Downlink, Frames, NoMessage, line_of
-from server import wire
-from server.program import HOST
-
-from . import beside
 from .beside import nobody_reads
 from .field import GATEWAYS
-from .parts import PILOT, Pilot, await_that
+from .parts import PILOT, Pilot
+from . import beside
+
 
 AT = "127.0.0.1:1"
 GATEWAY = ("--gateway", GATEWAYS[0])
@@ -95,22 +95,22 @@ WORDS = (
 STRANGE = (
     b"\xff\xff",
     b"\x02\xbd" + bytes(701),
-    wire.framed(b""),
-    wire.framed(b"\x55\x01"),
-    wire.framed(b"\x11" + bytes(8)),
-    wire.framed(b"\x11" + bytes(18) + b"\x00"),
-    wire.framed(b"\x11" + bytes.fromhex(GATEWAYS[0]) + b"\xff" * 11 + bytes(255)),
-    wire.framed(b"\x13"),
-    wire.framed(b"\x13up"),
-    wire.framed(b"\x13up 1112131415161718 1 0 7 04D2 1 00000000000000B1 868100000 5 -20"),
-    wire.framed(b"\x13up 1112131415161718 x 0 7 04D2 1 00000000000000B1 868100000 5 -20 -95"),
-    wire.framed(b"\x13up 1112131415161718 1 0 7 4D2 1 00000000000000B1 868100000 5 -20 -95"),
-    wire.framed(b"\x13acked 1112131415161718"),
-    wire.framed(b"\x13acked 1112131415161718 x"),
-    wire.framed(b"\x13mac 1112131415161718 1 06"),
-    wire.framed(b"\x13refused"),
-    wire.framed(b"\x13refused x"),
-    wire.framed("\x13up \u00e4".encode()),
+    oracle.message(b""),
+    oracle.message(b"\x55\x01"),
+    oracle.message(b"\x11" + bytes(8)),
+    oracle.message(b"\x11" + bytes(18) + b"\x00"),
+    oracle.message(b"\x11" + bytes.fromhex(GATEWAYS[0]) + b"\xff" * 11 + bytes(255)),
+    oracle.message(b"\x13"),
+    oracle.message(b"\x13up"),
+    oracle.message(b"\x13up 1112131415161718 1 0 7 04D2 1 00000000000000B1 868100000 5 -20"),
+    oracle.message(b"\x13up 1112131415161718 x 0 7 04D2 1 00000000000000B1 868100000 5 -20 -95"),
+    oracle.message(b"\x13up 1112131415161718 1 0 7 4D2 1 00000000000000B1 868100000 5 -20 -95"),
+    oracle.message(b"\x13acked 1112131415161718"),
+    oracle.message(b"\x13acked 1112131415161718 x"),
+    oracle.message(b"\x13mac 1112131415161718 1 06"),
+    oracle.message(b"\x13refused"),
+    oracle.message(b"\x13refused x"),
+    oracle.message("\x13up \u00e4".encode()),
 )
 
 

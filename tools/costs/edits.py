@@ -17,7 +17,8 @@ import shutil
 import tempfile
 
 import commands
-from commands import ROOT, stop
+from commands import ROOT
+from bozintar.words import Words, stop
 
 
 def toolchain():
@@ -28,7 +29,7 @@ def toolchain():
     loader.exec_module(made)
     for it in ("checked", "edits_of", "read_edit", "rtlib"):
         if not hasattr(made, it):
-            stop(f"this toolchain's rt has no {it}, which this reads (rattle-kit-13b has it)", 1)
+            stop(f"this toolchain's rt has no {it}, which this reads (rattle-kit-13b has it)")
     return made
 
 
@@ -51,7 +52,7 @@ def tried(rt, crate, texts, kept):
 
 
 def main():
-    words = commands.Words(__doc__)
+    words = Words(__doc__)
     words.add_argument("crate", metavar="CRATE", type=commands.crate)
     words.add_argument("edits", nargs="*", metavar="EDIT")
     given = words.parse_args()
@@ -62,10 +63,10 @@ def main():
     edits = {os.path.basename(it)[: -len(".edit")]: it for it in rt.edits_of(crate)[0]}
     for it in given.edits:
         if it not in edits:
-            stop(f"{given.crate} has no edit {it}; it has {', '.join(edits) or 'none'}")
+            stop(f"{given.crate} has no edit {it}; it has {', '.join(edits) or 'none'}", 2)
     kept = f"{crate.folder}/out/incremental"
     if not os.path.isdir(kept):
-        stop(f"no check of {given.crate} kept anything: run rt check --jobs 1 there", 1)
+        stop(f"no check of {given.crate} kept anything: run rt check --jobs 1 there")
     nothing, _, said = tried(rt, crate, {}, kept)
     print(f"{nothing:6.1f}         {given.crate} with no edit: {said[-1][:40]}")
     for label in given.edits or edits:

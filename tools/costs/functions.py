@@ -15,6 +15,7 @@ from collections import Counter, defaultdict
 
 import commands
 from commands import ROOT
+from bozintar.words import Words
 
 MOST = 5
 # What follows a function's name in the name of one of its modules.
@@ -50,7 +51,7 @@ def dearest(crate):
 
 
 def main():
-    words = commands.Words(__doc__)
+    words = Words(__doc__)
     words.add_argument("crates", nargs="+", metavar="CRATE", type=commands.crate)
     lacking = 0
     for crate in words.parse_args().crates:

@@ -4,8 +4,9 @@ of one check each read the libraries, and the same proofs take a third more proc
 
 Status: 0; 2 for a word, since it takes none. --help prints this."""
 import commands
+from bozintar.words import Words
 
 
 def main():
-    commands.Words(__doc__).parse_args()
+    Words(__doc__).parse_args()
     print(commands.lanes())

@@ -24,6 +24,7 @@ import time
 
 import commands
 from commands import ROOT
+from bozintar.words import Words, stop
 
 TICKS = os.sysconf("SC_CLK_TCK")
 KINDS = ("proof", "tests", "edits")
@@ -129,7 +130,7 @@ def clone_of(commit, room):
     """A clone of the repository at a commit."""
     for words in (["clone", "-q", ROOT, room], ["-C", room, "checkout", "-q", commit]):
         if subprocess.run(["git", *words], check=False).returncode:
-            commands.stop(f"no clone of {commit} could be made")
+            stop(f"no clone of {commit} could be made", 2)
     return room
 
 
@@ -151,13 +152,13 @@ def keep(told):
 
 
 def main():
-    words = commands.Words(__doc__)
+    words = Words(__doc__)
     words.add_argument("--beside", metavar="COMMIT")
     words.add_argument("--keep", action="store_true")
     words.add_argument("crates", nargs="*", metavar="CRATE", type=commands.crate)
     given = words.parse_args()
     if given.keep and given.crates:
-        commands.stop("it keeps the whole table alone")
+        stop("it keeps the whole table alone", 2)
     commands.need_rt()
     os.makedirs(f"{ROOT}/out", exist_ok=True)
     with tempfile.TemporaryDirectory() as room:

@@ -1,13 +1,13 @@
 """What a crowd of devices and applications does by chance, for comparisons with a plain model."""
-from . import cipher  # its AES is the quick one, so it comes before those that use it
-from outside.device import Device, Rejected
-from outside.frames import CHANNELS, FIRST_CHANNELS
-from outside.gateway import Copy
-from server.wire import byte_text
+from bozintar import aes, quick
+from bozintar.devices import Device, Rejected
+from bozintar.frames import CHANNELS, FIRST_CHANNELS
+from bozintar.wire import Copy, byte_text
 
 EUIS = [f"{0xB1 + it:016X}" for it in range(6)]
 OWNERS = (0, 3, 15)
 JOIN_EUI = "0102030405060708"
+quick.use()
 # more than the store has slots for
 DEVICES = 14
 STRAY = f"{0xDEAD << 48:016X}"
@@ -29,7 +29,7 @@ class Sender(Device):
     """A device of the crowd, which may be deaf to what it is sent."""
 
     def __init__(self, number):
-        key = cipher.encrypt(b"keys of a crowd ", number.to_bytes(16, "big"))
+        key = aes.encrypt(b"keys of a crowd ", number.to_bytes(16, "big"))
         super().__init__(f"{0xFACE000000000000 + number:016X}", JOIN_EUI, key.hex().upper())
         self.owner = OWNERS[number % 3]
         self.offset, self.delay = number % 6, 1 + number % 15

@@ -6,10 +6,11 @@ import time
 from functools import cache
 
 import preloads
-from . import calls, floods, load, starts
+from bozintar import wire
+from bozintar.links import Application, Ended, Gateway
+
 from .trials import EUI, OWNER, Pair, end_all, records
-from server import wire
-from server.links import Application, Ended, Gateway
+from . import calls, floods, load, starts
 
 # more than the calls of a run of `Pair.play` and two more uplinks
 CALLS, WAITING, ASKED = 80, 4096, 5000

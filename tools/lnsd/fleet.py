@@ -7,15 +7,14 @@ import subprocess
 import time
 from collections import Counter
 
+from bozintar import wire
+from bozintar.frames import FIRST_CHANNELS
+from bozintar.links import Application, Gateway, Silent
+from bozintar.processes import Failed
+from bozintar.wire import NoMessage, PROVISION, Copy, Downlink, request
+
 from .handed import left_of, on_its_way
 from .seen import WRONG
-from outside.device import Rejected
-from outside.frames import FIRST_CHANNELS
-from outside.gateway import Copy, order_of
-from server import wire
-from server.links import Application, Gateway, Silent
-from server.program import Failed
-from server.wire import PROVISION, request
 
 # where links stay the first three are there, and all of them where links come and go
 GATEWAYS = [f"{0xB1 + it:016X}" for it in range(8)]
@@ -150,8 +149,8 @@ class Load:
     def order(self, gateway, content):
         """What a gateway is to send: it is for this gateway, and answers what it handed in."""
         try:
-            frame = order_of(gateway, content).frame
-        except Rejected as why:
+            frame = Downlink.of(gateway, content).frame
+        except NoMessage as why:
             self.seen.wrong(f"{content.hex().upper()} came to gateway {gateway}: {why}")
             return
         dev_eui = self.seen.frame(gateway, frame)

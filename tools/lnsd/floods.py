@@ -4,13 +4,13 @@ import threading
 import time
 from dataclasses import replace
 
-from . import load
+from bozintar import network, wire
+from bozintar.frames import FIRST_CHANNELS, LATER_CHANNELS
+from bozintar.links import Application, Gateway, Link
+from bozintar.wire import Copy
+
 from .trials import EUI, HEARD, OWNER, PROVISION, Pair, await_links, end_all, records
-from outside import network
-from outside.frames import FIRST_CHANNELS, LATER_CHANNELS
-from outside.gateway import Copy
-from server import wire
-from server.links import Application, Gateway, Link
+from . import load
 
 REQUESTS = 400_000
 # so many frames are sent at once by 32 gateways each: the copies of each come within its window

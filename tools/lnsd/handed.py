@@ -7,10 +7,11 @@ import termios
 from collections import Counter, defaultdict
 from dataclasses import dataclass
 
+from bozintar import network
+from bozintar.links import Link
+from bozintar.wire import Copy
+
 from .trials import unread
-from outside import network
-from outside.gateway import Copy
-from server.links import Link
 
 # the refusals of a copy alone: its window has another copy of the frame, which is decided
 OF_COPIES = ("21", "22")

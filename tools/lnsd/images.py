@@ -3,9 +3,10 @@ compared with a reader of images that shares nothing with the program, and of so
 import os
 from concurrent.futures import ThreadPoolExecutor
 
-from . import image, store
+from bozintar.links import Application
+
 from .trials import DEV_EUI, OWNER, PROVISION, end_all, records
-from server.links import Application
+from . import image, store
 
 VALUES = (0x00, 0x5A, 0xA5, 0xFF)
 FIRST = 200

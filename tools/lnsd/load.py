@@ -8,15 +8,15 @@ import time
 from array import array
 from dataclasses import dataclass
 
-from . import cipher  # its AES is the quick one, so it comes before those that use it
-from . import store
-from outside import network
-from outside.device import Device
-from outside.frames import CHANNELS, session_keys
-from outside.gateway import Copy
-from server import wire
-from server.links import Application, Gateway
+from bozintar import network, quick, wire
+from bozintar.devices import Device
+from bozintar.frames import CHANNELS, session_keys
+from bozintar.links import Application, Gateway
+from bozintar.wire import Copy
 
+from . import store
+
+quick.use()
 JOIN_EUI = "0102030405060708"
 # no more windows than this are to be open, of the 1,024 that there may be
 MOST_OPEN, WINDOW = 960, 200_000_000

@@ -7,12 +7,12 @@ import time
 from concurrent.futures import ThreadPoolExecutor
 
 import preloads
+from bozintar.links import Application, Ended, Gateway, Silent
+from bozintar.server import Program
+from bozintar.wire import PROVISION, Copy
+
 from .seen import Meter, Seen
 from .trials import EUI, OWNER
-from outside.gateway import Copy
-from server.links import Application, Ended, Gateway, Silent
-from server.program import Failed, Program
-from server.wire import PROVISION
 
 # so many requests are refused, one in each life, spread over those of a life
 TRIED = 30

@@ -10,12 +10,13 @@ import threading
 import time
 from contextlib import contextmanager
 
-from . import load
+from bozintar import wire
+from bozintar.links import Application, Gateway, Link
+from bozintar.processes import Failed
+from bozintar.wire import Copy
+
 from .trials import EUI, HEARD, OWNER, await_read, records
-from outside.gateway import Copy
-from server import wire
-from server.links import Application, Gateway, Link
-from server.program import Failed
+from . import load
 
 # places of a server, and how many lines wait for an application
 PLACES, WAITING = 96, 1024

@@ -3,13 +3,14 @@ the same bytes whatever the pieces are, as docs/FORMATS.md says of the wire."""
 from concurrent.futures import ThreadPoolExecutor
 from dataclasses import dataclass
 
+from bozintar import network, wire
+from bozintar.devices import Device
+from bozintar.links import Ended, Link, Silent
+from bozintar.processes import Failed, free_port
+from bozintar.server import Program
+from bozintar.wire import Copy
+
 from .trials import APP_KEY, DEV_EUI, EUI, HEARD, JOIN_EUI, OWNER, PROVISION, await_read
-from outside import network
-from outside.device import Device
-from outside.gateway import Copy
-from server import wire
-from server.links import Ended, Link, Silent
-from server.program import Failed, Program, free_port
 
 # how many servers run at once: most of the time each of them waits for its windows
 AT_ONCE = 16

@@ -4,9 +4,8 @@ all its copies."""
 import re
 from dataclasses import dataclass, field
 
-from outside import network
-from outside.frames import CHANNELS, FIRST_CHANNELS, UP, crypted, data_mic
-from outside.aes import cmac
+from bozintar import aes, network
+from bozintar.frames import CHANNELS, FIRST_CHANNELS, UP, crypted, data_mic
 
 LARGEST = (59, 59, 59, 123, 250, 250)
 # in quarters of a dB
@@ -222,7 +221,7 @@ class Network:
             raise Refused(7)
         if device.join_eui != frame[1:9][::-1].hex().upper():
             raise Refused(8)
-        if cmac(bytes.fromhex(device.app_key), frame[:-4])[:4] != frame[-4:]:
+        if aes.cmac(bytes.fromhex(device.app_key), frame[:-4])[:4] != frame[-4:]:
             raise Refused(4)
         nonce = int.from_bytes(frame[17:19], "little")
         if nonce <= device.dev_nonce:

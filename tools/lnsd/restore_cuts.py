@@ -9,9 +9,11 @@ import tempfile
 from pathlib import Path
 
 import preloads
+from bozintar.processes import Failed
+from bozintar.server import Program
+
 from .disks import kinds_of
 from .restores import HEADER, PLAIN, STRANGER, Case, greatest, lines_of, made_copy
-from server.program import Failed, Program
 
 # the most requests and calls that are tried, spread over all that there are; and more calls than a
 # restore makes

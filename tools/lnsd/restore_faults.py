@@ -5,9 +5,11 @@ import subprocess
 import sys
 from pathlib import Path
 
+from bozintar.processes import Failed
+from bozintar.server import Program
+
 from .restores import HEADER, LAST, PLAIN, RECORD, STRANGER, Case, Copy, made_copy, written
 from .trials import as_nobody
-from server.program import Failed, Program
 
 # a large file's length, and what a refusal of it may cost: seconds, and KiB of memory
 LARGE, QUICK, SMALL = 2 << 30, 2, 64 << 10

@@ -4,8 +4,10 @@ docs/FORMATS.md."""
 import os
 from pathlib import Path
 
+from bozintar.processes import Failed
+from bozintar.server import Program
+
 from . import load, store
-from server.program import Failed, Program
 
 RECORD, HEADER = "lnsd-restored.csv", "DevEUI,JoinNonce"
 # how far restore raises JoinNonces if no option says so, and the last JoinNonce

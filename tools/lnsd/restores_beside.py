@@ -3,8 +3,9 @@ import os
 import subprocess
 from pathlib import Path
 
+from bozintar.server import Program
+
 from .restores import RECORD, Case, nonces_in
-from server.program import Program
 
 # how many restores run at once, and how often
 AT_ONCE, ROUNDS = 6, 4

@@ -1,8 +1,8 @@
 """The random loads of lnsd-model as one script for the simulator lns-sim, and what has to come."""
 import subprocess
 
-from . import plain
 from .chance import Crowd
+from . import plain
 
 # a batch has so many decisions at most, and a checkpoint takes so many device calls
 BATCH, CALLS = 64, 6

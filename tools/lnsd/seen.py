@@ -4,13 +4,14 @@ and items."""
 import time
 from collections import Counter
 
-from . import cipher  # its AES is the quick one, so it comes before those that use it
+from bozintar import aes, network, quick
+from bozintar.devices import Device
+from bozintar.frames import DOWN, crypted, data_mic, opened_accept, session_keys
+
 from .handed import Handed
-from outside import network
-from outside.device import Device
-from outside.frames import DOWN, crypted, data_mic, opened_accept, session_keys
 
 JOIN_EUI = "0102030405060708"
+quick.use()
 # how long a device rests behind a frame, and how long it waits for an accept, in seconds: an accept
 # doesn't say of which Join-Request it is
 REST, JOIN_REST = 0.45, 60
@@ -24,7 +25,7 @@ class Meter(Device):
     again."""
 
     def __init__(self, number, application):
-        key = cipher.encrypt(b"keys of devices ", number.to_bytes(16, "big"))
+        key = aes.encrypt(b"keys of devices ", number.to_bytes(16, "big"))
         super().__init__(f"{0xC0FFEE0000000000 + number:016X}", JOIN_EUI, key.hex().upper())
         self.application, self.slot = application, None
         self.keeps = number % 3 > 0

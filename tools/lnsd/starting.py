@@ -5,10 +5,11 @@ import resource
 import tempfile
 
 import preloads
+from bozintar.links import Application, Gateway
+from bozintar.processes import HOST, free_port
+
 from .operating import PLACES, Watcher, await_status, operator, stopped, used
 from .trials import OWNER
-from server.links import Application, Gateway
-from server.program import HOST, free_port
 
 # descriptors beside two for each place, attendants of the control socket, and places where all of
 # these are tried at once

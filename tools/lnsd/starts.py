@@ -3,9 +3,10 @@ import os
 import socket
 import subprocess
 
+from bozintar.links import Application
+from bozintar.processes import HOST, free_port
+
 from .trials import OWNER, as_nobody, records
-from server.links import Application
-from server.program import HOST, free_port
 
 WRONG_IDS = ("000040", "FFFFFF", "00002a", "2A", "00002A0", "", "0x002A", "-0002A", "  002A")
 FORMATS = ("--netid", "00002A", "--slots", "8")

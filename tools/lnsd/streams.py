@@ -1,10 +1,11 @@
 """Trials of lnsd with streams that are no links' as they should be."""
 import time
 
+from bozintar import wire
+from bozintar.links import Application, Gateway, Link
+from bozintar.wire import Copy
+
 from .trials import EUI, HEARD, OWNER, PROVISION, Pair, await_links, end_all
-from outside.gateway import Copy
-from server import wire
-from server.links import Application, Gateway, Link
 
 # a healthy gateway beside these is the 61st at most, of the 64 that there may be
 MOST = 60

@@ -5,15 +5,16 @@ import subprocess
 import time
 from dataclasses import replace
 
-from . import disks, load
+from bozintar import wire
+from bozintar.devices import Device
+from bozintar.frames import LATER_CHANNELS
+from bozintar.links import Application, Ended, Gateway, Link, Silent
+from bozintar.processes import HOST, Failed, free_port
+from bozintar.wire import Copy
+
 from .operating import ORDER, PATIENCE, PLACES, Watcher, await_status, heard, running, stopped
 from .trials import APP_KEY, DEV_EUI, EUI, HEARD, JOIN_EUI, OWNER, Pair, records
-from outside.device import Device
-from outside.frames import LATER_CHANNELS
-from outside.gateway import Copy
-from server import wire
-from server.links import Application, Ended, Gateway, Link, Silent
-from server.program import HOST, Failed, free_port
+from . import disks, load
 
 OTHER, STRANGER = "00000000000000B2", "1112131415161799"
 # the names of a status, but for the last copies

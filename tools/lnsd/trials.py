@@ -8,13 +8,14 @@ import threading
 import time
 from contextlib import contextmanager
 
+from bozintar import network, wire
+from bozintar.devices import Device
+from bozintar.links import Ended, Link, Silent
+from bozintar.processes import Failed
+from bozintar.server import Program
+from bozintar.wire import Copy
+
 from . import load, store
-from outside import network
-from outside.device import Device
-from outside.gateway import Copy
-from server import wire
-from server.links import Ended, Link, Silent
-from server.program import Failed, Program
 
 DEV_EUI, JOIN_EUI = "1112131415161718", "0102030405060708"
 APP_KEY = "2B7E151628AED2A6ABF7158809CF4F3C"

@@ -23,8 +23,8 @@ import tempfile
 
 import commands
 import preloads
-from commands import stop
-from lnsd.words import folder, number
+from bozintar.words import Words, between, folder, stop
+
 
 # how much longer a sync takes, in microseconds; the aim, in percent
 DELAYS, AIM = (0, 500, 1000, 2000, 5000), 160
@@ -49,7 +49,7 @@ def measured(program, where, how):
     found = [tuple(map(int, it)) for it in LINE.findall(ran.stderr)]
     if ran.returncode != 0 or len(found) != 2:
         said = ran.stderr.strip().partition("\n")[0]
-        stop(f"nothing was measured, with status {ran.returncode}: {said}", 1)
+        stop(f"nothing was measured, with status {ran.returncode}: {said}")
     return found
 
 
@@ -68,10 +68,10 @@ def told(delay, runs, rates, calls):
 
 
 def main():
-    words = commands.Words(__doc__)
+    words = Words(__doc__)
     words.add_argument("--program", metavar="FILE")
     words.add_argument("--folder", type=folder, default=".", metavar="DIR")
-    words.add_argument("--times", type=number(1, 100), default=1, metavar="N")
+    words.add_argument("--times", type=between(1, 100), default=1, metavar="N")
     given = words.parse_args()
     program = commands.program_of(given.program, "lns_speed")
     passed, failed = 0, 0

@@ -8,9 +8,9 @@ import time
 from array import array
 
 import lnsd.load
-from server import wire
-from server.links import Application
-from server.program import Failed
+from bozintar import wire
+from bozintar.links import Application
+from bozintar.processes import Failed
 
 # tags of one length, so that all answers have one
 FIRST_TAG = 1_000_000

@@ -23,8 +23,7 @@ there is no program. --help prints this."""
 import time
 from array import array
 
-from speeds import runs  # it finds examples/, so it comes before those that use it
-from speeds import clients, peers
+from speeds import clients, peers, runs
 from speeds.measure import seconds_of, spread
 from speeds.runs import DEVICES
 

@@ -15,7 +15,7 @@ import tempfile
 
 import json
 
-import commands
+from bozintar.words import Words, stop
 from speeds import table
 
 os.environ.setdefault("MPLCONFIGDIR", tempfile.gettempdir())
@@ -72,11 +72,11 @@ def by_gnuplot(found, png):
         script += [f"{value} {place / 2}" for place, value in enumerate(values)] + ["e"]
     ran = subprocess.run(["gnuplot"], input="\n".join(script), text=True, check=False)
     if ran.returncode:
-        commands.stop("gnuplot failed", 1)
+        stop("gnuplot failed")
 
 
 def main():
-    words = commands.Words(__doc__)
+    words = Words(__doc__)
     words.add_argument("--page", metavar="FILE")
     words.add_argument("results", metavar="RESULTS")
     words.add_argument("png", nargs="?", metavar="PNG")
@@ -90,7 +90,7 @@ def main():
             table.put(given.page, found)
     except (ValueError, KeyError, TypeError, AttributeError, IndexError):
         told = f"{given.results} has no results of speed server, run or databases"
-        commands.stop(f"{told}, or {given.page} no place for them" if given.page else told, 1)
+        stop(f"{told}, or {given.page} no place for them" if given.page else told)
     if not given.png:
         return 0
     if matplotlib:
@@ -99,5 +99,5 @@ def main():
         by_gnuplot(found, given.png)
     else:
         why = "it draws by matplotlib or gnuplot, and neither is here"
-        commands.stop(f"{why}: apt-get install python3-matplotlib, or gnuplot-nox", 1)
+        stop(f"{why}: apt-get install python3-matplotlib, or gnuplot-nox")
     return 0

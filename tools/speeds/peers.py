@@ -9,7 +9,8 @@ import subprocess
 import tempfile
 import time
 
-from server.program import HOST, free_port
+from bozintar.processes import HOST, free_port
+
 from .measure import spread, times_of
 
 TABLE = """CREATE TABLE uplinks (dev_eui BIGINT, join_nonce INT, counter BIGINT, port INT,

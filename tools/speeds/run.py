@@ -27,11 +27,11 @@ import time
 from array import array
 from collections import Counter
 
-from speeds import runs  # it finds examples/, so it comes before those that use it
 import lnsd.load
-from lnsd.operating import connect_anew, used
-from server.links import Application, Gateway
-from server.program import Failed
+from bozintar.links import Application, Gateway
+from bozintar.processes import Failed
+from lnsd.operating import connect_anew
+from speeds import runs
 from speeds.measure import counted, idle, seconds_of, spread, tasks, times_of
 from speeds.runs import APPLICATIONS, DEVICES, GATEWAYS
 

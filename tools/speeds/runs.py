@@ -2,18 +2,16 @@
 the links of a load."""
 import json
 import os
-import sys
-
-from commands import ROOT, stop
-
-sys.path[:0] = [f"{ROOT}/examples"]
 
 import lnsd.load
 import lnsd.store
-import lnsd.words
-from server.links import Ended, Silent
-from server.program import Failed, Program
+from commands import ROOT
+from bozintar.links import Ended, Silent
+from bozintar.processes import Failed
+from bozintar.server import Program, ProgramWords
+from bozintar.words import folder, between, stop
 from speeds.measure import machine
+
 
 # the C library's allocator, as bin/lnsd sets it
 ALLOCATOR = {"MALLOC_ARENA_MAX": "1", "MALLOC_MMAP_THRESHOLD_": "1048576"}
@@ -71,19 +69,18 @@ def found_in(out):
     except ValueError:
         found = None
     if not isinstance(found, dict):
-        stop(f"{out} is there, and has no figures", 1)
+        stop(f"{out} is there, and has no figures")
     return found
 
 
 def words_of(text, **numbers):
     """The words of a measurement: the program, a folder, --out, and numbers, each with its least,
     its most and what it is otherwise."""
-    it = lnsd.words.of_program(text)
-    it.add_argument("--folder", type=lnsd.words.folder, metavar="DIR", default=ROOT)
+    it = ProgramWords(text)
+    it.add_argument("--folder", type=folder, metavar="DIR", default=ROOT)
     it.add_argument("--out", metavar="FILE")
     for name, (least, most, default) in numbers.items():
-        number = lnsd.words.number(least, most)
-        it.add_argument(f"--{name}", type=number, default=default, metavar="N")
+        it.add_argument(f"--{name}", type=between(least, most), default=default, metavar="N")
     return it
 
 

@@ -25,10 +25,10 @@ import os
 import shutil
 import time
 
-from speeds import runs  # it finds examples/, so it comes before those that use it
 import lnsd.load
-from server.links import Application
-from server.program import Failed
+from bozintar.links import Application
+from bozintar.processes import Failed
+from speeds import runs
 from speeds.measure import Probe, by_command, idle, memory, seconds_of, share, spread, syncs, told
 from speeds.runs import APPLICATIONS, DEVICES, GATEWAYS
 

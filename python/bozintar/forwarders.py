@@ -1,5 +1,6 @@
 """Packet forwarders of Semtech's protocol, by its public text (PROTOCOL.TXT of packet_forwarder):
-what a gateway's own program sends over UDP, and what it does with what it is told."""
+what a gateway's own program sends over UDP, and what it does with what it is told. `Air` carries
+frames between gateways and meters."""
 
 import base64
 import json
@@ -7,34 +8,40 @@ import select
 import socket
 import time
 from collections import deque
+from collections.abc import Callable, Iterable
+from typing import Any
 
-from server.program import HOST
+from .meters import Meter
+from .processes import HOST
 
 PULLS_EVERY = 1.0
-SPREADING = {dr: f"SF{12 - dr}BW125" for dr in range(6)}
+SPREADING = {rate: f"SF{12 - rate}BW125" for rate in range(6)}
 
 
 class Forwarder:
-    """A gateway with a packet forwarder, whose clock begins where it wants."""
+    """A gateway with a packet forwarder, whose clock begins at any microsecond."""
 
-    def __init__(self, eui: str, port: int, version=2, begins=0, host=HOST):
+    socket: socket.socket
+
+    def __init__(self, eui: str, port: int, version: int = 2, begins: int = 0, host: str = HOST):
         self.eui, self.version, self.server = bytes.fromhex(eui), version, (host, port)
         self.begun = time.monotonic() - begins / 1e6
-        self.socket, self.token, self.next_pull = None, 0, 0.0
+        self.token, self.next_pull = 0, 0.0
         # what it answers instead of sending, in turn
         self.errors: deque[str] = deque()
-        self.acknowledged, self.told = 0, []
+        self.acknowledged = 0
+        self.told: list[dict] = []
         self.move()
 
-    def move(self):
+    def move(self) -> None:
         """It has another port from now on."""
-        if self.socket:
+        if hasattr(self, "socket"):
             self.socket.close()
         self.socket = socket.socket(socket.AF_INET, socket.SOCK_DGRAM)
         self.socket.connect(self.server)
         self.next_pull = 0.0
 
-    def restart(self, begins: int = 0):
+    def restart(self, begins: int = 0) -> None:
         """It starts again: another port, and a clock from the beginning."""
         self.begun = time.monotonic() - begins / 1e6
         self.move()
@@ -43,7 +50,7 @@ class Forwarder:
         """Its clock."""
         return round((time.monotonic() - self.begun) * 1e6) % 2**32
 
-    def say(self, kind: int, body: bytes = b"", token: int | None = None):
+    def say(self, kind: int, body: bytes = b"", token: int | None = None) -> None:
         """Sends a datagram."""
         self.token = (self.token + 1) % 65536
         number = self.token if token is None else token
@@ -51,7 +58,7 @@ class Forwarder:
         try:
             self.socket.send(head + body)
         except ConnectionRefusedError:
-            pass  # nobody listens there, as when the bridge is killed
+            pass  # nobody listens there, for example when the bridge is killed
 
     def rxpk(self, frame: bytes, hz: int, data_rate: int, snr: float, rssi: int) -> dict:
         """What it says of a frame."""
@@ -70,12 +77,19 @@ class Forwarder:
             "data": base64.b64encode(frame).decode(),
         }
 
-    def hears(self, frame, hz=868_100_000, data_rate=5, snr=7.5, rssi=-80):
+    def hears(
+        self,
+        frame: bytes,
+        hz: int = 868_100_000,
+        data_rate: int = 5,
+        snr: float = 7.5,
+        rssi: int = -80,
+    ) -> None:
         """Hears a frame, and says so."""
         self.say(0, json.dumps({"rxpk": [self.rxpk(frame, hz, data_rate, snr, rssi)]}).encode())
 
-    def look(self):
-        """Asks for downlinks where it is time."""
+    def look(self) -> None:
+        """Asks for downlinks if it is time."""
         if time.monotonic() >= self.next_pull:
             self.say(2)
             self.next_pull = time.monotonic() + PULLS_EVERY
@@ -106,27 +120,27 @@ class Air:
     """What gateways and meters have between them. A gateway has `socket`, `look`, `read` and
     `hears`."""
 
-    def __init__(self, gateways, meters):
+    def __init__(self, gateways: Iterable[Any], meters: Iterable[Meter]):
         self.gateways, self.meters = list(gateways), list(meters)
         self.unheard = 0
 
-    def go_on(self, seconds: float = 0.0, until=None) -> bool:
+    def go_on(self, seconds: float = 0.0, until: Callable[[], Any] | None = None) -> bool:
         """Time passes, at most so long; whether what was waited for is so."""
         last = time.monotonic() + seconds
         while not (until and until()):
             left = last - time.monotonic()
             if left < 0:
                 return False
-            for it in self.gateways:
-                it.look()
-            sockets = {it.socket: it for it in self.gateways}
+            for gateway in self.gateways:
+                gateway.look()
+            sockets = {gateway.socket: gateway for gateway in self.gateways}
             for ready in select.select(list(sockets), [], [], min(left, 0.05))[0]:
                 frame = sockets[ready].read()
                 if frame:
                     self.carry(frame)
         return True
 
-    def carry(self, frame: bytes):
+    def carry(self, frame: bytes) -> None:
         """A frame that a gateway sends, which one meter hears."""
-        if not any(it.takes(frame) for it in self.meters):
+        if not any(meter.takes(frame) for meter in self.meters):
             self.unheard += 1

@@ -1,8 +1,4 @@
-"""A connection to an MQTT broker that comes back by itself.
-
-The library is Debian's `python3-paho-mqtt`, of version 1.6; one of version 2 is used in the same
-way. It lies where Debian's own Python looks for it, and where another Python is first on the PATH
-it is taken from there too: it is of Python alone."""
+"""A connection to an MQTT broker that comes back by itself, for asyncio."""
 
 import argparse
 import asyncio
@@ -13,25 +9,17 @@ import time
 from collections.abc import Callable
 from dataclasses import dataclass
 from functools import partial
+from typing import Any
 
-from .handovers import Handover
-from .words import Address, stop, tell
-
-DEBIAN = "/usr/lib/python3/dist-packages"
-try:
-    from paho.mqtt import client as mqtt
-except ImportError:
-    sys.path.append(DEBIAN)
-    try:
-        from paho.mqtt import client as mqtt
-    except ImportError:
-        mqtt = None
+from . import mqtt
+from .running import Handover
+from .words import Address, log, stop
 
 KEEPALIVE = 30
 LONGEST_PAUSE = 30
 # how long until a broker that didn't take the certificate is tried again, in seconds
 REFUSED_PAUSE = 5
-# messages of the broker that wait to be looked at, behind which they are dropped
+# messages of the broker that wait to be read; more are dropped
 MOST_READ = 10_000
 # how long the broker may take to hear a goodbye, in seconds
 GOODBYE = 1.0
@@ -41,7 +29,7 @@ REFUSED = 0x80
 
 @dataclass(frozen=True)
 class Access:
-    """Where the broker is, and what it wants to see of us."""
+    """Where the broker is, and the certificates for it."""
 
     address: Address
     ca: str | None = None
@@ -49,17 +37,16 @@ class Access:
     key: str | None = None
 
     @staticmethod
-    def add_words(words: argparse.ArgumentParser):
-        """The words that tell of a broker."""
+    def add_words(words: argparse.ArgumentParser) -> None:
+        """The options about a broker."""
         words.add_argument("--broker", type=Address.read, required=True, metavar="HOST:PORT")
         for it in ("--ca", "--certificate", "--key"):
             words.add_argument(it, metavar="FILE")
 
     @classmethod
-    def of(cls, given) -> "Access":
-        """What the words say; without the library it ends here, behind --help."""
-        if not mqtt:
-            stop("there is no Python library paho.mqtt; pilot/install has the system install it")
+    def of(cls, given: Any) -> "Access":
+        """What the options say. Without the MQTT library the program ends here."""
+        mqtt.need_it()
         if bool(given.certificate) != bool(given.key):
             stop("--certificate and --key go together", 2)
         if given.certificate and not given.ca:
@@ -67,23 +54,15 @@ class Access:
         return cls(given.broker, given.ca, given.certificate, given.key)
 
 
-def at_once(_client, _data, it: socket.socket):
-    """Has a connection send what is small at once, and not 40 ms later."""
-    it.setsockopt(socket.IPPROTO_TCP, socket.TCP_NODELAY, 1)
-
-
-def client_of(name: str, is_kept: bool):
-    """The library's client. From version 2 on it wants to be told how it calls back."""
-    how = {"client_id": name, "clean_session": not is_kept}
-    if hasattr(mqtt, "CallbackAPIVersion"):
-        how["callback_api_version"] = mqtt.CallbackAPIVersion.VERSION1
-    return mqtt.Client(**how)
+def at_once(_client: Any, _data: Any, connection: socket.socket) -> None:
+    """Lets a connection send what is small at once, and not 40 ms later."""
+    connection.setsockopt(socket.IPPROTO_TCP, socket.TCP_NODELAY, 1)
 
 
 class Broker:
-    """What is published is kept until the broker has it; `has_room` says whether fewer than `room`
-    messages wait. What comes is given to `take`, in the event loop that this was made in. Where
-    nothing `is_kept`, the broker keeps nothing that comes while this is away, and what is said to
+    """What is published is kept until the broker has it; `has_room` is set if fewer than `room`
+    messages wait. What comes is given to `take`, in the event loop that this was made in. If
+    nothing `is_kept`, the broker keeps nothing that comes while this is away, and what is sent to
     it is of no use later."""
 
     def __init__(
@@ -102,7 +81,7 @@ class Broker:
         self.taken, self.came = Handover(self.take_taken), Handover(self.read)
         self.is_gone, self.fault = threading.Event(), ""
         self.is_gone.set()
-        self.client = client_of(name, is_kept)
+        self.client = mqtt.client(name, is_kept)
         self.client.max_inflight_messages_set(1000)
         self.client.reconnect_delay_set(1, LONGEST_PAUSE)
         if access.ca:
@@ -112,31 +91,31 @@ class Broker:
         self.client.on_connect_fail = self.on_connect_fail
         self.client.on_disconnect = self.on_disconnect
         if is_kept:
-            # the library also calls it for what was said, which isn't counted
+            # the library also calls it for what was sent by `say`, which isn't counted
             self.client.on_publish = lambda *_: self.taken.give(None)
         self.client.on_message = self.on_message
         self.client.on_subscribe = self.on_subscribe
 
-    def secure(self):
-        """Sets the certificates up, which are looked at here."""
+    def secure(self) -> None:
+        """Gives the library the certificates, which it reads here."""
         try:
             self.client.tls_set(self.access.ca, self.access.certificate, self.access.key)
         except (OSError, ValueError) as why:
             stop(f"the certificates can't be used: {why}")
 
-    def start(self):
+    def start(self) -> None:
         """Connects, now or as soon as the broker is there."""
         self.connect()
         self.client.loop_forever = partial(self.go_on, self.client.loop_forever)
         self.client.loop_start()
 
-    def connect(self):
-        """Has the library connect anew."""
+    def connect(self) -> None:
+        """Lets the library connect again."""
         self.client.connect_async(self.access.address.host, self.access.address.port, KEEPALIVE)
 
-    def end(self):
-        """Says goodbye, where the broker is there to hear it. The library's thread isn't waited
-        for: it would stay until a broker that hangs has all messages."""
+    def end(self) -> None:
+        """Disconnects, if the broker is there. It doesn't wait for the library's thread, which would
+        stay until a broker that hangs has all messages."""
         if self.is_there():
             self.client.disconnect()
             self.is_gone.wait(GOODBYE)
@@ -148,9 +127,9 @@ class Broker:
         return not self.is_gone.is_set()
 
     def publish(self, topic: str, payload: bytes) -> bool:
-        """Has the broker get a message at least once, for as long as this program lives; whether
-        the library has a number left for it."""
-        if self.client.publish(topic, payload, qos=1).rc == mqtt.MQTT_ERR_QUEUE_SIZE:
+        """Sends the broker a message at least once, for as long as this program lives; whether the
+        library has a number left for it."""
+        if self.client.publish(topic, payload, qos=1).rc == mqtt.paho.MQTT_ERR_QUEUE_SIZE:
             return False
         self.waiting += 1
         if self.waiting >= self.room:
@@ -158,30 +137,30 @@ class Broker:
         return True
 
     def say(self, topic: str, payload: bytes) -> bool:
-        """Publishes what is of no use later, now or never; whether the broker is there."""
-        return self.client.publish(topic, payload, qos=0).rc == mqtt.MQTT_ERR_SUCCESS
+        """Publishes a message that is of no use later; whether the broker is there."""
+        return self.client.publish(topic, payload, qos=0).rc == mqtt.paho.MQTT_ERR_SUCCESS
 
     def dropped(self) -> int:
-        """How many messages weren't looked at since this was asked last."""
+        """How many messages weren't read since the last call."""
         before, self.counted = self.counted, self.overrun
         return self.counted - before
 
-    def take_taken(self, found: list):
+    def take_taken(self, found: list) -> None:
         """The broker has some of the messages."""
         self.waiting -= len(found)
         if self.waiting < self.room:
             self.has_room.set()
 
-    def read(self, found: list):
-        """Looks at messages."""
+    def read(self, found: list[tuple[str, bytes]]) -> None:
+        """Reads messages."""
         for topic, payload in found:
             self.take(topic, payload)
 
     # what follows is called in the library's thread
 
-    def go_on(self, loop: Callable, **how):
-        """Has the library go on. A broker that doesn't take the certificate says so behind the
-        handshake (TLS 1.3), by which its thread would end."""
+    def go_on(self, loop: Callable, **how: Any) -> Any:
+        """Lets the library go on. A broker that doesn't take the certificate says so after the
+        handshake (TLS 1.3), which would end the library's thread."""
         while True:
             try:
                 return loop(**how)
@@ -191,41 +170,41 @@ class Broker:
             time.sleep(REFUSED_PAUSE)
             self.connect()
 
-    def on_connect(self, client, _data, _flags, code):
-        """Asks for the topics, anew behind each connection."""
+    def on_connect(self, client: Any, _data: Any, _flags: Any, code: int) -> None:
+        """Asks for the topics, again after each connection."""
         if code:
-            tell(f"the broker refuses the connection: {mqtt.connack_string(code)}")
+            log(f"the broker refuses the connection: {mqtt.paho.connack_string(code)}")
             return
         self.is_gone.clear()
         self.fault = ""
-        tell(f"connected to the broker at {self.access.address}")
+        log(f"connected to the broker at {self.access.address}")
         if self.topics:
-            client.subscribe([(it, 1) for it in self.topics])
+            client.subscribe([(topic, 1) for topic in self.topics])
 
-    def on_connect_fail(self, *_):
+    def on_connect_fail(self, *_: Any) -> None:
         """The library tries again, without end."""
         self.miss(str(sys.exc_info()[1]))
 
-    def miss(self, why: str):
-        """Tells why nobody is connected to, each reason once."""
+    def miss(self, why: str) -> None:
+        """Logs why there is no connection, each reason once."""
         if why != self.fault:
-            tell(f"no broker at {self.access.address}: {why}")
+            log(f"no broker at {self.access.address}: {why}")
         self.fault = why
 
-    def on_subscribe(self, _client, _data, _number, granted):
-        """What may not be read is told, since nothing will come of it. (mosquitto grants all, and
-        passes on what its list allows.)"""
-        if any(it >= REFUSED for it in granted):
-            tell("the broker refuses topics: whose certificate is it?")
+    def on_subscribe(self, _client: Any, _data: Any, _number: int, granted: Any) -> None:
+        """A topic that may not be read is logged, since nothing will come of it. (mosquitto grants
+        all topics, and passes on what its list allows.)"""
+        if any(code >= REFUSED for code in granted):
+            log("the broker refuses topics: whose certificate is it?")
 
-    def on_disconnect(self, _client, _data, code):
+    def on_disconnect(self, _client: Any, _data: Any, code: int) -> None:
         """The library connects again by itself."""
         self.is_gone.set()
         if code:
-            tell(f"no broker at {self.access.address}: {mqtt.error_string(code)}")
+            log(f"no broker at {self.access.address}: {mqtt.paho.error_string(code)}")
 
-    def on_message(self, _client, _data, message):
-        """A message, which is looked at in the event loop. What was retained is of the past."""
+    def on_message(self, _client: Any, _data: Any, message: Any) -> None:
+        """A message, which is read in the event loop. A retained one is of the past."""
         try:
             topic = message.topic
         except UnicodeDecodeError:

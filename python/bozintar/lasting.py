@@ -1,4 +1,4 @@
-"""A link to the network that is opened anew whenever it has ended."""
+"""A link to the network, for asyncio, that is opened again whenever it has ended."""
 
 import asyncio
 import socket
@@ -7,63 +7,71 @@ from collections import deque
 from collections.abc import AsyncIterator
 
 from . import wire
+from .links import refuse_itself
 from .lookups import connected
-from .words import Address, tell
+from .words import Address, log
 
 # seconds between two tries: the first, and the longest, to which they double
 PAUSES = (1.0, 30.0)
-# how long a link has lasted where all is well again, and how long one is waited for
+# after how long a link counts as well again, and how long a connection may take, in seconds
 LASTING, PATIENCE = 10.0, 5.0
-# what may wait for a network that doesn't read, in bytes: what is heard is of no use later
+# how many bytes may wait for a network that doesn't read: what is heard is of no use later
 MOST_WAITING = 65536
-# what is heard while no link takes it is said on the first that does, if it isn't older, in seconds
+# what is heard while no link takes it is sent on the first that does, if it is younger, in seconds
 LATEST, MOST_EARLY = 2.0, 64
 # a link has no signs of life, so the system asks for them
 KEEPALIVE = ((socket.TCP_KEEPIDLE, 60), (socket.TCP_KEEPINTVL, 15), (socket.TCP_KEEPCNT, 4))
 
 
 class Link:
-    """One name's link: what is said while there is none is refused, and what comes is read on."""
+    """The link of one name: what is sent while there is none is refused, and what comes is read
+    on. Messages are sent, and contents are read."""
 
-    def __init__(self, name: str, address: Address, greeting: bytes, pauses=PAUSES):
+    def __init__(
+        self,
+        name: str,
+        address: Address,
+        greeting: bytes,
+        pauses: tuple[float, float] = PAUSES,
+    ):
         self.name, self.address, self.greeting, self.pauses = name, address, greeting, pauses
         self.writer: asyncio.StreamWriter | None = None
         self.opened, self.is_ending = 0, False
-        # what is said as soon as a link takes it, with when it was meant to; and how much was
+        # what is sent as soon as a link takes it, with when it was meant to; and how much was
         self.early: deque[tuple[float, bytes]] = deque(maxlen=MOST_EARLY)
         self.caught_up = 0
 
-    def say(self, content: bytes) -> bool:
-        """Says it; whether there was a link that takes it."""
+    def say(self, message: bytes) -> bool:
+        """Sends a message; whether there was a link that takes it."""
         if not self.writer or self.writer.is_closing():
             return False
         if self.writer.transport.get_write_buffer_size() > MOST_WAITING:
             return False
-        self.writer.write(wire.framed(content))
+        self.writer.write(message)
         return True
 
-    def say_soon(self, content: bytes) -> bool:
-        """Says it now, or as soon as a link takes it, if that isn't long; whether it was now. What
-        waits is said before it, since what is older is of no use behind it."""
+    def say_soon(self, message: bytes) -> bool:
+        """Sends a message now, or as soon as a link takes it, if that isn't long; whether it was
+        now. What waits is sent before it, since an older message is of no use after it."""
         self.catch_up()
-        is_said = not self.early and self.say(content)
+        is_said = not self.early and self.say(message)
         if not is_said:
-            self.early.append((time.monotonic(), content))
+            self.early.append((time.monotonic(), message))
         return is_said
 
-    def catch_up(self):
-        """Says what waited for a link, where one takes it now."""
+    def catch_up(self) -> None:
+        """Sends what waited for a link, if one takes it now."""
         last = time.monotonic() - LATEST
         while self.early:
-            moment, content = self.early[0]
-            if moment > last and not self.say(content):
+            moment, message = self.early[0]
+            if moment > last and not self.say(message):
                 return
             self.early.popleft()
             self.caught_up += moment > last
 
     def end_well(self) -> bool:
-        """Says that nothing more is said: what comes is read on until the network closes the link,
-        which is the last one. Answers whether there is one."""
+        """Ends what this end sends: what comes is read on until the network closes the link, which
+        is the last one. Whether there is a link."""
         if not self.writer or self.writer.is_closing():
             return False
         try:
@@ -73,14 +81,14 @@ class Link:
         self.is_ending = True
         return True
 
-    def end(self):
-        """Breaks the link off, where there is one."""
+    def end(self) -> None:
+        """Breaks the link off, if there is one."""
         if self.writer:
             self.writer.transport.abort()
 
     async def contents(self) -> AsyncIterator[bytes]:
-        """What comes over all links of this name, one behind the other, until one of them was
-        ended well."""
+        """What comes over all links of this name, one after the other, until one of them was ended
+        well."""
         (first, longest), clock = self.pauses, time.monotonic
         pause = first
         while True:
@@ -95,7 +103,7 @@ class Link:
                 return
             lasted = clock() - begun > LASTING
             pause = first if lasted else pause
-            tell(f"{self.name}: no link to {self.address}, again in {pause:.1f} s: {why}")
+            log(f"{self.name}: no link to {self.address}, again in {pause:.1f} s: {why}")
             await asyncio.sleep(pause)
             pause = min(2 * pause, longest)
 
@@ -105,9 +113,9 @@ class Link:
         reader, writer = await asyncio.open_connection(sock=connection)
         try:
             self.prepare(writer.get_extra_info("socket"))
-            writer.write(wire.framed(self.greeting))
+            writer.write(self.greeting)
             self.writer, self.opened = writer, self.opened + 1
-            tell(f"{self.name}: linked to {self.address}")
+            log(f"{self.name}: linked to {self.address}")
             self.catch_up()
             frames = wire.Frames()
             while piece := await reader.read(65536):
@@ -118,11 +126,9 @@ class Link:
             writer.close()
 
     @staticmethod
-    def prepare(it: socket.socket):
-        """Has the system find out where the other end is gone without a word."""
-        # where nobody listens, TCP may link a port of this machine with itself
-        if it.getsockname() == it.getpeername():
-            raise ConnectionRefusedError("nobody listens there")
-        it.setsockopt(socket.SOL_SOCKET, socket.SO_KEEPALIVE, 1)
+    def prepare(connection: socket.socket) -> None:
+        """Lets the system find out if the other end is gone without a word."""
+        refuse_itself(connection)
+        connection.setsockopt(socket.SOL_SOCKET, socket.SO_KEEPALIVE, 1)
         for option, value in KEEPALIVE:
-            it.setsockopt(socket.IPPROTO_TCP, option, value)
+            connection.setsockopt(socket.IPPROTO_TCP, option, value)

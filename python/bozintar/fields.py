@@ -1,8 +1,9 @@
-"""What was read from JSON, field by field: whoever sends it may send anything."""
+"""Fields of JSON that anybody may have sent: each is checked."""
 
 import base64
 import binascii
 import json
+from typing import Any
 
 # a LoRa demodulator measures an SNR of this range, in dB. The best SNR decides which gateway sends,
 # so one that claims more than there can be would take all downlinks
@@ -13,7 +14,7 @@ class Wrong(ValueError):
     """A field isn't what its format says."""
 
 
-def parsed(text: bytes):
+def parsed(text: bytes) -> Any:
     """The value of a JSON text."""
     try:
         return json.loads(text)
@@ -21,7 +22,7 @@ def parsed(text: bytes):
         raise Wrong("no JSON") from None
 
 
-def table(value) -> dict:
+def table(value: Any) -> dict:
     """A value that is an object."""
     if not isinstance(value, dict):
         raise Wrong("no object")
@@ -35,7 +36,7 @@ def inner(of: dict, name: str) -> dict:
 
 def number(of: dict, name: str, least: float, most: float) -> float:
     """A field that is a number of this range."""
-    value = of.get(name)
+    value: Any = of.get(name)
     is_number = isinstance(value, (int, float)) and not isinstance(value, bool)
     if not (is_number and least <= value <= most):
         raise Wrong(f"{name} is no number from {least} to {most}")
@@ -80,6 +81,6 @@ def shown(value: bytes) -> str:
     return base64.b64encode(value).decode("ascii")
 
 
-def compact(value) -> bytes:
+def compact(value: Any) -> bytes:
     """A value as JSON text."""
     return json.dumps(value, separators=(",", ":")).encode("ascii")

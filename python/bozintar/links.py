@@ -1,16 +1,16 @@
-"""Links to lnsd: TCP connections over which a gateway or an application talks."""
+"""Links to the network: TCP connections over which a gateway or an application talks. These wait
+for what comes; `lasting` has links for asyncio, which are opened again and again."""
 
 import socket
 import time
 from collections import deque
-
-from outside.gateway import order_of
+from typing import Any
 
 from . import wire
 
 # how long a client tries to be linked, and waits for an answer, in seconds: a machine that does
 # much else may take long
-PATIENCE = 30
+PATIENCE = 30.0
 
 
 class Ended(Exception):
@@ -21,57 +21,56 @@ class Silent(Exception):
     """Nothing came in time."""
 
 
-def address_of(text):
-    """HOST:PORT as a pair."""
-    host, colon, port = text.rpartition(":")
-    is_port = port.isascii() and port.isdigit() and 0 < int(port) < 65536
-    try:
-        # as connecting does: it would raise no OSError of an empty or a long part of a name
-        host.encode("idna")
-    except UnicodeError:
-        host = ""
-    if not (host and colon and is_port):
-        raise ValueError(f"{text} is no HOST:PORT")
-    return host.strip("[]"), int(port)
+def refuse_itself(connection: socket.socket) -> None:
+    """If nobody listens on a port of this machine, TCP may connect the port with itself: then
+    nobody is there."""
+    if connection.getsockname() == connection.getpeername():
+        raise ConnectionRefusedError("nobody listens there")
 
 
-def connected(address, patience=PATIENCE, room=None):
+def connected(
+    address: tuple[str, int], patience: float = PATIENCE, room: int | None = None
+) -> socket.socket:
     """A connection, once somebody listens there. `room` is what it holds unread, in bytes."""
     last = time.monotonic() + patience
     while True:
-        it = socket.socket(socket.AF_INET6 if ":" in address[0] else socket.AF_INET)
+        connection = socket.socket(socket.AF_INET6 if ":" in address[0] else socket.AF_INET)
         try:
             if room:
-                it.setsockopt(socket.SOL_SOCKET, socket.SO_RCVBUF, room)
-            it.settimeout(max(0.1, last - time.monotonic()))
-            it.connect(address)
-            # where nobody listens, TCP may link a port of this machine with itself
-            if it.getsockname() != it.getpeername():
-                it.setsockopt(socket.IPPROTO_TCP, socket.TCP_NODELAY, 1)
-                return it
+                connection.setsockopt(socket.SOL_SOCKET, socket.SO_RCVBUF, room)
+            connection.settimeout(max(0.1, last - time.monotonic()))
+            connection.connect(address)
+            refuse_itself(connection)
+            connection.setsockopt(socket.IPPROTO_TCP, socket.TCP_NODELAY, 1)
+            return connection
         except OSError:
-            pass
-        it.close()
+            connection.close()
         if time.monotonic() >= last:
             raise Silent(f"nobody listens on {address[0]}:{address[1]}")
         time.sleep(0.01)
 
 
 class Link:
-    """One end of a link. What is said is bytes of whole frames; what is read is contents."""
+    """One end of a link: it sends bytes of messages, and reads contents."""
 
-    def __init__(self, address, greeting=b"", patience=PATIENCE, room=None):
+    def __init__(
+        self,
+        address: tuple[str, int],
+        greeting: bytes = b"",
+        patience: float = PATIENCE,
+        room: int | None = None,
+    ):
         self.patience = patience
         self.socket = connected(address, patience, room)
         self.frames = wire.Frames()
-        self.contents = deque()
+        self.contents: deque[bytes] = deque()
         self.is_over = False
-        # how many bytes were said
+        # how many bytes were sent
         self.said = 0
         if greeting:
             self.say(greeting)
 
-    def say(self, said):
+    def say(self, said: bytes) -> None:
         """Sends bytes."""
         try:
             self.socket.settimeout(self.patience)
@@ -82,8 +81,8 @@ class Link:
             raise Ended("the network has closed the link") from None
         self.said += len(said)
 
-    def more(self, patience):
-        """Waits for a piece; answers whether one came, and not the end."""
+    def more(self, patience: float) -> bool:
+        """Waits for a piece; whether one came, and not the end."""
         self.socket.settimeout(max(patience, 0.001))
         try:
             piece = self.socket.recv(65536)
@@ -95,7 +94,7 @@ class Link:
         self.is_over = not piece
         return not self.is_over
 
-    def read(self, patience=None):
+    def read(self, patience: float | None = None) -> bytes:
         """The next content."""
         last = time.monotonic() + (self.patience if patience is None else patience)
         while not self.contents:
@@ -103,7 +102,7 @@ class Link:
                 raise Ended("the network has closed the link")
         return self.contents.popleft()
 
-    def rest(self, patience=None):
+    def rest(self, patience: float | None = None) -> list[bytes]:
         """All contents until the network closes the link."""
         last = time.monotonic() + (self.patience if patience is None else patience)
         while not self.is_over:
@@ -112,56 +111,56 @@ class Link:
         self.contents.clear()
         return left
 
-    def end(self):
-        """Says that nothing more is said. What comes can be read on."""
+    def end(self) -> None:
+        """Ends what this end sends. What comes can be read on."""
         try:
             self.socket.shutdown(socket.SHUT_WR)
         except OSError:
             pass
 
-    def reset(self):
+    def reset(self) -> None:
         """Breaks the link off, so that the other end gets a reset."""
         self.socket.setsockopt(socket.SOL_SOCKET, socket.SO_LINGER, b"\1\0\0\0\0\0\0\0")
         self.socket.close()
 
-    def close(self):
-        """Lets go of the link."""
+    def close(self) -> None:
+        """Closes the link."""
         self.socket.close()
 
-    def __enter__(self):
+    def __enter__(self) -> "Link":
         return self
 
-    def __exit__(self, *_):
+    def __exit__(self, *_: Any) -> None:
         self.close()
 
 
 class Gateway(Link):
     """A gateway's link."""
 
-    def __init__(self, address, eui, **how):
+    def __init__(self, address: tuple[str, int], eui: str, **how: Any):
         self.eui = eui
         super().__init__(address, wire.gateway_greeting(eui), **how)
 
-    def hands_in(self, frame, heard):
-        """Says how it heard a frame."""
-        self.say(wire.copy_of(frame, heard))
+    def hands_in(self, frame: bytes, copy: wire.Copy) -> None:
+        """Sends a frame, and how it was heard."""
+        self.say(wire.copy_of(frame, copy))
 
-    def order(self, patience=None):
+    def order(self, patience: float | None = None) -> wire.Downlink:
         """The next downlink that it is to send."""
-        return order_of(self.eui, self.read(patience))
+        return wire.Downlink.of(self.eui, self.read(patience))
 
 
 class Application(Link):
     """An application's link."""
 
-    def __init__(self, address, number, **how):
+    def __init__(self, address: tuple[str, int], number: int, **how: Any):
         self.number = number
         super().__init__(address, wire.application_greeting(number), **how)
 
-    def asks(self, line):
-        """Says a request."""
+    def asks(self, line: str) -> None:
+        """Sends a request."""
         self.say(wire.request(line))
 
-    def hears(self, patience=None):
+    def hears(self, patience: float | None = None) -> str:
         """The next line for it."""
         return wire.line_of(self.read(patience))

@@ -2,7 +2,7 @@
 
 import textwrap
 
-from .gateway import read_order
+from bozintar.wire import Downlink, Frames, NoMessage
 
 WIDTH = 100
 # a page shows at most so many lines in a row, else the first and the last of them
@@ -42,6 +42,15 @@ def shown_lines(lines, start):
         shown += shown_line(numbers, script, answers)
         start = end + 1
     return shown
+
+
+def read_order(line):
+    """The downlink in a line `gw` of `lns-sim`."""
+    kind, eui, text = line.split(" ")
+    contents = Frames().feed(bytes.fromhex(text))
+    if kind != "gw" or len(contents) != 1:
+        raise NoMessage("no downlink for a gateway")
+    return Downlink.of(eui, contents[0])
 
 
 class Story:

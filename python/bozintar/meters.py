@@ -2,11 +2,13 @@
 
 import re
 from dataclasses import dataclass
+from typing import Any
 
-from lnsd import cipher  # its AES is the quick one, so it comes before those that use it
-from outside.device import Device, Rejected
-from outside.frames import DOWN, data_mic
+from . import aes, quick
+from .devices import Device, Rejected
+from .frames import DOWN, data_mic
 
+quick.use()
 JOIN_EUI = "0102030405060708"
 PORT = 7
 
@@ -29,26 +31,25 @@ class Meter(Device):
     """A meter, with all that it sent and all that was acknowledged to it."""
 
     def __init__(self, number: int):
-        key = cipher.encrypt(b"keys of meters  ", number.to_bytes(16, "big"))
+        key = aes.encrypt(b"keys of meters  ", number.to_bytes(16, "big"))
         super().__init__(dev_eui(number), JOIN_EUI, key.hex().upper())
-        self.number, self.session = number, 0
+        self.number = number
         self.sent: dict[Reading, bytes] = {}
         self.acknowledged: set[Reading] = set()
         self.awaited: Reading | None = None
         self.items: list[bytes] = []
-        self.owes_ack = False
         self.downlinks: list[tuple[int, int]] = []
 
     def row(self) -> str:
         """Its line of a file of devices."""
         return f"{self.dev_eui},{JOIN_EUI},{self.app_key.hex().upper()},0,1"
 
-    def reads(self, confirmed: bool = True, **how) -> bytes:
+    def reads(self, confirmed: bool = True, **how: Any) -> bytes:
         """A frame with the next reading."""
-        mark = Reading(self.dev_eui, self.session, self.next_up)
+        mark = Reading(self.dev_eui, self.join_nonce, self.next_up)
         payload = self.number.to_bytes(2, "big") + self.next_up.to_bytes(4, "big")
         frame = self.uplink(PORT, payload, confirmed=confirmed, ack=self.owes_ack, **how)
-        self.sent[mark], self.awaited, self.owes_ack = payload, mark, False
+        self.sent[mark], self.awaited = payload, mark
         return frame
 
     def takes(self, frame: bytes) -> bool:
@@ -61,9 +62,8 @@ class Meter(Device):
         key = self.keys[0]
         if data_mic(key, DOWN, self.dev_addr, counter, frame[:-4]) != frame[-4:]:
             return False
-        self.downlinks.append((self.session, counter))
+        self.downlinks.append((self.join_nonce, counter))
         words = self.take_downlink(frame)
-        self.owes_ack = frame[0] == 0xA0
         if "ACK" in words and self.awaited:
             self.acknowledged.add(self.awaited)
         if found := re.search(rf"port {PORT}, payload ([0-9A-F]+)", words):
@@ -73,9 +73,8 @@ class Meter(Device):
     def is_let_in(self, frame: bytes) -> bool:
         """Hears an accept; whether it is for this meter."""
         try:
-            words = self.take_accept(frame)
+            self.take_accept(frame)
         except Rejected:
             return False
-        self.session = int(re.match(r"JoinNonce (\d+)", words)[1])
         self.awaited = None
         return True

@@ -1,30 +1,34 @@
-"""Makes the AES of examples/outside quick, for loads of thousands of frames: import it before
-any other module of that package. The AES of the Python package `cryptography` takes the place of
-the one there, where it is installed; else the latter keeps the round keys of the last keys."""
-import functools
+"""Makes the AES of this package quick, for loads of thousands of frames. It takes the AES of the
+Python library `cryptography` if that is installed; else the round keys of the last keys are
+kept."""
 
-from outside import aes
+import functools
+from typing import Any
+
+from . import aes
 
 try:
     from cryptography.hazmat.primitives.ciphers import Cipher, algorithms, modes
 
     NAME = "cryptography"
 except ImportError:
-    Cipher, NAME = None, "examples/outside"
+    NAME = "bozintar.aes"
 
 
 @functools.lru_cache(maxsize=16384)
-def encryptor(key):
+def encryptor(key: bytes) -> Any:
+    """What encrypts under a key."""
     return Cipher(algorithms.AES(key), modes.ECB()).encryptor()
 
 
 @functools.lru_cache(maxsize=1024)
-def decryptor(key):
+def decryptor(key: bytes) -> Any:
+    """What decrypts under a key."""
     return Cipher(algorithms.AES(key), modes.ECB()).decryptor()
 
 
 @functools.lru_cache(maxsize=16384)
-def subkeys(key):
+def subkeys(key: bytes) -> list[bytes]:
     """The two subkeys of a CMAC (RFC 4493 §2.3)."""
     number, found = int.from_bytes(encrypt(key, bytes(16)), "big"), []
     for _ in range(2):
@@ -34,20 +38,23 @@ def subkeys(key):
     return found
 
 
-def encrypt(key, block):
+def encrypt(key: bytes, block: bytes) -> bytes:
+    """The cipher."""
     return encryptor(key).update(block)
 
 
-def decrypt(key, block):
+def decrypt(key: bytes, block: bytes) -> bytes:
+    """The inverse cipher."""
     return decryptor(key).update(block)
 
 
-def xored(left, right):
+def xored(left: bytes, right: bytes) -> bytes:
+    """Two byte strings of one length, xored."""
     number = int.from_bytes(left, "big") ^ int.from_bytes(right, "big")
     return number.to_bytes(len(left), "big")
 
 
-def cmac(key, message):
+def cmac(key: bytes, message: bytes) -> bytes:
     """The code of RFC 4493 §2.4: the last block of a CBC."""
     whole = len(message) > 0 and len(message) % 16 == 0
     if not whole:
@@ -57,9 +64,12 @@ def cmac(key, message):
     return chain.update(message)[-16:]
 
 
-if not Cipher:
-    aes.round_keys = functools.lru_cache(maxsize=16384)(aes.round_keys)
-    encrypt, decrypt = aes.encrypt, aes.decrypt
-else:
-    aes.encrypt, aes.decrypt, aes.cmac, aes.xored = encrypt, decrypt, cmac, xored
-aes.check()
+@functools.cache
+def use() -> None:
+    """Lets this process compute so from now on, and compares with the vectors of the standards."""
+    if NAME == "cryptography":
+        aes.encrypt, aes.decrypt = encrypt, decrypt
+        aes.cmac, aes.xored = cmac, xored
+    else:
+        aes.round_keys = functools.lru_cache(maxsize=16384)(aes.round_keys)
+    aes.check()

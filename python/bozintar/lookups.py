@@ -1,10 +1,11 @@
-"""Hosts by their names. The system may look a name up for minutes where its name servers are away,
-and asyncio waits for that before a program can end; so it is done in threads that nobody waits
+"""Addresses of hosts by their names. The system may take minutes for a name if its name servers are
+away, and asyncio waits for that before a program can end; so threads do it that nobody waits
 for."""
 
 import asyncio
 import socket
 import threading
+from typing import Any
 
 from .words import Address
 
@@ -12,36 +13,37 @@ from .words import Address
 under_way: dict[Address, asyncio.Future] = {}
 
 
-async def looked_up(it: Address) -> list[tuple]:
+async def looked_up(address: Address) -> list[tuple]:
     """A name's addresses, as `socket.getaddrinfo` has them."""
-    if it not in under_way:
+    if address not in under_way:
         loop = asyncio.get_running_loop()
-        under_way[it] = loop.create_future()
-        threading.Thread(target=look_up, args=(it, loop), daemon=True).start()
-    found = await asyncio.shield(under_way[it])
+        under_way[address] = loop.create_future()
+        threading.Thread(target=look_up, args=(address, loop), daemon=True).start()
+    found = await asyncio.shield(under_way[address])
     if isinstance(found, OSError):
         raise found
     return found
 
 
-def look_up(it: Address, loop: asyncio.AbstractEventLoop):
+def look_up(address: Address, loop: asyncio.AbstractEventLoop) -> None:
     """Looks a name up, in a thread of its own."""
+    found: Any
     try:
-        found = socket.getaddrinfo(it.host, it.port, type=socket.SOCK_STREAM)
+        found = socket.getaddrinfo(address.host, address.port, type=socket.SOCK_STREAM)
     except OSError as why:
         found = why
     except UnicodeError:
         found = OSError("no name of a host")
     try:
-        loop.call_soon_threadsafe(lambda: under_way.pop(it).set_result(found))
+        loop.call_soon_threadsafe(lambda: under_way.pop(address).set_result(found))
     except RuntimeError:
         pass  # the program ends
 
 
-async def connected(it: Address) -> socket.socket:
+async def connected(address: Address) -> socket.socket:
     """A connection to the first of a name's addresses that takes one."""
     fault = OSError("the name has no address")
-    for family, kind, *_, where in await looked_up(it):
+    for family, kind, *_, where in await looked_up(address):
         connection = socket.socket(family, kind)
         try:
             connection.setblocking(False)
@@ -56,10 +58,10 @@ async def connected(it: Address) -> socket.socket:
     raise fault
 
 
-async def bound(it: Address) -> socket.socket:
+async def bound(address: Address) -> socket.socket:
     """A socket for datagrams to the first of a name's addresses that is this machine's."""
     fault = OSError("the name has no address")
-    for family, *_, where in await looked_up(it):
+    for family, *_, where in await looked_up(address):
         found = socket.socket(family, socket.SOCK_DGRAM)
         try:
             found.setblocking(False)
