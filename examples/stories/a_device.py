@@ -7,7 +7,6 @@ from bozintar.wire import Copy
 from .people import B1, B2, B3, METER, listed, meter, provision, session, told, up
 from .story import Story
 
-
 LINK_CHECK = b"\x02"
 DEV_STATUS_REQ = b"\x06"
 DEV_STATUS_ANS = bytes.fromhex("06FF0A")

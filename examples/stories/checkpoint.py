@@ -3,7 +3,6 @@
 from .people import APP_KEY, JOIN_EUI, told
 from .story import Story
 
-
 METERS = [f"{number:016X}" for number in (0xA1, 0xA2, 0xA3, 0xA4)]
 BUSY, QUIET = METERS[:3], METERS[3]
 SLOTS = len(METERS)

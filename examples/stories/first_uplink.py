@@ -5,7 +5,6 @@ from bozintar.wire import Copy
 from .people import B1, METER, listed, meter, provision, session, told, up
 from .story import Story
 
-
 NEAR = Copy(B1)
 READING = bytes.fromhex("04D2")
 

@@ -7,7 +7,6 @@ from bozintar.wire import Copy
 from .people import APP_KEY, B1, JOIN_EUI, METER, meter, provision, session, told, up
 from .story import Story
 
-
 NEAR = Copy(B1)
 READING = bytes.fromhex("04D2")
 LINK_ADR_REQ = bytes.fromhex("0350070001")

@@ -10,7 +10,6 @@ from bozintar import fields
 from bozintar.fields import Wrong
 from bozintar.wire import byte_text, bytes_of
 
-
 # of identifiers that follow from what they name, so that what comes twice has the same one
 SPACE = uuid.UUID("6f7a0c0e-7d0b-5f0e-9d57-0a3c5e1f7b21")
 MOST_ITEM = 242

@@ -8,7 +8,6 @@ from bozintar.fields import Wrong
 from bozintar.wire import MOST_PAYLOAD, Copy, Downlink, Heard, Window
 from .gwmp import OtherFrame
 
-
 BANDWIDTH = 125000
 MOST_CONTEXT = 64
 EVENT = re.compile(r"(.+)/gateway/([0-9A-Fa-f]{16})/event/([a-z]+)")

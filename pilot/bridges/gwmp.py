@@ -10,7 +10,6 @@ from bozintar import fields
 from bozintar.fields import Wrong
 from bozintar.wire import MOST_PAYLOAD, Copy, Downlink, Heard, Window
 
-
 VERSIONS = (1, 2)
 HEAD = 12
 DATA_RATE = re.compile(r"SF(7|8|9|10|11|12)BW125")

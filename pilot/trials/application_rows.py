@@ -8,7 +8,6 @@ from bridges import devices
 from bridges.application_events import Item, Translator, refusal, status
 from .gateway_rows import outcome
 
-
 DEVICE = "0101010101010101"
 INFO = {"applicationId": "3", "devEui": DEVICE}
 TIME = "2022-07-18T09:34:15.775023+00:00"
@@ -94,7 +93,6 @@ FILES = (
     (f"{DEVICE},0102030405060708,{KEY},0,0", ["line 1: the delay is no number from 1 to 15"]),
     (f"\n{DEVICE}", ["line 2: 1 fields, and not 3 to 5"]),
 )
-
 
 # a line that refuses, and how its code begins
 REFUSED = (("refused 12", "QUEUE_FULL"), ("refused 99", "REFUSED_99"))

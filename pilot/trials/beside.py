@@ -18,7 +18,6 @@ from .mqtt import Dashboard
 from .networks import End, Network
 from .parts import PILOT, Parts
 
-
 FIRST, SECOND = "1112131415161718", "2122232425262728"
 EUI = bytes.fromhex(GATEWAYS[0])
 # has a program run with something of it changed: by a line before it is read, and one behind

@@ -6,7 +6,6 @@ from bozintar.processes import HOST, Process
 
 from .parts import Pilot
 
-
 GATEWAYS = ("00000000000000B1", "00000000000000B2", "AA555A00000000B3")
 APPLICATION = 3
 # forwarders' versions, and their clocks as they begin: one is about to wrap

@@ -14,7 +14,6 @@ from .networks import End, Network
 from .parts import Parts
 from .stations import Station
 
-
 # of each gateway: frames a second, and at once after a pause
 RATE, BURST = 200, 400
 # moments in seconds, how many frames come then, and how many of them are handed in

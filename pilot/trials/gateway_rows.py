@@ -2,6 +2,7 @@
 format: Semtech's PROTOCOL.TXT, the events of ChirpStack's gateway bridge, docs/FORMATS.md."""
 
 import json
+import random
 
 from bozintar import oracle, wire
 from bozintar.fields import Wrong
@@ -10,6 +11,7 @@ from bozintar.words import Address
 from bridges import clocks, gateway_events, gwmp
 from bridges.gwmp import Datagram, OtherFrame
 
+SEED = 4711
 EUI = bytes.fromhex("AA555A0000000101")
 # of PROTOCOL.TXT: a frame of 32 bytes, without padding
 DATA = "ysgRl452xNLep9S1NTIg2lomKDxUgn3DJ7DE+b00Ass"
@@ -344,7 +346,52 @@ def of_stations(trials):
     trials.compare("its topic", topic, "eu868/gateway/0016c001f153a14c/command/down")
 
 
+def of_the_wire(trials):
+    """The codec of the network's messages, beside the second one: each reads or writes the same."""
+    chance = random.Random(SEED)
+    for _ in range(200):
+        eui, frame = chance.randbytes(8).hex().upper(), chance.randbytes(chance.randrange(1, 256))
+        stamp, hz, rate = (
+            chance.randrange(2**32),
+            chance.randrange(2**32),
+            chance.randrange(256),
+        )
+        snr, rssi = (chance.randrange(-(2**15), 2**15) for _ in range(2))
+        how = (hz, rate, snr, rssi, stamp)
+        came = wire.Heard(wire.Copy(eui, *how), frame).message()
+        trials.compare(f"a copy {eui} {how}", came, oracle.copy_message(eui, how, frame))
+        first, second = chance.randrange(256), chance.choice((0, chance.randrange(256)))
+        content = oracle.downlink(eui, stamp, (hz, rate, first), second, frame)
+        due = wire.Window(second, 869_525_000, 0) if second else None
+        due = wire.Downlink(eui, stamp, wire.Window(first, hz, rate), due, frame)
+        trials.compare(f"a downlink {content.hex()}", wire.Downlink.read(content), due)
+        contents = [chance.randbytes(chance.randrange(701)) for _ in range(chance.randrange(5))]
+        said = b"".join(map(oracle.message, contents))
+        trials.compare("messages", b"".join(map(wire.framed, contents)), said)
+        trials.compare("contents", in_pieces(said, chance), contents)
+    for number, eui in enumerate(("0000000000000000", "FFFFFFFFFFFFFFFF", "0016C001F153A14C")):
+        due = oracle.message(b"\0" + bytes.fromhex(eui))
+        trials.compare("a gateway's greeting", wire.gateway_greeting(eui), due)
+        due = oracle.message(bytes((2, number)))
+        trials.compare("an application's greeting", wire.application_greeting(number), due)
+        due = oracle.message(b"\3mac " + eui.encode() + b" 06")
+        trials.compare("a request", wire.request(f"mac {eui} 06"), due)
+        line = wire.line_of(oracle.line_message(f"up {eui}")[2:])
+        trials.compare("a line", line, f"up {eui}")
+
+
+def in_pieces(said: bytes, chance: random.Random) -> list[bytes]:
+    """The contents of messages that come in pieces."""
+    frames, contents, place = wire.Frames(), [], 0
+    while place < len(said):
+        end = place + chance.randrange(1, 900)
+        contents += frames.feed(said[place:end])
+        place = end
+    return contents
+
+
 TOPICS = {
+    "rows of the network's messages, by two codecs": of_the_wire,
     "rows of Semtech's protocol": of_gateways,
     "rows of ChirpStack's gateway bridge": of_stations,
 }

@@ -8,7 +8,6 @@ from bozintar.processes import HOST
 
 from .field import GATEWAYS
 
-
 HEADS = (b"\x02\x00\x00", b"\x01\x00\x00", b"\x00\x00\x00", b"\x03\x00\x00", b"\xff\xff\xff")
 NAMED = bytes.fromhex(GATEWAYS[2])
 FRAME = {"tmst": 1, "freq": 868.1, "stat": 1, "modu": "LORA", "datr": "SF7BW125", "lsnr": 1}

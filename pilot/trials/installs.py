@@ -15,7 +15,6 @@ from bozintar.server import Program
 
 from .parts import PILOT
 
-
 PROGRAMS, UNITS = Path("opt/bozintar"), Path("etc/systemd/system")
 SETTINGS = Path("etc/mosquitto/conf.d/bozintar.conf")
 UNITS_OF = Path("pilot/systemd")

@@ -17,7 +17,6 @@ from .mqtt import Dashboard
 from .parts import Pilot
 from .secured import Doors, application, ended, gateway, refused_by_broker
 
-
 OF_A_UNIT, OF_A_TRIAL = 1024, 4096
 # silent connections: more than the 500 that stunnel has places for, and than a unit has descriptors
 AT_THE_DOOR, AT_THE_BROKER = 600, 1100

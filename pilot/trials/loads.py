@@ -15,7 +15,6 @@ from bozintar.processes import HOST, await_that
 from lnsd import load, store
 from .parts import Pilot
 
-
 GATEWAYS, DEVICES, APPLICATION = 64, 512, 0
 WINDOW = 0.2
 PULLS_EVERY = 5.0

@@ -15,7 +15,6 @@ from bozintar.processes import HOST, Failed, await_that
 from .field import APPLICATION, GATEWAYS, Field
 from .parts import PILOT, Parts, Pilot
 
-
 EVENTS = f"application/{APPLICATION}/device/+/event/+"
 TAG = 41
 # readings: the device as an event has it, JoinNonce, counter; and what is printed of them

@@ -13,7 +13,6 @@ from bozintar.processes import HOST
 from .field import GATEWAYS
 from .parts import PILOT, Pilot
 
-
 # a line of Prometheus' text format that has a number
 SAMPLE = re.compile(r'([a-zA-Z_:][a-zA-Z0-9_:]*)(\{[a-z]+="(?:[^"\\\n]|\\["\\n])*"\})? (\S+)')
 STATUS = """listening 1:2

@@ -21,7 +21,6 @@ from .mqtt import Dashboard
 from .parts import PILOT, Pilot
 from .stations import Station
 
-
 TLS, BROKER_TLS = "/etc/bozintar/tls", "/etc/mosquitto/certs"
 OTHERS = "AA555A00000000B9"
 

@@ -15,7 +15,6 @@ from bozintar.processes import HOST
 from .field import GATEWAYS, counts_in
 from .mqtt import Whole, whole
 
-
 STATS_EVERY = 1.0
 
 

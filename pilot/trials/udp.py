@@ -10,7 +10,6 @@ from bozintar.wire import PROVISION
 from .field import APPLICATION, Field, counts_in
 from .parts import Pilot
 
-
 RX2 = ("SF12BW125", 869.525)
 LATE = "TOO_LATE"
 

@@ -18,7 +18,6 @@ from .field import GATEWAYS
 from .parts import PILOT, Pilot
 from . import beside
 
-
 AT = "127.0.0.1:1"
 GATEWAY = ("--gateway", GATEWAYS[0])
 UDP = ("--network", AT, "--udp", AT)

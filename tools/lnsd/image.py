@@ -124,7 +124,7 @@ def item(fields):
 
 
 @dataclass(frozen=True)
-class Device:
+class Recorded:
     """A device's record; its front is what it was provisioned with."""
 
     front: bytes
@@ -168,7 +168,7 @@ def record(content, version):
     how["items"] = tuple(item(fields) for _ in range(count))
     heard = 0 if version == 1 else fields.number(8)
     need(heard <= MOST_HEARD)
-    found = Device(content[:FRONT], dev_eui, heard=heard, **how)
+    found = Recorded(content[:FRONT], dev_eui, heard=heard, **how)
     need(fields.is_at_end() and found.is_in_order())
     return found
 

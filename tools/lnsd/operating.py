@@ -12,7 +12,7 @@ from contextlib import contextmanager
 
 from bozintar import wire
 from bozintar.links import Application, Gateway, Link
-from bozintar.processes import Failed
+from bozintar.processes import Failed, await_that
 from bozintar.wire import Copy
 
 from .trials import EUI, HEARD, OWNER, await_read, records
@@ -60,14 +60,13 @@ def stopped(trials, program, **due):
 
 def await_status(program, **due):
     """Waits until the status has these values."""
-    last = time.monotonic() + PATIENCE
-    while True:
+
+    def found():
         status = program.status()
-        if all(status.get(name) == str(value) for name, value in due.items()):
-            return status
-        if time.monotonic() > last:
-            raise Failed(f"the status stayed {status}, and {due} was to come")
-        time.sleep(0.02)
+        is_so = all(status.get(name) == str(value) for name, value in due.items())
+        return status if is_so else None
+
+    return await_that(f"the status has {due}", found, PATIENCE)
 
 
 class Watcher:

@@ -38,7 +38,7 @@ class Session:
 
 
 @dataclass
-class Device:
+class Known:
     """A device's record."""
 
     slot: int
@@ -170,7 +170,7 @@ class Network:
         if len(self.devices) == self.slots:
             raise Refused(17)
         it = (dev_eui, join_eui, app_key, application, int(offset), int(delay))
-        self.devices.append(Device(len(self.devices), *it))
+        self.devices.append(Known(len(self.devices), *it))
         return f"provisioned {dev_eui} {len(self.devices) - 1}"
 
     def owned(self, application, dev_eui):

@@ -11,7 +11,7 @@ from contextlib import contextmanager
 from bozintar import network, wire
 from bozintar.devices import Device
 from bozintar.links import Ended, Link, Silent
-from bozintar.processes import Failed
+from bozintar.processes import Failed, await_that
 from bozintar.server import Program
 from bozintar.wire import Copy
 
@@ -211,12 +211,8 @@ def is_read(link):
 
 def await_read(link):
     """Waits until the server has read all that was said."""
-    last = time.monotonic() + link.patience
     time.sleep(STEP)
-    while not is_read(link):
-        if time.monotonic() > last:
-            raise Silent("the server doesn't read")
-        time.sleep(STEP)
+    await_that("the server has read all", lambda: is_read(link), link.patience, STEP)
 
 
 def await_links(links, seconds=0.3):

@@ -25,7 +25,6 @@ import commands
 import preloads
 from bozintar.words import Words, between, folder, stop
 
-
 # how much longer a sync takes, in microseconds; the aim, in percent
 DELAYS, AIM = (0, 500, 1000, 2000, 5000), 160
 CALLS = (256, 193)

@@ -12,7 +12,6 @@ from bozintar.server import Program, ProgramWords
 from bozintar.words import folder, between, stop
 from speeds.measure import machine
 
-
 # the C library's allocator, as bin/lnsd sets it
 ALLOCATOR = {"MALLOC_ARENA_MAX": "1", "MALLOC_MMAP_THRESHOLD_": "1048576"}
 DEVICES, GATEWAYS, APPLICATIONS = 4096, 8, 4
