@@ -54,7 +54,7 @@ not_queued bytes rest after command h whole e never q =
     let all : AllByRecursion IsQueueable ((h.commands ++ command ∷ []) ++ more.0) = subst (AllByRecursion IsQueueable) more.1 q.each in
     never (all_behind IsQueueable h.commands (command ∷ []) (all_front IsQueueable (h.commands ++ command ∷ []) more.0 all)).0
 
--- no command begins any more: all was read, or the bytes are no queue
+-- no further command begins: all was read, or the bytes are no queue
 pub all_queued : (bytes : List ℕ) → HasQueued bytes [] → AreQueueable bytes
 all_queued bytes h = record {
   commands = h.commands;
@@ -114,7 +114,7 @@ from_queue bytes q =
 pub is_queue_so : (bytes : List ℕ) → IsTrue (is_queue bytes) ↔ AreQueueable bytes
 is_queue_so bytes = (to_queue bytes, from_queue bytes)
 
--- a test that says the one says the other
+-- two tests that imply each other are equal
 pub tested : (bytes : List ℕ) (test : Bool) → (IsTrue test ↔ AreQueueable bytes) → test ≡ is_queue bytes
 tested bytes true is = sym (from_queue bytes (is.0 refl))
 tested bytes false is = by (is_queue bytes) refl

@@ -6,7 +6,7 @@ use Rattle.lw_types.specs.declared.direction.Direction.TheVariants.{Down}
 use Rattle.mac_commands.specs.declared.command.MacCommand.{MacCommand}
 use Rattle.mac_commands.specs.Table.{cid_number, payload_len}
 
--- the payload has the length that the table gives
+-- the payload has the length that the table says
 abbrev pub IsWhole : Direction → MacCommand → Type 0
 IsWhole direction command = length command.payload ≡ payload_len direction command.cid
 
@@ -32,8 +32,7 @@ BeginsWhole direction bytes =
     (command : MacCommand) × (rest : List ℕ) × IsWhole direction command
     × (bytes ≡ command_bytes command ++ rest)
 
--- the bytes before `stop` spell the commands, and at `stop` the bytes end or no whole command
--- begins
+-- the bytes before `stop` spell the commands; at `stop` the bytes end, or no whole command begins
 pub record AreCommands (direction : Direction) (bytes : List ℕ) (commands : List MacCommand)
     (stop : ℕ) : Type 0 where
   pub within : stop ≤ length bytes
