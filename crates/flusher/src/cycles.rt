@@ -20,12 +20,18 @@ use store::Store;
 /// batch, that is 0, and `out` isn't called. If the journal has no room for the largest batch, a
 /// checkpoint is written first, by four calls or six.
 ///
-/// A refusal is returned before anything has left: `OutOfMemory` if memory runs out; `Damaged`
-/// exactly if a checkpoint is due and the live area has the last generation; the feed's own
-/// refusal; `Failed` exactly if an earlier call of the disk failed and a checkpoint is due or the
-/// batch isn't empty; `OutOfStep` exactly if the batch isn't empty and no legal continuation of the
-/// durable table; `DeviceFailed` exactly if a call of the disk failed. Room for the effects is
-/// allocated before everything else. A batch that was taken and refused is given up.
+/// A refusal is returned before anything has left:
+///
+/// - `OutOfMemory` if memory runs out;
+/// - `Damaged` exactly if a checkpoint is due and the live area has the last generation;
+/// - the feed's own refusal;
+/// - `Failed` exactly if an earlier call of the disk failed and a checkpoint is due or the batch
+///   isn't empty;
+/// - `OutOfStep` exactly if the batch isn't empty and no legal continuation of the durable table;
+/// - `DeviceFailed` exactly if a call of the disk failed.
+///
+/// Room for the effects is allocated before everything else. A batch that was taken and refused is
+/// given up.
 ///
 /// The cost grows with the batch, and with the whole table if a checkpoint is written.
 pub fn cycle<D: Disk, F: Feed, C: FnMut(Vec<Released>)>(

@@ -40,8 +40,8 @@ pub struct CoreLife {
 /// Lives of a store, one after another, on this disk. Each begins with an opening, as those of
 /// [`flush_over_lives`](crate::flush_over_lives) do. In each a new core decides what comes to it,
 /// and chains commit that. If there is no memory for a core, the life makes no chain; if the
-/// opening is refused, it has no core. The next life begins with the disk that it leaves. The last
-/// disk is returned.
+/// opening is refused, it has no core. The next life begins with the disk that this one leaves. The
+/// last disk is returned.
 ///
 /// The premise: each image that a crash may leave of the disk holds one table and number. Then each
 /// image that a crash may leave at the end holds that table after some commands: of each life, in

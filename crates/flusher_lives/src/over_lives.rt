@@ -44,16 +44,16 @@ pub struct FlusherLife {
 
 /// Lives of a flusher, one after another, on this disk and with this feed. Each begins with an
 /// opening, after a crash or without one, and chains follow. If a chain is refused, the life makes
-/// no other; if the opening is refused, it makes none. The next life begins with the disk that it
-/// leaves, and the last disk is returned. So an opening that was refused is made again, with the
-/// power on or after a crash.
+/// no other; if the opening is refused, it makes none. The next life begins with the disk that this
+/// one leaves, and the last disk is returned. So an opening that was refused is made again, with
+/// the power on or after a crash.
 ///
-/// The premise: each image that a crash may leave of the disk holds one table and number. What is
-/// given to `out` over all lives is, in order and complete, the effects of each batch that was
-/// released, and part of those of the durable commands. Take the marks that were used up before, if
-/// they are distinct and that table covers them, and the marks of what was given: no mark is among
-/// these twice. Each image that a crash may leave at the end holds a table to which these lives
-/// lead and which covers all these marks. So other lives may follow.
+/// The premise: each image that a crash may leave of the disk holds one table and number, and the
+/// marks that were used up before are distinct and covered by that table. Then what is given to
+/// `out` over all lives is, in order and complete, the effects of each batch that was released, and
+/// part of those of the durable commands. No mark is twice among those that were used up before and
+/// those of what was given. Each image that a crash may leave at the end holds a table to which
+/// these lives lead and which covers all these marks. So other lives may follow.
 ///
 /// The power may be cut during any call of the disk: what it leaves is what a crash may leave if
 /// that call fails ([`disk::laws::a_cut_is_a_failed_call`]).

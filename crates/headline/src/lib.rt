@@ -89,9 +89,9 @@ pub fn crash_after<D: Sim + Drop>(
 /// refusal is `OutOfMemory`, `DeviceFailed`, or that of [`World::adopt`] for what the disk holds.
 ///
 /// If it isn't refused, the disk held a table and a number, and each clause of [`crash_after`]
-/// holds for a course that begins with them. Take all marks that were used up before, if they are
-/// distinct and that table covers them, and the marks of what has left since: none is among these
-/// twice, and the recovered table covers them all. So one adoption may follow another.
+/// holds for a course that begins with them. If the marks that were used up before are distinct and
+/// that table covers them, then no mark is twice among these and those of what has left since, and
+/// the recovered table covers them all. So one adoption may follow another.
 pub fn crash_after_adoption<D: Sim + Drop>(
     alloc: Global,
     disk: D,
@@ -152,12 +152,12 @@ pub fn crash_after_adoption<D: Sim + Drop>(
 /// [`crash_after_adoption`] hold for a course that begins with the restored table and the copy's
 /// number.
 ///
-/// Assume that the marks that were used up before are those of devices that the copy has, that they
-/// are distinct, and that the JoinNonce of each one's session is at most N above the last one that
-/// the copy has for the device, or above one on record. Then no mark is twice among these and those
-/// of what has left since, and the recovered table covers them all. So N counts JoinNonces, and not
-/// joins: an earlier restore also used up its own N, unless the place from where it continued is on
-/// record. Nothing is said of other devices.
+/// This is assumed of the marks that were used up before: they are those of devices that the copy
+/// has, and they are distinct. The JoinNonce of each one's session is at most N above the last one
+/// that the copy has for the device, or above one on record. Then no mark is twice among these and
+/// those of what has left since, and the recovered table covers them all. So N counts JoinNonces,
+/// and not joins: an earlier restore also used up its own N, unless the JoinNonce from which it
+/// continued is on record. Nothing is said of other devices.
 pub fn crash_after_restoring<D: Sim + Drop>(
     alloc: Global,
     older: Table,

@@ -66,13 +66,14 @@ pub record IsOpened (content : List ℕ) (s : StoreState) : Type 0 where
   pub only : (t : TableState) (seq : ℕ) → HoldsTable t seq content → (t ≡ s.table) × (seq ≡ s.seq)
   pub same : ¬ (IsOld content) → s.log.disk.content ≡ content
 
--- each image of the disk holds any table that the bytes hold
+-- each image of the disk holds each table that the bytes hold
 abbrev pub StillHolds : List ℕ → State → Type 0
 StillHolds bytes disk =
     (t : TableState) (seq : ℕ) → HoldsTable t seq bytes → EveryImage disk (HoldsTable t seq)
 
--- Each image that a crash may leave of the new disk holds each table that one of the images of the
--- old one held. So what is known of the tables in all of these is known of what is left now.
+-- For each image that a crash may leave of the new disk there is one that a crash might have left
+-- of the old one, and each table that this one held the new one holds. So what is known of the
+-- tables in all images of the old disk is known of what is left now.
 abbrev pub HoldsOn : State → State → Type 0
 HoldsOn old new =
     EveryImage new (λ image. (was : List ℕ) × (IsPermitted old was

@@ -48,11 +48,11 @@ pub fn format<D: Disk + Drop>(
     }
 }
 
-/// Makes a store without devices. Refused with `Damaged` exactly if `slots` is not from 1 to 4,096,
-/// else with `WrongSize` exactly if the disk doesn't have the length of such a store, else with
-/// `DeviceFailed` exactly if a call of the disk failed, and with `OutOfMemory` if memory runs out,
-/// before any call. With a refusal the disk is returned, unchanged except after `DeviceFailed`. It
-/// makes eight calls of the disk, and its cost grows with the number of slots.
+/// Makes a store without devices. Refused with `Damaged` exactly if `slots` is not from 1 to 4,096.
+/// Otherwise refused with `WrongSize` exactly if the disk doesn't have the length of such a store,
+/// else with `DeviceFailed` exactly if a call of the disk failed. Refused with `OutOfMemory` if
+/// memory runs out, before any call. With a refusal the disk is returned, unchanged except after
+/// `DeviceFailed`. It makes eight calls of the disk, and its cost grows with the number of slots.
 ///
 /// If this fails, or is interrupted between two calls, a crash leaves no store, the new one, or
 /// everything after the first byte as it was.

@@ -34,14 +34,22 @@ pub fn open<D: Disk + Drop>(alloc: Global, disk: D) -> Result<Store<D>, Refusal>
 /// Opens the store on a disk. The disk is synced first, so opening it again after a fault is like
 /// opening it after a crash that leaves the content. Refused with `DeviceFailed` exactly if a call
 /// of the disk failed. Otherwise the store has the table and the number that the disk holds.
-/// Exactly if it holds none, the refusal is the first of these: `WrongSize` below 32 bytes,
-/// `NotFormatted` for a closed gate or another name, `WrongVersion` for another version, `Damaged`
-/// for another field out of range, `WrongSize` for another length than the superblock's, `Damaged`
-/// if no area is live (the gates of both are closed, or both are open with the same generation),
-/// `WrongVersion` for another version of the live area's records, and `Damaged` for anything else
-/// that is wrong there. Of the other area only the gate and the generation count. `OutOfMemory` is
-/// returned if memory runs out, and only if the superblock and the live area's header are in order.
-/// With a refusal the disk is returned. The cost grows with the bytes of the live area's journal.
+/// Exactly if it holds none, the refusal is the first of these:
+///
+/// - `WrongSize` below 32 bytes;
+/// - `NotFormatted` for a closed gate or another name;
+/// - `WrongVersion` for another version;
+/// - `Damaged` for another field out of range;
+/// - `WrongSize` for another length than the superblock's;
+/// - `Damaged` if no area is live (the gates of both are closed, or both are open with the same
+///   generation);
+/// - `WrongVersion` for another version of the live area's records;
+/// - `Damaged` for anything else that is wrong there. Of the other area only the gate and the
+///   generation count.
+///
+/// `OutOfMemory` is returned if memory runs out, and only if the superblock and the live area's
+/// header are in order. With a refusal the disk is returned. The cost grows with the bytes of the
+/// live area's journal.
 ///
 /// If the live area's records are of an older version, the table is published in the other area, in
 /// the newest version, before the store is returned. That takes four or six more calls of the disk.

@@ -93,8 +93,8 @@ AnswersPiece origin c link moment bytes (answers.Refused e) =
     (e ≡ refusals.OutOfMemory) × ¬ (AddsNothing (stream_on link c.pieces) bytes)
 AnswersPiece origin c link moment bytes answer = ⊥
 
--- nothing is taken if nothing waits; a batch begins or is lost only after batches that weren't
--- lost, and is out of step only after a lost one
+-- nothing is taken if nothing waits; a batch begins or is lost only if none was lost before, and is
+-- out of step only if one was
 abbrev pub Takes : Course → ℕ → Answer → Type 0
 Takes c most answers.Idle = c.untaken ≡ []
 Takes c most answers.Full = c.untaken ≢ []
