@@ -3,7 +3,7 @@ ghost use Rattle.std.specs.Prelude.{◌≡◌};
 
 use devices::Effect;
 
-/// An effect of a durable decision. It is made only when a durable batch is released, so anyone who
+/// An effect of a durable decision. It is made only when a durable batch is released, so code that
 /// has one may let the effect leave.
 pub struct Released {
     effect: Effect,

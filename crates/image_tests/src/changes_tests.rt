@@ -1,5 +1,5 @@
-// Journals with changes, after whole records as every entry was before changes existed, in version
-// 1. The bytes were laid out by hand, from the format.
+// Journals of version 1 with changes, after whole records as every entry was before changes
+// existed. The bytes were laid out by hand, from the format.
 use devices::{Application, AskedBytes, Command, Queueing, Tag};
 use disk::{Image, MemDisk, Sim};
 use lw_types::{Eui, Refusal, read_hex};

@@ -12,7 +12,7 @@ use sessions::Table;
 use std::alloc::Global;
 use store_layout::{RecordVersion, Superblock, laws, replay};
 
-/// The table and the number to which an area leads. Refused with `Damaged` exactly if it leads to
+/// The table and the number to which an area leads. Refused with `Damaged` only if it leads to
 /// none, and with `OutOfMemory` if memory runs out.
 pub(crate) fn restore(
     alloc: Global,

@@ -35,9 +35,9 @@ emissions [] = []
 emissions (answers.Emitted e ∷ rest) = e ∷ emissions rest
 emissions (answer ∷ rest) = emissions rest
 
--- What one life gave: these effects left, which are those of the commands whose batches were
--- released, in order and complete; the first n of these were emitted, for some n; at most two
--- batches are begun and not released; and no batch was out of step, unless one before it was lost.
+-- What one life gave. These effects left, which are those of the commands whose batches were
+-- released, in order and complete. The first n of these were emitted, for some n. At most two
+-- batches are begun and not released. No batch was out of step, unless one was lost.
 pub record IsOneLife (origin : Origin) (c : Course) (effects : List Effect) (steps : List Step)
     (told : List Answer) : Type 0 where
   pub left : c.left ≡ effects

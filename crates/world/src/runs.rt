@@ -19,9 +19,10 @@ use std::alloc::Global;
 ///
 /// - Each answer is right in the course that the steps and the answers make, and the world follows
 ///   that course (`course`).
-/// - What was released are the effects of the decided commands, in order and complete (`one_life`).
-///   After a crash the store has the fold of the first n of them, for some n, and every command of
-///   which an effect has left is among these.
+/// - If the world is at its beginning and no step is a crash, what was released are the effects of
+///   the commands whose batches were released, in order and complete (`one_life`).
+/// - After a crash the store has the fold of the first n decided commands, for some n, and every
+///   command of which an effect has left is among these.
 /// - What the coming calls of the disk will return is known step by step (`calls`): one that is
 ///   armed is refused as `DeviceFailed`, and one that isn't never is.
 /// - Each step leads on from the world that the one before left (`steps`). A take is answered
