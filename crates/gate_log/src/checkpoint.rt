@@ -27,7 +27,7 @@ pub struct Checkpoint {
     generation: u64,
 }
 
-/// The log's state once this checkpoint is live.
+/// What the log takes over once this checkpoint is live.
 #[derive(Clone, Copy)]
 pub(crate) struct CheckpointFront {
     pub(crate) generation: u64,

@@ -52,7 +52,7 @@ impl Live {
         }
     }
 
-    // The area with this header, if the other one's gate is closed.
+    // The area with this header as the live one, when the other one's gate is closed.
     fn beside_closed(area: Area, header: Header, closed: Area) -> Self
         requires { closed.start < closed.end }
         ensures live { (disk : List ℕ) → HasHeader area header disk → IsClosedArea closed disk

@@ -112,8 +112,8 @@ fn exchanged(areas: Areas) -> Areas
     }
 }
 
-// Publishes a checkpoint after the superblock's closed gate, and opens that gate. The areas are
-// those at the end.
+// Publishes a checkpoint after the superblock's closed gate, and opens that gate. `areas` are those
+// of the log at the end.
 fn publish_behind<D: Disk>(log: Log<D>, checkpoint: Checkpoint, areas: Areas) -> Result<Log<D>, D>
     requires exchanged { exchanged_areas (log_state D.state log).areas ≡ areas }
     requires some { 1 ≤ length (D.state (log_disk log)).content }

@@ -9,7 +9,8 @@ ghost use Rattle.store.specs.State.{StoreState, IsSettled};
 
 use crate::{LARGEST_BATCH, LAST_GENERATION, LAST_OLD_GENERATION, RECORD_VERSION};
 
-/// Every crash leaves a store that has nothing under way.
+/// If a store has nothing under way, each image that a crash may leave of its disk holds its table
+/// and its number.
 pub fn a_settled_store_is_on_its_disk()
     ensures { (s : StoreState) → IsSettled s → EveryImage s.log.disk (HoldsTable s.table s.seq) }
 {

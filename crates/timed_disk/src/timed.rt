@@ -35,7 +35,7 @@ impl<'x, D: Disk + Drop, C: Clock + Drop> TimedDisk<'x, D, C> {
             && (at == BEFORE_AREAS || at == BEFORE_AREAS.saturating_add(areas))
     }
 
-    // The time since then. A clock that can't be read gives none.
+    // The time since then, or 0 if the clock can't be read.
     fn since(&self, then: Option<Instant>) -> Duration {
         match then {
             Some(then) => then.elapsed(&self.clock).unwrap_or(Duration::ZERO),

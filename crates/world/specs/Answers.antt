@@ -38,8 +38,9 @@ pub record IsAsked (origin : Origin) (c : Course) (command : Command)
   pub decided : AnswersTo command (step_if_room origin c command) (λ _ _. Unit {0})
       (verdict_of refused)
 
--- the answer to a copy: it is accepted only if it is on a channel at a data rate that a device may
--- use, or refused because of the groups that wait; or memory ran out
+-- the answer to a copy: if it is on a channel at a data rate that a device may use, it is accepted,
+-- or refused because of the groups that wait; otherwise it is refused as UnknownChannel; or memory
+-- ran out
 pub record IsCopyAnswer (c : Course) (copy : FrameCopy) (refused : Option Refusal) : Type 0 where
   pub receivable : IsReceivable copy.reception
       → AnswersWithMemory (windows_with (course_windows c) c.clock copy) (λ _ _. Unit {0})

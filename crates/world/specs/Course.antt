@@ -157,7 +157,7 @@ abbrev pub step_commands : Course → Step → List Command
 step_commands c (steps.Event moment event) = commands_at (at_moment c moment) event
 step_commands c step = []
 
--- How many of them were gone through if `closings` windows were closed: their frames, and the
+-- The number of them that were tried if `closings` windows were closed: their frames, and the
 -- event's own command, unless there was no memory for it.
 abbrev pub own_count : Option Refusal → ℕ
 own_count (Some OutOfMemory) = 0

@@ -69,7 +69,7 @@ IsAt ahead flights checkpoint t s commit =
     × (FitFlights t (flights_last commit)
     × (IsOn s commit × (checkpoint ≡ checkpoint_in s commit)))
 
--- the commits are where a course says that has these commands settled
+-- the commits are in the state that a course says in which these commands are settled
 pub record AreAt (origin : Origin) (settled : List Command) (flights : List (Flight Command))
     (checkpoint : Checkpoint) (s : StoreState) (begun : Pipeline) : Type 0 where
   pub behind : List (Flight Command)
@@ -84,7 +84,7 @@ IsHealthy s commits.Failed = Unit {0}
 IsHealthy s commit = s.failed ≡ false
 
 -- The store has the table of what is on the disk, the core that of what was taken and of what
--- waits, and the commits are where the course says.
+-- waits, and the commits are in the state that the course says.
 pub record IsLife (origin : Origin) (c : Course) (s : StoreState) (core : DecisionsState)
     (begun : Pipeline) : Type 0 where
   pub table : s.table ≡ table_from origin (durable_in c.settled c.flights)
@@ -119,8 +119,8 @@ FollowsPlace state origin c (Open life) = (c.is_open ≡ true) × FollowsLife st
 FollowsPlace state origin c (Closed disk) = FollowsClosed state origin c disk
 FollowsPlace state origin c Crashing = ⊥
 
--- The world is where its course is. What has left over all lives is part of the effects of commands
--- that every crash leaves.
+-- The world is in the state that its course says. What has left over all lives is part of the
+-- effects of commands that every crash leaves.
 pub record Follows {D : Type 0} {g : _} (state : D → State) (origin : Origin) (c : Course)
     (world : World D g) : Type 0 where
   pub place : FollowsPlace state origin c world.place

@@ -70,8 +70,9 @@ PlaceTellsRoom state (Open life) step answer =
 PlaceTellsRoom state (Closed disk) step answer = Unit {0}
 PlaceTellsRoom state Crashing step answer = Unit {0}
 
--- A store was opened from these bytes, or its opening was refused: nothing was written except if
--- the records are of an older version, and each crash leaves any table that was there.
+-- A store was opened from these bytes, or its opening was refused. The content changed only if the
+-- records are of an older version, and each image that a crash may leave holds the table that the
+-- bytes hold, if any.
 pub record IsOpenedFrom (left : List ℕ) (now : State) : Type 0 where
   pub same : ¬ (IsOld left) → now.content ≡ left
   pub keeps : StillHolds left now
