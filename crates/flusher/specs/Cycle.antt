@@ -38,7 +38,7 @@ IsUnready s untouched failure e =
     (untouched ⊎ (e ≡ DeviceFailed))
     × ((e ≡ OutOfMemory) ⊎ ((¬ (IsRoomy s)) × IsUnchecked s failure e))
 
--- a checkpoint was written exactly if the journal lacked room for the largest batch: it is of the
+-- a checkpoint was written exactly if the journal had no room for the largest batch: it is of the
 -- next generation
 abbrev pub ChecksWhereFull : StoreState → StoreState → Type 0
 ChecksWhereFull old new =

@@ -71,9 +71,9 @@ abbrev pub StillHolds : List ℕ → State → Type 0
 StillHolds bytes disk =
     (t : TableState) (seq : ℕ) → HoldsTable t seq bytes → EveryImage disk (HoldsTable t seq)
 
--- For each image that a crash may leave of the new disk there is one that a crash might have left
--- of the old one, and each table that this one held the new one holds. So what is known of the
--- tables in all images of the old disk is known of what is left now.
+-- Each image that a crash may leave of the new disk holds the tables of some image that a crash
+-- might have left of the old one. So what is known of the tables in all images of the old disk is
+-- known of what is left now.
 abbrev pub HoldsOn : State → State → Type 0
 HoldsOn old new =
     EveryImage new (λ image. (was : List ℕ) × (IsPermitted old was
