@@ -34,8 +34,8 @@ pub fn join_req_text(alloc: Global, ask: &JoinAsk) -> Result<String, Refusal>
 
 /// The question of a text. Any text that is no question is refused as `BadMessage`. White space and
 /// the order of members are free, as in JSON, and if a member comes twice the last one counts. But
-/// no other members are allowed, numbers are whole, hex is in upper case, the CFList is the
-/// region's, and the PHYPayload is a Join-Request of this DevEUI and JoinEUI.
+/// no other members are allowed, numbers have to be whole, and hex in upper case. The CFList has to
+/// be the region's, and the PHYPayload a Join-Request of this DevEUI and JoinEUI.
 pub fn read_join_req(alloc: Global, text: &str) -> Result<JoinAsk, Refusal>
     ensures found { IfOk result (λ ask. IsAsk ask × IsJoinReq text.now ask) }
     ensures refused { IfErr result (λ e. (e ≡ OutOfMemory)

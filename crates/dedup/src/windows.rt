@@ -53,8 +53,8 @@ impl Windows {
     /// Puts a copy that came at the moment `now` into the window of its bytes, or opens one.
     /// Refused as `WindowsFull` if 1,024 windows are open and none has these bytes, as
     /// `SameGateway` if the window has a copy from this gateway, and as `CopiesFull` if it has 32
-    /// copies, each whether or not memory is available; then as `OutOfMemory` if memory runs out.
-    /// After an `Err` the windows are unchanged.
+    /// copies. Each of these is returned whether or not memory is available. If memory runs out,
+    /// the refusal is `OutOfMemory`. After an `Err` the windows are unchanged.
     pub fn add(&mut self, now: u64, copy: FrameCopy) -> Result<(), Refusal>
         requires receivable { IsReceivable copy.reception }
         requires current { IsCurrent now self.old }

@@ -71,7 +71,7 @@ IsBetter a b =
     ⊎ (a.reception.snr ≡ b.reception.snr) × ((b.reception.rssi <ℤ a.reception.rssi)
     ⊎ (a.reception.rssi ≡ b.reception.rssi) × (gateway_of a < gateway_of b))
 
--- one of these copies, and none of them is better
+-- one of these copies, such that no other is better
 pub record IsBest (hearings : List Hearing) (best : Hearing) : Type 0 where
   pub one : Contains hearings best
   pub greatest : All (λ h. ¬ (IsBetter h best)) hearings

@@ -55,8 +55,9 @@ impl Hearings {
     /// The most gateways from which a copy is kept.
     pub const MOST: usize = 32;
 
-    /// These copies, in the order in which they came. `None` if there are none or more than 32, if
-    /// two are from one gateway, or if one isn't on a channel at a data rate from 0 to 5.
+    /// These copies, in the order in which they came. `None` if there are none or more than 32, or
+    /// if two are from one gateway. Also `None` if one isn't on a channel and at a data rate from 0
+    /// to 5.
     pub fn new(items: Vec<Hearing>) -> Option<Self>
         ensures { MatchOption result (¬ (AreHearings items.items))
             (λ h. AreHearings items.items × (h ≡ items.items)) }
@@ -78,9 +79,9 @@ impl Hearings {
         Ok(Hearings { items })
     }
 
-    /// Adds a copy at the end. It is refused as `SameGateway` if a copy of its gateway is already
-    /// there, then as `CopiesFull` if there are 32, both whether or not memory is available; then
-    /// as `OutOfMemory` if memory runs out. After an `Err` the copies are unchanged.
+    /// Adds a copy at the end. It is refused as `SameGateway` if its gateway already has a copy,
+    /// then as `CopiesFull` if there are 32. Both are returned whether or not memory is available.
+    /// If memory runs out, it is refused as `OutOfMemory`. After an `Err` the copies are unchanged.
     pub fn add(&mut self, hearing: Hearing) -> Result<(), Refusal>
         requires { IsReceivable hearing.reception }
         ensures added { Answers (with_hearing self.old hearing)

@@ -5,8 +5,8 @@ ghost use Rattle.lw_types.specs.declared.direction.Direction.{Direction};
 ghost use Rattle.frame_crypt.specs.Frames.{crypted_payload};
 ghost use Rattle.frame_crypt.specs.Joins.{IsAccept, opened_accept, sealed_accept, with_mic};
 
-/// The device opens a sealed Join-Accept to the frame that was sealed, and opens no other frame to
-/// that one.
+/// The device opens a sealed Join-Accept to the frame with its MIC, and opens no other frame to
+/// that.
 pub fn a_sealed_accept_is_opened()
     ensures opened { (key frame : List ℕ) → IsBlock key → IsAccept frame
         → opened_accept key (sealed_accept key frame) ≡ with_mic key frame }

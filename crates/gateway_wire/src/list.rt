@@ -9,8 +9,8 @@ use lw_types::{JoinNonce, Refusal};
 use std::alloc::{AllocError, Global};
 use std::fmt;
 
-/// A line for each device of a table, in order of slot, and a last line with the number of devices
-/// and with `seq`, the number of the last decision. Each line ends with a newline.
+/// A line for each device of a table, in order of slot, and a last line. The last line has the
+/// number of devices, and `seq`, the number of the last decision. Each line ends with a newline.
 pub fn list_text(alloc: Global, devices: &[Device], seq: u64) -> Result<String, Refusal>
     ensures { MatchResult result (λ text. string_bytes text ≡ list_text devices.now seq)
         (λ e. e ≡ OutOfMemory) }

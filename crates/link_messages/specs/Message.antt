@@ -56,7 +56,7 @@ IsMessage (Copy copy) =
     × (length copy.phy_payload ≤ 255)
 IsMessage (Line line) = IsLine line
 
--- ---- who says what
+-- ---- which peer may say what
 
 -- the first message of a link is a greeting, and no later one is; a gateway sends copies of its
 -- own, an application sends lines

@@ -25,7 +25,7 @@ pub data End : Type 0 where
   Rest : List ℕ → End
   Fault : Refusal → End
 
--- ---- what stands at the front of a stream
+-- ---- what is at the front of a stream
 
 -- the length of the content, as the first two bytes state it
 abbrev pub stated_length : List ℕ → Option ℕ

@@ -158,7 +158,7 @@ pub answered_on : {T : Type 0} (result : Result T Refusal) (e : Refusal) (holds 
 answered_on (Ok x) e holds is h = tt
 answered_on (Err answered) e holds is h = subst holds (sym is) h
 
--- ---- what is told of a life
+-- ---- what is reported of a life
 
 -- a life that was refused gives no report
 pub ended_well : {S T : Type 0} (ended : Result T Refusal) (report : Result S ServeFault) (holds : Type 0)

@@ -37,17 +37,18 @@ use timed_disk::DiskTimes;
 /// on them. Returns the store, and the result of the life.
 ///
 /// Each link has a worker, which passes the gate before each of its calls, and a sender, with a
-/// ring of 1,024 effects and one of 1,024 refusals. A link is read no further after bytes that are
-/// no message, a length above 700, an end inside a frame, a greeting with a name that a link
-/// already has, or a greeting of a gateway when 64 have links. It is also read no further if memory
-/// for its messages runs out, which doesn't count as a fault. Its sender goes on, and it keeps its
-/// name. An effect is dropped if its gateway or application has no link, or if the link's ring is
-/// full. A refusal that finds its ring full is dropped too, but not counted.
+/// ring of 1,024 effects and one of 1,024 refusals. A link is at fault, and read no further, after
+/// bytes that are no message, a length above 700, or an end inside a frame. The same holds after a
+/// greeting with a name that a link already has, or a greeting of a gateway when 64 have links. A
+/// link is also read no further if memory for its messages runs out, which doesn't count as a
+/// fault. Its sender goes on, and it keeps its name. An effect is dropped if its gateway or
+/// application has no link, or if the link's ring is full. A refusal that finds its ring full is
+/// dropped too, but not counted.
 ///
-/// At the end a last tick closes the windows that are open, 200 ms past the effective time, what is
-/// left is committed, and each sender writes what waits. A peer that then takes nothing for eight
-/// seconds is given up, and what is left for it is dropped. A store that fails ends the life at
-/// once: the links are closed, and what waits for them is lost. In each case every thread is
+/// At the end a last tick, 200 ms past the effective time, closes the windows that are open. Then
+/// what is left is committed, and each sender writes what waits. A peer that then takes nothing for
+/// eight seconds is given up, and what is left for it is dropped. A store that fails ends the life
+/// at once: the links are closed, and what waits for them is lost. In each case every thread is
 /// joined.
 ///
 /// A worker waits in its read. A sender and the flusher wait for a bell. The closer waits until the
@@ -110,7 +111,7 @@ pub fn serve_links<
 /// the name of that link, not for one that had its place before. A link that comes while all places
 /// are taken waits for one.
 ///
-/// Lines for an application wait while it has no link, at most 1,024, and go on in order on its
+/// Lines for an application wait while it has no link, at most 1,024. They go on in order on its
 /// next link, except for those that were being written when a link failed. What waits for an
 /// application that has no link at the end is dropped and counted.
 ///

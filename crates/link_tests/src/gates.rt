@@ -96,7 +96,7 @@ impl<'x> Gate for HoldBoth<'x> {
 }
 
 /// Holds the second worker before its first call until the first worker has come to its second
-/// call, and the first worker there until the second one has come to its third call.
+/// call. Holds the first worker there until the second one has come to its third call.
 #[derive(Drop)]
 pub struct HoldFirst<'x> {
     pub marks: &'x Marks,

@@ -1,4 +1,4 @@
--- What a call answers if a definition says what it should do.
+-- What a call returns if a definition says what it should do.
 use Rattle.std.specs.Prelude.{◌≡◌, ◌⊎◌, Result, Ok, Err}
 use Rattle.std.specs.Result.{MatchResult}
 use Rattle.lw_types.specs.declared.refusal.Refusal.{Refusal}

@@ -14,9 +14,8 @@ pub enum Refusal {
     NotServed,
     /// No session has an uplink's address.
     UnknownDevAddr,
-    /// A Join-Request's MIC is wrong for its device. Or, among the sessions with an uplink's
-    /// address, the counter isn't too far above the last one in at least one, but the MIC is right
-    /// in none.
+    /// A Join-Request's MIC is wrong for its device. Or an uplink's MIC is right in no session,
+    /// although the counter is near enough in at least one session that has its address.
     BadMic,
     /// An uplink's counter is too far above the last one in each session that has its address.
     CounterGap,

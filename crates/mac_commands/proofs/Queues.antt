@@ -13,7 +13,7 @@ use Rattle.mac_commands.specs.Reading.{commands_in, is_queue}
 use Rattle.mac_commands.proofs.CommandsIn.{are_commands, read_is}
 use Rattle.mac_commands.proofs.Reading.{HasRead, goes_on, no_more, none_begins, parted, read_to_the_end, reads_more}
 
--- commands that may be queued stand before the rest
+-- commands that may be queued come before the rest
 pub record HasQueued (bytes rest : List ℕ) : Type 0 where
   pub commands : List MacCommand
   pub read : HasRead Down bytes commands rest

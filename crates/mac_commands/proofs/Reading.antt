@@ -57,7 +57,7 @@ one_front direction c d x y whole_c whole_d e =
 
 -- ---- commands that were read
 
--- the commands are whole, and stand before the rest
+-- the commands are whole, and come before the rest
 pub record HasRead (direction : Direction) (bytes : List ℕ) (commands : List MacCommand) (rest : List ℕ) : Type 0 where
   pub whole : AllByRecursion (IsWhole direction) commands
   pub spelled : bytes ≡ spelling commands ++ rest

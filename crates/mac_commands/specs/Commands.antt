@@ -26,7 +26,7 @@ pub record Spells (direction : Direction) (bytes : List ℕ)
 abbrev pub AreWhole : Direction → List ℕ → Type 0
 AreWhole direction bytes = (commands : List MacCommand) × Spells direction bytes commands
 
--- a whole command stands at the front of the bytes
+-- a whole command is at the front of the bytes
 abbrev pub BeginsWhole : Direction → List ℕ → Type 0
 BeginsWhole direction bytes =
     (command : MacCommand) × (rest : List ℕ) × IsWhole direction command

@@ -8,7 +8,7 @@ use crate::command::{CommandPayload, LONGEST_COMMAND_PAYLOAD, MacCommand};
 use lw_types::Direction;
 use std::alloc::{AllocError, Global};
 
-/// A command that stands at the front of some bytes, and the bytes after it.
+/// A command at the front of some bytes, and the bytes after it.
 #[derive(Clone, Copy)]
 pub(crate) struct Front<'a> {
     pub cid: Cid,

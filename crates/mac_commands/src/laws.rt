@@ -18,7 +18,7 @@ pub fn bytes_are_read_in_one_way()
         → AreCommands direction bytes a m → AreCommands direction bytes b n → m ≡ n }
 {}
 
-/// Bytes are read as `commands_in` says, up to where these commands end.
+/// Bytes are read as `commands_in` says, up to the end of these commands.
 pub fn bytes_begin_with_these_commands()
     ensures { (direction : Direction) (bytes : List ℕ)
         → let commands = commands_in direction bytes in

@@ -7,9 +7,9 @@ use crate::front::read_front;
 use lw_types::{Direction, Payload};
 use std::alloc::{AllocError, Global};
 
-/// The commands in an uplink that are reported to its application, as bytes and in order. These are
-/// the commands at the front of its FOpts or of its FRMPayload on port 0, as `decode_up` reads
-/// them, without LinkCheckReq and DeviceTimeReq, which are for the network.
+/// The commands in an uplink that are reported to its application, as bytes and in order. They are
+/// read as by `decode_up`, from its FOpts or from its FRMPayload on port 0. LinkCheckReq and
+/// DeviceTimeReq are left out, since they are for the network.
 pub fn read_reported(alloc: Global, bytes: &[u8]) -> Result<Payload, AllocError>
     requires { length bytes.now ≤ LONGEST_PAYLOAD }
     ensures { IfOk result (λ told. told ≡ reported_bytes bytes.now) }

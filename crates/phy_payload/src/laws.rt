@@ -62,8 +62,8 @@ pub fn reading_is_the_grammar()
     ensures spelled { (bytes : List ℕ) (frame : Phy) → IsPhy bytes frame → phy_at bytes ≡ Ok frame }
 {}
 
-/// The Join-Requests are the 23-byte texts whose MHDR is 0. Their fields are JoinEUI (8), DevEUI
-/// (8), DevNonce (2) and MIC (4), low bytes first (TS001-1.0.4 §4.2, §6.2.5).
+/// The Join-Requests are the strings of 23 bytes whose MHDR is 0. Their fields are JoinEUI (8),
+/// DevEUI (8), DevNonce (2) and MIC (4), low bytes first (TS001-1.0.4 §4.2, §6.2.5).
 pub fn a_join_request_has_23_bytes()
     ensures shape { (bytes : List ℕ) (r : JoinRequest) → IsPhy bytes (Phy.JoinRequest r)
         → (length bytes ≡ 23) × (take 1 bytes ≡ 0 ∷ []) }

@@ -1,6 +1,6 @@
-//! The links of a server over sockets: the places in which they are read, what their senders write,
-//! the rings through which effects come, the signals between the threads of a life, and the socket
-//! for operators. The threads themselves are in `link_server`; this crate is public only for it.
+//! The links of a server over sockets: their places, what their senders write, and the rings
+//! through which effects come. Also the signals between the threads of a life, and the socket for
+//! operators. The threads themselves are in `link_server`; this crate is public only for it.
 #![tactic(auto)]
 
 mod control;

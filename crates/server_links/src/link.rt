@@ -39,7 +39,7 @@ const WRITE_WAIT: u64 = 1;
 pub struct Link {
     pub socket: Socket,
     pub bell: Parker,
-    // What each sender here uses in turn, while no sender has it.
+    // What the senders of this place use in turn; `None` while a sender has it.
     pub spare: Mutex<Option<Spare>>,
     // The peer that greeted on a link that stays.
     name: OnceLock<Recipient>,

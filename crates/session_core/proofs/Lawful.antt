@@ -64,9 +64,9 @@ decided-made s c d room made new is =
     subst (λ w. AnswersTo c w (λ st _. Makes s c st new) decided) (sym (wanted-room s c room ∙ st.1))
     (answers_ok (is_frugal c (Ok st.0)) (λ st _. Makes s c st new) st.0 (tt {0}) (record { decision = d; is_step = st.2; new_is = is }))
 
--- ---- where there is no memory
+-- ---- when memory is out
 
--- a refusal is returned whatever a value would be
+-- a refusal is returned for any value that would be wanted
 refused_as : {B C : Type 0} (Is : TableStep → B → Type 0) (Is' : TableStep → C → Type 0) (b : Bool) (w : Result TableStep Refusal) (e : Refusal)
     → MatchBool b (Answers w Is (Err e)) (AnswersWithMemory w Is (Err e)) → MatchBool b (Answers w Is' (Err e)) (AnswersWithMemory w Is' (Err e))
 refused_as {B} {C} Is Is' true (Ok x) e h = h

@@ -288,7 +288,7 @@ counted n old last new closes is =
       new_is = is ∙ ap (λ n. record last { closings = n }) (sym count);
     }
 
--- an event whose own was done
+-- an event whose own work was done
 pub turned-own : (old between new : CoreState) (moment : ℕ) (Own : CoreState → Option Refusal → CoreState → Type 0) (turn : Turn) → HasClosed (core_at_moment old moment) between
     → has_due between ≡ false → Own between turn.refused new → turn.from ≡ old.decisions.made → turn.to ≡ new.decisions.made → IsTurn old moment Own turn new
 turned-own old between new moment Own turn closed none own from to =

@@ -63,8 +63,9 @@ impl Core {
         Ok(true)
     }
 
-    // Hands in the frame of the oldest window, if it is due. If memory runs out for a copy of the
-    // frame, returns the refusal that the frame would get anyway, if any.
+    // Hands in the frame of the oldest window, and returns the answer; `None` if the window isn't
+    // due. If memory for a copy of the frame runs out, the answer is the refusal that the frame
+    // would get anyway, or else `OutOfMemory`.
     fn hand_in_oldest(&mut self) -> Option<Result<(), Refusal>>
         ensures { MatchOption result
             ((self.new ≡ self.old) × (has_due self.old ≡ false))
@@ -91,7 +92,7 @@ impl Core {
         self.noted(answer)
     }
 
-    /// Notes the refusal of a command when memory is out.
+    /// Notes the refusal of a command for which memory ran out.
     pub(crate) fn pass_over(&mut self, command: &Command) -> Refusal
         ensures { Handles self.old command.now (Err result) self.new }
     {

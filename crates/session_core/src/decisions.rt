@@ -126,7 +126,8 @@ impl Decisions {
         Ok(())
     }
 
-    /// The refusal of a command when memory is out.
+    /// The refusal of a command for which memory ran out: the one that it would get anyway, or else
+    /// `OutOfMemory`.
     pub(crate) fn lack(&self, command: &Command) -> Refusal
         ensures full { has_room self.now ≡ false → result ≡ Backlog }
         ensures lack { IsWithoutMemory self.now command.now result }
@@ -141,7 +142,8 @@ impl Decisions {
         }
     }
 
-    /// The refusal of a frame with these copies when memory to hand it in is out.
+    /// The refusal of a frame with these copies, when memory to hand it in ran out: the one that it
+    /// would get anyway, or else `OutOfMemory`.
     pub(crate) fn lack_heard(&self, phy_payload: &PhyPayload, hearings: &Hearings) -> Refusal
         ensures full { has_room self.now ≡ false → result ≡ Backlog }
         ensures lack { IsWithoutMemory self.now

@@ -234,8 +234,8 @@ impl Core {
         Turn { from, to, refused }
     }
 
-    /// A command comes, but memory to hand it in is out. It is refused as it would be anyway, if it
-    /// would be, otherwise with `OutOfMemory`.
+    /// A command comes, but memory to hand it in ran out. It gets the refusal that it would get
+    /// anyway, or else `OutOfMemory`.
     pub fn decide_without_memory(&mut self, moment: Moment, command: &Command) -> Turn
         ensures turn { IsTurn self.old moment (Asks command.now) result self.new }
         ensures refused { IsSome result.refused }
@@ -254,7 +254,7 @@ impl Core {
         }
     }
 
-    /// An event comes, but memory to do it is out: it is refused with `OutOfMemory`.
+    /// An event comes, but memory for it ran out: it is refused with `OutOfMemory`.
     pub fn hear_without_memory(&mut self, moment: Moment) -> Turn
         ensures turn { IsTurn self.old moment Starves result self.new }
         ensures lawful { IsLawfulCore self.old }

@@ -76,7 +76,7 @@ raised_at s n devices d own at found same =
     let here : slot_of s.dev_eui.0 devices ≡ Some (0 + n) = found ∙ ap Some (let e : n ≡ 0 + n = omega arith in e) in
     one_raised s n 0 0 devices d at same here last
 
--- ---- what a record stands for
+-- ---- what a record represents
 
 -- the last granted JoinNonce is the higher one of the two
 raised_nonce : (to : ℕ) (g : Grants) → unwrap_or (raised_grants to g).granted 0 ≡ max (unwrap_or g.granted 0) to

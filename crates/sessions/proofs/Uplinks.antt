@@ -89,7 +89,7 @@ answer-carries d c o answer current order = by answer.grants
               (subst (λ g. Passes d.activation g (Sent (name_of d c) c.next_down ∷ [])) used (passes_down d.activation c current order (name_of d c) refl));
         }
 
--- ---- what is told before the answer
+-- ---- what is reported before the answer
 
 -- effects without a mark, and others after them
 behind_unmarked : (first second : List Effect) → marks_of first ≡ [] → marks_of (first ++ second) ≡ marks_of second

@@ -103,8 +103,8 @@ is_frugal (Heard h) outcome =
 is_frugal (Queue q) outcome = true
 is_frugal (QueueMac q) outcome = true
 
--- what a command is answered: exactly what is wanted, unless memory runs out. If a refusal is
--- wanted that isn't frugal, OutOfMemory may come in its place
+-- the result for a command: exactly what is wanted, unless memory runs out. If a refusal is wanted
+-- that isn't frugal, OutOfMemory may come in its place
 abbrev pub AnswersTo : {A B : Type 0} → Command → Result A Refusal → (A → B → Type 0)
     → Result B Refusal → Type 0
 AnswersTo command wanted Is result =

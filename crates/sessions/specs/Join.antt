@@ -99,10 +99,10 @@ with_session d granted =
       activation = with_grant d.activation (granted_session granted.1);
     }
 
--- the Join-Accept is sent by the gateway that heard the request best, 5 s after it
--- (JOIN_ACCEPT_DELAY1) at its frequency and data rate, or a second later in RX2 (TS001-1.0.4
--- §6.2.6). RX1 has the request's data rate, for any RX1DROffset of the device: the offset applies
--- after the accept, and the standard leaves this open
+-- the Join-Accept is sent by the gateway that heard the request best. It is sent 5 s after the
+-- request (JOIN_ACCEPT_DELAY1), at its frequency and data rate, or a second later in RX2
+-- (TS001-1.0.4 §6.2.6). RX1 has the request's data rate, for any RX1DROffset of the device: the
+-- offset applies after the accept, and the standard leaves this open
 abbrev pub accept_downlink : Hearing → List ℕ → Downlink
 accept_downlink best frame =
     record {

@@ -31,8 +31,7 @@ raised_by_all [] t = t
 raised_by_all (s ∷ sessions) t = raised_by_all sessions (raised_table s t)
 
 -- The mark is of a device that the copy has, and the JoinNonce of its session is at most N above
--- the last one that was granted according to the copy. It may have been used, whatever its counter
--- is.
+-- the copy's last granted one. With any counter, the mark may have been used.
 pub record IsSince (since : ℕ) (t : TableState) (m : Mark) : Type 0 where
   pub slot : ℕ
   pub device : Device
@@ -46,9 +45,8 @@ highest dev_eui [] = 0
 highest dev_eui (s ∷ sessions) =
     max (if s.dev_eui.0 == dev_eui then s.join_nonce else 0) (highest dev_eui sessions)
 
--- The same with a record of sessions beside the copy: the JoinNonce is at most N above the last one
--- that was granted according to the copy, or above the highest one that the record has of the
--- device.
+-- The same with a record of sessions beside the copy: the JoinNonce is at most N above the copy's
+-- last granted one, or above the highest one that the record has of the device.
 pub record IsSinceRecord (since : ℕ) (sessions : List SessionName) (t : TableState) (m : Mark)
     : Type 0 where
   pub slot : ℕ

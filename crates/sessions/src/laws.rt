@@ -74,10 +74,10 @@ pub fn taking_back()
         → without_decisions (with_decisions t ds) ds ≡ t }
 {}
 
-/// On a sound table, the effects of commands use up no mark twice. (On an unsound one they might: a
-/// session that is pending with a JoinNonce other than the last granted one would be granted, and
-/// used, again.) Commands use up no mark that the network has used up before; a new network has
-/// used up none. If effects use up no mark twice, neither does a part of them.
+/// On a sound table, the effects of commands use up no mark twice. On an unsound one they might: if
+/// the pending session's JoinNonce isn't the last granted one, it would be granted, and used,
+/// again. Commands use up no mark that the network has used up before; a new network has used up
+/// none. If effects use up no mark twice, neither does a part of them.
 pub fn no_mark_stands_twice()
     ensures commands { (t : TableState) (commands : List Command) → IsSound t
         → AreOnce (effects_of t commands) }
@@ -97,9 +97,9 @@ pub fn no_mark_stands_twice()
 }
 
 /// A restored table covers each mark of a device that the copy has, if the mark's JoinNonce is at
-/// most `since` above the last one that was granted according to the copy. The restored table is
-/// sound if each device of the copy is found at its own slot. So a network that has used up such
-/// marks, none of them twice, can go on with it.
+/// most `since` above the copy's last granted one. The restored table is sound if each device of
+/// the copy is found at its own slot. So a network that has used up such marks, none of them twice,
+/// can go on with it.
 pub fn a_restored_table_covers()
     ensures covered { (since : ℕ) (t : TableState) (marks : List Mark) →
         All (λ m. IsSince since t m) marks → All (λ m. Covers (restored_table since t) m) marks }
@@ -107,11 +107,12 @@ pub fn a_restored_table_covers()
         → IsSound (restored_table since t) }
 {}
 
-/// A record of sessions beside a copy can make up for what is missing in the copy. If these
-/// sessions are counted as granted before the copy is restored, the restored table covers each mark
-/// whose JoinNonce is at most `since` above the copy's last one of the device, or above the highest
-/// one on record of it. So earlier restores of the network don't count against `since` if they are
-/// on record.
+/// A record of sessions beside a copy can make up for what is missing in the copy. Take a mark of a
+/// device that the copy has, with a JoinNonce at most `since` above the copy's last granted one or
+/// above the highest one on record of the device. After the sessions on record are counted as
+/// granted, it is at most `since` above the last granted one. So the restored table covers it
+/// ([`a_restored_table_covers`]). And each device that was found at its own slot still is. So
+/// earlier restores of the network don't count against `since` if they are on record.
 pub fn a_record_raises_a_copy()
     ensures within { (since : ℕ) (sessions : List SessionName) (t : TableState) (marks : List Mark)
         → All (λ m. IsSinceRecord since sessions t m) marks

@@ -22,8 +22,8 @@ pub const MOST_SLOTS: u64 = 4096;
 /// The number of slots of a table, from 1 to 4,096.
 pub type Slots = Ranged<1, MOST_SLOTS>;
 
-/// A network's devices by slot, and an index of their DevEUIs. All its memory is reserved when it
-/// is made, so placing a device takes none. The cost of a look-up doesn't grow with the number of
+/// A network's devices by slot, and an index of their DevEUIs. All its room is reserved when it is
+/// made, so placing a device takes no memory. The cost of a look-up doesn't grow with the number of
 /// devices.
 pub struct Table {
     alloc: Global,

@@ -57,7 +57,7 @@ has_mic frame (First s counter) = is_signed s counter frame
 has_mic frame (Next c counter) = is_signed c.session counter frame
 has_mic frame (Again c) = is_signed c.session c.last_up frame
 
--- Why a frame is refused whose MIC fits no session: no session has its address; or the counter is
+-- Why a frame is refused if its MIC fits no session: no session has its address; or the counter is
 -- too far in each that has it; otherwise its MIC.
 abbrev pub refusal_among : List Candidate → List Fit → Refusal
 refusal_among [] fits = refusals.UnknownDevAddr

@@ -30,8 +30,8 @@ pub fn a_frame_is_of_the_first_session_that_fits()
         fit_of net_id slot g frame ≡ verdict_among frame (candidates net_id slot g frame) }
 {}
 
-/// An uplink of a session with all eight channels is refused on none of them. Copies are only taken
-/// on these channels.
+/// An uplink of a session with all eight channels is never refused for its channel, since copies
+/// are only taken on these channels.
 pub fn eight_channels_are_all()
     ensures { (best : Hearing) (fit : Fit) → IsReceivable best.reception
         → (fitted_session fit).channels ≡ Eight → if_on_channel best fit ≡ Ok fit }

@@ -20,11 +20,15 @@ use phy_payload::laws::read_mic_inputs_are_short;
 use std::alloc::Global;
 
 /// Returns what an uplink does to the record of the device at a slot of a network: the record after
-/// it, and its effects. It is refused if no session of the device has its address
-/// (`UnknownDevAddr`), if its counter is too far above the last one in each session that has it
-/// (`CounterGap`), if its MIC isn't the session's (`BadMic`), if the copy that was heard best isn't
-/// on a channel of the session (`UnknownChannel`), and if it comes again unconfirmed (`Repeat`).
-/// Each of these is returned whether or not memory is available; if memory runs out, the refusal is
+/// it, and its effects. The refusals, in this order:
+/// - `UnknownDevAddr` if no session of the device has its address;
+/// - `CounterGap` if its counter is too far above the last one in each session that has its
+///   address;
+/// - `BadMic` if its MIC isn't the session's;
+/// - `UnknownChannel` if the copy that was heard best isn't on a channel of the session;
+/// - `Repeat` if it comes again unconfirmed.
+///
+/// Each of these is returned whether or not memory is available. If memory runs out, the refusal is
 /// `OutOfMemory`. The cost is bounded by the frame and the device's queues.
 pub fn receive_uplink(
     alloc: Global,

@@ -47,7 +47,7 @@ pub(super) const SESSIONS: &[Row] = &[
             ..SWITCHED
         },
     },
-    // the MIC is of the current session
+    // the MIC belongs to the current session
     Row {
         before: State {
             last_up: 7,
