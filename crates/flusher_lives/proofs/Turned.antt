@@ -133,7 +133,7 @@ pub heard : (copy : FrameCopy) (old : CoreState) (moment : ℕ) (turn : Turn) (n
     → HasDecided old.decisions new.decisions
 heard copy = turned (Hears copy) (heard_own copy)
 
--- whatever comes to a core
+-- any events that come to a core
 comes : (old : CoreState) (at : ℕ × CoreEvent) (new : CoreState) → Comes old at new → HasDecided old.decisions new.decisions
 comes old (moment, Copy copy) new (turn, is) = heard copy old moment turn new is
 comes old (moment, Provision value) new (turn, is) = asked (commands.Provision value) old moment turn new is

@@ -84,15 +84,15 @@ pub record FellShort {O : Type 0} (ends : Mode → Result (List ℕ) Fault → T
 abbrev pub CannotListen : (Mode → Result (List ℕ) Fault → Type 0) → Mode → Type 0
 CannotListen ends m = AsksToRun m × ends m (Err Listen)
 
--- the status of what was asked for: 0 where it was done and told, 3 where it can't listen, or 1
+-- the status of what was asked for: 0 if it was done and printed, 3 if it can't listen, or 1
 abbrev pub HasStatus : {O : Type 0} → (Mode → Result (List ℕ) Fault → Type 0)
     → (O → Option (List ℕ)) → O → O → Mode → ℕ → Type 0
 HasStatus ends contents old new m status =
     ((status ≡ 0) × IsDone ends contents old new m)
     ⊎ (((status ≡ 1) × FellShort ends old new m) ⊎ ((status ≡ 3) × CannotListen ends m))
 
--- The status of words that ask for nothing to be done: 2 of wrong ones; 0 of help, where its text
--- stands on standard output behind what was there, or else 1; 1 where there was no memory.
+-- The status of words that ask for no action: 2 for wrong ones; for help 0 if its text is on
+-- standard output after what was there, and otherwise 1; 1 if memory was out.
 abbrev pub HasUsageStatus : {O : Type 0} → Usage → (O → Option (List ℕ)) → O → O → ℕ → Type 0
 HasUsageStatus (usage.Words text) contents old new status = (status ≡ 2) × (new ≡ old)
 HasUsageStatus (usage.Help text) contents old new status = (status ≤ 1)

@@ -1,4 +1,4 @@
--- Where memory is taken: for a message at the front, or for a part of a frame.
+-- What takes memory: a message at the front, or a part of a frame.
 use Rattle.std.proofs.Common.{◌≡◌, ◌∙◌, ◌⊎◌, ℕ, List, [], ◌∷◌, ◌++◌, Option, Result, Ok, Err, IfErr, inl, inr, sym, subst, append_assoc, ap}
 use Rattle.link_messages.specs.declared.message.Peer.{Peer}
 use Rattle.link_messages.specs.declared.message.Message.{Message}

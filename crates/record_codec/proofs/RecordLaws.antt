@@ -44,7 +44,7 @@ payload_field =
     (λ bytes h. (h.0.0, leb-true (length bytes) LONGEST_PAYLOAD h.1))
     (λ bytes h. let le = h.1 in ((h.0, omega arith), le-leb (length bytes) LONGEST_PAYLOAD h.1))
 
--- the bytes of a queue, whatever they are
+-- the bytes of a queue, with any values
 abbrev pub IsQueue : RecordVersion → List ℕ → Type 0
 IsQueue v bytes = IsBytes bytes × (length bytes ≤ longest_mac_queue v)
 

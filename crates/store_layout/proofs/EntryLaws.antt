@@ -1,4 +1,4 @@
--- Entries one after another: where one ends the next begins.
+-- Entries one after another: the next begins at the end of the one before.
 use Rattle.std.proofs.Common.{◌*◌, ◌/◌, ◌%◌, ◌-◌, get_or, ◌≡◌, ◌<◌, ◌≤◌, ◌+◌, ◌^◌, ◌∙◌, ℕ, List, [], ◌∷◌, ◌++◌, length, take, drop, suc, sym, ap, subst, refl, arith}
 use Rattle.std.specs.Int.{to_be_bytes, from_be_bytes, w16}
 use Rattle.std.proofs.lemmas.List.{append_assoc, append-nil, length_push, length-append, take_rest, take_at}

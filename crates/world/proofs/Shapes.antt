@@ -17,7 +17,7 @@ use Rattle.world.specs.Course.{Origin, Course, after_own_copy, after_commands, a
 use Rattle.world.specs.Follows.{IsLife}
 use Rattle.world.specs.Links.{Piece}
 
--- the same life, whatever was heard, and however much was emitted
+-- the same life, for any frames heard and any number of emitted effects
 pub same-life : {origin : Origin} {c : Course} {s : StoreState} {core : DecisionsState} {commit : Pipeline} {emitted clock shut : ℕ} {arrivals : List Arrival} {pieces : List Piece}
     → IsLife origin c s core commit → IsLife origin (record c { emitted = emitted; clock = clock; arrivals = arrivals; shut = shut; pieces = pieces }) s core commit
 same-life f =
