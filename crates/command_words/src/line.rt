@@ -218,16 +218,14 @@ fn devices<'a>(alloc: Global) -> Result<Command<'a>, AllocError>
 fn watch<'a>(alloc: Global) -> Result<Command<'a>, AllocError>
     ensures { IsCommand watch_line result }
 {
-    let about =
-        "Prints the events of the server that runs on a store, a line each, until it ends";
+    let about = "Prints the events of the server that runs on a store, a line each, until it ends";
     file_command(alloc, "watch", about, WATCH_EXAMPLE, store_file(alloc))
 }
 
 fn status<'a>(alloc: Global) -> Result<Command<'a>, AllocError>
     ensures { IsCommand status_line result }
 {
-    let about =
-        "Prints the status of the server that runs on a store, a name and a value a line";
+    let about = "Prints the status of the server that runs on a store, a name and a value a line";
     let wait = number_option(
         alloc,
         "wait",

@@ -27,9 +27,9 @@ use timed_disk::DiskTimes;
 const MOST_RINGS: usize = MOST_PLACES as usize + APPLICATIONS;
 
 /// Commits decisions and sends out their effects, until nothing is decided any more and everything
-/// is committed. Then tells the senders that nothing more comes, and returns how many decisions
-/// were taken. A refusal closes the links, and what waits for them is lost. If it ends well, no
-/// call of the disk failed, and the store's number grew by the number of decisions taken.
+/// is committed. Then announces to the senders that nothing more comes, and returns how many
+/// decisions were taken. A refusal closes the links, and what waits for them is lost. If it ends
+/// well, no call of the disk failed, and the store's number grew by the number of decisions taken.
 pub(crate) fn flush<B: Books, R: Wait, D: Disk>(
     rt: &R,
     alloc: Global,

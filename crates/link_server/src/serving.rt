@@ -116,8 +116,8 @@ pub fn serve_links<
 /// application that has no link at the end is dropped and counted.
 ///
 /// Operators come in through a listener of their own, eight at a time, and send one [`Order`] each.
-/// An operator who sends nothing for two seconds is given up. What operators are told about the
-/// disk is in `times`.
+/// The connection of an operator who sends nothing for two seconds is closed. What operators see of
+/// the disk is in `times`.
 ///
 /// `on_begun` is called when every thread of the life runs. If a thread can't be started, it isn't
 /// called, and the life is refused with `OutOfMemory`.

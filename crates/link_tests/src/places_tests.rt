@@ -181,7 +181,7 @@ fn lacks<'a>(text: &str, wanted: &[&'a str]) -> Option<&'a str> {
     wanted.iter().copied().find(|it| !text.contains(*it))
 }
 
-// How often the caller was told that a life has begun.
+// How often `on_begun` was called.
 #[derive(Drop)]
 struct Begun(u64);
 

@@ -11,6 +11,6 @@ pub struct Context<'x, R: Wait, G: Gate, C: LifeClock> {
     pub alloc: Global,
     pub gate: &'x G,
     pub clock: &'x C,
-    // What operators are told about the disk, if there are operators.
+    // What operators see of the disk, if there are operators.
     pub times: Option<&'x DiskTimes>,
 }

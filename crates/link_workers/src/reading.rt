@@ -271,7 +271,7 @@ impl<'x, B: Books, R: Wait, G: Gate, C: LifeClock> Worker<'x, B, R, G, C> {
         is_new
     }
 
-    // If the copy is refused, only the operators who watch are told.
+    // If the copy is refused, only the operators who watch learn of it.
     fn hear_copy(&mut self, copy: FrameCopy)
         ensures counted { self.old.calls + 1 < 2 ^ 64 → self.new.calls ≡ self.old.calls + 1 }
         ensures heard { (moment : ℕ) × ((turn : Turn)

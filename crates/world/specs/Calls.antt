@@ -106,7 +106,7 @@ abbrev pub AreCallsAt : {D : Type 0} {g : _} → (D → ℕ) → (D → Outlook)
 AreCallsAt {D} failures outlook calls place =
     (disk : D) → HasDisk place disk → AreRecordedCalls calls (failures disk) (outlook disk)
 
--- A step of which the disk was this one and is that one: whatever was known of its calls, the
+-- A step with this disk before and that disk after: for everything known of the disk's calls, the
 -- answer is as foretold, and what the answer says of them is true.
 abbrev pub Foretells : {D : Type 0} → (D → ℕ) → (D → Outlook) → D → Step → Answer → D → Type 0
 Foretells failures outlook before step answer now =

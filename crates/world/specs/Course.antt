@@ -1,4 +1,4 @@
--- The course of a world: what was decided, where it is on its way to the disk, and what has left.
+-- The course of a world: what was decided, how far it is on its way to the disk, and what has left.
 -- It follows from the steps and their answers alone.
 use Rattle.std.specs.Prelude.{ℕ, zero, ◌+◌, ◌-◌, Bool, true, false, List, [], ◌∷◌, ◌++◌, length}
 use Rattle.std.specs.Prelude.{take, drop, map, filter, max, nat_lt, ◌&&◌, if◌then◌else◌, Option}
