@@ -1,5 +1,5 @@
 // The record of restores: from which JoinNonces the devices of a network continued.
-ghost use Rattle.std.specs.Prelude.{◌≡◌, IfSome};
+ghost use Rattle.std.specs.Prelude.{◌≡◌, ◌<◌, ◌^◌, ◌×◌, IfSome, Some};
 ghost use Rattle.store_files.specs.Record.{session_text};
 
 use crate::FileFault;
@@ -163,6 +163,9 @@ fn folder_number<R: Files<File = File>>(rt: &R, file: &str) -> io::Result<(u64, 
 /// then.
 pub fn session_in_line(line: &str) -> Option<SessionName>
     ensures found { IfSome result (λ s. line.now ≡ session_text s) }
+    ensures only { (s : SessionName) → s.dev_eui.0 < 2 ^ 64
+        → (0 < s.join_nonce) × (s.join_nonce < 2 ^ 24)
+        → line.now ≡ session_text s → result ≡ Some s }
 {
     let (dev_eui, join_nonce) = line.split_once(',')?;
     let dev_eui = Eui::from_text(dev_eui)?;
