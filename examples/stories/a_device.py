@@ -131,9 +131,7 @@ def lost_item(it, device, network):
     it.hear(50_000, copy, frame, "turn 7 7")
     it.line("tick 50200", "turn 7 8")
     line = network.downlink(copy, 1, (9, bytes.fromhex("0304"), True))
-    it.commit(
-        2, [told(f"queued {METER} 7002"), up(3, 7, bytes.fromhex("04D5"), 1, copy), line]
-    )
+    it.commit(2, [told(f"queued {METER} 7002"), up(3, 7, bytes.fromhex("04D5"), 1, copy), line])
     copy = replace(copy, stamp=60_000_000)
     frame = device.uplink(7, bytes.fromhex("04D6"))
     it.hear(60_000, copy, frame, "turn 8 8")

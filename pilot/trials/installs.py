@@ -184,7 +184,7 @@ def of_the_hour(store: str, program: str) -> list[str]:
 
 
 def stores(trials):
-    """The unit and the hour make a store with 4,096 slots, and the unit leaves one that is there."""
+    """The unit and the hour make a store of 4,096 slots, and the unit leaves one that is there."""
     for command_of in (of_the_unit, of_the_hour):
         with Program(trials.path) as it:
             words = command_of(it.store, it.path)

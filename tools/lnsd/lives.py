@@ -26,6 +26,7 @@ STEPS = {
     "w": ("crash", "new"),
 }
 
+
 class Batch:
     """Decisions that are begun, and how many of the four device calls of a commit were made."""
 

@@ -235,4 +235,3 @@ def as_nobody(program):
     for it in (program.folder, copied):
         os.chmod(it, 0o755)
     return {"user": 65534, "group": 65534, "extra_groups": []}, copied
-

@@ -143,8 +143,10 @@ def by_turns(run, frames):
     for mode, it in found.items():
         told = f"{it['latency']['median_ms']} ms (99th {it['latency']['p99_ms']})"
         run.tell(f"{mode}: beyond the window, median of {it['uplinks']:,}", told)
-        run.tell(f"{mode}: processor time an uplink; in the kernel",
-                 f"{it['processor_us']} us; {it['kernel_us']} us")
+        run.tell(
+            f"{mode}: processor time an uplink; in the kernel",
+            f"{it['processor_us']} us; {it['kernel_us']} us",
+        )
         run.tell(f"{mode}: of each thread, us", it["threads_us"])
         run.tell(f"{mode}: how often each was taken off, an uplink", it["switches"])
     serve, of = found["serve"], found["run"]
@@ -175,8 +177,10 @@ def straced(run, frames):
     found["uplinks_a_second"] = round(count / outcome.seconds, 1)
     run.figures["calls"] = found
     run.tell("calls an uplink, under strace", each)
-    run.tell("commits an uplink, and uplinks a second, then",
-             f"{found['commits']}, {found['uplinks_a_second']}")
+    run.tell(
+        "commits an uplink, and uplinks a second, then",
+        f"{found['commits']}, {found['uplinks_a_second']}",
+    )
 
 
 def idle_links(run):

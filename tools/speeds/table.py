@@ -59,12 +59,18 @@ def others(found):
         ("memory behind these loads (VmHWM)", f"{most['VmHWM']} MiB"),
         ("4,096 full records: `lnsd list`", f"{median(full['list_ms'])} ms"),
         ("the same of version 1, which are taken over", f"{median(found['older']['list_ms'])} ms"),
-        ("from the start until a link is taken; until a line is answered",
-         f"{median(taken)} ms; {median(answered)} ms"),
-        ("memory before an uplink of each of these, and behind (VmHWM)",
-         f"{full['memory_before']['VmHWM']} MiB; {full['memory_after']['VmHWM']} MiB"),
-        ("beyond the window, 1,000 of these a second: median; 99th",
-         "; ".join(spread(full["latency"])[:2])),
+        (
+            "from the start until a link is taken; until a line is answered",
+            f"{median(taken)} ms; {median(answered)} ms",
+        ),
+        (
+            "memory before an uplink of each of these, and behind (VmHWM)",
+            f"{full['memory_before']['VmHWM']} MiB; {full['memory_after']['VmHWM']} MiB",
+        ),
+        (
+            "beyond the window, 1,000 of these a second: median; 99th",
+            "; ".join(spread(full["latency"])[:2]),
+        ),
         ("the server's end behind that of the last input", f"{found['uplinks']['end_ms']} ms"),
     )
 
@@ -85,13 +91,16 @@ def modes(found):
     return table(
         (f"{rate:,} uplinks a second, {both[0]['uplinks']:,} of each", "`serve`", "`run`"),
         row("beyond the window: median; 99th", lambda it: "; ".join(spread(it["latency"])[:2])),
-        row("processor time an uplink, µs; in the kernel",
-            lambda it: each(it, ("processor_us", "kernel_us"))),
+        row(
+            "processor time an uplink, µs; in the kernel",
+            lambda it: each(it, ("processor_us", "kernel_us")),
+        ),
         row("of readers; closer; flusher; senders", lambda it: each(it["threads_us"], ROLES)),
-        row("times these were taken off a processor",
-            lambda it: each(it["switches"], ROLES, 2)),
-        row("commits; syncs",
-            lambda it: each(it, ("commits", "syncs"), 2) if "commits" in it else ""),
+        row("times these were taken off a processor", lambda it: each(it["switches"], ROLES, 2)),
+        row(
+            "commits; syncs",
+            lambda it: each(it, ("commits", "syncs"), 2) if "commits" in it else "",
+        ),
     )
 
 
@@ -103,8 +112,10 @@ def links(found):
     called = "not looked" if idle["system_calls"] is None else idle["system_calls"]
     cells = [
         (f"{what}: times a thread woke; system calls", f"{idle['switches']}; {called}"),
-        (f"memory behind {first[0]:,} links that came; {settled[0]:,}; {last[0]:,}",
-         "; ".join(f"{it[1]:,} KiB" for it in (first, settled, last))),
+        (
+            f"memory behind {first[0]:,} links that came; {settled[0]:,}; {last[0]:,}",
+            "; ".join(f"{it[1]:,} KiB" for it in (first, settled, last)),
+        ),
         ("descriptors; threads, then", f"{first[2]}, {last[2]}; {first[3]}, {last[3]}"),
         ("processor time of a link that comes and ends", f"{anew['processor_us']} µs"),
     ]
