@@ -81,7 +81,7 @@ unfoldable pub round_key : List ℕ → ℕ → List ℕ
 round_key key zero = key
 round_key key (suc r) = next_round_key (power 2 r) (round_key key r)
 
--- these are the keys of the rounds from 0 to 10, the first of them the given key
+-- these are the keys of the rounds from 0 to 10 of the key that is the first of them
 pub record AreRoundKeys (keys : List (List ℕ)) : Type 0 where
   pub size : length (slice_index_or keys 0 []) ≡ 16
   pub each : (r : ℕ) → r < 11 → slice_index_or keys r [] ≡ round_key (slice_index_or keys 0 []) r

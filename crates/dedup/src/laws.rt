@@ -12,7 +12,7 @@ ghost use Rattle.dedup.specs.Windows.{open_windows, IsCurrent, NoneDue, StandFor
 
 use crate::{MOST_WINDOWS, WAIT};
 
-/// Before any copy, no windows represent no groups.
+/// Before any copy, the empty list of windows represents the empty list of groups.
 pub fn no_copies_no_windows()
     ensures { (now : ℕ) → StandFor [] [] 0 now }
 {}
@@ -38,7 +38,7 @@ pub fn windows_stand_later_too()
         StandFor ws arrivals closed now → now ≤ later → StandFor ws arrivals closed later }
 {}
 
-/// If no window is due, all groups that are due are closed.
+/// If no window is due, the closed groups are exactly those that are due.
 pub fn all_due_groups_are_closed()
     ensures { (ws : List Window) (arrivals : List Arrival) (closed now : ℕ) →
         StandFor ws arrivals closed now → NoneDue now ws →
@@ -52,8 +52,9 @@ pub fn windows_are_the_groups_that_wait()
         StandFor ws arrivals closed now → NoneDue now ws → ws ≡ open_windows now arrivals }
 {}
 
-/// A copy is refused by the waiting group that has its bytes, as `SameGateway` or `CopiesFull`. If
-/// there is no such group, it is refused as `WindowsFull` if 1,024 groups wait.
+/// If a waiting group has a copy's bytes, the copy is refused exactly as that group refuses it
+/// (`SameGateway`, `CopiesFull`). If no group has, it is refused as `WindowsFull` exactly if 1,024
+/// groups wait.
 pub fn groups_that_wait_refuse()
     ensures by_its_group { (ws : List Window) (arrivals : List Arrival) (closed now : ℕ)
         (copy : FrameCopy) (w : Window) →

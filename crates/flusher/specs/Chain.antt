@@ -90,9 +90,9 @@ calls_of_batches [] = 0
 calls_of_batches (batch ∷ batches) = 3 * length (batch ∷ batches) + 1
 
 -- The calls of a chain that commits these batches, after those that make room. If it is refused and
--- no call failed, they are those of these batches, or no call at all if there was no room. If a
--- call failed, it is one of those that make room; or at least the calls of these batches succeeded,
--- and at most those of one more batch.
+-- no call failed, they are those of these batches; or, if no batch was committed, perhaps no call
+-- at all, not even those that make room. If a call failed, it is one of those that make room; or at
+-- least the calls of these batches succeeded, and at most those of one more batch.
 abbrev pub MakesCalls : Outlook → Outlook → ℕ → List (List Decision) → Result ℕ Refusal → Type 0
 MakesCalls old new room batches result =
     MatchResult result

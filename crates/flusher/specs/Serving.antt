@@ -36,8 +36,8 @@ abbrev pub GoesOnBehind : {S : Type 0} → (S → Bool → S → Type 0) → S �
 GoesOnBehind ask old zero new = ask old false new
 GoesOnBehind ask old (suc count) new = new ≡ old
 
--- what is asked after all of them: that after each, and at the end, if none was refused, that all
--- is done
+-- what is asked after all of them: the above after each one before the last; after the last one, if
+-- it wasn't refused, whether all is done, which is so
 abbrev pub AsksBehind : {S : Type 0} → (S → Bool → S → Type 0) → List ℕ
     → Result (Unit {0}) Refusal → S → S → Type 0
 AsksBehind {S} ask counts result old new =

@@ -92,10 +92,10 @@ fn take_event(core: &mut Core, moment: Moment, event: CoreEvent)
 
 /// A [`chain`] of what a core decides, on the store from which its decisions continue. What the
 /// store has at the end is the first of these decisions, in order: of those that waited, and of
-/// those that the core made of what came to it before each take. A crash at any moment leaves
-/// these. If the chain is refused, it leaves either these or these and the batch in doubt, which
-/// has the next ones. The chain is never refused with `OutOfStep`, since a batch of a core
-/// continues what it gave before.
+/// those that the core made of what came to it before each take. If the chain isn't refused, a
+/// crash after it leaves these. If it is refused, a crash leaves these, or these and the batch in
+/// doubt, which has the next ones. The chain is never refused with `OutOfStep`, since a batch of a
+/// core continues what it gave before.
 pub fn chain_of_core<D: Disk, C: FnMut(Vec<Released>)>(
     store: &mut Store<D>,
     feed: &mut CoreFeed,

@@ -44,12 +44,11 @@ use world::{Answer, Step, World, run};
 /// no step arms a failure.
 ///
 /// If it isn't refused, each answer is right, and a failed call of the disk comes when it is due.
-/// The store was opened from this image of the disk that the steps left, and each image that a
-/// crash could have left of that disk would hold as much. The store has the table and the number
-/// that the first n decided commands leave, for some n, and every command of which an effect has
-/// left is among these. Over all lives no mark was used up twice by what has left: no JoinNonce of
-/// a device stands in two accepts. The table covers these marks, so a world may adopt this store
-/// with them.
+/// The store was opened from this image of the disk that the steps left. It has the table and the
+/// number that the first n decided commands leave, for some n, and every command of which an effect
+/// has left is among these. Each image that a crash could have left of that disk holds such a table
+/// and number. Over all lives no mark was used up twice by what has left: no JoinNonce of a device
+/// stands in two accepts. The table covers these marks, so a world may adopt this store with them.
 pub fn crash_after<D: Sim + Drop>(
     alloc: Global,
     disk: D,
@@ -259,10 +258,11 @@ fn crash_from_table<D: Sim + Drop>(
 /// `OutOfMemory` or `DeviceFailed`, and then everything is dropped. `DeviceFailed` is never
 /// returned if all calls of the disk were to succeed, and always if the next one was to fail.
 ///
-/// Whatever course the world has followed, the returned effects are those that have left in it. The
-/// store has the table and the number that the first n of its decided commands leave, for some n,
-/// and every command whose batch was released is among these. If no mark was used up twice before,
-/// none was by what has left, and the table covers them all.
+/// For each course that the world has followed, the returned effects are those that have left in
+/// it. The store has the table and the number that the first n of its decided commands leave, for
+/// some n, and every command whose batch was released is among these. If the marks that were used
+/// up before are distinct, and the sound table with which the course began covers them, then no
+/// mark is twice among these and those of what has left, and the opened table covers them all.
 pub fn open_after<D: Sim + Drop>(
     alloc: Global,
     world: World<D>,

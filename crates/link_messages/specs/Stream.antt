@@ -37,7 +37,7 @@ abbrev pub IsPartOf : ℕ → Option ℕ → Type 0
 IsPartOf len None = Unit {0}
 IsPartOf len (Some told) = (told ≤ 700) × (len < told + 2)
 
--- fewer bytes than a frame has, and the length so far isn't above the longest
+-- fewer bytes than a frame has, and the stated length, if both its bytes are there, is at most 700
 abbrev pub IsPart : List ℕ → Type 0
 IsPart stream = IsPartOf (length stream) (stated_length stream)
 

@@ -110,9 +110,8 @@ fn read_data(direction: Direction, confirmed: bool, body: &[u8]) -> Result<PhyRe
 
 /// Reads a frame from its bytes, which are all of the PHYPayload (TS001-1.0.4 §4). Takes no memory.
 ///
-/// Bytes that are no frame are refused as `NotServed` or `Malformed`. They are refused as
-/// `NotServed` if there are 1 to 255 of them and their MHDR has FType 6 or 7, with RFU bits and
-/// Major 0.
+/// Bytes that are no frame are refused as `NotServed` if there are 1 to 255 of them and their MHDR
+/// has FType 6 or 7, with RFU bits and Major 0; otherwise as `Malformed`.
 #[tactic(auto, unfolding(crate::specs::Reading::phy_at))]
 pub fn read_phy(bytes: &[u8]) -> Result<PhyRef<'_>, Refusal>
     ensures { phy_read result ≡ phy_at bytes.now }

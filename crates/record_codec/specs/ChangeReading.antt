@@ -174,7 +174,7 @@ pub record IsNewTo (before : Device) (c : Groups) : Type 0 where
   pub heard : HasRoomToGrow c.grew before.heard
   pub in_order : AreInOrder (changed_grants c before)
 
--- a change of the record is never all of the bytes
+-- the bytes, as a whole, are no change of the record
 abbrev pub IsNoChange : RecordVersion → Device → List ℕ → Type 0
 IsNoChange version before bytes =
     (c : Groups) → change_read version bytes ≡ Some c → ¬ IsNewTo before c

@@ -60,8 +60,8 @@ pub record HandlesAll (old : CoreState) (handed : List Handling) (new : CoreStat
   pub outcomes : new.outcomes ≡ keep_last MOST_OUTCOMES (old.outcomes ++ outcomes_in handed)
 
 -- What a turn handed in. First come the frames of the windows that it closed, which are the first
--- of the open ones; for none of them did memory run out. Then comes the event's own command, if it
--- has one, refused as the turn says. The turn gives the numbers of their decisions.
+-- of the open ones; none of them was refused with OutOfMemory. Then comes the event's own command,
+-- if it has one, refused as the turn says. The turn gives the numbers of their decisions.
 pub record IsWholeTurn (old : CoreState) (own : List Command) (turn : Turn)
     (new : CoreState) : Type 0 where
   pub closed : List Handling

@@ -65,7 +65,7 @@ impl Core {
 
     // Hands in the frame of the oldest window, and returns the answer; `None` if the window isn't
     // due. If memory for a copy of the frame runs out, the answer is the refusal that the frame
-    // would get anyway, or else `OutOfMemory`.
+    // would get anyway, or else `OutOfMemory`, which may also replace a refusal of the join server.
     fn hand_in_oldest(&mut self) -> Option<Result<(), Refusal>>
         ensures { MatchOption result
             ((self.new ≡ self.old) × (has_due self.old ≡ false))

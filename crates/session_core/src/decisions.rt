@@ -127,7 +127,7 @@ impl Decisions {
     }
 
     /// The refusal of a command for which memory ran out: the one that it would get anyway, or else
-    /// `OutOfMemory`.
+    /// `OutOfMemory`, which may also replace a refusal of the join server.
     pub(crate) fn lack(&self, command: &Command) -> Refusal
         ensures full { has_room self.now ≡ false → result ≡ Backlog }
         ensures lack { IsWithoutMemory self.now command.now result }
@@ -143,7 +143,8 @@ impl Decisions {
     }
 
     /// The refusal of a frame with these copies, when memory to hand it in ran out: the one that it
-    /// would get anyway, or else `OutOfMemory`.
+    /// would get anyway, or else `OutOfMemory`, which may also replace a refusal of the join
+    /// server.
     pub(crate) fn lack_heard(&self, phy_payload: &PhyPayload, hearings: &Hearings) -> Refusal
         ensures full { has_room self.now ≡ false → result ≡ Backlog }
         ensures lack { IsWithoutMemory self.now

@@ -158,8 +158,8 @@ impl Core {
     }
 
     /// The outcomes of the last commands that were handed in to be decided, at most 64, the oldest
-    /// first. A command for which memory ran out has no outcome. This is for inspection, for
-    /// example by tests: a command's own caller finds the answer in its [`Turn`].
+    /// first. A command that was refused with `OutOfMemory` has no outcome. This is for inspection,
+    /// for example by tests: a command's own caller finds the answer in its [`Turn`].
     pub fn outcomes(&self) -> &HeapCircularBuffer<Outcome>
         ensures outcomes { result.now.items ≡ self.now.outcomes }
         ensures few { length self.now.outcomes ≤ MOST_OUTCOMES }
@@ -219,8 +219,9 @@ impl Core {
         self.decide(moment, Command::QueueMac(queueing))
     }
 
-    /// A command comes. Refused with `Backlog` if 4,096 decisions wait or no number is left,
-    /// whether or not memory is available, and then as [`Table::decide`] refuses it.
+    /// A command comes. Refused with `Backlog` if 4,096 decisions wait or no number is left, and
+    /// then as [`Table::decide`] refuses it. `OutOfMemory` may replace any of these if a due window
+    /// couldn't be closed.
     pub fn decide(&mut self, moment: Moment, command: Command) -> Turn
         ensures turn { IsTurn self.old moment (Asks command) result self.new }
         ensures lawful { IsLawfulCore self.old }
@@ -235,7 +236,8 @@ impl Core {
     }
 
     /// A command comes, but memory to hand it in ran out. It gets the refusal that it would get
-    /// anyway, or else `OutOfMemory`.
+    /// anyway, or else `OutOfMemory`. `OutOfMemory` may also replace a refusal of the join server,
+    /// or any refusal if a due window couldn't be closed.
     pub fn decide_without_memory(&mut self, moment: Moment, command: &Command) -> Turn
         ensures turn { IsTurn self.old moment (Asks command.now) result self.new }
         ensures refused { IsSome result.refused }

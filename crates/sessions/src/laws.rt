@@ -1,5 +1,5 @@
 //! Laws on the definitions that the contracts of this crate cite. Each is the contract of a
-//! function that does nothing.
+//! function that has no other use.
 ghost use Rattle.std.specs.Prelude.{◌≡◌, ◌++◌, ◌↔◌, ◌≤◌, ◌+◌, ℕ, List, [], All, IfSome, SomeIff};
 ghost use Rattle.std.specs.Prelude.{length};
 ghost use Rattle.devices.specs.Becoming.{MayBecome};
@@ -37,8 +37,8 @@ pub fn composing()
         effects_of t (first ++ second) ≡ effects_of t first ++ effects_of (fold_of t first) second }
 {}
 
-/// A part of a list is also a part of a longer list, and stays one if the same elements are added
-/// after both.
+/// A part of a list is also a part of that list with more elements after it, and stays one if the
+/// same elements are added after both.
 pub fn parts_of_longer_lists()
     ensures longer { (left whole more : List Effect) → IsSubsequence left whole
         → IsSubsequence left (whole ++ more) }
@@ -57,7 +57,8 @@ pub fn joining()
         with_decisions t (first ++ second) ≡ with_decisions (with_decisions t first) second }
 {}
 
-/// An image may put the record of a decision that was made of a table into that table.
+/// The record that a decision leaves may be put into the table that it was made of, at its slot, as
+/// an image may put one.
 pub fn decided_records_may_be_put()
     ensures { (t : TableState) (d : Decision) → FitsTable t d → CanPut t d.slot d.after }
 {}
@@ -110,9 +111,9 @@ pub fn a_restored_table_covers()
 /// A record of sessions beside a copy can make up for what is missing in the copy. Take a mark of a
 /// device that the copy has, with a JoinNonce at most `since` above the copy's last granted one or
 /// above the highest one on record of the device. After the sessions on record are counted as
-/// granted, it is at most `since` above the last granted one. So the restored table covers it
-/// ([`a_restored_table_covers`]). And each device that was found at its own slot still is. So
-/// earlier restores of the network don't count against `since` if they are on record.
+/// granted, its JoinNonce is at most `since` above the last granted one. So the restored table
+/// covers it ([`a_restored_table_covers`]). And each device that was found at its own slot still
+/// is. So earlier restores of the network don't count against `since` if they are on record.
 pub fn a_record_raises_a_copy()
     ensures within { (since : ℕ) (sessions : List SessionName) (t : TableState) (marks : List Mark)
         → All (λ m. IsSinceRecord since sessions t m) marks

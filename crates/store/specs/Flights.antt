@@ -81,7 +81,7 @@ ByStage Unsure there doubtful gone = doubtful
 ByStage stage there doubtful gone = gone
 
 -- What a crash may leave if this is settled and these batches are under way, the oldest first. A
--- durable batch is left, and of those after it what they allow. A batch whose gate may be open is
+-- durable batch is left, and the same holds for those after it. A batch whose gate may be open is
 -- left or not, and none after it is. Any other batch isn't left, and none after it is.
 abbrev pub MayLeave : {X : Type 0} → List X → List (Flight X) → List X → Type 0
 MayLeave settled [] kept = kept ≡ settled

@@ -65,8 +65,9 @@ impl Checkpoint {
     }
 
     /// Writes the checkpoint and the closed gate of its first batch into the other area, whose gate
-    /// is closed. It writes only the bytes of the table's records. Refused with `DeviceFailed`
-    /// exactly if the disk failed. Then the store has failed.
+    /// is closed. The number of bytes grows only with the table's records: slots without a record
+    /// take none. Refused with `DeviceFailed` exactly if the disk failed. Then the store has
+    /// failed.
     pub fn write<D: Disk>(self, store: &mut Store<D>) -> Result<CheckpointWritten, Refusal>
         requires closed { (store_state D.state store.old).log.other_open ≡ false }
         requires fits { FitsOther (store_state D.state store.old) (checkpoint_size self) }

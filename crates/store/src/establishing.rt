@@ -33,8 +33,8 @@ use store_layout::Superblock;
 /// refusal the disk is returned, unchanged except after `DeviceFailed`. It makes twelve calls of
 /// the disk, and its cost grows with the table's records and with the number of slots.
 ///
-/// If this fails, or is interrupted between two calls, a crash leaves no store, the whole one, or
-/// everything after the first byte as it was.
+/// On a disk with nothing open: if this fails, or is interrupted between two calls, a crash leaves
+/// no store, the whole one, or everything after the first byte as it was.
 pub fn establish_back<D: Disk>(
     alloc: Global,
     disk: D,

@@ -54,8 +54,8 @@ pub fn format<D: Disk + Drop>(
 /// memory runs out, before any call. With a refusal the disk is returned, unchanged except after
 /// `DeviceFailed`. It makes eight calls of the disk, and its cost grows with the number of slots.
 ///
-/// If this fails, or is interrupted between two calls, a crash leaves no store, the new one, or
-/// everything after the first byte as it was.
+/// On a disk with nothing open: if this fails, or is interrupted between two calls, a crash leaves
+/// no store, the new one, or everything after the first byte as it was.
 pub fn format_back<D: Disk>(
     alloc: Global,
     disk: D,

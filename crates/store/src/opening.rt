@@ -33,8 +33,9 @@ pub fn open<D: Disk + Drop>(alloc: Global, disk: D) -> Result<Store<D>, Refusal>
 
 /// Opens the store on a disk. The disk is synced first, so opening it again after a fault is like
 /// opening it after a crash that leaves the content. Refused with `DeviceFailed` exactly if a call
-/// of the disk failed. Otherwise the store has the table and the number that the disk holds.
-/// Exactly if it holds none, the refusal is the first of these:
+/// of the disk failed. Otherwise a store that is returned has the table and the number that the
+/// disk holds. If the disk holds none, the refusal is `OutOfMemory` (see below) or the first of
+/// these:
 ///
 /// - `WrongSize` below 32 bytes;
 /// - `NotFormatted` for a closed gate or another name;
@@ -53,8 +54,8 @@ pub fn open<D: Disk + Drop>(alloc: Global, disk: D) -> Result<Store<D>, Refusal>
 ///
 /// If the live area's records are of an older version, the table is published in the other area, in
 /// the newest version, before the store is returned. That takes four or six more calls of the disk.
-/// A crash between two of them leaves the same table and number, and so does the disk that is
-/// returned with a refusal.
+/// A crash between two of them leaves the same table and number, and the disk that is returned with
+/// a refusal holds them too.
 pub fn open_back<D: Disk>(alloc: Global, disk: D) -> Result<Store<D>, (D, Refusal)>
     ensures made { IsOpenAnswer D.Disk disk (λ error. error.1) result }
 
@@ -87,8 +88,9 @@ pub fn open_back<D: Disk>(alloc: Global, disk: D) -> Result<Store<D>, (D, Refusa
     ensures memory { D.honest → IfErr result (λ e. e.1 ≢ DeviceFailed
         → NothingOpen (D.state e.0) × ((D.state e.0).content ≡ (D.state disk).content)) }
 
-    // Each image that a crash may leave of it holds what one of the disk before might have held. So
-    // a store whose opening was refused can be opened again, with or without a crash between.
+    // Each image that a crash may leave of it holds the tables of some image that a crash might
+    // have left of the disk before. So a store whose opening was refused can be opened again, with
+    // or without a crash between.
     ensures kept { D.honest → IfErr result (λ e. HoldsOn (D.state disk) (D.state e.0)) }
     ensures same_length { IfErr result
         (λ e. length (D.state e.0).content ≡ length (D.state disk).content) }

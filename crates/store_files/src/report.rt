@@ -10,7 +10,7 @@ use std::alloc::{AllocError, Global};
 // The last JoinNonce (TS001-1.0.4 §6.2.6).
 const LAST_NONCE: u32 = 0xFF_FFFF;
 
-/// The number of devices, how many of them continue above a record, how many joins are left to the
+/// The number of devices, how many of them were raised by a record, how many joins are left to the
 /// device that has the fewest, and from where the JoinNonces and the count of uplinks of each
 /// device continue.
 pub(crate) fn report_of(

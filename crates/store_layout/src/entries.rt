@@ -129,7 +129,7 @@ fn put_decision(decision: &Decision, out: &mut Vec<u8>) -> Result<(), Refusal>
 
 /// Appends the entries of a batch in the newest version, one for each decision, in order. Each byte
 /// of a record is written once, and only the room of `out` takes memory. An `Err` means that memory
-/// ran out. Then the first n entries were appended, for some n.
+/// ran out. Then some of the entries may have been appended, and no clause says which.
 pub fn put_batch(batch: &Batch, out: &mut Vec<u8>) -> Result<(), Refusal>
     ensures entries { MatchResult result
         (λ _. (bytes : List ℕ) × (out.new.items ≡ out.old.items ++ bytes)
@@ -147,7 +147,8 @@ pub fn put_batch(batch: &Batch, out: &mut Vec<u8>) -> Result<(), Refusal>
 
 /// Appends the entries of a table in the newest version: the record of each device under its slot,
 /// in order of slots. Each byte of a record is written once, and only the room of `out` takes
-/// memory. An `Err` means that memory ran out. Then the first n entries were appended, for some n.
+/// memory. An `Err` means that memory ran out. Then some of the entries may have been appended, and
+/// no clause says which.
 pub fn put_table(table: &Table, out: &mut Vec<u8>) -> Result<(), Refusal>
     ensures { MatchResult result
         (λ _. (out.new.items ≡ out.old.items ++ entries newest (entries_of_table table.now))

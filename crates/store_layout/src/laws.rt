@@ -39,7 +39,7 @@ pub fn a_table_replays()
     ensures number { (t : TableState) → length (entries_of_table t) ≡ length t.devices }
 {}
 
-/// Bytes are this number of entries in at most one way, and lead to one table.
+/// Bytes are a given number of entries in at most one way, and lead to one table.
 pub fn bytes_replay_in_one_way()
     ensures entries { (version : RecordVersion) (t t' u u' : TableState) (bytes : List ℕ)
         (count : ℕ) (es fs : List EntryValue)

@@ -132,11 +132,11 @@ fn read_entry(
     Ok((entry, behind))
 }
 
-/// Puts this number of entries, which are all of the bytes, on a table. Refused with `Damaged`
-/// exactly if the bytes aren't this number of entries, or if one of them may not be put. Refused
-/// with `OutOfMemory` if memory runs out, and only at an entry that leaves a record on the table to
-/// which those before it led. After an `Err` the table has the first n entries, for some n, and
-/// can't be used.
+/// Puts this number of entries, which are all of the bytes, on a table. Refused with `Damaged` only
+/// if the bytes aren't this number of entries, or if one of them may not be put. Refused with
+/// `OutOfMemory` if memory runs out, and only at an entry that leaves a record on the table to
+/// which those before it led. After an `Err` drop the table: it may have some of the entries, and
+/// no clause says which.
 pub fn replay(
     alloc: Global,
     version: RecordVersion,

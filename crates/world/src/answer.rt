@@ -38,9 +38,9 @@ pub enum Answer {
     Full,
     /// To a checkpoint: it began, and takes this number of device calls.
     Begun(u64),
-    /// There is nothing to take, call, release or emit. For a take or a checkpoint: what is under
-    /// way has to end first. For a next: no batch may follow what is begun. Or the store could not
-    /// be opened. Nothing has changed.
+    /// One of these holds: there is nothing to take, call, release or emit; or, for a take or a
+    /// checkpoint, what is under way has to end first; or, for a next, no batch may follow what is
+    /// begun; or the store could not be opened. Nothing has changed.
     Idle,
     /// To a call: the device call succeeded.
     Called,

@@ -24,7 +24,9 @@ use std::alloc::Global;
 /// - After a crash the store has the fold of the first n decided commands, for some n, and every
 ///   command of which an effect has left is among these.
 /// - What the coming calls of the disk will return is known step by step (`calls`): one that is
-///   armed is refused as `DeviceFailed`, and one that isn't never is.
+///   armed is refused as `DeviceFailed`, and one that isn't never is. If a failure is armed for a
+///   later call than an opening's first, nothing is known of that opening and of the calls after
+///   it.
 /// - Each step leads on from the world that the one before left (`steps`). A take is answered
 ///   `Full` only if the journal has no room for the largest batch. A checkpoint has the number of
 ///   calls that the state of the other area's gate requires. A crash leaves the image that it

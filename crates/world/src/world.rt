@@ -64,9 +64,10 @@ impl<D: Sim + Drop> World<D> {
     }
 
     /// A world with the store that this disk holds, in records of any version. Its course begins
-    /// with the table and the number that are held, whatever marks were used up before. Refused as
-    /// [`store::open_back`] is, and with `OutOfMemory`. Then the disk is returned, and each image
-    /// that a crash may leave of it holds what one of the disk before might have held.
+    /// with the table and the number that are held, and with any marks that were used up before.
+    /// Refused as [`store::open_back`] is, and with `OutOfMemory`. Then the disk is returned, and
+    /// each image that a crash may leave of it holds the tables of some image that a crash might
+    /// have left of the disk before.
     pub fn adopt(alloc: Global, disk: D) -> Result<Self, (D, Refusal)>
         ensures sound { IfOk result (IsSoundWorld D.state) }
         ensures holds { IfOk result (λ _. (t : TableState) × ((seq : ℕ)

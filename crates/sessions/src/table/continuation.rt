@@ -11,8 +11,9 @@ use lw_types::Refusal;
 
 impl Table {
     /// Whether the decision was made of this table and has the sequence number after `seq`. A
-    /// caller of [`Table::apply`] has to know this of decisions from elsewhere. A core applies only
-    /// its own, so only tests call this. The cost doesn't grow with the number of devices.
+    /// caller of [`Table::apply`] has to know that a decision from elsewhere was made of this
+    /// table. A core applies only its own, so only tests call this. The cost doesn't grow with the
+    /// number of devices.
     pub fn admits(&self, seq: u64, decision: &Decision) -> bool
         ensures { IsTrue result ↔ Continues self.now seq decision.now }
     {
