@@ -12,6 +12,12 @@ use clap::builder::ValueParser;
 use clap::{Arg, ArgAction, Command, value_parser};
 use std::alloc::{AllocError, Global};
 
+// What `lnsd --version` prints after the name. The twelve digits and `none` are placeholders:
+// bin/package fills them in, in the finished program that it packs, with the commit and with what was
+// proved. It can't be done in this source, since a commit can't name itself, and since a changed
+// source would have to be proved again. The text must be in the program exactly once.
+const VERSION: &str = "0.1.0, commit 000000000000, proof: none";
+
 const EXAMPLES: &str = "\
 Examples:
   lnsd format store --netid 00002A --slots 64
@@ -84,7 +90,7 @@ fn without_commands<'a>(alloc: Global) -> Result<Command<'a>, AllocError>
     let lnsd = Command::new(alloc, "lnsd")
         .bin_name("lnsd")?
         .about("A LoRaWAN network server whose counters survive every crash")
-        .version("0.1.0")
+        .version(VERSION)
         .after_help(EXAMPLES)
         .no_binary_name(true)
         .subcommand_required(true);
